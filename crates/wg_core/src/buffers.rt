@@ -1,0 +1,28 @@
+//! The rules of buffers.
+ghost use Rattle.std.specs.Prelude.{◌≡◌};
+ghost use Rattle.wg_model.specs.Buffers.{create_buffer_rules};
+ghost use Rattle.wg_model.specs.Rules.{first_unmet};
+
+use wg_types::handles::BufferInfo;
+
+/// The first unmet rule of createBuffer, of those that what the buffer is made with tells.
+pub fn check_create(info: &BufferInfo) -> Option<u16>
+    ensures { result ≡ first_unmet (create_buffer_rules info.now) }
+{
+    if info.usage == 0 || info.usage > 1023 {
+        return Some(100);
+    }
+    if info.usage & 1 != 0 && info.usage & (1 | 8) != info.usage {
+        return Some(101);
+    }
+    if info.usage & 2 != 0 && info.usage & (2 | 4) != info.usage {
+        return Some(102);
+    }
+    if info.size > 268_435_456 {
+        return Some(103);
+    }
+    if info.mapped && info.size % 4 != 0 {
+        return Some(104);
+    }
+    None
+}

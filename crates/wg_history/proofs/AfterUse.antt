@@ -1,0 +1,106 @@
+-- What is released is used no more, and its uses are complete.
+use Rattle.std.proofs.Common.{◌≡◌, ℕ, ◌+◌, ◌<◌, ◌≤◌, [], ◌∷◌, ◌++◌, reverse, Bool, true, false, not, ◌&&◌, ◌==◌, nat_lt, nat_le, max, is_some, is_none, unwrap_or, refl, ap, sym, ◌∙◌, arith, if◌then◌else◌, true≢false, subst, ◌⊎◌, inl, inr}
+use Rattle.std.proofs.lemmas.List.{reverse-append}
+use Rattle.std.proofs.lemmas.Bool.{and_parts, or_cases, or_right, leb-true, ltb-true, eqb-true}
+use Rattle.std.proofs.Math.Nat.{zero-max}
+use Rattle.wg_model.proofs.Unmet.{all_met}
+use Rattle.wg_history.specs.Entries.{Setup, Event, WriteBuffer, Complete, Reply, Entry, Past}
+use Rattle.wg_history.specs.Objects.{ObjRef, resource_at}
+use Rattle.wg_history.specs.Operations.{issued, completion, completed, is_used, op_of, use_by, last_use}
+use Rattle.wg_history.specs.Rules.{write_buffer_list, write_buffer_rule, destroys, is_destroyed}
+use Rattle.wg_history.specs.Answers.{Queued, Plain, BadCompletion, reply_to, IsRun}
+use Rattle.wg_history.specs.Releases.{is_due, is_released}
+use Rattle.wg_history.specs.ReleaseLaws.{FreedAfterUse}
+
+-- What a run has of its newest entry, and of those before it.
+pub newest : (setup : Setup) (entry : Entry) (older : Past) → IsRun setup (entry ∷ older) → entry.reply ≡ reply_to setup older entry.event
+newest setup entry older run = cc (run)
+
+pub others : (setup : Setup) (entry : Entry) (older : Past) → IsRun setup (entry ∷ older) → IsRun setup older
+others setup entry older run = cc (run)
+
+-- No completion takes back what is complete.
+completes_more : (setup : Setup) (past : Past) (event : Event) → completed past ≤ unwrap_or (completion event (reply_to setup past event).answer) (completed past)
+completes_more setup past (Complete op) = by_test (nat_lt (completed past) op && nat_le op (issued past)) refl
+  where
+    by_test : (b : Bool) → (nat_lt (completed past) op && nat_le op (issued past)) ≡ b → completed past ≤ unwrap_or (completion (Complete op) (if b then Plain else BadCompletion)) (completed past)
+    by_test true e = let above : completed past < op = ltb-true (completed past) op (and_parts (nat_lt (completed past) op) (nat_le op (issued past)) e).0 in omega arith
+    by_test false e = omega arith
+completes_more setup past _ = omega arith
+
+completed_grows : (setup : Setup) (entry : Entry) (older : Past) → IsRun setup (entry ∷ older) → completed older ≤ completed (entry ∷ older)
+completed_grows setup entry older run = subst (λ (reply : Reply). completed older ≤ unwrap_or (completion entry.event reply.answer) (completed older)) (sym (newest setup entry older run)) (completes_more setup older entry.event)
+
+-- A write that meets its rules is of a buffer that is not destroyed.
+pub write_stands : (setup : Setup) (past : Past) (buffer : ObjRef) (offset size : ℕ) → is_none (write_buffer_rule setup past buffer offset size) ≡ true → is_destroyed setup past buffer.number ≡ false
+unfolding write_buffer_rule
+write_stands setup past buffer offset size e =
+    let met : not (is_destroyed setup past buffer.number) ≡ true = (all_met (write_buffer_list setup past buffer offset size) e).1.1.1.1.1.0 in
+    by_test (is_destroyed setup past buffer.number) met
+  where
+    by_test : (b : Bool) → not b ≡ true → b ≡ false
+    by_test true h = absurd (true≢false (sym h))
+    by_test false h = refl
+
+-- What is destroyed is used by no later operation of a run.
+uses_none : (setup : Setup) (past : Past) (event : Event) (n : ℕ) → is_destroyed setup past n ≡ true → (if is_used event n then unwrap_or (op_of (reply_to setup past event).answer) 0 else 0) ≡ 0
+uses_none setup past (WriteBuffer buffer offset size) n destroyed = by_same (buffer.number == n) refl
+  where
+    by_rule : (b : Bool) → is_none (write_buffer_rule setup past buffer offset size) ≡ b → buffer.number ≡ n → unwrap_or (op_of (if b then Queued (issued past + 1) else Plain)) 0 ≡ 0
+    by_rule true e same = absurd (true≢false (sym destroyed ∙ (ap (is_destroyed setup past) (sym same) ∙ write_stands setup past buffer offset size e)))
+    by_rule false e same = refl
+
+    by_same : (b : Bool) → (buffer.number == n) ≡ b → (if b then unwrap_or (op_of (reply_to setup past (WriteBuffer buffer offset size)).answer) 0 else 0) ≡ 0
+    by_same true e = by_rule (is_none (write_buffer_rule setup past buffer offset size)) refl (eqb-true buffer.number n e)
+    by_same false e = refl
+uses_none setup past _ n destroyed = refl
+
+unused_then : (setup : Setup) (entry : Entry) (older : Past) (n : ℕ) → IsRun setup (entry ∷ older) → is_destroyed setup older n ≡ true → use_by entry n ≡ 0
+unused_then setup entry older n run destroyed = ap (λ (reply : Reply). if is_used entry.event n then unwrap_or (op_of reply.answer) 0 else 0) (newest setup entry older run) ∙ uses_none setup older entry.event n destroyed
+
+-- A released object is destroyed, and its uses are complete.
+pub record IsOver (setup : Setup) (past : Past) (n : ℕ) : Type 0 where
+  pub destroyed : is_destroyed setup past n ≡ true
+  pub complete : last_use past n ≤ completed past
+
+-- It stays so, and is used no more.
+same_use : (setup : Setup) (entry : Entry) (older : Past) (n : ℕ) → IsRun setup (entry ∷ older) → IsOver setup older n → last_use (entry ∷ older) n ≡ last_use older n
+same_use setup entry older n run over = ap (λ k. max k (last_use older n)) (unused_then setup entry older n run over.destroyed) ∙ zero-max (last_use older n)
+
+pub over_next : (setup : Setup) (entry : Entry) (older : Past) (n : ℕ) → IsRun setup (entry ∷ older) → IsOver setup older n → IsOver setup (entry ∷ older) n
+over_next setup entry older n run over = record {
+  destroyed = or_right (destroys setup older entry.event n) (is_destroyed setup older n) over.destroyed;
+  complete = let same : last_use (entry ∷ older) n ≡ last_use older n = same_use setup entry older n run over in let grows : completed older ≤ completed (entry ∷ older) = completed_grows setup entry older run in omega (arith, over.complete);
+}
+
+pub due_over : (setup : Setup) (past : Past) (n : ℕ) → is_due setup past n ≡ true → IsOver setup past n
+unfolding is_due
+due_over setup past n e =
+    let h : ((is_some (resource_at past n) && is_destroyed setup past n) ≡ true) × (nat_le (last_use past n) (completed past) ≡ true) = and_parts (is_some (resource_at past n) && is_destroyed setup past n) (nat_le (last_use past n) (completed past)) e in
+    record { destroyed = (and_parts (is_some (resource_at past n)) (is_destroyed setup past n) h.0).1; complete = leb-true (last_use past n) (completed past) h.1 }
+
+pub released_over : (setup : Setup) (past : Past) (n : ℕ) → IsRun setup past → is_released setup past n ≡ true → IsOver setup past n
+released_over setup [] n run released = absurd (cc)
+released_over setup (entry ∷ older) n run released = by_cases (or_cases (is_due setup (entry ∷ older) n) (is_released setup older n) released) (λ h. released_over setup older n (others setup entry older run) h)
+  where
+    by_cases : (is_due setup (entry ∷ older) n ≡ true) ⊎ (is_released setup older n ≡ true) → (is_released setup older n ≡ true → IsOver setup older n) → IsOver setup (entry ∷ older) n
+    by_cases (inl due) rest = due_over setup (entry ∷ older) n due
+    by_cases (inr before) rest = over_next setup entry older n run (rest before)
+
+-- The entries below the newest ones of a run are one.
+pub run_below : (setup : Setup) (new past : Past) → IsRun setup (new ++ past) → IsRun setup past
+run_below setup [] past run = run
+run_below setup (entry ∷ new) past run = run_below setup new past (others setup entry (new ++ past) run)
+
+pub over_later : (setup : Setup) (new past : Past) (n : ℕ) → IsRun setup (new ++ past) → IsOver setup past n → IsOver setup (new ++ past) n × (last_use (new ++ past) n ≡ last_use past n)
+over_later setup [] past n run over = (over, refl)
+over_later setup (entry ∷ new) past n run over =
+    let below : IsOver setup (new ++ past) n × (last_use (new ++ past) n ≡ last_use past n) = over_later setup new past n (others setup entry (new ++ past) run) over in
+    (over_next setup entry (new ++ past) n run below.0, same_use setup entry (new ++ past) n run below.0 ∙ below.1)
+
+pub freed_after_use : FreedAfterUse
+freed_after_use setup before later n run released =
+    let back : IsRun setup (reverse later ++ reverse before) = subst (IsRun setup) (reverse-append before later) run in
+    let over : IsOver setup (reverse before) n = released_over setup (reverse before) n (run_below setup (reverse later) (reverse before) back) released in
+    let same : last_use (reverse (before ++ later)) n ≡ last_use (reverse before) n = ap (λ past. last_use past n) (reverse-append before later) ∙ (over_later setup (reverse later) (reverse before) n back over).1 in
+    omega (arith, over.complete)

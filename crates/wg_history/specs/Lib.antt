@@ -1,0 +1,11 @@
+pub mod Entries
+pub mod Objects
+pub mod Operations
+pub mod Rules
+pub mod Answers
+pub mod Steps
+pub mod Releases
+pub mod Traces
+pub mod Laws
+pub mod Examples
+pub mod ReleaseLaws

@@ -1,0 +1,9 @@
+//! What is right of one call, without a history: its rules. The definitions stand in specs/.
+#![tactic(auto)]
+
+ghost use Rattle.wg_model.specs.Rules.{FirstUnmet};
+
+/// The first unmet rule of a list is none exactly where all are met, and else the first that is not.
+pub fn first_unmet_rule()
+    ensures { FirstUnmet }
+{}

@@ -1,0 +1,7 @@
+pub mod Rows
+pub mod Cut
+pub mod Steps
+pub mod Trace
+pub mod Orders
+pub mod Laws
+pub mod Examples
