@@ -1,0 +1,72 @@
+-- Notes of accesses.
+use Rattle.std.proofs.Common.{◌≡◌, ℕ, ◌+◌, ◌<◌, ◌&&◌, List, [], ◌∷◌, ◌++◌, length, drop, get_or, Bool, true, false, ◌==◌, refl, ap, sym, ◌∙◌, if◌then◌else◌, subst, eqb-true, nat_lt, arith}
+use Rattle.std.proofs.lemmas.List.{at_drop_more}
+use Rattle.wg_orders.specs.Steps.{Cells, Kind, cell_line, cell_lo, cell_hi, kind_writes, kind_unsets}
+use Rattle.std.proofs.lemmas.Bool.{ltb-true}
+use Rattle.wg_orders.specs.Rows.{list_eq}
+use Rattle.wg_num.specs.Runs.{Runs, AreApart, with_run, cut_runs}
+use Rattle.wg_num.proofs.Members.{with_apart, cut_apart}
+use Rattle.wg_init.proofs.Effects.{runs_with}
+use Rattle.wg_bars.specs.Kept.{rows_in, over, apply_all, most, SameRows}
+use Rattle.wg_init.specs.Rows.{row_of, row_object, SetRow, SetRows, runs_in, RunsApart}
+use Rattle.wg_init.specs.Effects.{effect, with_effect, is_full, changes_at, rows_after, IsAfter, AreNotes, NotesOne}
+use Rattle.wg_bars.proofs.Notes.{over_push}
+use Rattle.wg_bars.proofs.Noted.{within}
+
+pub one_noted : (kept : SetRows) (fresh pushed : List (ℕ × List SetRow)) (x : Cells × Kind) (rows : List SetRow) → kind_writes x.1 ≡ true → is_full x.0 ≡ true → rows ≡ with_effect x.0 x.1 (over fresh (row_object (row_of x.0)) (rows_in kept (row_object (row_of x.0)))) → pushed ≡ fresh ++ (row_object (row_of x.0), rows) ∷ [] → NotesOne kept fresh x pushed
+one_noted kept fresh pushed x rows w f e p object =
+    ap (λ (n : List (ℕ × List SetRow)). over n object (rows_in kept object)) (p ∙ ap (λ (r : List SetRow). fresh ++ (row_object (row_of x.0), r) ∷ []) e)
+    ∙ (over_push fresh (row_object (row_of x.0), with_effect x.0 x.1 (over fresh (row_object (row_of x.0)) (rows_in kept (row_object (row_of x.0))))) object (rows_in kept object)
+    ∙ (by_same (row_object (row_of x.0) == object) refl
+    ∙ sym (ap (λ t. if t && (row_object (row_of x.0) == object) then with_effect x.0 x.1 (over fresh object (rows_in kept object)) else over fresh object (rows_in kept object)) both)))
+  where
+    both : (kind_writes x.1 && is_full x.0) ≡ true
+    both = ap (λ t. t && is_full x.0) w ∙ f
+
+    by_same : (b : Bool) → (row_object (row_of x.0) == object) ≡ b → (if b then with_effect x.0 x.1 (over fresh (row_object (row_of x.0)) (rows_in kept (row_object (row_of x.0)))) else over fresh object (rows_in kept object)) ≡ (if b then with_effect x.0 x.1 (over fresh object (rows_in kept object)) else over fresh object (rows_in kept object))
+    by_same true e = ap (λ n. with_effect x.0 x.1 (over fresh n (rows_in kept n))) (eqb-true (row_object (row_of x.0)) object e)
+    by_same false e = refl
+
+pub none_noted : (kept : SetRows) (fresh : List (ℕ × List SetRow)) (x : Cells × Kind) → (kind_writes x.1 && is_full x.0) ≡ false → NotesOne kept fresh x fresh
+none_noted kept fresh x e object = sym (ap (λ t. if t && (row_object (row_of x.0) == object) then with_effect x.0 x.1 (over fresh object (rows_in kept object)) else over fresh object (rows_in kept object)) e)
+
+-- One more access.
+pub access_step : (kept : SetRows) (fresh noted : List (ℕ × List SetRow)) (xs : List (Cells × Kind)) (i : ℕ) (d : Cells × Kind) → i < length xs → NotesOne kept fresh (get_or xs i d) noted → ((object : ℕ) → rows_after object (drop i xs) (over fresh object (rows_in kept object)) ≡ rows_after object xs (rows_in kept object)) → (object : ℕ) → rows_after object (drop (i + 1) xs) (over noted object (rows_in kept object)) ≡ rows_after object xs (rows_in kept object)
+access_step kept fresh noted xs i d l one h object =
+    ap (rows_after object (drop (i + 1) xs)) (one object)
+    ∙ (sym (at_drop_more (λ ys. rows_after object ys (over fresh object (rows_in kept object))) xs i d l) ∙ h object)
+
+-- The steps of a note.
+pub note_is : (kept reserved grown applied : SetRows) (xs : List (Cells × Kind)) (fresh : List (ℕ × List SetRow)) (top : ℕ) → AreNotes kept xs fresh → top ≡ most fresh → reserved ≡ kept → SameRows reserved grown → top < length grown → applied ≡ apply_all fresh grown → IsAfter kept xs applied
+note_is kept reserved grown applied xs fresh top notes t r same l a object =
+    ap (λ rows. rows_in rows object) a
+    ∙ (within object fresh grown (subst (λ n. n < length grown) t l)
+    ∙ (ap (over fresh object) (same object ∙ ap (λ rows. rows_in rows object) r) ∙ notes object))
+
+-- The runs stay apart.
+effect_apart : (kind : Kind) (lo hi : ℕ) (runs : Runs) → AreApart 0 runs → AreApart 0 (effect kind lo hi runs)
+effect_apart kind lo hi runs a = by_kind (kind_unsets kind) (nat_lt lo hi) refl
+  where
+    by_kind : (u b : Bool) → nat_lt lo hi ≡ b → AreApart 0 (if u then (if b then cut_runs lo hi runs else runs) else (if b then with_run lo hi runs else runs))
+    by_kind true true e = cut_apart 0 lo hi runs (ltb-true lo hi e) a
+    by_kind false true e = with_apart 0 lo hi runs (omega arith) (ltb-true lo hi e) a
+    by_kind true false e = a
+    by_kind false false e = a
+
+abbrev LinesApart : List SetRow → Type 0
+LinesApart rows = (line : List ℕ) → AreApart 0 (runs_in rows line)
+
+rows_apart : (object : ℕ) (xs : List (Cells × Kind)) (rows : List SetRow) → LinesApart rows → LinesApart (rows_after object xs rows)
+rows_apart object [] rows a = a
+rows_apart object (x ∷ xs) rows a = rows_apart object xs (if changes_at object x then with_effect x.0 x.1 rows else rows) (by_change (changes_at object x))
+  where
+    by_line : (b : Bool) (line : List ℕ) → AreApart 0 (if b then effect x.1 (cell_lo x.0) (cell_hi x.0) (runs_in rows line) else runs_in rows line)
+    by_line true line = effect_apart x.1 (cell_lo x.0) (cell_hi x.0) (runs_in rows line) (a line)
+    by_line false line = a line
+
+    by_change : (b : Bool) → LinesApart (if b then with_effect x.0 x.1 rows else rows)
+    by_change true line = subst (AreApart 0) (sym (runs_with x.0 x.1 rows line)) (by_line (list_eq (cell_line x.0) line) line)
+    by_change false line = a line
+
+pub after_apart : (kept noted : SetRows) (xs : List (Cells × Kind)) → IsAfter kept xs noted → RunsApart kept → RunsApart noted
+after_apart kept noted xs is apart object line = subst (λ rows. AreApart 0 (runs_in rows line)) (sym (is object)) (rows_apart object xs (rows_in kept object) (apart object) line)

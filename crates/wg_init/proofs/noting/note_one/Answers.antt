@@ -1,0 +1,18 @@
+use Rattle.std.proofs.Common.{◌∙◌, ◌<◌, sym, subst₂}
+use Rattle.std.proofs.lemmas.Bool.{lt-ltb}
+use Rattle.wg_orders.specs.Steps.{cell_lo, cell_hi}
+use Rattle.wg_init.proofs.Notes.{one_noted}
+use Rattle.wg_init.proofs.noting.note_one.Goals as goal
+
+pub returns : goal.returns
+returns c =
+    let not_empty = c.if-cell_hi-cell_lo.false in
+    let full : cell_lo c.args.access.0 < cell_hi c.args.access.0 = subst₂ (λ a b. a < b) c.cell_lo.ensures c.cell_hi.ensures not_empty in
+    let row = c.row_of.ensures in
+    let object = c.row_object-object.ensures in
+    let slice = c.as_slice.ensures.value in
+    let rows_before = c.current.ensures in
+    let rows = c.in_ok-rows.ensures in
+    let held = c.from_vec.ensures in
+    let pushed = c.in_ok-push.ensures.items in
+    one_noted c.args.kept.now c.args.fresh.now.items c.push.new.self.items c.args.access c.from_vec.result (sym c.writes.ensures ∙ c.if-not-writes.false) (lt-ltb (cell_lo c.args.access.0) (cell_hi c.args.access.0) full) (cc) (cc)

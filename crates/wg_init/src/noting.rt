@@ -1,0 +1,126 @@
+//! What accesses make of the cells that are set.
+ghost use Rattle.std.specs.Prelude.{◌≡◌, ◌≤◌, ◌++◌, IfOk, OnOk, OnErr};
+ghost use Rattle.wg_orders.specs.Steps.{cell_lo, cell_hi};
+ghost use Rattle.wg_init.specs.Effects.{effect, with_effect, AreNotes, IsAfter, NotesOne};
+
+use crate::cell_row::CellRow;
+use crate::cells::{row_object, row_of, same_row, unsets, writes};
+use std::alloc::Global;
+use wg_bars::cell_runs::{cell_hi, cell_lo};
+use wg_bars::kept::{apply, current, grow, most, reserve_to};
+use wg_entry::NoMemory;
+use wg_num::RunSet;
+use wg_types::items::Items;
+use wg_types::parts::{Cells, Kind};
+
+/// The runs of a row after an access that writes.
+fn effect(set: &RunSet, kind: Kind, lo: u64, hi: u64) -> Result<RunSet, NoMemory>
+    requires { lo ≤ hi }
+    ensures { IfOk result (λ other. other ≡ effect kind lo hi set.now) }
+{
+    let mut other = set.copy()?;
+    if unsets(kind) {
+        other.remove(lo, hi)?;
+        return Ok(other);
+    }
+    other.insert(lo, hi)?;
+    Ok(other)
+}
+
+/// Adds copies of rows at the end.
+pub fn push_copies(
+    out: &mut Vec<(CellRow, RunSet)>,
+    rows: &[(CellRow, RunSet)],
+) -> Result<(), NoMemory>
+    ensures { OnOk result (out.new.items ≡ out.old.items ++ rows.now) }
+{
+    for row in rows {
+        out.push((row.0, row.1.copy()?))?;
+    }
+    Ok(())
+}
+
+/// An object's rows after an access that writes.
+fn with_effect(
+    alloc: Global,
+    rows: &[(CellRow, RunSet)],
+    run: Cells,
+    kind: Kind,
+) -> Result<Vec<(CellRow, RunSet)>, NoMemory>
+    requires { cell_lo run ≤ cell_hi run }
+    ensures { IfOk result (λ v. v.items ≡ with_effect run kind rows.now) }
+{
+    let row = row_of(run);
+    let lo = cell_lo(run);
+    let hi = cell_hi(run);
+    let mut out = Vec::new(alloc);
+    for (i, other) in rows.iter().enumerate() {
+        if same_row(other.0, row) {
+            out.push((other.0, effect(&other.1, kind, lo, hi)?))?;
+            push_copies(&mut out, &rows[i + 1..])?;
+            return Ok(out);
+        }
+        out.push((other.0, other.1.copy()?))?;
+    }
+    let empty = RunSet::new(alloc);
+    out.push((row, effect(&empty, kind, lo, hi)?))?;
+    Ok(out)
+}
+
+/// Notes what an access makes of kept rows with notes over them.
+fn note_one(
+    alloc: Global,
+    kept: &[Items<(CellRow, RunSet)>],
+    fresh: &mut Vec<(u64, Items<(CellRow, RunSet)>)>,
+    access: (Cells, Kind),
+) -> Result<(), NoMemory>
+    ensures { OnOk result (NotesOne kept.now fresh.old.items access fresh.new.items) }
+{
+    if !writes(access.1) {
+        return Ok(());
+    }
+    if cell_hi(access.0) <= cell_lo(access.0) {
+        return Ok(());
+    }
+    let object = row_object(row_of(access.0));
+    let rows = with_effect(
+        alloc,
+        current(kept, fresh.as_slice(), object),
+        access.0,
+        access.1,
+    )?;
+    fresh.push((object, Items::from_vec(rows)))?;
+    Ok(())
+}
+
+/// What accesses make of kept rows, as notes.
+pub fn notes_of(
+    alloc: Global,
+    kept: &[Items<(CellRow, RunSet)>],
+    accesses: &[(Cells, Kind)],
+) -> Result<Vec<(u64, Items<(CellRow, RunSet)>)>, NoMemory>
+    ensures { IfOk result (λ v. AreNotes kept.now accesses.now v.items) }
+{
+    let mut fresh: Vec<(u64, Items<(CellRow, RunSet)>)> = Vec::new(alloc);
+    for access in accesses {
+        note_one(alloc, kept, &mut fresh, *access)?;
+    }
+    Ok(fresh)
+}
+
+/// Notes accesses in kept rows.
+pub fn note_in(
+    kept: &mut Vec<Items<(CellRow, RunSet)>>,
+    accesses: &[(Cells, Kind)],
+) -> Result<(), NoMemory>
+    ensures noted { OnOk result (IsAfter kept.old.items accesses.now kept.new.items) }
+    ensures unchanged { OnErr result (kept.new.items ≡ kept.old.items) }
+{
+    let alloc = *kept.allocator();
+    let fresh = notes_of(alloc, kept.as_slice(), accesses)?;
+    let top = most(fresh.as_slice());
+    reserve_to(kept, top)?;
+    grow(kept, top);
+    apply(kept, fresh);
+    Ok(())
+}

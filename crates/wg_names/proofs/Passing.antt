@@ -1,0 +1,89 @@
+-- What a reading that refuses nothing has tested.
+use Rattle.std.proofs.Common.{◌≡◌, ℕ, List, Bool, true, false, Option, Some, None, Result, Ok, Err, refl, ap}
+use Rattle.std.specs.Prelude.{◌&&◌, is_none, if◌then◌else◌, ⊤}
+use Rattle.wg_script.specs.Giving.{◌>>=◌}
+use Rattle.wg_script.specs.Draft.{at}
+use Rattle.wg_script.specs.declared.calls.Call.{Call}
+use Rattle.wg_script.specs.declared.draft.Place.{Place}
+use Rattle.wg_script.specs.declared.draft.Place.TheVariants as place
+use Rattle.wg_names.specs.Uses.{admits, uses_of, made_of}
+use Rattle.wg_names.specs.Names.{Names, with_name, is_name, is_visible, check_wanted, check_mark}
+use Rattle.wg_names.specs.Script.{check_uses, with_made, call_bound}
+use Rattle.wg_names.specs.declared.kinds.NameKind.{NameKind}
+use Rattle.wg_names.specs.declared.kinds.Wanted.{Wanted}
+use Rattle.wg_names.specs.declared.kinds.Mark.{Mark}
+
+-- both steps of a reading
+pub bind_ok : {A B E : Type 0} (r : Result A E) (f : A → Result B E) (y : B) → r >>= f ≡ Ok y → (x : A) × (r ≡ Ok x) × (f x ≡ Ok y)
+bind_ok (Ok x) f y e = (x, refl, e)
+bind_ok (Err z) f y e = absurd (cc)
+
+pub at_ok : {X : Type 0} (here : Place) (r : Result X ℕ) (y : X) → at here r ≡ Ok y → r ≡ Ok y
+at_ok here (Ok x) y e = let same : x ≡ y = cc in ap (λ z. Ok z) same
+at_ok here (Err rule) y e = absurd (cc)
+
+pub both_true : (a b : Bool) → a && b ≡ true → (a ≡ true) × (b ≡ true)
+both_true true b e = (refl, e)
+both_true false b e = absurd (cc)
+
+none_of : {X : Type 0} (o : Option X) → is_none o ≡ true → o ≡ None
+none_of None e = refl
+none_of (Some x) e = absurd (cc)
+
+-- ---- a name that is used
+
+admitted : (wanted : Wanted) (kind : NameKind) (x : ⊤) (b : Bool) → admits wanted kind ≡ b → (let r : Result ⊤ ℕ = if b then Ok tt else Err 11 in r) ≡ Ok x → admits wanted kind ≡ true
+admitted wanted kind x true is e = is
+admitted wanted kind x false is e = absurd (cc)
+
+-- what a used name stands for
+pub record Stands (p l : ℕ) (wanted : Wanted) (found : Option Mark) : Type 0 where
+  pub mark : Mark
+  pub is : found ≡ Some mark
+  pub visible : is_visible p l mark ≡ true
+  pub admits : admits wanted mark.kind ≡ true
+
+seen : (p l : ℕ) (wanted : Wanted) (mark : Mark) (x : ⊤) (v : Bool) → is_visible p l mark ≡ v
+    → (let r : Result ⊤ ℕ = if v then check_wanted wanted mark.kind else Err 10 in r) ≡ Ok x → Stands p l wanted (Some mark)
+seen p l wanted mark x true v e = record { mark = mark; is = refl; visible = v; admits = admitted wanted mark.kind x (admits wanted mark.kind) refl e }
+seen p l wanted mark x false v e = absurd (cc)
+
+pub stands_of : (p l : ℕ) (wanted : Wanted) (found : Option Mark) (x : ⊤) → check_mark p l wanted found ≡ Ok x → Stands p l wanted found
+stands_of p l wanted None x e = absurd (cc)
+stands_of p l wanted (Some mark) x e = seen p l wanted mark x (is_visible p l mark) refl e
+
+-- ---- a name that is made
+
+-- the names after a call that makes this name, or none
+abbrev pub Makes : ℕ → ℕ → Names → Names → Option (List ℕ × NameKind) → Type 0
+Makes p l names more None = names ≡ more
+Makes p l names more (Some m) = (is_name m.0 ≡ true) × (names m.0 ≡ None) × (with_name m.0 (record { kind = m.1; phase = p; lane = l }) names ≡ more)
+
+made_new : (p l : ℕ) (names more : Names) (m : List ℕ × NameKind) (b : Bool) → is_name m.0 && is_none (names m.0) ≡ b
+    → (let r : Result Names ℕ = if b then Ok (with_name m.0 (record { kind = m.1; phase = p; lane = l }) names) else Err 9 in r) ≡ Ok more → Makes p l names more (Some m)
+made_new p l names more m true is e =
+    let both = both_true (is_name m.0) (is_none (names m.0)) is in
+    (both.0, none_of (names m.0) both.1, cc)
+made_new p l names more m false is e = absurd (cc)
+
+pub makes_of : (p l : ℕ) (names more : Names) (o : Option (List ℕ × NameKind)) → with_made p l names o ≡ Ok more → Makes p l names more o
+makes_of p l names more None e = cc
+makes_of p l names more (Some m) e = made_new p l names more m (is_name m.0 && is_none (names m.0)) refl e
+
+-- ---- a call
+
+-- what a call that is not refused has tested
+pub record Passes (p l : ℕ) (names more : Names) (call : Call) : Type 0 where
+  pub fine : ⊤
+  pub uses : check_uses names p l (uses_of call) ≡ Ok fine
+  pub makes : Makes p l names more (made_of call)
+
+pub passes_of : (p l c : ℕ) (names more : Names) (call : Call) → call_bound p l c names call ≡ Ok more → Passes p l names more call
+unfolding call_bound
+passes_of p l c names more call e =
+    let both = bind_ok (at (place.Call p l c) (check_uses names p l (uses_of call))) (λ fine. at (place.Call p l c) (with_made p l names (made_of call))) more e in
+    record {
+      fine = both.0;
+      uses = at_ok (place.Call p l c) (check_uses names p l (uses_of call)) both.0 both.1;
+      makes = makes_of p l names more (made_of call) (at_ok (place.Call p l c) (with_made p l names (made_of call)) more both.2);
+    }

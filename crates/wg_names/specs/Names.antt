@@ -1,0 +1,48 @@
+-- What names stand for, and which call sees them.
+use Rattle.std.specs.Prelude.{ℕ, List, length, Bool, ◌||◌, ◌&&◌, ◌==◌, nat_lt, nat_le, bytes_eq, if◌then◌else◌, Option, Some, None, Result, Ok, Err, ⊤}
+use Rattle.std.specs.Char.{is_ascii_alphanumeric}
+use Rattle.std.specs.List.{list_all}
+use Rattle.wg_names.specs.Uses.{admits}
+use Rattle.wg_names.specs.declared.kinds.NameKind.{NameKind}
+use Rattle.wg_names.specs.declared.kinds.Wanted.{Wanted}
+use Rattle.wg_names.specs.declared.kinds.Mark.{Mark}
+
+-- ---- what a name looks like
+
+-- an ASCII letter, a digit or `_`
+abbrev pub is_name_byte : ℕ → Bool
+is_name_byte b = is_ascii_alphanumeric b || b == 95
+
+-- 1 to 64 of these
+abbrev pub is_name : List ℕ → Bool
+is_name text = nat_le 1 (length text) && (nat_le (length text) 64 && list_all is_name_byte text)
+
+-- ---- what names stand for
+
+-- what each text stands for, where an earlier call in reading order has made it
+abbrev pub Names : Type 0
+Names = List ℕ → Option Mark
+
+abbrev pub no_names : Names
+no_names = λ name. None
+
+-- one more name
+abbrev pub with_name : List ℕ → Mark → Names → Names
+with_name name mark names = λ other. if bytes_eq name other then Some mark else names other
+
+-- a call of phase p and lane l sees what earlier phases made, and what its own lane made
+abbrev pub is_visible : ℕ → ℕ → Mark → Bool
+is_visible p l mark = nat_lt mark.phase p || (mark.phase == p && mark.lane == l)
+
+-- script rule 11: what the name stands for is not wanted here
+abbrev pub check_wanted : Wanted → NameKind → Result ⊤ ℕ
+check_wanted wanted kind = if admits wanted kind then Ok tt else Err 11
+
+-- script rule 10: no call has made the name, or none that is visible
+abbrev pub check_mark : ℕ → ℕ → Wanted → Option Mark → Result ⊤ ℕ
+check_mark p l wanted None = Err 10
+check_mark p l wanted (Some mark) = if is_visible p l mark then check_wanted wanted mark.kind else Err 10
+
+-- a name that a call of phase p and lane l uses, with what it must stand for
+abbrev pub check_use : Names → ℕ → ℕ → (List ℕ × Wanted) → Result ⊤ ℕ
+check_use names p l u = check_mark p l u.1 (names u.0)

@@ -1,0 +1,37 @@
+//! What names stand for.
+ghost use Rattle.std.specs.Prelude.{◌≡◌};
+ghost use Rattle.wg_names.specs.Uses.{admits};
+
+/// The kinds of objects that a name may stand for.
+#[derive(Clone, Copy, Debug, PartialEq, Eq)]
+pub enum NameKind {
+    Buffer,
+}
+
+/// What the key of a call asks of the name that it holds: that it stands for a buffer, or for
+/// something that can be destroyed.
+#[derive(Clone, Copy, Debug, PartialEq, Eq)]
+pub enum Wanted {
+    Buffer,
+    Destroyable,
+}
+
+impl Wanted {
+    /// Whether an object of this kind will do.
+    pub fn admits(self, kind: NameKind) -> bool
+        ensures { result ≡ admits self kind }
+    {
+        match (self, kind) {
+            (Wanted::Buffer, NameKind::Buffer) => true,
+            (Wanted::Destroyable, NameKind::Buffer) => true,
+        }
+    }
+}
+
+/// What a name stands for, and the phase and the lane whose call made it.
+#[derive(Clone, Copy, Debug, PartialEq, Eq)]
+pub struct Mark {
+    pub kind: NameKind,
+    pub phase: u32,
+    pub lane: u32,
+}

@@ -1,0 +1,77 @@
+//! The names that calls have made so far.
+ghost use Rattle.std.specs.Prelude.{◌≡◌, ◌||◌, ◌&&◌, ◌==◌, nat_lt, OnOk, OnErr, is_none};
+ghost use Rattle.wg_names.specs.Names.{no_names, with_name, is_visible, check_use};
+
+use crate::kinds::{Mark, Wanted};
+use std::alloc::Global;
+use std::collections::BTreeMap;
+use wg_script::{Name, NoMemory};
+
+/// What each name stands for, of those that were made so far.
+#[derive(Drop)]
+pub struct Known<'a> {
+    marks: BTreeMap<&'a str, Mark>,
+}
+
+impl<'a> Known<'a> {
+    ghost use Rattle.wg_names.specs.Known.{names_in};
+
+    /// No names.
+    pub fn new(alloc: Global) -> Known<'a>
+        ensures { names_in result ≡ no_names }
+    {
+        Known {
+            marks: BTreeMap::new(alloc),
+        }
+    }
+
+    /// What a name stands for, if a call has made it.
+    fn find(&self, name: &str) -> Option<Mark>
+        ensures { result ≡ names_in self.now name.now }
+    {
+        self.marks.get(name).copied()
+    }
+
+    /// Whether no call has made a name.
+    pub fn is_new(&self, name: &str) -> bool
+        ensures { result ≡ is_none (names_in self.now name.now) }
+    {
+        self.find(name).is_none()
+    }
+
+    /// Tests a name that a call of this phase and lane uses: script rule 10 where no call that is
+    /// visible has made it, and 11 where it stands for something else than is wanted.
+    pub fn check_use(&self, phase: u32, lane: u32, name: &Name, wanted: Wanted) -> Result<(), u8>
+        ensures { result ≡ check_use (names_in self.now) phase lane (name.now, wanted) }
+    {
+        match self.find(name.as_str()) {
+            Some(mark) if mark.is_visible(phase, lane) => {
+                if wanted.admits(mark.kind) {
+                    Ok(())
+                } else {
+                    Err(11)
+                }
+            }
+            _ => Err(10),
+        }
+    }
+
+    /// Adds a name.
+    pub fn add(&mut self, name: &'a Name, mark: Mark) -> Result<(), NoMemory>
+        ensures ok { OnOk result (names_in self.new ≡ with_name name.now mark (names_in self.old)) }
+        ensures err { OnErr result (names_in self.new ≡ names_in self.old) }
+    {
+        self.marks.insert(name.as_str(), mark)?;
+        Ok(())
+    }
+}
+
+impl Mark {
+    /// Whether calls of this phase and lane see the name: it was made in an earlier phase, or in
+    /// their own lane.
+    fn is_visible(self, phase: u32, lane: u32) -> bool
+        ensures { result ≡ is_visible phase lane self }
+    {
+        self.phase < phase || (self.phase == phase && self.lane == lane)
+    }
+}

@@ -1,0 +1,11 @@
+//! Sets of numbers, kept as runs.
+#![tactic(auto)]
+
+pub mod runs;
+pub mod set;
+
+pub use set::RunSet;
+pub use wg_entry::NoMemory;
+
+#[cfg(test)]
+mod tests;

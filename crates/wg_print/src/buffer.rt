@@ -1,0 +1,55 @@
+ghost use Rattle.std.specs.Prelude.{◌≡◌, ◌≤◌, ◌<◌, ◌++◌, ◌∷◌, [], length, take, List, ℕ};
+
+use std::marker::Model;
+
+/// At most 4,096 bytes, in an array.
+#[derive(Drop)]
+pub struct Buffer {
+    bytes: [u8; 4096],
+    len: usize,
+}
+
+impl Model for Buffer {
+    ghost Value = { List ℕ };
+
+    ghost view = { λ b. take b.len b.bytes };
+
+    ghost invariant = { λ b. b.len ≤ 4096 };
+}
+
+impl Buffer {
+    pub fn new() -> Buffer
+        ensures { result ≡ [] }
+    {
+        Buffer {
+            bytes: [0; 4096],
+            len: 0,
+        }
+    }
+
+    pub fn len(&self) -> usize
+        ensures { result ≡ length self.now }
+    {
+        self.len
+    }
+
+    pub fn push(&mut self, byte: u8)
+        requires { length self.old < 4096 }
+        ensures { self.new ≡ self.old ++ byte ∷ [] }
+    {
+        self.bytes[self.len] = byte;
+        self.len += 1;
+    }
+
+    pub fn as_slice(&self) -> &[u8]
+        ensures { result.now ≡ self.now }
+    {
+        &self.bytes[..self.len]
+    }
+
+    pub fn clear(&mut self)
+        ensures { self.new ≡ [] }
+    {
+        self.len = 0;
+    }
+}

@@ -1,0 +1,17 @@
+//! The text of a report, printed to a sink through a buffer that takes no memory.
+#![tactic(auto)]
+
+mod buffer;
+mod entries;
+mod items;
+mod pieces;
+mod printing;
+#[cfg(test)]
+mod tests;
+mod usage_sets;
+mod words;
+
+pub use entries::{entry, put_entry};
+pub use items::{item, put_item};
+pub use pieces::{Piece, line, put_all, put_line};
+pub use printing::Out;

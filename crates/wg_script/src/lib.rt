@@ -1,0 +1,19 @@
+//! The first reading of a script: from bytes to calls, or the first rule that the bytes break.
+#![tactic(auto)]
+
+mod call_reading;
+mod calls;
+mod draft;
+mod name;
+mod reading;
+mod values;
+mod words;
+
+pub use calls::Call;
+pub use draft::{Draft, Lane, Phase, Phases, Place, Script, ScriptFault};
+pub use name::Name;
+pub use reading::read;
+pub use wg_entry::NoMemory;
+
+#[cfg(test)]
+mod tests;

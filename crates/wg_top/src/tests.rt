@@ -1,0 +1,147 @@
+ghost use Rattle.std.specs.Prelude.{◌<◌};
+
+use crate::{Status, run};
+use std::alloc::Global;
+use std::test::Fail;
+use wg_io::{MemSink, MemSource};
+
+/// The words of a command line.
+fn words(alloc: Global, texts: &[&str]) -> Result<Vec<String>, Fail> {
+    let mut words = Vec::new(alloc);
+    for text in texts {
+        words.push(String::from_str(alloc, text)?)?;
+    }
+    Ok(words)
+}
+
+/// A sink in memory with this room.
+fn sink_of(alloc: Global, room: usize) -> Result<MemSink, Fail> {
+    MemSink::new(alloc, room, 7, Vec::new(alloc)).map_err(|_| Fail::new("no memory"))
+}
+
+/// Runs the words `run` over a script that comes in pieces of this size, of whose reads these fail.
+/// Gives the status and what was written.
+fn run_on(
+    alloc: Global,
+    script: &[u8],
+    most: usize,
+    fails: Vec<u64>,
+    room: usize,
+) -> Result<(Status, Vec<u8>), Fail>
+    requires { 0 < most }
+{
+    let mut source = MemSource::new(Vec::from_slice(alloc, script)?, most, fails);
+    let mut sink = sink_of(alloc, room)?;
+    let status = run(alloc, &words(alloc, &["run"])?, &mut source, &mut sink);
+    Ok((status, Vec::from_slice(alloc, sink.taken())?))
+}
+
+#[test]
+fn scripts_have_their_texts(rt: HostRuntime) -> Result<(), Fail> {
+    let alloc = rt.alloc();
+    let cases = [
+        // empty script
+        ("{\"budget\":0,\"phases\":[]}", "history\ntrace\nend\n", 0),
+        // write then write barrier
+        (
+            "{\"budget\":1000000,\"phases\":[[[{\"do\":\"createBuffer\",\"as\":\"b\",\"size\":16,\"usage\":8},{\"do\":\"writeBuffer\",\"buffer\":\"b\",\"offset\":0,\"size\":8},{\"do\":\"writeBuffer\",\"buffer\":\"b\",\"offset\":4,\"size\":8}]]]}",
+            "history\n0 0 createBuffer made 0 valid\n1 0 writeBuffer op 1\n2 0 writeBuffer op 2\ntrace\nstep 0 op 1 writeBuffer\nuse b 0 copy-dst\nacc write b 0 0 8\nbar b 0 copy-dst copy-dst\nstep 1 op 2 writeBuffer\nuse b 0 copy-dst\nacc write b 0 4 12\nend\n",
+            0,
+        ),
+        // map read beside storage
+        (
+            "{\"budget\":1000000,\"phases\":[[[{\"do\":\"createBuffer\",\"as\":\"b\",\"size\":16,\"usage\":129},{\"do\":\"writeBuffer\",\"buffer\":\"b\",\"offset\":0,\"size\":8}]]]}",
+            "history\n0 0 createBuffer made 0 invalid fault validation 101 uncaptured\n1 0 writeBuffer plain fault validation 12 uncaptured\ntrace\nend\n",
+            0,
+        ),
+        // write after destroy
+        (
+            "{\"budget\":1000000,\"phases\":[[[{\"do\":\"createBuffer\",\"size\":16,\"usage\":8,\"as\":\"b\"},{\"do\":\"writeBuffer\",\"buffer\":\"b\",\"offset\":0,\"size\":16},{\"do\":\"destroy\",\"object\":\"b\"},{\"do\":\"writeBuffer\",\"buffer\":\"b\",\"offset\":0,\"size\":4},{\"do\":\"complete\",\"op\":1}]]]}",
+            "history\n0 0 createBuffer made 0 valid\n1 0 writeBuffer op 1\n2 0 destroy plain\n3 0 writeBuffer plain fault validation 203 uncaptured\n4 0 complete plain\ntrace\nstep 0 op 1 writeBuffer\nuse b 0 copy-dst\nacc write b 0 0 16\nfree b 0\nend\n",
+            0,
+        ),
+        // buffer size limit
+        (
+            "{\"budget\":1000000000,\"phases\":[[[{\"do\":\"createBuffer\",\"size\":268435456,\"usage\":8,\"as\":\"b\"},{\"do\":\"createBuffer\",\"size\":268435457,\"usage\":8,\"as\":\"d\"}]]]}",
+            "history\n0 0 createBuffer made 0 valid\n1 0 createBuffer made 1 invalid fault validation 103 uncaptured\ntrace\nend\n",
+            0,
+        ),
+        // size greatest number
+        (
+            "{\"budget\":1000000,\"phases\":[[[{\"do\":\"createBuffer\",\"size\":9007199254740991,\"usage\":8,\"as\":\"b\"}]]]}",
+            "history\n0 0 createBuffer made 0 invalid fault validation 103 uncaptured\ntrace\nend\n",
+            0,
+        ),
+        // cut off script
+        ("{\"budget\":1", "bad script 1\n", 3),
+        // size not whole
+        (
+            "{\"budget\":1000000,\"phases\":[[[{\"do\":\"createBuffer\",\"size\":1.5,\"usage\":8,\"as\":\"b\"}]]]}",
+            "bad script 8 0 0 0\n",
+            3,
+        ),
+        // name unknown
+        (
+            "{\"budget\":1000000,\"phases\":[[[{\"do\":\"writeBuffer\",\"buffer\":\"x\",\"offset\":0,\"size\":4}]]]}",
+            "bad script 10 0 0 0\n",
+            3,
+        ),
+        // size over the greatest number
+        (
+            "{\"budget\":1000000,\"phases\":[[[{\"do\":\"createBuffer\",\"size\":9007199254740992,\"usage\":8,\"as\":\"b\"}]]]}",
+            "bad script 8 0 0 0\n",
+            3,
+        ),
+        // budget missing
+        ("{\"phases\":[]}", "bad script 2\n", 3),
+    ];
+    for (script, text, number) in cases {
+        let (status, written) = run_on(alloc, script.as_bytes(), 4096, Vec::new(alloc), 2000)?;
+        assert_eq!(rt; status.number(), number, "{script}");
+        assert_eq!(rt; written.as_slice(), text.as_bytes(), "{script}");
+    }
+    Ok(())
+}
+
+#[test]
+fn faults_of_source_and_sink(rt: HostRuntime) -> Result<(), Fail> {
+    let alloc = rt.alloc();
+    let empty = b"{\"budget\":0,\"phases\":[]}";
+    // The third read, which comes before the end, fails.
+    let fails = vec![in alloc; 3u64]?;
+    let (status, written) = run_on(alloc, empty, 8, fails, 100)?;
+    assert_eq!(rt; status, Status::ReadFault);
+    assert!(rt; written.is_empty());
+    // The sink takes 10 bytes.
+    let (status, written) = run_on(alloc, empty, 4096, Vec::new(alloc), 10)?;
+    assert_eq!(rt; status, Status::WriteFault);
+    assert_eq!(rt; written.as_slice(), b"history\ntr".as_slice());
+    Ok(())
+}
+
+#[test]
+fn words_and_sizes(rt: HostRuntime) -> Result<(), Fail> {
+    let alloc = rt.alloc();
+    for texts in [
+        [].as_slice(),
+        ["run", "x"].as_slice(),
+        ["gen", "0"].as_slice(),
+        ["Run"].as_slice(),
+    ] {
+        let mut source = MemSource::new(Vec::new(alloc), 1, Vec::new(alloc));
+        let mut sink = sink_of(alloc, 100)?;
+        assert_eq!(rt;
+            run(alloc, &words(alloc, texts)?, &mut source, &mut sink),
+            Status::Usage
+        );
+        assert!(rt; sink.taken().is_empty());
+    }
+    let spaces = vec![in alloc; b' '; 4_194_305]?;
+    let (status, written) = run_on(alloc, &spaces, 65_536, Vec::new(alloc), 100)?;
+    assert_eq!(rt; status, Status::TooLarge);
+    assert!(rt; written.is_empty());
+    let (status, written) = run_on(alloc, &spaces[..4_194_304], 65_536, Vec::new(alloc), 100)?;
+    assert_eq!(rt; status.number(), 3);
+    assert_eq!(rt; written.as_slice(), b"bad script 1\n".as_slice());
+    Ok(())
+}
