@@ -1,9 +1,193 @@
-use crate::read_script;
+use crate::{bind, read_script};
+use std::alloc::{AllocError, Global};
+use std::process::Abort;
 use std::test::Fail;
+use wg_script::{Call, Draft, Name, Place, ScriptFault};
+use wg_types::items::Items;
+
+/// A script of one lane, with these calls.
+fn script_of(alloc: Global, calls: &str) -> Result<String, AllocError> {
+    format!(in alloc; "{{\"budget\":1,\"phases\":[[[{calls}]]]}}")
+}
+
+/// Calls that are refused by this rule, each at this call of its lane.
+fn refuses(
+    rt: &impl Abort,
+    alloc: Global,
+    rule: u8,
+    at: u32,
+    scripts: &[&str],
+) -> Result<(), AllocError> {
+    for calls in scripts {
+        let text = script_of(alloc, calls)?;
+        let fault = read_script(alloc, text.as_bytes()).err();
+        let place = Place::Call(0, 0, at);
+        assert_eq!(rt; fault, Some(ScriptFault::Bad { rule, place }), "{text}");
+    }
+    Ok(())
+}
+
+/// Calls that are taken.
+fn takes(rt: &impl Abort, alloc: Global, scripts: &[&str]) -> Result<(), AllocError> {
+    for calls in scripts {
+        let text = script_of(alloc, calls)?;
+        assert_eq!(rt; read_script(alloc, text.as_bytes()).err(), None, "{text}");
+    }
+    Ok(())
+}
+
+/// A draft in short: phases with `/` between them, their lanes with `|`, and their calls with `,`,
+/// where `+a` creates the buffer a and `-a` destroys it.
+fn draft_of(alloc: Global, text: &str) -> Option<Draft> {
+    let mut phases = Items::new(alloc);
+    for phase in text.split('/') {
+        let mut lanes = Items::new(alloc);
+        for lane in phase.split('|') {
+            let mut calls = Items::new(alloc);
+            for call in lane.split(',') {
+                if let Some(made) = call.strip_prefix('+') {
+                    let made = Name::new(alloc, made).ok()?;
+                    calls
+                        .push(Call::CreateBuffer {
+                            size: 16,
+                            usage: 8,
+                            mapped: false,
+                            made,
+                        })
+                        .ok()?;
+                } else if let Some(object) = call.strip_prefix('-') {
+                    let object = Name::new(alloc, object).ok()?;
+                    calls.push(Call::Destroy { object }).ok()?;
+                }
+            }
+            lanes.push(calls).ok()?;
+        }
+        phases.push(lanes).ok()?;
+    }
+    Some(Draft { budget: 5, phases })
+}
+
 #[test]
-fn probe(rt: HostRuntime) -> Result<(), Fail> {
-    let good = br#"{"budget":1,"phases":[[[{"do":"createBuffer","size":16,"usage":8,"as":"bb"},{"do":"createBuffer","size":16,"usage":8,"as":"cc"},{"do":"destroy","object":"bb"},{"do":"complete","op":1}]]]}"#;
-    let fault = read_script(rt.alloc(), good).err();
-    assert_eq!(rt; fault, None);
+fn names_that_are_made(rt: HostRuntime) -> Result<(), Fail> {
+    let most = "a123456789b123456789c123456789d123456789e123456789f123456789ghij";
+    assert_eq!(rt; most.len(), 64);
+    let too_long = format!(in rt.alloc();
+        "{{\"do\":\"createBuffer\",\"size\":16,\"usage\":8,\"as\":\"{most}k\"}}"
+    )?;
+    let longest = format!(in rt.alloc();
+        "{{\"do\":\"createBuffer\",\"size\":16,\"usage\":8,\"as\":\"{most}\"}}"
+    )?;
+    let malformed = [
+        too_long.as_str(),
+        r#"{"do":"createBuffer","size":16,"usage":8,"as":""}"#,
+        r#"{"do":"createBuffer","size":16,"usage":8,"as":"a b"}"#,
+        r#"{"do":"createBuffer","size":16,"usage":8,"as":"a-b"}"#,
+        r#"{"do":"createBuffer","size":16,"usage":8,"as":"é"}"#,
+        r#"{"do":"createBuffer","size":16,"usage":8,"as":"a\n"}"#,
+        r#"{"do":"createBuffer","size":16,"usage":8,"as":"@"}"#,
+        r#"{"do":"createBuffer","size":16,"usage":8,"as":"`"}"#,
+        r#"{"do":"createBuffer","size":16,"usage":8,"as":"{"}"#,
+        r#"{"do":"createBuffer","size":16,"usage":8,"as":":"}"#,
+        r#"{"do":"createBuffer","size":16,"usage":8,"as":"/"}"#,
+    ];
+    refuses(&rt, rt.alloc(), 9, 0, &malformed)?;
+    let fine = [
+        longest.as_str(),
+        r#"{"do":"createBuffer","size":16,"usage":8,"as":"_"}"#,
+        r#"{"do":"createBuffer","size":16,"usage":8,"as":"0"}"#,
+        r#"{"do":"createBuffer","size":16,"usage":8,"as":"9AZaz_"}"#,
+    ];
+    takes(&rt, rt.alloc(), &fine)?;
+    let twice = [
+        r#"{"do":"createBuffer","size":16,"usage":8,"as":"b"},{"do":"createBuffer","size":16,"usage":8,"as":"b"}"#,
+    ];
+    refuses(&rt, rt.alloc(), 9, 1, &twice)?;
+    Ok(())
+}
+
+#[test]
+fn names_that_are_used(rt: HostRuntime) -> Result<(), Fail> {
+    let unknown = [
+        r#"{"do":"writeBuffer","buffer":"b","offset":0,"size":4}"#,
+        r#"{"do":"destroy","object":"b"}"#,
+        r#"{"do":"destroy","object":"not a name"}"#,
+        r#"{"do":"destroy","object":"b"},{"do":"createBuffer","size":16,"usage":8,"as":"b"}"#,
+        r#"{"do":"destroy","object":"b"},{"do":"createBuffer","size":16,"usage":8,"as":"a b"}"#,
+    ];
+    refuses(&rt, rt.alloc(), 10, 0, &unknown)?;
+    let other = [
+        r#"{"do":"createBuffer","size":16,"usage":8,"as":"b"},{"do":"destroy","object":"B"}"#,
+        r#"{"do":"createBuffer","size":16,"usage":8,"as":"b"},{"do":"destroy","object":"bb"}"#,
+        r#"{"do":"createBuffer","size":16,"usage":8,"as":"bb"},{"do":"destroy","object":"b"}"#,
+    ];
+    refuses(&rt, rt.alloc(), 10, 1, &other)?;
+    let fine = [
+        r#"{"do":"createBuffer","size":16,"usage":8,"as":"b"},{"do":"destroy","object":"b"},{"do":"destroy","object":"b"}"#,
+    ];
+    takes(&rt, rt.alloc(), &fine)?;
+    Ok(())
+}
+
+#[test]
+fn the_first_reading_first(rt: HostRuntime) -> Result<(), Fail> {
+    let scripts = [
+        r#"{"do":"destroy","object":"b"},{"do":"complete","op":-1}"#,
+        r#"{"do":"createBuffer","size":16,"usage":8,"as":"a b"},{"do":"destroy","object":7}"#,
+    ];
+    refuses(&rt, rt.alloc(), 8, 1, &scripts)?;
+    let fault = read_script(rt.alloc(), b"{").err();
+    assert_eq!(rt;
+        fault,
+        Some(ScriptFault::Bad {
+            rule: 1,
+            place: Place::None
+        })
+    );
+    Ok(())
+}
+
+#[test]
+fn lanes_and_phases(rt: HostRuntime) -> Result<(), Fail> {
+    let refused = [
+        ("-a", 10, Place::Call(0, 0, 0)),
+        ("+a|-a", 10, Place::Call(0, 1, 0)),
+        ("-a|+a", 10, Place::Call(0, 0, 0)),
+        ("+a|+a", 9, Place::Call(0, 1, 0)),
+        ("+a/+a", 9, Place::Call(1, 0, 0)),
+        ("+a/|+b,+a", 9, Place::Call(1, 1, 1)),
+        ("-a/+a", 10, Place::Call(0, 0, 0)),
+        ("+a/|+b|-a,+c,-c,-b", 10, Place::Call(1, 2, 3)),
+        ("+a|+b/-a,-b,-c", 10, Place::Call(1, 0, 2)),
+        ("+a|-b/+a", 10, Place::Call(0, 1, 0)),
+    ];
+    for (text, rule, place) in refused {
+        let draft = draft_of(rt.alloc(), text).ok_or("memory")?;
+        let fault = bind(rt.alloc(), draft).err();
+        assert_eq!(rt; fault, Some(ScriptFault::Bad { rule, place }), "{text}");
+    }
+    for text in ["", "+a,-a", "+a|+b,-b/-a|-b|-a,-b", "//+a,+b/-b"] {
+        let draft = draft_of(rt.alloc(), text).ok_or("memory")?;
+        assert_eq!(rt; bind(rt.alloc(), draft).err(), None, "{text}");
+    }
+    Ok(())
+}
+
+#[test]
+fn the_same_calls(rt: HostRuntime) -> Result<(), Fail> {
+    let draft = draft_of(rt.alloc(), "+a|+b/-b,-a").ok_or("memory")?;
+    let script = bind(rt.alloc(), draft).ok().ok_or("no script")?;
+    assert_eq!(rt; script.budget, 5);
+    let [first, second] = script.phases.as_slice() else {
+        return Err(Fail::from("two phases"));
+    };
+    assert_eq!(rt; first.as_slice().len(), 2);
+    let [lane] = second.as_slice() else {
+        return Err(Fail::from("one lane"));
+    };
+    let [b, a] = lane.as_slice() else {
+        return Err(Fail::from("two calls"));
+    };
+    assert!(rt; matches!(b, Call::Destroy { object } if object.as_str() == "b"));
+    assert!(rt; matches!(a, Call::Destroy { object } if object.as_str() == "a"));
     Ok(())
 }

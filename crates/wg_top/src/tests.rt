@@ -6,10 +6,10 @@ use std::test::Fail;
 use wg_io::{MemSink, MemSource};
 
 /// The words of a command line.
-fn words(alloc: Global, texts: &[&str]) -> Result<Vec<String>, Fail> {
+fn words(alloc: Global, line: &str) -> Result<Vec<String>, Fail> {
     let mut words = Vec::new(alloc);
-    for text in texts {
-        words.push(String::from_str(alloc, text)?)?;
+    for word in line.split_whitespace() {
+        words.push(String::from_str(alloc, word)?)?;
     }
     Ok(words)
 }
@@ -32,7 +32,7 @@ fn run_on(
 {
     let mut source = MemSource::new(Vec::from_slice(alloc, script)?, most, fails);
     let mut sink = sink_of(alloc, room)?;
-    let status = run(alloc, &words(alloc, &["run"])?, &mut source, &mut sink);
+    let status = run(alloc, &words(alloc, "run")?, &mut source, &mut sink);
     Ok((status, Vec::from_slice(alloc, sink.taken())?))
 }
 
@@ -122,26 +122,20 @@ fn faults_of_source_and_sink(rt: HostRuntime) -> Result<(), Fail> {
 #[test]
 fn words_and_sizes(rt: HostRuntime) -> Result<(), Fail> {
     let alloc = rt.alloc();
-    for texts in [
-        [].as_slice(),
-        ["run", "x"].as_slice(),
-        ["gen", "0"].as_slice(),
-        ["Run"].as_slice(),
-    ] {
+    for line in ["", "run x", "gen 0", "Run"] {
         let mut source = MemSource::new(Vec::new(alloc), 1, Vec::new(alloc));
         let mut sink = sink_of(alloc, 100)?;
         assert_eq!(rt;
-            run(alloc, &words(alloc, texts)?, &mut source, &mut sink),
+            run(alloc, &words(alloc, line)?, &mut source, &mut sink),
             Status::Usage
         );
         assert!(rt; sink.taken().is_empty());
     }
-    let spaces = vec![in alloc; b' '; 4_194_305]?;
-    let (status, written) = run_on(alloc, &spaces, 65_536, Vec::new(alloc), 100)?;
-    assert_eq!(rt; status, Status::TooLarge);
-    assert!(rt; written.is_empty());
-    let (status, written) = run_on(alloc, &spaces[..4_194_304], 65_536, Vec::new(alloc), 100)?;
-    assert_eq!(rt; status.number(), 3);
-    assert_eq!(rt; written.as_slice(), b"bad script 1\n".as_slice());
+    for (size, number, text) in [(4_194_305, 7, ""), (4_194_304, 3, "bad script 1\n")] {
+        let spaces = vec![in alloc; b' '; size]?;
+        let (status, written) = run_on(alloc, &spaces, 65_536, Vec::new(alloc), 100)?;
+        assert_eq!(rt; status.number(), number);
+        assert_eq!(rt; written.as_slice(), text.as_bytes());
+    }
     Ok(())
 }
