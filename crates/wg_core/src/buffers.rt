@@ -5,7 +5,8 @@ ghost use Rattle.wg_model.specs.Rules.{first_unmet};
 
 use wg_types::handles::BufferInfo;
 
-/// The first unmet rule of createBuffer, of those that what the buffer is made with tells.
+/// The first unmet rule of createBuffer (WebGPU, "Buffer Creation"), of those that what the buffer is
+/// made with tells.
 pub fn check_create(info: &BufferInfo) -> Option<u16>
     ensures { result ≡ first_unmet (create_buffer_rules info.now) }
 {

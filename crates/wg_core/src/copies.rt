@@ -5,7 +5,8 @@ ghost use Rattle.wg_model.specs.Rules.{first_unmet};
 
 use wg_types::handles::BufferInfo;
 
-/// The first unmet rule of a write to a buffer of this info.
+/// The first unmet rule of a write of `size` bytes at `offset` to a buffer of this info (WebGPU,
+/// "writeBuffer").
 pub fn check_write_buffer(info: &BufferInfo, offset: u64, size: u64) -> Option<u16>
     ensures rule { result ≡ first_unmet (write_buffer_rules info.now offset size) }
     ensures fits { IsNone result → offset + size < 2 ^ 64 }

@@ -6,7 +6,7 @@ use crate::{copies, look};
 use wg_history::events::{Entry, Event, Setup};
 use wg_types::handles::ObjRef;
 
-/// The first unmet rule of a destroy.
+/// The first unmet rule of a destroy (WebGPU, "Buffer Destruction").
 #[tactic(auto, unfolding(wg_history::specs::Rules::destroy_rule))]
 pub fn destroy(setup: Setup, history: &[Entry], object: ObjRef) -> Option<u16>
     ensures { result ≡ destroy_rule setup (reverse history.now) object }
@@ -42,7 +42,7 @@ pub fn is_destroyed(setup: Setup, history: &[Entry], number: u64) -> bool
     found
 }
 
-/// The first unmet rule of a write.
+/// The first unmet rule of a write (WebGPU, "writeBuffer").
 #[tactic(auto, unfolding(wg_history::specs::Rules::write_buffer_rule))]
 pub fn write_buffer(
     setup: Setup,
