@@ -42,6 +42,14 @@ abbrev Adds : ℕ → ℕ → Names → Names → Made → Type 0
 Adds p l old new made = (name : List ℕ) (mark : Mark) → new name ≡ Some mark
     → (old name ≡ Some mark) ⊎ ((mark.phase ≡ p) × (mark.lane ≡ l) × Contains made (name, mark.kind))
 
+-- the only name of a list
+only_made : (m : List ℕ × NameKind) (name : List ℕ) (kind : NameKind) → m.0 ≡ name → m.1 ≡ kind → Contains (m ∷ []) (name, kind)
+only_made m name kind name_is kind_is =
+    let P : List ℕ × NameKind → Type 0 = λ q. Contains (m ∷ []) q in
+    let there : (m.0, m.1) ≡ (name, kind) = cc in
+    subst P there (Contains-push [] m)
+
+-- what a name stands for, once one more was made
 one_more : (p l : ℕ) (names : Names) (m : List ℕ × NameKind) (name : List ℕ) (mark : Mark) (b : Bool) → bytes_eq m.0 name ≡ b
     → with_name m.0 (record { kind = m.1; phase = p; lane = l }) names name ≡ Some mark
     → (names name ≡ Some mark) ⊎ ((mark.phase ≡ p) × (mark.lane ≡ l) × Contains (m ∷ []) (name, mark.kind))
@@ -50,9 +58,7 @@ one_more p l names m name mark true same is =
     let mark_is : (let k : Mark = record { kind = m.1; phase = p; lane = l } in k) ≡ mark = cc made in
     let name_is : m.0 ≡ name = (bytes_eq-Decides m.0 name).0 same in
     let kind_is : m.1 ≡ mark.kind = ap (λ (k : Mark). k.kind) mark_is in
-    let P : List ℕ × NameKind → Type 0 = λ q. Contains (m ∷ []) q in
-    let there : (m.0, m.1) ≡ (name, mark.kind) = cc in
-    inr (sym (ap (λ (k : Mark). k.phase) mark_is), sym (ap (λ (k : Mark). k.lane) mark_is), subst P there (Contains-push [] m))
+    inr (sym (ap (λ (k : Mark). k.phase) mark_is), sym (ap (λ (k : Mark). k.lane) mark_is), only_made m name mark.kind name_is kind_is)
 one_more p l names m name mark false other is = inl (rw other at is)
 
 adds_made : (p l : ℕ) (names more : Names) (o : Option (List ℕ × NameKind)) → Makes p l names more o → Adds p l names more (option_to_list o)
