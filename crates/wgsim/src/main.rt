@@ -24,6 +24,8 @@ fn main(rt: HostRuntime) -> ExitCode {
             let mut sink = StdSink::new(rt.stdout());
             run(rt.alloc(), &words, &mut source, &mut sink)
         }
+        Err(error) if error.kind() == io::ErrorKind::OutOfMemory => Status::NoMemory,
+        // A word that is no text is no word that is known.
         Err(_) => Status::Usage,
     };
     ExitCode::from(status.number())
