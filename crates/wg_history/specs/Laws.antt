@@ -1,10 +1,11 @@
 -- The laws of histories.
-use Rattle.std.specs.Prelude.{◌≡◌, ℕ, List, [], ◌∷◌, ◌++◌, reverse, Some, false, slice_get}
+use Rattle.std.specs.Prelude.{◌≡◌, ℕ, List, [], ◌∷◌, ◌++◌, reverse, Some, false, option_map, slice_get}
 use Rattle.wg_orders.specs.Steps.{Cell, Step, is_clear, IsDeclared}
 use Rattle.wg_orders.specs.Trace.{steps_of, steps_in, add_work}
 use Rattle.wg_orders.specs.Orders.{IsOrder, Keeps, Agrees}
-use Rattle.wg_history.specs.Entries.{Setup, Event, Entry}
-use Rattle.wg_history.specs.Answers.{Answer, reply_to, Run}
+use Rattle.wg_history.specs.Entries.{Setup, Event, Entry, Past}
+use Rattle.wg_history.specs.Rules.{first_rule}
+use Rattle.wg_history.specs.Answers.{Answer, fault_of, reply_to, Run}
 use Rattle.wg_history.specs.Steps.{groups_of, Steps}
 use Rattle.wg_history.specs.Traces.{Trace, work_of}
 
@@ -32,3 +33,7 @@ TraceGoesOn = (setup : Setup) (history : List Entry) (entry : Entry) → Trace s
 
 abbrev pub StepsGoOn : Type 0
 StepsGoOn = (history : List Entry) (entry : Entry) → Steps (history ++ entry ∷ []) ≡ Steps history ++ steps_in (groups_of entry.reply.answer entry.event)
+
+-- The fault of the one reply is that of the event's first unmet rule, and there is none where all are met.
+abbrev pub FaultsAreFirst : Type 0
+FaultsAreFirst = (setup : Setup) (past : Past) (event : Event) → (reply_to setup past event).fault ≡ option_map fault_of (first_rule setup past event)

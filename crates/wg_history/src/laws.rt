@@ -1,7 +1,12 @@
 //! The laws of histories, as the contracts of functions that do nothing.
-ghost use Rattle.wg_history.specs.Laws.{EveryOrder, RunGoesOn, RunHas, StepsAreDeclared, StepsGoOn, TraceGoesOn};
+ghost use Rattle.wg_history.specs.Laws.{EveryOrder, FaultsAreFirst, RunGoesOn, RunHas, StepsAreDeclared, StepsGoOn, TraceGoesOn};
 ghost use Rattle.wg_history.specs.Examples.{TwoWrites, WriteAfterDestroy, WriteOfInvalid};
 ghost use Rattle.wg_history.specs.ReleaseLaws.{FreedAfterUse, FreedHere, FreedOnce, StaysDue, UnusedAfter};
+
+/// The fault of the one reply to an event is that of its first unmet rule.
+pub fn first_rules()
+    ensures { FaultsAreFirst }
+{}
 
 /// The steps of every event are as the table of uses has them.
 pub fn declared_steps()

@@ -1,4 +1,5 @@
 use crate::handles::{BufferInfo, Handle, Info, ObjRef};
+use crate::items::Items;
 use crate::same::Same;
 use std::sync::Arc;
 use std::test::Fail;
@@ -19,5 +20,16 @@ fn a_shared_handle_is_the_same(rt: HostRuntime) -> Result<(), Fail> {
     assert_eq!(rt; shared.reference(), reference);
     assert!(rt; shared.valid());
     assert!(rt; shared.info().same(handle.info()));
+    Ok(())
+}
+
+#[test]
+fn a_list_grows_and_is_copied(rt: HostRuntime) -> Result<(), Fail> {
+    let mut items = Items::new(rt.alloc());
+    items.push(3u64)?;
+    items.push(5u64)?;
+    let copy = items.clone()?;
+    assert_eq!(rt; items.as_slice(), [3u64, 5].as_slice());
+    assert_eq!(rt; copy.as_slice(), [3u64, 5].as_slice());
     Ok(())
 }
