@@ -1,1 +1,3 @@
 pub mod Unmet
+pub mod Walks
+pub mod StepLaws

@@ -1,6 +1,7 @@
 //! Plain data: objects and what is known of them, parts and cells of memory, steps, traces, replies.
 #![tactic(auto)]
 
+pub mod commands;
 pub mod handles;
 pub mod items;
 pub mod parts;

@@ -1,5 +1,6 @@
 //! Steps and traces.
 
+use crate::handles::ObjRef;
 use crate::items::Items;
 use crate::parts::{Cells, Kind, PartRun};
 use crate::usages::Usages;
@@ -35,6 +36,19 @@ pub enum StepName {
     HostRead,
     HostWrite,
 }
+
+/// A write of the queue: `size` bytes at `offset` of a buffer (WebGPU, "writeBuffer").
+#[derive(Clone, Copy, PartialEq, Eq, Debug)]
+pub enum QueueWrite {
+    Buffer {
+        buffer: ObjRef,
+        offset: u64,
+        size: u64,
+    },
+}
+
+/// A list of steps.
+pub type Steps = Items<Step>;
 
 /// One step, with its uses and accesses as they are printed.
 #[derive(Drop)]

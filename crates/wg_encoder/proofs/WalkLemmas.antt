@@ -1,0 +1,185 @@
+-- What is known of the kept commands after one more.
+use Rattle.std.proofs.Common.{◌≡◌, ℕ, ◌+◌, ◌<◌, ◌==◌, ◌||◌, ◌++◌, inl, inr, Bool, true, false, Option, Some, None, List, [], ◌∷◌, length, get_or, slice_set, refl, sym, ◌∙◌, ap, arith, append-nil, length-append, slice_index_or, is_some}
+use Rattle.std.proofs.lemmas.List.{length-set, get_or-set_other}
+use Rattle.std.proofs.lemmas.Grind.{get_or-set_at}
+use Rattle.std.proofs.Common.{◌≢◌}
+use Rattle.std.proofs.lemmas.Bool.{cases_lt}
+use Rattle.std.proofs.lemmas.Bool.Decides.{nat_tests}
+use Rattle.std.proofs.lemmas.List.{get_or_append_left}
+use Rattle.std.proofs.Math.Seq.{get_or-append_seam}
+use Rattle.wg_types.specs.declared.commands.Command.{Command}
+use Rattle.wg_types.specs.declared.commands.On.TheVariants.{Encoder, Pass}
+use Rattle.wg_types.specs.declared.parts.PartRun.{PartRun}
+use Rattle.wg_types.specs.declared.commands.Command.TheVariants.{BeginComputePass}
+use Rattle.wg_model.proofs.Walks.{ended_new, open_number_below}
+use Rattle.wg_types.specs.Commands.{is_begin, is_end}
+use Rattle.wg_model.specs.Rules.{or_else, first_unmet}
+use Rattle.wg_model.specs.Commands.{command_rules}
+use Rattle.wg_model.specs.Compute.{depth_after}
+use Rattle.wg_model.specs.Scopes.{Use, clash, first_clash}
+use Rattle.wg_model.specs.Walk.{Kept, PassSoFar, pass_rule, begins, open_pass, is_open, has_ended, encoder_depth, verdict, scopes_in, scopes_of}
+use Rattle.wg_encoder.specs.Walked.{IsStateOf, IsOpenOf, IsWalkOf, IsNext}
+use Rattle.wg_encoder.specs.declared.walk.Walk.{Walk}
+use Rattle.wg_encoder.specs.declared.walk.Opened.{Opened}
+
+pub or_none : {X : Type 0} (a : Option X) → or_else a None ≡ a
+or_none None = refl
+or_none (Some x) = refl
+
+or_assoc : {X : Type 0} (a b c : Option X) → or_else (or_else a b) c ≡ or_else a (or_else b c)
+or_assoc None b c = refl
+or_assoc (Some x) b c = refl
+
+-- of two that are none, both are
+or_first : {X : Type 0} (a b : Option X) → or_else a b ≡ None → a ≡ None
+or_first None b h = refl
+or_first (Some x) b h = h
+
+or_second : {X : Type 0} (a b : Option X) → or_else a b ≡ None → b ≡ None
+or_second None b h = h
+or_second (Some x) b h = absurd (cc)
+
+pub first_clash-append : (xs ys : List (List Use)) → first_clash (xs ++ ys) ≡ or_else (first_clash xs) (first_clash ys)
+first_clash-append [] ys = refl
+first_clash-append (x ∷ xs) ys = ap (λ r. or_else (clash x) r) (first_clash-append xs ys) ∙ sym (or_assoc (clash x) (first_clash xs) (first_clash ys))
+
+at_push : (marks : List Bool) (c n : ℕ) (d : ℕ → Bool) → length marks ≡ c → ((k : ℕ) → k < c → get_or marks k false ≡ d k) → d c ≡ false → n < c + 1 → get_or (marks ++ false ∷ []) n false ≡ d n
+at_push marks c n d len each new lt = elim (cases_lt n c) [
+  | inl below ↦ get_or_append_left marks (false ∷ []) false n (omega arith) ∙ each n below
+  | inr above ↦ (let same : n ≡ length marks = omega arith in
+      let here : n ≡ c = omega arith in rw here (rw (← len) (get_or-append_seam marks false [] false) ∙ sym new))
+]
+
+-- a command on a pass that is not open
+pub walk_dead : (device : ℕ) (kept : Kept) (pass : ℕ) (command : Command) (walk : Walk) → IsWalkOf device kept walk → is_open (open_pass kept) pass ≡ false → IsWalkOf device ((Pass pass, command) ∷ kept) walk
+walk_dead device kept pass command walk m h = record {
+  count = m.count;
+  ended_is = λ n lt. m.ended_is n lt ∙ rw h refl;
+  verdict_is = m.verdict_is ∙ rw h (sym (or_none _));
+  depth_is = m.depth_is;
+  open_is = rw h m.open_is;
+  clash_is = λ v r. m.clash_is (or_first _ _ v) (rw h at r) ∙ rw h (ap first_clash (sym (append-nil (scopes_of kept))));
+}
+
+some_is : (opened : Option PassSoFar) → is_some opened ≡ true → (q : PassSoFar) × (opened ≡ Some q)
+some_is None h = absurd (cc)
+some_is (Some q) h = (q, refl)
+
+none_is : (opened : Option PassSoFar) → is_some opened ≡ false → opened ≡ None
+none_is None h = refl
+none_is (Some q) h = absurd (cc)
+
+-- a command on a locked encoder that begins no pass
+locked : (device : ℕ) (kept : Kept) (opened : PassSoFar) (command : Command) (walk : Walk) → IsWalkOf device kept walk → open_pass kept ≡ Some opened → is_begin command ≡ false → IsWalkOf device ((Encoder, command) ∷ kept) (record walk { verdict = or_else walk.verdict (Some 240) })
+locked device kept opened command walk m e b = record {
+  count = rw b m.count;
+  ended_is = λ n lt. m.ended_is n (rw b at lt);
+  verdict_is = rw e (ap (λ v. or_else v (Some 240)) m.verdict_is);
+  depth_is = rw e m.depth_is;
+  open_is = let o = m.open_is in rw e (rw e at o);
+  clash_is = λ v r. let w = or_second (verdict device kept) _ v in absurd (let x = rw e at w in cc);
+}
+
+-- a dead pass: one that is begun on a locked encoder
+dead_begun : (device : ℕ) (kept : Kept) (opened : PassSoFar) (command : Command) (walk : Walk) → IsWalkOf device kept walk → open_pass kept ≡ Some opened → is_begin command ≡ true → IsWalkOf device ((Encoder, command) ∷ kept) (record walk { verdict = or_else walk.verdict (Some 240); ended = walk.ended ++ false ∷ [] })
+dead_begun device kept opened command walk m e b = record {
+  count = rw b (length-append walk.ended (false ∷ []) ∙ omega (arith, m.count));
+  ended_is = λ n lt. at_push walk.ended (begins kept) n (has_ended kept) m.count m.ended_is (ended_new kept) (rw b at lt);
+  verdict_is = rw e (ap (λ v. or_else v (Some 240)) m.verdict_is);
+  depth_is = rw e m.depth_is;
+  open_is = let o = m.open_is in rw e (rw e at o);
+  clash_is = λ v r. let w = or_second (verdict device kept) _ v in absurd (let x = rw e at w in cc);
+}
+
+pub walk_locked : (device : ℕ) (kept : Kept) (command : Command) (walk : Walk) → IsWalkOf device kept walk → is_some (open_pass kept) ≡ true → is_begin command ≡ false → IsWalkOf device ((Encoder, command) ∷ kept) (record walk { verdict = or_else walk.verdict (Some 240) })
+walk_locked device kept command walk m l b = let q = some_is (open_pass kept) l in locked device kept q.0 command walk m q.1 b
+
+pub walk_dead_begun : (device : ℕ) (kept : Kept) (command : Command) (walk : Walk) → IsWalkOf device kept walk → is_some (open_pass kept) ≡ true → is_begin command ≡ true → IsWalkOf device ((Encoder, command) ∷ kept) (record walk { verdict = or_else walk.verdict (Some 240); ended = walk.ended ++ false ∷ [] })
+walk_dead_begun device kept command walk m l b = let q = some_is (open_pass kept) l in dead_begun device kept q.0 command walk m q.1 b
+
+-- a begin has no rule of the encoder, and leaves its debug groups
+begin_rule_none : (device depth : ℕ) (command : Command) → is_begin command ≡ true → first_unmet (command_rules device depth command) ≡ None
+begin_rule_none device depth BeginComputePass b = refl
+begin_rule_none device depth _ b = absurd (cc)
+
+begin_depth : (depth : ℕ) (command : Command) → is_begin command ≡ true → depth_after depth command ≡ depth
+begin_depth depth BeginComputePass b = refl
+begin_depth depth _ b = absurd (cc)
+
+-- a pass that is begun on an unlocked encoder
+begun : (device : ℕ) (kept : Kept) (command : Command) (walk : Walk) (opened : Opened) → IsWalkOf device kept walk → open_pass kept ≡ None → is_begin command ≡ true → opened.number ≡ begins kept → IsStateOf device command [] opened.state → IsWalkOf device ((Encoder, command) ∷ kept) (record walk { ended = walk.ended ++ false ∷ []; opened = Some opened })
+begun device kept command walk opened m e b n s = record {
+  count = rw b (length-append walk.ended (false ∷ []) ∙ omega (arith, m.count));
+  ended_is = λ k lt. at_push walk.ended (begins kept) k (has_ended kept) m.count m.ended_is (ended_new kept) (rw b at lt);
+  verdict_is = rw e (rw (begin_rule_none device (encoder_depth kept) command b) (m.verdict_is ∙ sym (or_none _)));
+  depth_is = rw e (m.depth_is ∙ sym (begin_depth (encoder_depth kept) command b));
+  open_is = rw e (rw b (n, s));
+  clash_is = λ v r. m.clash_is (or_first _ _ v) (rw e refl) ∙ ap first_clash (sym (append-nil (scopes_of kept)));
+}
+
+-- a command on an unlocked encoder that begins no pass
+command_free : (device : ℕ) (kept : Kept) (command : Command) (walk : Walk) → IsWalkOf device kept walk → open_pass kept ≡ None → is_begin command ≡ false → IsWalkOf device ((Encoder, command) ∷ kept) (record walk { verdict = or_else walk.verdict (first_unmet (command_rules device walk.depth command)); depth = depth_after walk.depth command })
+command_free device kept command walk m e b = record {
+  count = rw b m.count;
+  ended_is = λ n lt. m.ended_is n (rw b at lt);
+  verdict_is = rw e (rw m.verdict_is (rw m.depth_is refl));
+  depth_is = rw e (ap (λ d. depth_after d command) m.depth_is);
+  open_is = let o = m.open_is in rw e (rw b (rw e at o));
+  clash_is = λ v r. m.clash_is (or_first _ _ v) (rw e refl) ∙ ap first_clash (sym (append-nil (scopes_of kept)));
+}
+
+pub walk_begun : (device : ℕ) (kept : Kept) (command : Command) (walk : Walk) (opened : Opened) → IsWalkOf device kept walk → is_some (open_pass kept) ≡ false → is_begin command ≡ true → opened.number ≡ begins kept → IsStateOf device command [] opened.state → IsWalkOf device ((Encoder, command) ∷ kept) (record walk { ended = walk.ended ++ false ∷ []; opened = Some opened })
+walk_begun device kept command walk opened m f b n s = begun device kept command walk opened m (none_is (open_pass kept) f) b n s
+
+pub walk_command : (device : ℕ) (kept : Kept) (command : Command) (walk : Walk) → IsWalkOf device kept walk → is_some (open_pass kept) ≡ false → is_begin command ≡ false → IsWalkOf device ((Encoder, command) ∷ kept) (record walk { verdict = or_else walk.verdict (first_unmet (command_rules device walk.depth command)); depth = depth_after walk.depth command })
+walk_command device kept command walk m f b = command_free device kept command walk m (none_is (open_pass kept) f) b
+
+open_some : (opened : Option PassSoFar) (pass : ℕ) → is_open opened pass ≡ true → (q : PassSoFar) × (opened ≡ Some q)
+open_some None pass h = absurd (cc)
+open_some (Some q) pass h = (q, refl)
+
+clash_after : (device : ℕ) (kept : Kept) (q : PassSoFar) (command : Command) (walk : Walk) (old new : Opened) (found : Option PartRun) (rule : Option ℕ) → IsWalkOf device kept walk → open_pass kept ≡ Some q → IsOpenOf device (Some q) (Some old) → IsNext device command old new found rule → verdict device kept ≡ None → pass_rule device q.begin (command ∷ q.earlier) ≡ None → or_else walk.clash found ≡ first_clash (scopes_of kept ++ scopes_in q.begin q.earlier command)
+clash_after device kept q command walk old new found rule m e o next v r =
+    rw (m.clash_is v (rw e (or_first _ _ r))) (rw (next.clash_is q.begin q.earlier (next.took q.begin q.earlier o.1) r) (sym (first_clash-append (scopes_of kept) (scopes_in q.begin q.earlier command))))
+
+inside : (device : ℕ) (kept : Kept) (pass : ℕ) (q : PassSoFar) (command : Command) (walk : Walk) (old new : Opened) (found : Option PartRun) (rule : Option ℕ) → IsWalkOf device kept walk → open_pass kept ≡ Some q → pass == q.number ≡ true → is_end command ≡ false → IsOpenOf device (Some q) (Some old) → IsNext device command old new found rule → IsWalkOf device ((Pass pass, command) ∷ kept) (record walk { opened = Some new; clash = or_else walk.clash found })
+inside device kept pass q command walk old new found rule m e h b o next = record {
+  count = m.count;
+  ended_is = λ n lt. m.ended_is n lt ∙ rw e (rw h (rw b refl));
+  verdict_is = m.verdict_is ∙ rw e (rw h (rw b (sym (or_none _))));
+  depth_is = m.depth_is;
+  open_is = rw e (rw h (rw b (next.number ∙ o.0, next.took q.begin q.earlier o.1)));
+  clash_is = λ v r. rw e (rw h (clash_after device kept q command walk old new found rule m e o next (or_first _ _ v) (let x = rw e at r in let y = rw h at x in rw b at y)));
+}
+
+at_set_by : (b : Bool) (marks : List Bool) (p n : ℕ) (d : Bool) → (p == n) ≡ b → p < length marks → slice_index_or marks n false ≡ d → slice_index_or (slice_set marks p true) n false ≡ b || d
+at_set_by true marks p n d e lt each = let same : n ≡ p = grind (arith, nat_tests, e) in get_or-set_at marks p n true false same lt
+at_set_by false marks p n d e lt each = let other : n ≢ p = grind (arith, nat_tests, e) in get_or-set_other marks p n true false other ∙ each
+
+at_set : (marks : List Bool) (p n c : ℕ) (d : ℕ → Bool) → length marks ≡ c → p < c → ((k : ℕ) → k < c → slice_index_or marks k false ≡ d k) → n < c → slice_index_or (slice_set marks p true) n false ≡ (p == n) || d n
+at_set marks p n c d len lt each below = at_set_by (p == n) marks p n (d n) refl (omega (arith, len, lt)) (each n below)
+
+ended : (device : ℕ) (kept : Kept) (pass : ℕ) (q : PassSoFar) (command : Command) (walk : Walk) (old new : Opened) (found : Option PartRun) (rule : Option ℕ) → IsWalkOf device kept walk → open_pass kept ≡ Some q → pass == q.number ≡ true → is_end command ≡ true → IsOpenOf device (Some q) (Some old) → IsNext device command old new found rule → pass < begins kept → IsWalkOf device ((Pass pass, command) ∷ kept) (record walk { opened = None; clash = or_else walk.clash found; verdict = or_else walk.verdict rule; ended = slice_set walk.ended pass true })
+ended device kept pass q command walk old new found rule m e h b o next lt = record {
+  count = length-set walk.ended pass true ∙ m.count;
+  ended_is = λ n below. at_set walk.ended pass n (begins kept) (has_ended kept) m.count lt m.ended_is below ∙ rw e (rw h (rw b refl));
+  verdict_is = rw m.verdict_is (rw e (rw h (rw b (rw (next.rule_is q.begin q.earlier (next.took q.begin q.earlier o.1)) refl))));
+  depth_is = m.depth_is;
+  open_is = rw e (rw h (rw b tt));
+  clash_is = λ v r. rw e (rw h (clash_after device kept q command walk old new found rule m e o next (or_first _ _ v) (let x = or_second (verdict device kept) _ v in let y = rw e at x in let z = rw h at y in rw b at z)));
+}
+
+opened_is : (device : ℕ) (opened : Option PassSoFar) (q : PassSoFar) (held : Option Opened) (old : Opened) → IsOpenOf device opened held → opened ≡ Some q → held ≡ Some old → IsOpenOf device (Some q) (Some old)
+opened_is device opened q held old o e h = let x = rw e at o in rw h at x
+
+-- a command of the open pass that is no end
+pub walk_inside : (device : ℕ) (kept : Kept) (pass : ℕ) (command : Command) (walk : Walk) (old new : Opened) (found : Option PartRun) (rule : Option ℕ) → IsWalkOf device kept walk → walk.opened ≡ Some old → is_open (open_pass kept) pass ≡ true → is_end command ≡ false → IsNext device command old new found rule → IsWalkOf device ((Pass pass, command) ∷ kept) (record walk { opened = Some new; clash = or_else walk.clash found })
+walk_inside device kept pass command walk old new found rule m h i b next =
+    let q = open_some (open_pass kept) pass i in
+    inside device kept pass q.0 command walk old new found rule m q.1 (rw q.1 at i) b (opened_is device (open_pass kept) q.0 walk.opened old m.open_is q.1 h) next
+
+-- the end of the open pass
+pub walk_ended : (device : ℕ) (kept : Kept) (pass : ℕ) (command : Command) (walk : Walk) (old new : Opened) (found : Option PartRun) (rule : Option ℕ) → IsWalkOf device kept walk → walk.opened ≡ Some old → is_open (open_pass kept) pass ≡ true → is_end command ≡ true → IsNext device command old new found rule → IsWalkOf device ((Pass pass, command) ∷ kept) (record walk { opened = None; clash = or_else walk.clash found; verdict = or_else walk.verdict rule; ended = slice_set walk.ended pass true })
+walk_ended device kept pass command walk old new found rule m h i b next =
+    let q = open_some (open_pass kept) pass i in
+    ended device kept pass q.0 command walk old new found rule m q.1 (rw q.1 at i) b (opened_is device (open_pass kept) q.0 walk.opened old m.open_is q.1 h) next (open_number_below kept pass i)

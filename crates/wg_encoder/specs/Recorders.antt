@@ -1,0 +1,77 @@
+-- What contracts see of recorders and their recordings, and what calls of a recorder do.
+use Rattle.std.specs.Prelude.{◌≡◌, ℕ, ◌+◌, ◌<◌, ◌++◌, Bool, true, false, ◌||◌, List, [], ◌∷◌, Option, reverse, if◌then◌else◌}
+use Rattle.wg_types.specs.declared.handles.ObjRef.{ObjRef}
+use Rattle.wg_types.specs.declared.commands.On.{On}
+use Rattle.wg_types.specs.declared.commands.On.TheVariants.{Encoder, Pass}
+use Rattle.wg_types.specs.declared.commands.Command.{Command}
+use Rattle.wg_model.specs.Walk.{begins, begins_pass, has_ended}
+use Rattle.wg_encoder.specs.declared.recorder.Noted.{Noted}
+use Rattle.wg_encoder.specs.declared.recorder.Noted.TheVariants.{Kept, Late}
+use Rattle.wg_encoder.specs.declared.recorder.Stage.{Stage}
+use Rattle.wg_encoder.specs.declared.recorder.Stage.TheVariants.{Recording as RecordingStage, Taken, Ended}
+
+-- A recording: the number of its recorder's device, and the commands in order, each with what it stands on.
+pub record RecordingValue : Type 0 where
+  pub device : ℕ
+  pub commands : List (On × Command)
+
+-- A recorder: the number of its device, the encoder that it was opened with, the kept commands in order, its stage, and how
+-- many passes were begun on it, late ones too.
+pub record RecorderValue : Type 0 where
+  pub device : ℕ
+  pub encoder : Option ObjRef
+  pub commands : List (On × Command)
+  pub stage : Stage
+  pub passes : ℕ
+
+abbrev pub has_stopped : Stage → Bool
+has_stopped RecordingStage = false
+has_stopped _ = true
+
+-- whether a recorder's encoder has ended
+abbrev pub has_taken : RecorderValue → Bool
+has_taken recorder = has_stopped recorder.stage
+
+-- whether the pass that a command stands on has ended
+abbrev pub on_ended : On → List (On × Command) → Bool
+on_ended Encoder commands = false
+on_ended (Pass pass) commands = has_ended (reverse commands) pass
+
+-- A command is late where its encoder or its pass has ended.
+abbrev pub is_late : RecorderValue → On → Bool
+is_late recorder on = has_taken recorder || on_ended on recorder.commands
+
+abbrev pub noted : Bool → Noted
+noted true = Late
+noted false = Kept
+
+-- a recorder after a command was noted: one that is late is not kept, but a late begin of a pass is counted
+abbrev pub recorded : RecorderValue → On → Command → RecorderValue
+recorded recorder on command = record recorder {
+  commands = (if is_late recorder on then recorder.commands else recorder.commands ++ (on, command) ∷ []);
+  passes = (if begins_pass on command then recorder.passes + 1 else recorder.passes);
+}
+
+-- The pass that a command stands on was begun.
+abbrev pub IsBegunOn : On → ℕ → Type 0
+IsBegunOn Encoder passes = Unit {0}
+IsBegunOn (Pass pass) passes = pass < passes
+
+-- the stage after a take, and after what it took was put back
+abbrev pub after_take : Stage → Stage
+after_take RecordingStage = Taken
+after_take _ = Ended
+
+abbrev pub after_put_back : Stage → Stage
+after_put_back Taken = RecordingStage
+after_put_back _ = Ended
+
+-- What the last take of a recorder gave. Its first take gave the commands, which begin as many passes as the recorder has;
+-- a later one gave none.
+abbrev pub IsTakenAt : Stage → ℕ → List (On × Command) → Type 0
+IsTakenAt RecordingStage passes commands = ⊥
+IsTakenAt Taken passes commands = passes ≡ begins (reverse commands)
+IsTakenAt Ended passes commands = commands ≡ []
+
+abbrev pub IsTakenFrom : RecordingValue → RecorderValue → Type 0
+IsTakenFrom recording recorder = (recording.device ≡ recorder.device) × IsTakenAt recorder.stage recorder.passes recording.commands

@@ -1,0 +1,85 @@
+-- The objects that commands name, and the rules of each command (WebGPU, "Command Encoding").
+use Rattle.std.specs.Prelude.{ℕ, ◌+◌, ◌%◌, Bool, true, false, not, ◌&&◌, ◌==◌, nat_lt, nat_le, List, [], ◌∷◌, ◌++◌}
+use Rattle.wg_types.specs.Handles.{HandleValue}
+use Rattle.wg_types.specs.declared.handles.ObjRef.{ObjRef}
+use Rattle.wg_types.specs.declared.handles.BufferInfo.{BufferInfo}
+use Rattle.wg_types.specs.declared.handles.Info.{Info}
+use Rattle.wg_types.specs.declared.handles.Info.TheVariants.{Buffer}
+use Rattle.wg_types.specs.declared.commands.Command.{Command}
+use Rattle.wg_types.specs.declared.commands.Command.TheVariants.{CopyBufferToBuffer, ClearBuffer, PopDebugGroup}
+use Rattle.wg_model.specs.Rules.{Rule}
+use Rattle.wg_model.specs.Buffers.{copy_src, copy_dst, has_usage}
+
+abbrev pub is_buffer : Info → Bool
+is_buffer (Buffer info) = true
+is_buffer _ = false
+
+-- stands for what is known of a buffer where a handle is of another kind, which rule 10 refuses before it counts
+abbrev pub no_buffer : BufferInfo
+no_buffer = record { size = 0; usage = 0; mapped = false }
+
+abbrev pub buffer_or_none : Info → BufferInfo
+buffer_or_none (Buffer info) = info
+buffer_or_none _ = no_buffer
+
+-- what a handle of a buffer knows of it
+abbrev pub buffer_of : HandleValue → BufferInfo
+buffer_of handle = buffer_or_none handle.info
+
+-- An object that a command names, with the kind that it has to be of.
+abbrev pub Named : Type 0
+Named = HandleValue × (Info → Bool)
+
+-- the objects that a command names, in the order of its keys
+abbrev pub named : Command → List Named
+named (CopyBufferToBuffer source source_offset target target_offset size) = (source, is_buffer) ∷ ((target, is_buffer) ∷ [])
+named (ClearBuffer buffer offset size) = (buffer, is_buffer) ∷ []
+named _ = []
+
+-- The rules that go before the others of a command, of one object after another (WebGPU, "Device Timeline" and "Object
+-- validity"): 10 it is of the recorder's device and of the kind that is asked for, as far as its handle tells; 12 it is
+-- valid.
+abbrev pub common_rules : ℕ → List Named → List Rule
+common_rules device [] = []
+common_rules device (object ∷ objects) =
+    (10, object.0.reference.device == device && object.1 object.0.info)
+    ∷ ((12, object.0.valid)
+    ∷ common_rules device objects)
+
+abbrev pub same_object : ObjRef → ObjRef → Bool
+same_object a b = a.device == b.device && a.number == b.number
+
+-- copyBufferToBuffer (WebGPU, "copyBufferToBuffer"): 250 the source has COPY_SRC; 251 the target has COPY_DST; 252 the
+-- offsets and the size are multiples of 4; 253 both ranges fit their buffers; 254 source and target differ.
+abbrev pub copy_buffer_rules : HandleValue → ℕ → HandleValue → ℕ → ℕ → List Rule
+copy_buffer_rules source source_offset target target_offset size =
+    (250, has_usage (buffer_of source).usage copy_src)
+    ∷ ((251, has_usage (buffer_of target).usage copy_dst)
+    ∷ ((252, source_offset % 4 == 0 && target_offset % 4 == 0 && size % 4 == 0)
+    ∷ ((253, nat_le (source_offset + size) (buffer_of source).size && nat_le (target_offset + size) (buffer_of target).size)
+    ∷ ((254, not (same_object source.reference target.reference))
+    ∷ []))))
+
+-- clearBuffer (WebGPU, "clearBuffer"): 275 the buffer has COPY_DST; 276 offset and size are multiples of 4; 277 they fit
+-- the buffer.
+abbrev pub clear_buffer_rules : HandleValue → ℕ → ℕ → List Rule
+clear_buffer_rules buffer offset size =
+    (275, has_usage (buffer_of buffer).usage copy_dst)
+    ∷ ((276, offset % 4 == 0 && size % 4 == 0)
+    ∷ ((277, nat_le (offset + size) (buffer_of buffer).size)
+    ∷ []))
+
+-- a command's own rules, but for those that look at the commands before it
+abbrev pub own_rules : Command → List Rule
+own_rules (CopyBufferToBuffer source source_offset target target_offset size) = copy_buffer_rules source source_offset target target_offset size
+own_rules (ClearBuffer buffer offset size) = clear_buffer_rules buffer offset size
+own_rules _ = []
+
+-- popDebugGroup (WebGPU, "Debug Markers"), by how many groups of its place are open: 285 one is.
+abbrev pub group_rules : ℕ → Command → List Rule
+group_rules depth PopDebugGroup = (285, nat_lt 0 depth) ∷ []
+group_rules depth _ = []
+
+-- The rules of a command on an encoder that is not locked, where this many debug groups of the encoder are open.
+abbrev pub command_rules : ℕ → ℕ → Command → List Rule
+command_rules device depth command = common_rules device (named command) ++ (own_rules command ++ group_rules depth command)

@@ -1,0 +1,140 @@
+-- The walk over the kept commands of a recorder: its passes, the encoder's state, and the rule that invalidated it first
+-- (WebGPU, "Command Encoding", "encoder state"). An encoder is unlocked, or locked by the one pass that is open on it.
+use Rattle.std.specs.Prelude.{ℕ, ◌+◌, ◌==◌, ◌&&◌, ◌||◌, Bool, false, List, [], ◌∷◌, ◌++◌, Option, Some, None, is_none, reverse, if◌then◌else◌}
+use Rattle.wg_types.specs.declared.commands.On.{On}
+use Rattle.wg_types.specs.declared.commands.On.TheVariants.{Encoder, Pass}
+use Rattle.wg_types.specs.declared.commands.Command.{Command}
+use Rattle.wg_types.specs.declared.commands.Command.TheVariants.{BeginComputePass}
+use Rattle.wg_types.specs.Commands.{is_begin, is_end}
+use Rattle.wg_model.specs.Rules.{first_unmet, or_else}
+use Rattle.wg_model.specs.Commands.{named, common_rules, command_rules}
+use Rattle.wg_model.specs.Compute.{depth_after, compute_set, compute_rules}
+use Rattle.wg_model.specs.Scopes.{Use}
+
+-- The kept commands, newest first, each with the encoder or pass that it stands on.
+abbrev pub Kept : Type 0
+Kept = List (On × Command)
+
+-- A pass: its number, the command that began it, and its own commands so far, newest first.
+pub record PassSoFar : Type 0 where
+  pub number : ℕ
+  pub begin : Command
+  pub earlier : List Command
+
+-- One pass. It keeps its own first unmet rule.
+
+-- the first unmet rule of the begin of a pass; a compute pass has none
+abbrev pub begun_rule : ℕ → Command → Option ℕ
+begun_rule device begin = None
+
+-- the first unmet rule of a command of a pass, after the earlier ones
+abbrev pub rule_in : ℕ → Command → List Command → Command → Option ℕ
+rule_in device BeginComputePass earlier command = or_else (first_unmet (common_rules device (named command))) (first_unmet (compute_rules (compute_set earlier) command))
+rule_in device _ earlier command = None
+
+-- a pass's own first unmet rule
+abbrev pub pass_rule : ℕ → Command → List Command → Option ℕ
+pass_rule device begin [] = begun_rule device begin
+pass_rule device begin (command ∷ earlier) = or_else (pass_rule device begin earlier) (rule_in device begin earlier command)
+
+-- the scopes that a command of a pass completes; those of a compute pass are of commands that are not there yet
+abbrev pub scopes_in : Command → List Command → Command → List (List Use)
+scopes_in begin earlier command = []
+
+-- The encoder.
+
+abbrev pub begins_pass : On → Command → Bool
+begins_pass Encoder command = is_begin command
+begins_pass (Pass number) command = false
+
+-- how many passes were begun, which numbers them from 0
+abbrev pub begins : Kept → ℕ
+begins [] = 0
+begins (kept ∷ older) = if begins_pass kept.0 kept.1 then begins older + 1 else begins older
+
+-- whether the open pass is the one of this number
+abbrev pub is_open : Option PassSoFar → ℕ → Bool
+is_open None number = false
+is_open (Some pass) number = number == pass.number
+
+-- the open pass after a command of it
+abbrev pub pass_after : Option PassSoFar → Command → Option PassSoFar
+pass_after None command = None
+pass_after (Some pass) command = if is_end command then None else Some (record pass { earlier = command ∷ pass.earlier })
+
+-- the open pass after a command on the encoder: a pass that is begun on a locked encoder is dead, and never opens
+abbrev pub pass_begun : Option PassSoFar → ℕ → Command → Option PassSoFar
+pass_begun (Some pass) number command = Some pass
+pass_begun None number command = if is_begin command then Some (record { number = number; begin = command; earlier = [] }) else None
+
+abbrev pub open_after : Option PassSoFar → ℕ → On → Command → Option PassSoFar
+open_after opened number Encoder command = pass_begun opened number command
+open_after opened number (Pass pass) command = if is_open opened pass then pass_after opened command else opened
+
+-- the open pass, which locks the encoder, or none where the encoder is unlocked
+abbrev pub open_pass : Kept → Option PassSoFar
+open_pass [] = None
+open_pass (kept ∷ older) = open_after (open_pass older) (begins older) kept.0 kept.1
+
+-- whether a command ends the pass of this number, which a dead one never does
+abbrev pub ends : Option PassSoFar → On → Command → ℕ → Bool
+ends opened Encoder command number = false
+ends opened (Pass pass) command number = is_open opened pass && is_end command && (pass == number)
+
+-- whether a pass has ended
+abbrev pub has_ended : Kept → ℕ → Bool
+has_ended [] number = false
+has_ended (kept ∷ older) number = ends (open_pass older) kept.0 kept.1 number || has_ended older number
+
+-- how many debug groups of the encoder are open
+abbrev pub depth_free : ℕ → Option PassSoFar → Command → ℕ
+depth_free depth None command = depth_after depth command
+depth_free depth (Some pass) command = depth
+
+abbrev pub depth_on : ℕ → Option PassSoFar → On → Command → ℕ
+depth_on depth opened Encoder command = depth_free depth opened command
+depth_on depth opened (Pass pass) command = depth
+
+abbrev pub encoder_depth : Kept → ℕ
+encoder_depth [] = 0
+encoder_depth (kept ∷ older) = depth_on (encoder_depth older) (open_pass older) kept.0 kept.1
+
+-- what an end hands over: the rule of its pass
+abbrev pub handed : ℕ → Option PassSoFar → Command → Option ℕ
+handed device None command = None
+handed device (Some pass) command = if is_end command then pass_rule device pass.begin (command ∷ pass.earlier) else None
+
+-- what a command on the encoder gives it: on a locked one rule 240, on an unlocked one its own first unmet rule
+abbrev pub encoder_gives : ℕ → Option PassSoFar → ℕ → Command → Option ℕ
+encoder_gives device (Some pass) depth command = Some 240
+encoder_gives device None depth command = first_unmet (command_rules device depth command)
+
+-- what a command gives the encoder; of a pass only the end of the open one gives it something
+abbrev pub given : ℕ → Option PassSoFar → ℕ → On → Command → Option ℕ
+given device opened depth Encoder command = encoder_gives device opened depth command
+given device opened depth (Pass pass) command = if is_open opened pass then handed device opened command else None
+
+-- the rule that invalidated the encoder first
+abbrev pub verdict : ℕ → Kept → Option ℕ
+verdict device [] = None
+verdict device (kept ∷ older) = or_else (verdict device older) (given device (open_pass older) (encoder_depth older) kept.0 kept.1)
+
+abbrev pub Verdict : ℕ → List (On × Command) → Option ℕ
+Verdict device commands = verdict device (reverse commands)
+
+-- Usage scopes, in the order of the commands that complete them.
+abbrev pub scopes_within : Option PassSoFar → Command → List (List Use)
+scopes_within None command = []
+scopes_within (Some pass) command = scopes_in pass.begin pass.earlier command
+
+abbrev pub scopes_at : Option PassSoFar → On → Command → List (List Use)
+scopes_at opened Encoder command = []
+scopes_at opened (Pass pass) command = if is_open opened pass then scopes_within opened command else []
+
+abbrev pub scopes_of : Kept → List (List Use)
+scopes_of [] = []
+scopes_of (kept ∷ older) = scopes_of older ++ scopes_at (open_pass older) kept.0 kept.1
+
+-- the scopes of a recording that has no verdict and no open pass
+abbrev pub ScopesOf : ℕ → List (On × Command) → List (List Use)
+ScopesOf device commands = if is_none (verdict device (reverse commands)) && is_none (open_pass (reverse commands)) then scopes_of (reverse commands) else []
