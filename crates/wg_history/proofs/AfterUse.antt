@@ -1,13 +1,16 @@
 -- What is released is used no more, and its uses are complete.
-use Rattle.std.proofs.Common.{◌≡◌, ℕ, ◌+◌, ◌<◌, ◌≤◌, [], ◌∷◌, ◌++◌, reverse, Bool, true, false, not, ◌&&◌, ◌==◌, nat_lt, nat_le, max, is_some, is_none, unwrap_or, refl, ap, sym, ◌∙◌, arith, if◌then◌else◌, true≢false, subst, ◌⊎◌, inl, inr}
+use Rattle.std.proofs.Common.{◌≡◌, ℕ, ◌+◌, ◌<◌, ◌≤◌, List, [], ◌∷◌, ◌++◌, reverse, Bool, true, false, not, ◌&&◌, ◌||◌, ◌==◌, nat_lt, nat_le, max, is_some, is_none, unwrap_or, refl, ap, sym, ◌∙◌, arith, if◌then◌else◌, true≢false, subst, ◌⊎◌, inl, inr}
 use Rattle.std.proofs.lemmas.List.{reverse-append}
-use Rattle.std.proofs.lemmas.Bool.{and_parts, or_cases, or_right, leb-true, ltb-true, eqb-true}
+use Rattle.std.proofs.lemmas.Bool.{and_parts, or_cases, or_left, or_right, leb-true, ltb-true, eqb-true}
 use Rattle.std.proofs.Math.Nat.{zero-max}
 use Rattle.wg_model.proofs.Unmet.{all_met}
-use Rattle.wg_history.specs.Entries.{Setup, Event, WriteBuffer, Complete, Reply, Entry, Past}
-use Rattle.wg_history.specs.Objects.{ObjRef, resource_at}
-use Rattle.wg_history.specs.Operations.{issued, completion, completed, is_used, op_of, use_by, last_use}
-use Rattle.wg_history.specs.Rules.{write_buffer_list, write_buffer_rule, destroys, is_destroyed}
+use Rattle.std.specs.List.{list_any}
+use Rattle.wg_model.specs.Rules.{Rule, AreMet}
+use Rattle.wg_model.specs.Recorded.{resources, any_resource, uses_resource}
+use Rattle.wg_history.specs.Entries.{Setup, Event, Submit, WriteBuffer, Complete, Reply, Entry, Past}
+use Rattle.wg_history.specs.Objects.{ObjRef, resource_at, commands_at}
+use Rattle.wg_history.specs.Operations.{issued, completion, completed, submit_uses, is_used, op_of, use_by, last_use}
+use Rattle.wg_history.specs.Rules.{listed_rules, any_destroyed, submit_list, submit_rule, write_buffer_list, write_buffer_rule, destroys, is_destroyed}
 use Rattle.wg_history.specs.Answers.{Queued, Plain, BadCompletion, reply_to, IsRun}
 use Rattle.wg_history.specs.Releases.{is_due, is_released}
 use Rattle.wg_history.specs.ReleaseLaws.{FreedAfterUse}
@@ -42,8 +45,45 @@ write_stands setup past buffer offset size e =
     by_test true h = absurd (true≢false (sym h))
     by_test false h = refl
 
+-- A test that passes wherever another does passes on a list where that does.
+any_grows : {X : Type 0} (p q : X → Bool) → ((x : X) → q x ≡ true → p x ≡ true) → (xs : List X) → list_any q xs ≡ true → list_any p xs ≡ true
+any_grows p q grows [] e = e
+any_grows p q grows (x ∷ xs) e = by_cases (or_cases (q x) (list_any q xs) e) (any_grows p q grows xs)
+  where
+    by_cases : (q x ≡ true) ⊎ (list_any q xs ≡ true) → (list_any q xs ≡ true → list_any p xs ≡ true) → (p x || list_any p xs) ≡ true
+    by_cases (inl here) rest = or_left (p x) (list_any p xs) (grows x here)
+    by_cases (inr later) rest = or_right (p x) (list_any p xs) (rest later)
+
+-- Command buffers that use a destroyed object use some destroyed object.
+used_destroyed : (setup : Setup) (past : Past) (buffers : List ObjRef) (n : ℕ) → is_destroyed setup past n ≡ true → submit_uses past buffers n ≡ true → any_destroyed setup past buffers ≡ true
+used_destroyed setup past buffers n destroyed used =
+    any_grows (λ buffer. any_resource (is_destroyed setup past) (commands_at past buffer.number)) (λ buffer. uses_resource (commands_at past buffer.number) n)
+      (λ buffer in_buffer. any_grows (λ kept. list_any (is_destroyed setup past) (resources kept.1)) (λ kept. list_any (λ r. r == n) (resources kept.1))
+        (λ kept in_command. any_grows (is_destroyed setup past) (λ r. r == n) (λ r same. ap (is_destroyed setup past) (eqb-true r n same) ∙ destroyed) (resources kept.1) in_command)
+        (commands_at past buffer.number) in_buffer)
+      buffers used
+
+met_after : (rules more : List Rule) → AreMet (rules ++ more) → AreMet more
+met_after [] more met = met
+met_after (rule ∷ rules) more met = met_after rules more met.1
+
+not_true : (b : Bool) → not b ≡ true → b ≡ false
+not_true true h = absurd (true≢false (sym h))
+not_true false h = refl
+
+-- A submit that meets its rules uses nothing that is destroyed.
+pub submit_stands : (setup : Setup) (past : Past) (buffers : List ObjRef) (n : ℕ) → is_none (submit_rule setup past buffers) ≡ true → is_destroyed setup past n ≡ true → submit_uses past buffers n ≡ false
+unfolding submit_rule
+submit_stands setup past buffers n e destroyed =
+    let spared : any_destroyed setup past buffers ≡ false = not_true (any_destroyed setup past buffers) (met_after (listed_rules setup past buffers) _ (all_met (submit_list setup past buffers) e)).1.1.0 in
+    by_use (submit_uses past buffers n) refl spared
+  where
+    by_use : (b : Bool) → submit_uses past buffers n ≡ b → any_destroyed setup past buffers ≡ false → b ≡ false
+    by_use true used spared = absurd (true≢false (sym (used_destroyed setup past buffers n destroyed used) ∙ spared))
+    by_use false used spared = refl
+
 -- What is destroyed is used by no later operation of a run.
-uses_none : (setup : Setup) (past : Past) (event : Event) (n : ℕ) → is_destroyed setup past n ≡ true → (if is_used event n then unwrap_or (op_of (reply_to setup past event).answer) 0 else 0) ≡ 0
+uses_none : (setup : Setup) (past : Past) (event : Event) (n : ℕ) → is_destroyed setup past n ≡ true → (if is_used past event n then unwrap_or (op_of (reply_to setup past event).answer) 0 else 0) ≡ 0
 uses_none setup past (WriteBuffer buffer offset size) n destroyed = by_same (buffer.number == n) refl
   where
     by_rule : (b : Bool) → is_none (write_buffer_rule setup past buffer offset size) ≡ b → buffer.number ≡ n → unwrap_or (op_of (if b then Queued (issued past + 1) else Plain)) 0 ≡ 0
@@ -53,10 +93,19 @@ uses_none setup past (WriteBuffer buffer offset size) n destroyed = by_same (buf
     by_same : (b : Bool) → (buffer.number == n) ≡ b → (if b then unwrap_or (op_of (reply_to setup past (WriteBuffer buffer offset size)).answer) 0 else 0) ≡ 0
     by_same true e = by_rule (is_none (write_buffer_rule setup past buffer offset size)) refl (eqb-true buffer.number n e)
     by_same false e = refl
+uses_none setup past (Submit buffers) n destroyed = by_rule (is_none (submit_rule setup past buffers)) refl
+  where
+    either : (b : Bool) → ◌≡◌ {A = ℕ} (if b then 0 else 0) 0
+    either true = refl
+    either false = refl
+
+    by_rule : (b : Bool) → is_none (submit_rule setup past buffers) ≡ b → (if submit_uses past buffers n then unwrap_or (op_of (if b then Queued (issued past + 1) else Plain)) 0 else 0) ≡ 0
+    by_rule true met = ap (λ (used : Bool). if used then issued past + 1 else 0) (submit_stands setup past buffers n met destroyed)
+    by_rule false met = either (submit_uses past buffers n)
 uses_none setup past _ n destroyed = refl
 
-unused_then : (setup : Setup) (entry : Entry) (older : Past) (n : ℕ) → IsRun setup (entry ∷ older) → is_destroyed setup older n ≡ true → use_by entry n ≡ 0
-unused_then setup entry older n run destroyed = ap (λ (reply : Reply). if is_used entry.event n then unwrap_or (op_of reply.answer) 0 else 0) (newest setup entry older run) ∙ uses_none setup older entry.event n destroyed
+unused_then : (setup : Setup) (entry : Entry) (older : Past) (n : ℕ) → IsRun setup (entry ∷ older) → is_destroyed setup older n ≡ true → use_by older entry n ≡ 0
+unused_then setup entry older n run destroyed = ap (λ (reply : Reply). if is_used older entry.event n then unwrap_or (op_of reply.answer) 0 else 0) (newest setup entry older run) ∙ uses_none setup older entry.event n destroyed
 
 -- A released object is destroyed, and its uses are complete.
 pub record IsOver (setup : Setup) (past : Past) (n : ℕ) : Type 0 where

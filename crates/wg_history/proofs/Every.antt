@@ -6,6 +6,7 @@ use Rattle.wg_orders.specs.Trace.{Item, trace_of, steps_in, work_steps, add_work
 use Rattle.wg_orders.specs.Orders.{AreDeclared, Agrees, IsOrder, Keeps}
 use Rattle.wg_orders.proofs.Steps.{trace_more}
 use Rattle.wg_orders.proofs.Agreeing.{every_order_agrees}
+use Rattle.wg_model.proofs.StepLaws.{Stands, Left, Right, stands_in}
 use Rattle.wg_history.specs.Entries.{Setup, Past}
 use Rattle.wg_history.specs.Steps.{groups_of, steps_back}
 use Rattle.wg_history.specs.Traces.{work_of, works, trace_after}
@@ -20,29 +21,15 @@ pub steps_works : (setup : Setup) (past : Past) → work_steps (works setup past
 steps_works setup [] = refl
 steps_works setup (entry ∷ older) =
     flat_map-append (λ w. steps_in w.groups) (works setup older) (work_of setup entry older ∷ [])
-    ∙ ap₂ ◌++◌ (steps_works setup older) (append-nil (steps_in (groups_of entry.reply.answer entry.event)))
-
--- A step of two lists is of one of them.
-data Stands (xs ys : List Step) (s : Step) : Type 0 where
-  Left : (k : ℕ) → slice_get xs k ≡ Some s → Stands xs ys s
-  Right : (k : ℕ) → slice_get ys k ≡ Some s → Stands xs ys s
-
-stands_in : (xs ys : List Step) (k : ℕ) (s : Step) → slice_get (xs ++ ys) k ≡ Some s → Stands xs ys s
-stands_in [] ys k s e = Right k e
-stands_in (x ∷ xs) ys zero s e = Left 0 e
-stands_in (x ∷ xs) ys (suc k) s e = by_cases (stands_in xs ys k s e)
-  where
-    by_cases : Stands xs ys s → Stands (x ∷ xs) ys s
-    by_cases (Left i h) = Left (suc i) h
-    by_cases (Right i h) = Right i h
+    ∙ ap₂ ◌++◌ (steps_works setup older) (append-nil (steps_in (groups_of older entry.reply.answer entry.event)))
 
 all_declared : (past : Past) (k : ℕ) (s : Step) → slice_get (steps_back past) k ≡ Some s → IsDeclared s × (is_clear s ≡ false)
 all_declared [] k s e = let h : None ≡ Some s = e in absurd (cc)
-all_declared (entry ∷ older) k s e = by_cases (stands_in (steps_back older) (steps_in (groups_of entry.reply.answer entry.event)) k s e) (λ i h. all_declared older i s h)
+all_declared (entry ∷ older) k s e = by_cases (stands_in (steps_back older) (steps_in (groups_of older entry.reply.answer entry.event)) k s e) (λ i h. all_declared older i s h)
   where
-    by_cases : Stands (steps_back older) (steps_in (groups_of entry.reply.answer entry.event)) s → ((i : ℕ) → slice_get (steps_back older) i ≡ Some s → IsDeclared s × (is_clear s ≡ false)) → IsDeclared s × (is_clear s ≡ false)
+    by_cases : Stands (steps_back older) (steps_in (groups_of older entry.reply.answer entry.event)) s → ((i : ℕ) → slice_get (steps_back older) i ≡ Some s → IsDeclared s × (is_clear s ≡ false)) → IsDeclared s × (is_clear s ≡ false)
     by_cases (Left i h) rest = rest i h
-    by_cases (Right i h) rest = steps_are_declared entry.reply.answer entry.event i s h
+    by_cases (Right i h) rest = steps_are_declared older entry.reply.answer entry.event i s h
 
 pub every_order : EveryOrder
 every_order setup history c order is keeps =

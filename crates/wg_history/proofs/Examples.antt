@@ -2,18 +2,18 @@
 use Rattle.std.proofs.Common.{refl}
 use Rattle.wg_orders.specs.Steps.{covers, covers_part, reads, writes, unsets, set_of}
 use Rattle.wg_history.specs.Rules.{create_buffer_rule, write_buffer_rule, destroy_rule}
-use Rattle.wg_history.specs.Steps.{write_buffer_steps}
+use Rattle.wg_history.specs.Steps.{write_groups, submit_groups}
 use Rattle.wg_history.specs.Releases.{is_due}
 use Rattle.wg_history.specs.Examples.{TwoWrites, WriteOfInvalid, WriteAfterDestroy}
 
 pub two_writes_is : TwoWrites
-unfolding create_buffer_rule write_buffer_rule destroy_rule write_buffer_steps is_due covers covers_part reads writes unsets set_of
+unfolding create_buffer_rule write_buffer_rule destroy_rule write_groups submit_groups is_due covers covers_part reads writes unsets set_of
 two_writes_is = (refl, refl)
 
 pub write_of_invalid_is : WriteOfInvalid
-unfolding create_buffer_rule write_buffer_rule destroy_rule write_buffer_steps is_due covers covers_part reads writes unsets set_of
+unfolding create_buffer_rule write_buffer_rule destroy_rule write_groups submit_groups is_due covers covers_part reads writes unsets set_of
 write_of_invalid_is = (refl, refl)
 
 pub write_after_destroy_is : WriteAfterDestroy
-unfolding create_buffer_rule write_buffer_rule destroy_rule write_buffer_steps is_due covers covers_part reads writes unsets set_of
+unfolding create_buffer_rule write_buffer_rule destroy_rule write_groups submit_groups is_due covers covers_part reads writes unsets set_of
 write_after_destroy_is = (refl, refl)

@@ -160,8 +160,8 @@ either false false = refl
 released_back : (setup : Setup) (past : Past) (n : ℕ) → count_by (releases_object n) (trace_after setup past) ≡ (if is_released setup past n then 1 else 0)
 released_back setup [] n = refl
 released_back setup (entry ∷ older) n =
-    count_append (releases_object n) (add_groups (trace_after setup older) (groups_of entry.reply.answer entry.event)) (map free (freed setup (entry ∷ older)))
-    ∙ (ap₂ ◌+◌ (same_groups n (trace_after setup older) (groups_of entry.reply.answer entry.event) ∙ released_back setup older n) (freed_items n (freed setup (entry ∷ older)) ∙ freed_here setup (entry ∷ older) n)
+    count_append (releases_object n) (add_groups (trace_after setup older) (groups_of older entry.reply.answer entry.event)) (map free (freed setup (entry ∷ older)))
+    ∙ (ap₂ ◌+◌ (same_groups n (trace_after setup older) (groups_of older entry.reply.answer entry.event) ∙ released_back setup older n) (freed_items n (freed setup (entry ∷ older)) ∙ freed_here setup (entry ∷ older) n)
     ∙ either (is_due setup (entry ∷ older) n) (is_released setup older n))
 
 pub freed_once : FreedOnce

@@ -1,14 +1,14 @@
 -- The one reply to each event, and histories in which every reply is that.
-use Rattle.std.specs.Prelude.{◌≡◌, ℕ, ◌+◌, ◌&&◌, nat_lt, nat_le, List, [], ◌∷◌, reverse, Option, None, is_none, option_map, if◌then◌else◌}
+use Rattle.std.specs.Prelude.{◌≡◌, ℕ, ◌+◌, ◌&&◌, nat_lt, nat_le, List, [], ◌∷◌, reverse, Option, Some, None, is_none, option_map, if◌then◌else◌}
 pub use Rattle.wg_types.specs.declared.replies.Answer.{Answer}
 pub use Rattle.wg_types.specs.declared.replies.Answer.TheVariants.{Made, Queued, Promised, Plain, BadCompletion}
 use Rattle.wg_types.specs.declared.replies.Fault.{Fault}
 use Rattle.wg_types.specs.declared.replies.FaultKind.TheVariants.{Validation}
 use Rattle.wg_types.specs.declared.replies.Caught.TheVariants.{Uncaptured}
-use Rattle.wg_history.specs.Entries.{Setup, Event, CreateBuffer, WriteBuffer, Destroy, Complete, Reply, Entry, Past}
+use Rattle.wg_history.specs.Entries.{Setup, Event, CreateBuffer, CreateEncoder, Finish, Late, Submit, WriteBuffer, Destroy, Complete, Reply, Entry, Past}
 use Rattle.wg_history.specs.Objects.{count}
 use Rattle.wg_history.specs.Operations.{issued, completed}
-use Rattle.wg_history.specs.Rules.{create_buffer_rule, write_buffer_rule, destroy_rule}
+use Rattle.wg_history.specs.Rules.{create_buffer_rule, finish_rule, submit_rule, write_buffer_rule, destroy_rule}
 
 -- the fault of an unmet rule (WebGPU, "Errors & Debugging"); no error scope is there yet that would catch it
 abbrev pub fault_of : ℕ → Fault
@@ -32,6 +32,10 @@ complete_reply past op = record { answer = (if nat_lt (completed past) op && nat
 -- the one reply to an event that comes after a past
 abbrev pub reply_to : Setup → Past → Event → Reply
 reply_to setup past (CreateBuffer info) = making_reply past (create_buffer_rule info)
+reply_to setup past CreateEncoder = making_reply past None
+reply_to setup past (Finish encoder recording) = making_reply past (finish_rule setup past encoder recording)
+reply_to setup past (Late encoder) = plain_reply (Some 14)
+reply_to setup past (Submit buffers) = queue_reply past (submit_rule setup past buffers)
 reply_to setup past (WriteBuffer buffer offset size) = queue_reply past (write_buffer_rule setup past buffer offset size)
 reply_to setup past (Destroy object) = plain_reply (destroy_rule setup past object)
 reply_to setup past (Complete op) = complete_reply past op

@@ -1,9 +1,20 @@
 -- The first unmet rule of an event.
-use Rattle.std.specs.Prelude.{ℕ, Bool, false, not, ◌&&◌, ◌||◌, ◌==◌, [], ◌∷◌, ◌++◌, Option, None, is_none, unwrap_or, List}
-use Rattle.wg_model.specs.Rules.{Rule, first_unmet}
+use Rattle.std.specs.Prelude.{ℕ, Bool, true, false, not, ◌&&◌, ◌||◌, ◌==◌, List, [], ◌∷◌, ◌++◌, reverse, Option, Some, None, is_none, unwrap_or}
+use Rattle.std.specs.List.{list_any}
+use Rattle.std.specs.Option.{option_map_or}
+use Rattle.wg_types.specs.Handles.{HandleValue}
+use Rattle.wg_types.specs.declared.commands.On.{On}
+use Rattle.wg_types.specs.declared.commands.Command.{Command}
+use Rattle.wg_model.specs.Rules.{Rule, first_unmet, or_else}
 use Rattle.wg_model.specs.Buffers.{create_buffer_rules, write_buffer_rules}
-use Rattle.wg_history.specs.Entries.{Setup, Event, CreateBuffer, WriteBuffer, Destroy, Complete, Past}
-use Rattle.wg_history.specs.Objects.{BufferInfo, ObjRef, is_own, is_valid, is_buffer, has_memory, buffer_at}
+use Rattle.wg_model.specs.Commands.{named, no_buffer}
+use Rattle.wg_model.specs.Scopes.{first_clash}
+use Rattle.wg_model.specs.Walk.{Verdict, ScopesOf, open_pass, encoder_depth}
+use Rattle.wg_model.specs.Recorded.{any_resource}
+use Rattle.wg_encoder.specs.Recorders.{RecordingValue}
+use Rattle.wg_history.specs.Entries.{Setup, Event, CreateBuffer, CreateEncoder, Finish, Late, Submit, WriteBuffer, Destroy, Complete, Past}
+use Rattle.wg_history.specs.Objects.{BufferInfo, ObjRef, Info, is_own, is_valid, info_at, is_buffer, is_encoder, is_command_buffer, has_memory, buffer_at, commands_at}
+use Rattle.wg_history.specs.Infos.{same_kind, same_info, same_bool}
 
 -- createBuffer
 unfoldable pub create_buffer_rule : BufferInfo → Option ℕ
@@ -23,10 +34,6 @@ abbrev pub is_destroyed : Setup → Past → ℕ → Bool
 is_destroyed setup [] n = false
 is_destroyed setup (entry ∷ older) n = destroys setup older entry.event n || is_destroyed setup older n
 
--- stands for what is known of a buffer where nothing is, which rule 10 refuses before it counts
-abbrev pub no_buffer : BufferInfo
-no_buffer = record { size = 0; usage = 0; mapped = false }
-
 -- The rules of writeBuffer: 10 the target is a buffer of this device, 12 it is valid, then the rules by its size and usage, and 203
 -- it is not destroyed
 abbrev pub write_buffer_list : Setup → Past → ObjRef → ℕ → ℕ → List Rule
@@ -39,9 +46,98 @@ write_buffer_list setup past buffer offset size =
 unfoldable pub write_buffer_rule : Setup → Past → ObjRef → ℕ → ℕ → Option ℕ
 write_buffer_rule setup past buffer offset size = first_unmet (write_buffer_list setup past buffer offset size)
 
--- The first unmet rule of an event that comes after a past. An event that meets all its rules is met.
+-- A handle is genuine where its object was made by this device, and the handle is as that is: of its kind, valid exactly
+-- where it is, and for a valid one with what is known of it.
+abbrev pub is_genuine : Setup → Past → HandleValue → Bool
+is_genuine setup past handle =
+    is_own setup past (same_kind handle.info) handle.reference
+    && same_bool handle.valid (is_valid past handle.reference.number)
+    && (not handle.valid || option_map_or (same_info handle.info) (info_at past handle.reference.number) false)
+
+-- whether some handle that recorded commands name is not genuine
+abbrev pub any_forged : Setup → Past → List (On × Command) → Bool
+any_forged setup past commands = list_any (λ kept. list_any (λ object. not (is_genuine setup past object.0)) (named kept.1)) commands
+
+-- whether an event ends the encoder n, as its finish does whether or not it is accepted
+abbrev pub ends_encoder : Setup → Event → ℕ → Bool
+ends_encoder setup (Finish encoder recording) n = encoder.device == setup.serial && encoder.number == n
+ends_encoder setup _ n = false
+
+abbrev pub has_finished : Setup → Past → ℕ → Bool
+has_finished setup [] n = false
+has_finished setup (entry ∷ older) n = ends_encoder setup entry.event n || has_finished setup older n
+
+-- The rules of finish that go before those of the commands (WebGPU, "finish"): 10 the encoder is one of this device; 12 it
+-- is valid; 180 it has not ended.
+abbrev pub encoder_rules : Setup → Past → ObjRef → List Rule
+encoder_rules setup past encoder =
+    (10, is_own setup past is_encoder encoder)
+    ∷ ((12, is_valid past encoder.number)
+    ∷ ((180, not (has_finished setup past encoder.number))
+    ∷ []))
+
+-- and those after them: 182 no pass is open; 183 no debug group of the encoder is open; 11 each handle that a command
+-- names is genuine; 184 every usage scope is compatible.
+abbrev pub recording_rules : Setup → Past → RecordingValue → List Rule
+recording_rules setup past recording =
+    (182, is_none (open_pass (reverse recording.commands)))
+    ∷ ((183, encoder_depth (reverse recording.commands) == 0)
+    ∷ ((11, not (any_forged setup past recording.commands))
+    ∷ ((184, is_none (first_clash (ScopesOf recording.device recording.commands)))
+    ∷ [])))
+
+-- finish: the rules of the encoder, then the rule that invalidated it first, then those of the recording
+unfoldable pub finish_rule : Setup → Past → ObjRef → RecordingValue → Option ℕ
+finish_rule setup past encoder recording =
+    or_else (first_unmet (encoder_rules setup past encoder)) (or_else (Verdict recording.device recording.commands) (first_unmet (recording_rules setup past recording)))
+
+-- whether an event that comes after a past consumes the command buffer n: a submit that lists it does, whether or not it is
+-- accepted
+abbrev pub consumes : Setup → Past → Event → ℕ → Bool
+consumes setup past (Submit buffers) n = list_any (λ buffer. is_own setup past is_command_buffer buffer && buffer.number == n) buffers
+consumes setup past _ n = false
+
+abbrev pub is_consumed : Setup → Past → ℕ → Bool
+is_consumed setup [] n = false
+is_consumed setup (entry ∷ older) n = consumes setup older entry.event n || is_consumed setup older n
+
+-- whether a list names no object twice
+abbrev pub are_distinct : List ObjRef → Bool
+are_distinct [] = true
+are_distinct (buffer ∷ buffers) = not (list_any (λ other. other.number == buffer.number) buffers) && are_distinct buffers
+
+-- The rules of submit on one command buffer after another (WebGPU, "submit"): 10 it is one of this device; 12 it is valid.
+abbrev pub listed_rules : Setup → Past → List ObjRef → List Rule
+listed_rules setup past [] = []
+listed_rules setup past (buffer ∷ buffers) =
+    (10, is_own setup past is_command_buffer buffer)
+    ∷ ((12, is_valid past buffer.number)
+    ∷ listed_rules setup past buffers)
+
+-- whether a command of one of these command buffers names a destroyed resource
+abbrev pub any_destroyed : Setup → Past → List ObjRef → Bool
+any_destroyed setup past buffers = list_any (λ buffer. any_resource (is_destroyed setup past) (commands_at past buffer.number)) buffers
+
+-- submit: those rules, and then 190 none was consumed; 191 none is named twice; 192 no resource that they use is destroyed.
+abbrev pub submit_list : Setup → Past → List ObjRef → List Rule
+submit_list setup past buffers =
+    listed_rules setup past buffers
+    ++ ((190, not (list_any (λ buffer. is_consumed setup past buffer.number) buffers))
+    ∷ ((191, are_distinct buffers)
+    ∷ ((192, not (any_destroyed setup past buffers))
+    ∷ [])))
+
+unfoldable pub submit_rule : Setup → Past → List ObjRef → Option ℕ
+submit_rule setup past buffers = first_unmet (submit_list setup past buffers)
+
+-- The first unmet rule of an event that comes after a past. An event that meets all its rules is met. A recording call that
+-- came after the end of its encoder or pass always has rule 14.
 abbrev pub first_rule : Setup → Past → Event → Option ℕ
 first_rule setup past (CreateBuffer info) = create_buffer_rule info
+first_rule setup past CreateEncoder = None
+first_rule setup past (Finish encoder recording) = finish_rule setup past encoder recording
+first_rule setup past (Late encoder) = Some 14
+first_rule setup past (Submit buffers) = submit_rule setup past buffers
 first_rule setup past (WriteBuffer buffer offset size) = write_buffer_rule setup past buffer offset size
 first_rule setup past (Destroy object) = destroy_rule setup past object
 first_rule setup past (Complete op) = None

@@ -3,7 +3,9 @@ ghost use Rattle.std.specs.Prelude.{◌≡◌};
 ghost use Rattle.wg_history.specs.Entries.{verb_of};
 ghost use Rattle.wg_history.specs.Objects.{is_making};
 
+use wg_encoder::Recording;
 use wg_types::handles::{BufferInfo, ObjRef};
+use wg_types::items::Items;
 use wg_types::replies::{Reply, Verb};
 
 /// What a device is opened with: its serial, and how many bytes its resources may have.
@@ -14,11 +16,23 @@ pub struct Setup {
 }
 
 /// One call of a device. Offsets and sizes are in bytes; `op` is the number of an operation, up to
-/// which all are said to be complete.
+/// which all are said to be complete. `Late` says that a recording call came after the end of its
+/// encoder or pass.
 #[derive(Drop)]
 pub enum Event {
     CreateBuffer {
         info: BufferInfo,
+    },
+    CreateEncoder,
+    Finish {
+        encoder: ObjRef,
+        recording: Recording,
+    },
+    Late {
+        encoder: ObjRef,
+    },
+    Submit {
+        buffers: Items<ObjRef>,
     },
     WriteBuffer {
         buffer: ObjRef,
@@ -43,6 +57,10 @@ impl Event {
     {
         match self {
             Event::CreateBuffer { .. } => Verb::CreateBuffer,
+            Event::CreateEncoder => Verb::CreateEncoder,
+            Event::Finish { .. } => Verb::Finish,
+            Event::Late { .. } => Verb::Late,
+            Event::Submit { .. } => Verb::Submit,
             Event::WriteBuffer { .. } => Verb::WriteBuffer,
             Event::Destroy { .. } => Verb::Destroy,
             Event::Complete { .. } => Verb::Complete,
@@ -55,6 +73,8 @@ impl Event {
     {
         match self {
             Event::CreateBuffer { .. } => true,
+            Event::CreateEncoder => true,
+            Event::Finish { .. } => true,
             _ => false,
         }
     }

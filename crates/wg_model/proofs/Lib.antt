@@ -1,3 +1,4 @@
 pub mod Unmet
 pub mod Walks
 pub mod StepLaws
+pub mod Sparing

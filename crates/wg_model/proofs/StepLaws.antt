@@ -60,7 +60,7 @@ carry false true p q false false f g h = absurd (cc)
 carry false false p q x y f g h = absurd (cc)
 
 -- Two rows, in one order or the other.
-abbrev in_order : {A : Type 0} → Bool → A → A → List A
+abbrev pub in_order : {A : Type 0} → Bool → A → A → List A
 in_order true x y = x ∷ (y ∷ [])
 in_order false x y = y ∷ (x ∷ [])
 
@@ -137,10 +137,10 @@ writes_are_declared place (BufferWrite buffer offset size) s e = by_size (size =
     by_size false e = subst (λ (x : Step). IsOwnStep x) (cc) (write_own place buffer.number offset size)
 
 -- A step of a list of one step is that step.
-no_step : (s : Step) (k : ℕ) → ◌≡◌ {A = Option Step} (slice_get [] k) (Some s) → ⊥
+pub no_step : (s : Step) (k : ℕ) → ◌≡◌ {A = Option Step} (slice_get [] k) (Some s) → ⊥
 no_step s k e = cc
 
-only_step : (only s : Step) (k : ℕ) → slice_get (only ∷ []) k ≡ Some s → only ≡ s
+pub only_step : (only s : Step) (k : ℕ) → slice_get (only ∷ []) k ≡ Some s → only ≡ s
 only_step only s zero e = cc
 only_step only s (suc k) e = absurd (cc)
 

@@ -1,6 +1,6 @@
 -- The steps of queue writes and of recorded commands, and the resources that commands name (WebGPU, "Queues", "Command
 -- Encoding" and "Resource Usages").
-use Rattle.std.specs.Prelude.{ℕ, ◌+◌, ◌==◌, ◌||◌, Bool, false, List, [], ◌∷◌, ◌++◌, Option, Some, None, reverse, if◌then◌else◌}
+use Rattle.std.specs.Prelude.{ℕ, ◌+◌, ◌==◌, Bool, List, [], ◌∷◌, ◌++◌, Option, Some, None, reverse, if◌then◌else◌}
 use Rattle.std.specs.List.{list_any}
 use Rattle.wg_types.specs.declared.steps.QueueWrite.{QueueWrite}
 use Rattle.wg_types.specs.declared.steps.QueueWrite.TheVariants.{Buffer as BufferWrite}
@@ -79,12 +79,16 @@ recorded_steps place (kept ∷ older) = recorded_steps place older ++ steps_at p
 abbrev pub StepsOf : StepPlace → List (On × Command) → List Step
 StepsOf place commands = recorded_steps place (reverse commands)
 
--- whether a command names object n as a resource
-abbrev pub names_resource : ℕ → Command → Bool
-names_resource n (CopyBufferToBuffer source source_offset target target_offset size) = source.reference.number == n || target.reference.number == n
-names_resource n (ClearBuffer buffer offset size) = buffer.reference.number == n
-names_resource n _ = false
+-- the numbers of the resources that a command names, whether or not a step comes of it
+abbrev pub resources : Command → List ℕ
+resources (CopyBufferToBuffer source source_offset target target_offset size) = source.reference.number ∷ (target.reference.number ∷ [])
+resources (ClearBuffer buffer offset size) = buffer.reference.number ∷ []
+resources _ = []
 
--- whether a command of a recording does, whether or not a step comes of it
+-- whether a resource that a recorded command names passes the test
+abbrev pub any_resource : (ℕ → Bool) → List (On × Command) → Bool
+any_resource test commands = list_any (λ kept. list_any test (resources kept.1)) commands
+
+-- whether recorded commands use object n
 abbrev pub uses_resource : List (On × Command) → ℕ → Bool
-uses_resource commands n = list_any (λ kept. names_resource n kept.1) commands
+uses_resource commands n = any_resource (λ r. r == n) commands

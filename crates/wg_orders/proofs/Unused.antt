@@ -37,7 +37,7 @@ pub unused_one : (n : ℕ) (s : Step) → Spares n s → Unused n (s ∷ [])
 unused_one n s spares zero t p e o = let same : s ≡ t = cc in ap (λ t. set_of t p) (sym same) ∙ spares p o
 unused_one n s spares (suc k) t p e o = absurd (cc)
 
-unused_append : (n : ℕ) (xs ys : List Step) → Unused n xs → Unused n ys → Unused n (xs ++ ys)
+pub unused_append : (n : ℕ) (xs ys : List Step) → Unused n xs → Unused n ys → Unused n (xs ++ ys)
 unused_append n [] ys a b k s p e o = b k s p e o
 unused_append n (x ∷ xs) ys a b zero s p e o = a zero s p e o
 unused_append n (x ∷ xs) ys a b (suc k) s p e o = unused_append n xs ys (λ i t q. a (suc i) t q) b k s p e o
