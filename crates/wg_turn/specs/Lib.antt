@@ -1,0 +1,5 @@
+pub mod Entries
+pub mod Turns
+pub mod Passes
+pub mod Closings
+pub mod Counters

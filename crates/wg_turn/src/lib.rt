@@ -1,0 +1,16 @@
+//! A turn lock: callers draw tickets, and each in its turn takes the state out of the lock, calls
+//! it, and puts it back. The lock's contracts say what a caller knows of the one history that the
+//! state keeps.
+#![tactic(auto)]
+
+mod lock;
+mod logged;
+mod turns;
+mod view;
+
+pub use lock::{Closed, Pass, TurnLock};
+pub use logged::Logged;
+pub use wg_entry::{Entry, NoMemory, Refused};
+
+#[cfg(test)]
+mod tests;
