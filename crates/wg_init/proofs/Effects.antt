@@ -8,7 +8,7 @@ use Rattle.wg_orders.specs.Trace.{is_unset}
 use Rattle.wg_num.specs.Runs.{Runs, in_run, is_in, insert_run, remove_run, with_run, cut_runs}
 use Rattle.wg_bars.specs.Kept.{rows_in}
 use Rattle.wg_init.specs.Rows.{row_line, row_of, row_object, SetRow, SetRows, runs_in, line_object, set_at, KeepsSet}
-use Rattle.wg_init.specs.Effects.{effect, with_effect, is_full, changes_at, rows_after, IsNoted}
+use Rattle.wg_init.specs.Effects.{effect, with_effect, is_full, changes_at, rows_after, IsAfter, IsNoted}
 use Rattle.wg_orders.proofs.Rows.{list_eq_true, list_eq_refl}
 use Rattle.wg_orders.proofs.Steps.{is_unset_more}
 use Rattle.wg_num.proofs.Members.{with_in, cut_in}
@@ -120,15 +120,20 @@ after_is c (x ∷ xs) b = after_is c xs (if kind_writes x.1 && covers_spot cell_
     by_tests false false true = refl
     by_tests false false false = refl
 
+-- The cells that are set after accesses.
+pub set_after : (kept noted : SetRows) (xs : List (Cells × Kind)) (c : Cell) → IsAfter kept xs noted → set_at noted (cell_spot c) ≡ (if row_writes c xs then not (row_unsets c xs) else set_at kept (cell_spot c))
+set_after kept noted xs c is =
+    ap (λ rows. is_in (runs_in rows (cell_spot c).0) (cell_spot c).1) (is (line_object (cell_spot c).0))
+    ∙ (rows_are (line_object (cell_spot c).0) xs (rows_in kept (line_object (cell_spot c).0)) (cell_spot c) refl
+    ∙ after_is c xs (set_at kept (cell_spot c)))
+
 -- A state with a step noted stands for the steps with it.
 pub noted_keeps : (kept noted : SetRows) (s : Step) (steps : List Step) → IsNoted kept s noted → KeepsSet kept steps → KeepsSet noted (steps ++ s ∷ [])
 unfolding writes unsets
 noted_keeps kept noted s steps is keeps c =
-    ap (λ rows. is_in (runs_in rows (cell_spot c).0) (cell_spot c).1) (is (line_object (cell_spot c).0))
-    ∙ (rows_are (line_object (cell_spot c).0) s.accesses (rows_in kept (line_object (cell_spot c).0)) (cell_spot c) refl
-    ∙ (after_is c s.accesses (set_at kept (cell_spot c))
+    set_after kept noted s.accesses c is
     ∙ (by_writes (row_writes c s.accesses) (row_unsets c s.accesses)
-    ∙ sym (ap not (is_unset_more c steps s)))))
+    ∙ sym (ap not (is_unset_more c steps s)))
   where
     by_writes : (w u : Bool) → (if w then not u else set_at kept (cell_spot c)) ≡ not (if w then u else is_unset steps c)
     by_writes true u = refl

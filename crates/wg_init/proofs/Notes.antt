@@ -1,22 +1,22 @@
 -- Notes of accesses.
-use Rattle.std.proofs.Common.{◌≡◌, ℕ, ◌+◌, ◌<◌, ◌&&◌, List, [], ◌∷◌, ◌++◌, length, drop, get_or, Bool, true, false, ◌==◌, refl, ap, sym, ◌∙◌, if◌then◌else◌, subst, eqb-true, nat_lt, arith}
+use Rattle.std.proofs.Common.{◌≡◌, ℕ, ◌+◌, ◌<◌, ◌&&◌, List, [], ◌∷◌, length, drop, get_or, Bool, true, false, ◌==◌, refl, ap, sym, ◌∙◌, if◌then◌else◌, subst, eqb-true, nat_lt, arith}
 use Rattle.std.proofs.lemmas.List.{at_drop_more}
-use Rattle.wg_orders.specs.Steps.{Cells, Kind, cell_line, cell_lo, cell_hi, kind_writes, kind_unsets}
+use Rattle.wg_orders.specs.Steps.{Cells, Kind, Step, cell_spot, cell_line, cell_lo, cell_hi, kind_writes, kind_unsets}
 use Rattle.std.proofs.lemmas.Bool.{ltb-true}
 use Rattle.wg_orders.specs.Rows.{list_eq}
-use Rattle.wg_num.specs.Runs.{Runs, AreApart, with_run, cut_runs}
+use Rattle.wg_num.specs.Runs.{Runs, AreApart, is_in, with_run, cut_runs}
 use Rattle.wg_num.proofs.Members.{with_apart, cut_apart}
 use Rattle.wg_init.proofs.Effects.{runs_with}
-use Rattle.wg_bars.specs.Kept.{rows_in, over, apply_all, most, SameRows}
-use Rattle.wg_init.specs.Rows.{row_of, row_object, SetRow, SetRows, runs_in, RunsApart}
+use Rattle.wg_bars.specs.Kept.{rows_in, over, with_notes, SetsNote, apply_all, most, SameRows}
+use Rattle.wg_init.specs.Rows.{row_of, row_object, SetRow, SetRows, runs_in, line_object, KeepsSet, RunsApart}
 use Rattle.wg_init.specs.Effects.{effect, with_effect, is_full, changes_at, rows_after, IsAfter, AreNotes, NotesOne}
-use Rattle.wg_bars.proofs.Notes.{over_push}
-use Rattle.wg_bars.proofs.Noted.{within}
+use Rattle.wg_bars.proofs.Notes.{noted_rows}
+use Rattle.wg_bars.proofs.Noted.{placed}
 
-pub one_noted : (kept : SetRows) (fresh pushed : List (ℕ × List SetRow)) (x : Cells × Kind) (rows : List SetRow) → kind_writes x.1 ≡ true → is_full x.0 ≡ true → rows ≡ with_effect x.0 x.1 (over fresh (row_object (row_of x.0)) (rows_in kept (row_object (row_of x.0)))) → pushed ≡ fresh ++ (row_object (row_of x.0), rows) ∷ [] → NotesOne kept fresh x pushed
-one_noted kept fresh pushed x rows w f e p object =
-    ap (λ (n : List (ℕ × List SetRow)). over n object (rows_in kept object)) (p ∙ ap (λ (r : List SetRow). fresh ++ (row_object (row_of x.0), r) ∷ []) e)
-    ∙ (over_push fresh (row_object (row_of x.0), with_effect x.0 x.1 (over fresh (row_object (row_of x.0)) (rows_in kept (row_object (row_of x.0))))) object (rows_in kept object)
+pub one_noted : (kept : SetRows) (fresh set : List (ℕ × List SetRow)) (x : Cells × Kind) (rows : List SetRow) → kind_writes x.1 ≡ true → is_full x.0 ≡ true → rows ≡ with_effect x.0 x.1 (over fresh (row_object (row_of x.0)) (rows_in kept (row_object (row_of x.0)))) → SetsNote fresh (row_object (row_of x.0)) rows set → NotesOne kept fresh x set
+one_noted kept fresh set x rows w f e sets object =
+    sets object (rows_in kept object)
+    ∙ (ap (λ (r : List SetRow). if row_object (row_of x.0) == object then r else over fresh object (rows_in kept object)) e
     ∙ (by_same (row_object (row_of x.0) == object) refl
     ∙ sym (ap (λ t. if t && (row_object (row_of x.0) == object) then with_effect x.0 x.1 (over fresh object (rows_in kept object)) else over fresh object (rows_in kept object)) both)))
   where
@@ -31,17 +31,30 @@ pub none_noted : (kept : SetRows) (fresh : List (ℕ × List SetRow)) (x : Cells
 none_noted kept fresh x e object = sym (ap (λ t. if t && (row_object (row_of x.0) == object) then with_effect x.0 x.1 (over fresh object (rows_in kept object)) else over fresh object (rows_in kept object)) e)
 
 -- One more access.
-pub access_step : (kept : SetRows) (fresh noted : List (ℕ × List SetRow)) (xs : List (Cells × Kind)) (i : ℕ) (d : Cells × Kind) → i < length xs → NotesOne kept fresh (get_or xs i d) noted → ((object : ℕ) → rows_after object (drop i xs) (over fresh object (rows_in kept object)) ≡ rows_after object xs (rows_in kept object)) → (object : ℕ) → rows_after object (drop (i + 1) xs) (over noted object (rows_in kept object)) ≡ rows_after object xs (rows_in kept object)
-access_step kept fresh noted xs i d l one h object =
+pub access_step : (kept : SetRows) (old fresh noted : List (ℕ × List SetRow)) (xs : List (Cells × Kind)) (i : ℕ) (d : Cells × Kind) → i < length xs → NotesOne kept fresh (get_or xs i d) noted → ((object : ℕ) → rows_after object (drop i xs) (over fresh object (rows_in kept object)) ≡ rows_after object xs (over old object (rows_in kept object))) → (object : ℕ) → rows_after object (drop (i + 1) xs) (over noted object (rows_in kept object)) ≡ rows_after object xs (over old object (rows_in kept object))
+access_step kept old fresh noted xs i d l one h object =
     ap (rows_after object (drop (i + 1) xs)) (one object)
     ∙ (sym (at_drop_more (λ ys. rows_after object ys (over fresh object (rows_in kept object))) xs i d l) ∙ h object)
 
+-- Notes of accesses are what these make of rows with earlier notes.
+pub over_is : (kept : SetRows) (old new : List (ℕ × List SetRow)) (xs : List (Cells × Kind)) → AreNotes kept old xs new → IsAfter (with_notes kept old) xs (with_notes kept new)
+over_is kept old new xs notes object =
+    noted_rows kept new object
+    ∙ (notes object
+    ∙ ap (rows_after object xs) (sym (noted_rows kept old object)))
+
 -- The steps of a note.
-pub note_is : (kept reserved grown applied : SetRows) (xs : List (Cells × Kind)) (fresh : List (ℕ × List SetRow)) (top : ℕ) → AreNotes kept xs fresh → top ≡ most fresh → reserved ≡ kept → SameRows reserved grown → top < length grown → applied ≡ apply_all fresh grown → IsAfter kept xs applied
+pub note_is : (kept reserved grown applied : SetRows) (xs : List (Cells × Kind)) (fresh : List (ℕ × List SetRow)) (top : ℕ) → AreNotes kept [] xs fresh → top ≡ most fresh → reserved ≡ kept → SameRows reserved grown → top < length grown → applied ≡ apply_all fresh grown → IsAfter kept xs applied
 note_is kept reserved grown applied xs fresh top notes t r same l a object =
-    ap (λ rows. rows_in rows object) a
-    ∙ (within object fresh grown (subst (λ n. n < length grown) t l)
-    ∙ (ap (over fresh object) (same object ∙ ap (λ rows. rows_in rows object) r) ∙ notes object))
+    placed kept grown applied fresh (subst (λ rows. SameRows rows grown) r same) (subst (λ n. n < length grown) t l) a object
+    ∙ over_is kept [] fresh xs notes object
+
+-- Rows that are the same are apart and stand for the same steps.
+pub same_apart : (kept other : SetRows) → SameRows kept other → RunsApart kept → RunsApart other
+same_apart kept other same apart object line = subst (λ rows. AreApart 0 (runs_in rows line)) (sym (same object)) (apart object line)
+
+pub same_keeps : (kept other : SetRows) (steps : List Step) → SameRows kept other → KeepsSet kept steps → KeepsSet other steps
+same_keeps kept other steps same keeps c = ap (λ rows. is_in (runs_in rows (cell_spot c).0) (cell_spot c).1) (same (line_object (cell_spot c).0)) ∙ keeps c
 
 -- The runs stay apart.
 effect_apart : (kind : Kind) (lo hi : ℕ) (runs : Runs) → AreApart 0 runs → AreApart 0 (effect kind lo hi runs)

@@ -75,10 +75,10 @@ at_value run from (x ∷ xs) spot v a u = ap₂ (λ p q. (p && same_kind v Write
     by_all false i r s = refl
 
 -- Rows that are each written.
-abbrev Written : List (Cells × Kind) → Type 0
+abbrev pub Written : List (Cells × Kind) → Type 0
 Written rows = Each_value Write rows × Apart cell_sort rows
 
-fits_written : (r : Cells × Kind) (rows : List (Cells × Kind)) → r.1 ≡ Write → Each_value Write rows → EachRow (Fits cell_sort r) rows
+pub fits_written : (r : Cells × Kind) (rows : List (Cells × Kind)) → r.1 ≡ Write → Each_value Write rows → EachRow (Fits cell_sort r) rows
 fits_written r [] e h = tt
 fits_written r (y ∷ ys) e h = (λ spot p q. e ∙ sym h.0, fits_written r ys e h.1)
 
@@ -88,7 +88,7 @@ all_written run from (x ∷ xs) rows a u w =
     let full : min x.0 (cell_hi run) < min x.1 (cell_hi run) = omega (arith, a.1, u.0) in
     all_written run (x.1 + 1) xs (put cell_sort same_kind (cell_widen run (min x.0 (cell_hi run)) (min x.1 (cell_hi run)), Write) rows) a.2 u.1 (put_const cell_sort same_kind Write (cell_widen run (min x.0 (cell_hi run)) (min x.1 (cell_hi run)), Write) rows refl w.0, put_apart cell_sort same_kind accesses_tell (cell_widen run (min x.0 (cell_hi run)) (min x.1 (cell_hi run)), Write) rows (widen_full run (min x.0 (cell_hi run)) (min x.1 (cell_hi run)) full) w.1 (fits_written (cell_widen run (min x.0 (cell_hi run)) (min x.1 (cell_hi run)), Write) rows refl w.0))
 
-put_all_any : (ps rows : List (Cells × Kind)) (spot : Spot) (v : Kind) → has_value cell_sort same_kind spot v (put_all cell_sort same_kind ps rows) ≡ (has_value cell_sort same_kind spot v ps || has_value cell_sort same_kind spot v rows)
+pub put_all_any : (ps rows : List (Cells × Kind)) (spot : Spot) (v : Kind) → has_value cell_sort same_kind spot v (put_all cell_sort same_kind ps rows) ≡ (has_value cell_sort same_kind spot v ps || has_value cell_sort same_kind spot v rows)
 put_all_any [] rows spot v = refl
 put_all_any (p ∷ ps) rows spot v = put_all_any ps (put cell_sort same_kind p rows) spot v ∙ (ap (λ t. has_value cell_sort same_kind spot v ps || t) (put_any cell_sort same_kind spot (same_kind v) cell_widens (respects cell_sort same_kind accesses_tell v) p rows) ∙ moved (has_value cell_sort same_kind spot v ps) (covers_spot cell_sort p.0 spot && same_kind v p.1) (has_value cell_sort same_kind spot v rows))
   where
@@ -98,7 +98,7 @@ put_all_any (p ∷ ps) rows spot v = put_all_any ps (put cell_sort same_kind p r
     moved false true c = refl
     moved false false c = refl
 
-unset_written : (kept : SetRows) (xs : List (Cells × Kind)) → RunsApart kept → Written (unset_rows kept xs)
+pub unset_written : (kept : SetRows) (xs : List (Cells × Kind)) → RunsApart kept → Written (unset_rows kept xs)
 unset_written kept [] apart = (tt, tt)
 unset_written kept (x ∷ xs) apart = by_test (kind_reads x.1 && is_full x.0) (unset_written kept xs apart)
   where
@@ -115,10 +115,10 @@ pub written_again : (kept : SetRows) (xs : List (Cells × Kind)) → RunsApart k
 written_again kept xs apart = cells_written (unset_rows kept xs) (unset_written kept xs apart).0
 
 -- whether some row that passes covers
-abbrev reads_at : Spot → List (Cells × Kind) → Bool
+abbrev pub reads_at : Spot → List (Cells × Kind) → Bool
 reads_at spot rows = any_row (λ run. covers_spot cell_sort run spot) kind_reads rows
 
-unset_value : (kept : SetRows) (xs : List (Cells × Kind)) (spot : Spot) (v : Kind) → RunsApart kept → has_value cell_sort same_kind spot v (unset_rows kept xs) ≡ ((reads_at spot xs && not (set_at kept spot)) && same_kind v Write)
+pub unset_value : (kept : SetRows) (xs : List (Cells × Kind)) (spot : Spot) (v : Kind) → RunsApart kept → has_value cell_sort same_kind spot v (unset_rows kept xs) ≡ ((reads_at spot xs && not (set_at kept spot)) && same_kind v Write)
 unset_value kept [] spot v apart = refl
 unset_value kept (x ∷ xs) spot v apart = by_tests (kind_reads x.1) (is_full x.0) refl (unset_value kept xs spot v apart)
   where

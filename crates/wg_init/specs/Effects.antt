@@ -35,10 +35,10 @@ IsAfter kept xs noted = (object : ℕ) → rows_in noted object ≡ rows_after o
 abbrev pub IsNoted : SetRows → Step → SetRows → Type 0
 IsNoted kept step noted = IsAfter kept step.accesses noted
 
--- Notes hold what accesses make of the kept rows,
-abbrev pub AreNotes : SetRows → List (Cells × Kind) → List (ℕ × List SetRow) → Type 0
-AreNotes kept xs fresh = (object : ℕ) → over fresh object (rows_in kept object) ≡ rows_after object xs (rows_in kept object)
+-- Notes hold what accesses make of the kept rows with earlier notes over them,
+abbrev pub AreNotes : SetRows → List (ℕ × List SetRow) → List (Cells × Kind) → List (ℕ × List SetRow) → Type 0
+AreNotes kept old xs new = (object : ℕ) → over new object (rows_in kept object) ≡ rows_after object xs (over old object (rows_in kept object))
 
--- or what one more access makes of the kept rows with notes over them.
+-- or what one more access does.
 abbrev pub NotesOne : SetRows → List (ℕ × List SetRow) → Cells × Kind → List (ℕ × List SetRow) → Type 0
 NotesOne kept old x new = (object : ℕ) → over new object (rows_in kept object) ≡ (if changes_at object x then with_effect x.0 x.1 (over old object (rows_in kept object)) else over old object (rows_in kept object))

@@ -1,13 +1,14 @@
 //! What accesses make of the cells that are set.
 ghost use Rattle.std.specs.Prelude.{◌≡◌, ◌≤◌, ◌++◌, IfOk, OnOk, OnErr};
 ghost use Rattle.wg_orders.specs.Steps.{cell_lo, cell_hi};
+ghost use Rattle.wg_bars.specs.Kept.{with_notes};
 ghost use Rattle.wg_init.specs.Effects.{effect, with_effect, AreNotes, IsAfter, NotesOne};
 
 use crate::cell_row::CellRow;
 use crate::cells::{row_object, row_of, same_row, unsets, writes};
 use std::alloc::Global;
 use wg_bars::cell_runs::{cell_hi, cell_lo};
-use wg_bars::kept::{apply, current, grow, most, reserve_to};
+use wg_bars::kept::{Notes, apply, current, grow, most, reserve_to, set_note};
 use wg_entry::NoMemory;
 use wg_num::RunSet;
 use wg_types::items::Items;
@@ -71,7 +72,7 @@ fn with_effect(
 fn note_one(
     alloc: Global,
     kept: &[Items<(CellRow, RunSet)>],
-    fresh: &mut Vec<(u64, Items<(CellRow, RunSet)>)>,
+    fresh: &mut Notes<(CellRow, RunSet)>,
     access: (Cells, Kind),
 ) -> Result<(), NoMemory>
     ensures { OnOk result (NotesOne kept.now fresh.old.items access fresh.new.items) }
@@ -89,19 +90,22 @@ fn note_one(
         access.0,
         access.1,
     )?;
-    fresh.push((object, Items::from_vec(rows)))?;
+    set_note(fresh, object, Items::from_vec(rows))?;
     Ok(())
 }
 
-/// What accesses make of kept rows, as notes.
+/// What accesses make of kept rows with notes over them, as notes.
 pub fn notes_of(
     alloc: Global,
     kept: &[Items<(CellRow, RunSet)>],
+    fresh: Notes<(CellRow, RunSet)>,
     accesses: &[(Cells, Kind)],
-) -> Result<Vec<(u64, Items<(CellRow, RunSet)>)>, NoMemory>
-    ensures { IfOk result (λ v. AreNotes kept.now accesses.now v.items) }
+) -> Result<Notes<(CellRow, RunSet)>, NoMemory>
+    ensures notes { IfOk result (λ v. AreNotes kept.now fresh.items accesses.now v.items) }
+    ensures noted { IfOk result (λ v.
+        IsAfter (with_notes kept.now fresh.items) accesses.now (with_notes kept.now v.items)) }
 {
-    let mut fresh: Vec<(u64, Items<(CellRow, RunSet)>)> = Vec::new(alloc);
+    let mut fresh = fresh;
     for access in accesses {
         note_one(alloc, kept, &mut fresh, *access)?;
     }
@@ -117,7 +121,7 @@ pub fn note_in(
     ensures unchanged { OnErr result (kept.new.items ≡ kept.old.items) }
 {
     let alloc = *kept.allocator();
-    let fresh = notes_of(alloc, kept.as_slice(), accesses)?;
+    let fresh = notes_of(alloc, kept.as_slice(), Vec::new(alloc), accesses)?;
     let top = most(fresh.as_slice());
     reserve_to(kept, top)?;
     grow(kept, top);

@@ -1,10 +1,10 @@
 //! The cells that are set.
-ghost use Rattle.std.specs.Prelude.{◌≡◌, List, [], ◌∷◌, ◌++◌, IfOk, OnOk, OnErr, map};
+ghost use Rattle.std.specs.Prelude.{◌≡◌, List, [], ◌∷◌, ◌++◌, IfOk, OnOk, OnErr, map, vec_capacity};
 ghost use Rattle.wg_orders.specs.Steps.{Step};
 ghost use Rattle.wg_orders.specs.Trace.{Item, steps_of};
 ghost use Rattle.wg_num.specs.Runs.{AreApart};
-ghost use Rattle.wg_bars.specs.Kept.{rows_in};
-ghost use Rattle.wg_init.specs.Rows.{row_line, row_object, runs_in, KeepsSet};
+ghost use Rattle.wg_bars.specs.Kept.{rows_in, with_notes, SameRows, HasRoom};
+ghost use Rattle.wg_init.specs.Rows.{row_line, row_object, runs_in, KeepsSet, RunsApart};
 ghost use Rattle.wg_init.specs.Effects.{IsNoted};
 ghost use Rattle.wg_init.specs.Unset.{written, cleared};
 
@@ -14,7 +14,7 @@ use crate::noting::{note_in, push_copies};
 use crate::unset::{cells_of, runs_in, unset_rows};
 use std::alloc::Global;
 use std::marker::Model;
-use wg_bars::kept::rows_in;
+use wg_bars::kept::{Notes, place, rows_in};
 use wg_entry::NoMemory;
 use wg_num::RunSet;
 use wg_types::items::Items;
@@ -64,7 +64,7 @@ impl CellState {
             KeepsSet self.now (steps_of trace) → map written v.items ≡ cleared trace step.now) }
     {
         let alloc = *self.kept.allocator();
-        let found = unset_rows(alloc, self.kept.as_slice(), step.accesses.as_slice())?;
+        let found = unset_rows(alloc, self.kept.as_slice(), &[], step.accesses.as_slice())?;
         let cells = cells_of(alloc, found.as_slice())?;
         Ok(cells)
     }
@@ -78,6 +78,24 @@ impl CellState {
     {
         note_in(&mut self.kept, step.accesses.as_slice())?;
         Ok(())
+    }
+
+    /// The rows of all objects, by number.
+    pub fn rows(&self) -> &[Items<(CellRow, RunSet)>]
+        ensures rows { result.now ≡ self.now }
+        ensures apart { RunsApart self.now }
+    {
+        self.kept.as_slice()
+    }
+
+    /// Puts notes in place, in room that was taken for them. It takes no memory.
+    pub fn place(&mut self, room: Vec<Items<(CellRow, RunSet)>>, fresh: Notes<(CellRow, RunSet)>)
+        requires empty { room.items ≡ [] }
+        requires enough { HasRoom self.old fresh.items (vec_capacity room) }
+        requires apart { RunsApart (with_notes self.old fresh.items) }
+        ensures { SameRows (with_notes self.old fresh.items) self.new }
+    {
+        place(&mut self.kept, room, fresh);
     }
 
     /// An equal state.

@@ -3,6 +3,7 @@ ghost use Rattle.std.specs.Prelude.{◌≡◌, IfOk, map};
 ghost use Rattle.wg_orders.specs.Cut.{put_all};
 ghost use Rattle.wg_orders.specs.Steps.{cell_sort, same_kind};
 ghost use Rattle.wg_num.specs.Runs.{AreApart};
+ghost use Rattle.wg_bars.specs.Kept.{with_notes};
 ghost use Rattle.wg_init.specs.Rows.{row_line, runs_in};
 ghost use Rattle.wg_init.specs.Unset.{cells_at, unset_rows};
 
@@ -10,7 +11,7 @@ use crate::cell_row::CellRow;
 use crate::cells::{cells_to, reads, row_object, row_of, same_row};
 use std::alloc::Global;
 use wg_bars::cell_runs::{cell_hi, cell_lo};
-use wg_bars::kept::rows_in;
+use wg_bars::kept::current;
 use wg_bars::rows::put;
 use wg_entry::NoMemory;
 use wg_num::RunSet;
@@ -52,14 +53,16 @@ fn put_cells(
     Ok(out)
 }
 
-/// The cells that accesses read and that are not set, in printed form, each with the access of
-/// their clear.
+/// The cells that accesses read and that are not set in kept rows with notes over them, in printed
+/// form, each with the access of their clear.
 pub fn unset_rows(
     alloc: Global,
     kept: &[Items<(CellRow, RunSet)>],
+    fresh: &[(u64, Items<(CellRow, RunSet)>)],
     accesses: &[(Cells, Kind)],
 ) -> Result<Vec<(Cells, Kind)>, NoMemory>
-    ensures { IfOk result (λ v. v.items ≡ unset_rows kept.now accesses.now) }
+    ensures { IfOk result
+        (λ v. v.items ≡ unset_rows (with_notes kept.now fresh.now) accesses.now) }
 {
     let mut out = Vec::new(alloc);
     let mut i = accesses.len();
@@ -68,7 +71,7 @@ pub fn unset_rows(
         let access = accesses[i];
         if reads(access.1) && cell_lo(access.0) < cell_hi(access.0) {
             let row = row_of(access.0);
-            let runs = runs_in(rows_in(kept, row_object(row)), row);
+            let runs = runs_in(current(kept, fresh, row_object(row)), row);
             let missing = missing_runs(alloc, runs, cell_lo(access.0), cell_hi(access.0))?;
             out = put_cells(alloc, out, access.0, missing.as_slice())?;
         }

@@ -1,3 +1,5 @@
+use Rattle.std.proofs.Common.{[]}
+use Rattle.wg_init.specs.Effects.{AreNotes}
 use Rattle.wg_init.proofs.Notes.{note_is}
 use Rattle.wg_init.proofs.noting.note_in.Goals as goal
 
@@ -6,5 +8,6 @@ returns-clause-noted c =
     let kept_slice = c.as_slice.ensures.value in
     let fresh_slice = c.as_slice-2.ensures.value in
     let top = c.most-top.ensures in
-    let noted = rw kept_slice at c.in_ok-fresh.ensures in
+    let none = c.new.ensures.items in
+    let noted : AreNotes c.args.kept.now.items [] c.args.accesses.now c.in_ok-fresh.fresh.items = rw none at (rw kept_slice at c.in_ok-fresh.ensures.notes) in
     note_is c.args.kept.now.items c.reserve_to.new.kept.items c.grow.new.kept.items c.apply.new.kept.items c.args.accesses.now c.in_ok-fresh.fresh.items c.most-top.result noted (cc) c.reserve_to.ensures.same c.grow.ensures.same c.grow.ensures.reached c.apply.ensures

@@ -11,8 +11,8 @@ returns c =
     let row = c.row_of.ensures in
     let object = c.row_object-object.ensures in
     let slice = c.as_slice.ensures.value in
-    let rows_before = c.current.ensures in
+    let rows_before = c.current.ensures.over in
     let rows = c.in_ok-rows.ensures in
     let held = c.from_vec.ensures in
-    let pushed = c.in_ok-push.ensures.items in
-    one_noted c.args.kept.now c.args.fresh.now.items c.push.new.self.items c.args.access c.from_vec.result (sym c.writes.ensures ∙ c.if-not-writes.false) (lt-ltb (cell_lo c.args.access.0) (cell_hi c.args.access.0) full) (cc) (cc)
+    let set = rw row at (rw object at c.in_ok-set_note.ensures) in
+    one_noted c.args.kept.now c.args.fresh.now.items c.set_note.new.notes.items c.args.access c.from_vec.result (sym c.writes.ensures ∙ c.if-not-writes.false) (lt-ltb (cell_lo c.args.access.0) (cell_hi c.args.access.0) full) (cc) set

@@ -1,0 +1,33 @@
+-- Clears, found as rows of cells.
+use Rattle.std.specs.Prelude.{◌≡◌, Bool, false, ◌||◌, List, [], ◌∷◌, map, if◌then◌else◌}
+use Rattle.wg_orders.specs.Steps.{PartRun, Cells, Cell, cell_spot, Kind, Write, kind_writes, Usages, clear_usage, printed_uses, Step, StepPlace, writes}
+use Rattle.wg_orders.specs.Trace.{Item, steps_of, clear_of, to_clear}
+use Rattle.wg_orders.specs.Laws.{run_part}
+use Rattle.wg_init.specs.Rows.{SetRows, set_at, KeepsSet, RunsApart}
+
+-- the uses of a clear of rows
+abbrev pub uses_of : List (Cells × Kind) → List (PartRun × Usages)
+uses_of rows = printed_uses (map (λ row. (run_part row.0, clear_usage)) rows)
+
+-- accesses, each with one kind
+abbrev pub with_kind : Kind → List (Cells × Kind) → List (Cells × Kind)
+with_kind kind rows = map (λ row. (row.0, kind)) rows
+
+-- the accesses that write, as writes
+abbrev pub writes_of : List (Cells × Kind) → List (Cells × Kind)
+writes_of [] = []
+writes_of (x ∷ xs) = if kind_writes x.1 then (x.0, Write) ∷ writes_of xs else writes_of xs
+
+-- whether some of the steps writes the cell
+abbrev pub written : List Step → Cell → Bool
+written [] c = false
+written (s ∷ steps) c = writes s c || written steps c
+
+-- Rows keep the cells that some of the steps writes.
+pub record KeepsWritten (kept : SetRows) (steps : List Step) : Type 0 where
+  pub apart : RunsApart kept
+  pub cells : (c : Cell) → set_at kept (cell_spot c) ≡ written steps c
+
+-- Rows are the accesses of the clear of what steps need from before them.
+abbrev pub AreNeeded : SetRows → List Step → List (Cells × Kind) → Type 0
+AreNeeded kept steps rows = (trace : List Item) (place : StepPlace) → RunsApart kept → KeepsSet kept (steps_of trace) → rows ≡ (clear_of place (to_clear trace steps)).accesses

@@ -1,0 +1,4 @@
+pub mod Stands
+pub mod Ready
+pub mod Cleared
+pub mod Adds

@@ -1,0 +1,26 @@
+-- What a tracker keeps, and the traces that it stands for.
+use Rattle.std.specs.Prelude.{ℕ, ◌≡◌, List, ◌++◌, map}
+use Rattle.wg_orders.specs.Steps.{Step}
+use Rattle.wg_orders.specs.Trace.{Item, Sort, steps_of, free}
+use Rattle.wg_bars.specs.Sets.{LastRows}
+use Rattle.wg_bars.specs.Last.{AreSorted, KeepsLast}
+use Rattle.wg_init.specs.Rows.{SetRows, KeepsSet, RunsApart}
+
+-- The last set of each part, and the cells that are set.
+pub record TrackerValue : Type 0 where
+  pub last : LastRows
+  pub cells : SetRows
+
+-- A tracker stands for steps where it keeps exactly the last set of each part and the cells that are not unset.
+pub record Stands (t : TrackerValue) (steps : List Step) : Type 0 where
+  pub last : KeepsLast t.last steps
+  pub cells : KeepsSet t.cells steps
+
+-- The rows of a tracker are in order.
+pub record IsSound (t : TrackerValue) : Type 0 where
+  pub last : AreSorted t.last
+  pub cells : RunsApart t.cells
+
+-- The release of objects changes no steps.
+abbrev pub FreesKeep : Type 0
+FreesKeep = (trace : List Item) (freed : List (ℕ × Sort)) → steps_of (trace ++ map free freed) ≡ steps_of trace
