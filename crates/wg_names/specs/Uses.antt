@@ -1,8 +1,8 @@
 -- Which names a call uses, with what each must stand for, and which name it makes. A new call adds its
 -- row to each of the two tables.
-use Rattle.std.specs.Prelude.{ℕ, List, [], ◌∷◌, Bool, true, Option, Some, None}
+use Rattle.std.specs.Prelude.{ℕ, List, [], ◌∷◌, map, Bool, true, false, Option, Some, None}
 use Rattle.wg_script.specs.declared.calls.Call.{Call}
-use Rattle.wg_script.specs.declared.calls.Call.TheVariants.{CreateBuffer, WriteBuffer, Destroy, Complete}
+use Rattle.wg_script.specs.declared.calls.Call.TheVariants.{CreateBuffer, CreateEncoder, Finish, Submit, WriteBuffer, Destroy, Complete, CopyBufferToBuffer, ClearBuffer, PushDebugGroup, PopDebugGroup}
 use Rattle.wg_names.specs.declared.kinds.NameKind.{NameKind}
 use Rattle.wg_names.specs.declared.kinds.NameKind.TheVariants as kind
 use Rattle.wg_names.specs.declared.kinds.Wanted.{Wanted}
@@ -12,17 +12,38 @@ use Rattle.wg_names.specs.declared.kinds.Wanted.TheVariants as wanted
 abbrev pub admits : Wanted → NameKind → Bool
 admits wanted.Buffer kind.Buffer = true
 admits wanted.Destroyable kind.Buffer = true
+admits wanted.Encoder kind.Encoder = true
+admits wanted.CommandBuffer kind.CommandBuffer = true
+admits _ _ = false
+
+-- the names of a list, each of which must stand for this
+abbrev pub all_wanted : Wanted → List (List ℕ) → List (List ℕ × Wanted)
+all_wanted what names = map (λ name. (name, what)) names
 
 -- the names that a call uses, in the order of its keys
 abbrev pub uses_of : Call → List (List ℕ × Wanted)
 uses_of (CreateBuffer size usage mapped made) = []
+uses_of (CreateEncoder made) = []
+uses_of (Finish on made) = (on, wanted.Encoder) ∷ []
+uses_of (Submit buffers) = all_wanted wanted.CommandBuffer buffers
 uses_of (WriteBuffer buffer offset size) = (buffer, wanted.Buffer) ∷ []
 uses_of (Destroy object) = (object, wanted.Destroyable) ∷ []
 uses_of (Complete op) = []
+uses_of (CopyBufferToBuffer on source source_offset target target_offset size) = (on, wanted.Encoder) ∷ (source, wanted.Buffer) ∷ (target, wanted.Buffer) ∷ []
+uses_of (ClearBuffer on buffer offset size) = (on, wanted.Encoder) ∷ (buffer, wanted.Buffer) ∷ []
+uses_of (PushDebugGroup on) = (on, wanted.Encoder) ∷ []
+uses_of (PopDebugGroup on) = (on, wanted.Encoder) ∷ []
 
 -- the name that a call makes
 abbrev pub made_of : Call → Option (List ℕ × NameKind)
 made_of (CreateBuffer size usage mapped made) = Some (made, kind.Buffer)
+made_of (CreateEncoder made) = Some (made, kind.Encoder)
+made_of (Finish on made) = Some (made, kind.CommandBuffer)
+made_of (Submit buffers) = None
 made_of (WriteBuffer buffer offset size) = None
 made_of (Destroy object) = None
 made_of (Complete op) = None
+made_of (CopyBufferToBuffer on source source_offset target target_offset size) = None
+made_of (ClearBuffer on buffer offset size) = None
+made_of (PushDebugGroup on) = None
+made_of (PopDebugGroup on) = None

@@ -1,11 +1,11 @@
 //! Goes through the calls of a script in order, and through the names of each.
-ghost use Rattle.std.specs.Prelude.{◌≡◌, IfOk, MatchResult};
+ghost use Rattle.std.specs.Prelude.{◌≡◌, map, IfOk, MatchResult};
 ghost use Rattle.std.specs.Option.{option_map};
 ghost use Rattle.std.specs.List.{list_all};
 ghost use Rattle.wg_script.specs.Outcome.{Reads};
 ghost use Rattle.wg_names.specs.Names.{is_name, is_name_byte};
 ghost use Rattle.wg_names.specs.Known.{names_in};
-ghost use Rattle.wg_names.specs.Uses.{uses_of, made_of};
+ghost use Rattle.wg_names.specs.Uses.{all_wanted, uses_of, made_of};
 ghost use Rattle.wg_names.specs.Script.{check_uses, call_bound, lane_bound, phase_bound, phases_bound, script_from, script_of, Binds, Finds};
 ghost use Rattle.wg_names.specs.Bound.{IsBound};
 
@@ -37,16 +37,69 @@ fn is_name(text: &str) -> bool
     !bytes.is_empty() && bytes.len() <= MOST_LETTERS && all_name_bytes(bytes)
 }
 
+/// Tests the names of a list, each of which must stand for what is wanted.
+fn check_all(
+    known: &Known<'_>,
+    phase: u32,
+    lane: u32,
+    names: &[Name],
+    wanted: Wanted,
+) -> Result<(), u8>
+    ensures { result ≡ check_uses (names_in known.now) phase lane (all_wanted wanted names.now) }
+{
+    for name in names {
+        known.check_use(phase, lane, name, wanted)?;
+    }
+    Ok(())
+}
+
+/// Tests names one after another, each with what it must stand for.
+fn check_each(known: &Known<'_>, phase: u32, lane: u32, uses: &[(&Name, Wanted)]) -> Result<(), u8>
+    ensures { result ≡ check_uses (names_in known.now) phase lane (map (λ u. (u.0.now, u.1)) uses.now) }
+{
+    for (name, wanted) in uses {
+        known.check_use(phase, lane, name, *wanted)?;
+    }
+    Ok(())
+}
+
 /// Tests the names that a call uses, in the order of its keys.
 fn check_uses(known: &Known<'_>, phase: u32, lane: u32, call: &Call) -> Result<(), u8>
     ensures { result ≡ check_uses (names_in known.now) phase lane (uses_of call.now) }
 {
     match call {
-        Call::WriteBuffer { buffer, .. } => known.check_use(phase, lane, buffer, Wanted::Buffer)?,
-        Call::Destroy { object } => known.check_use(phase, lane, object, Wanted::Destroyable)?,
-        Call::CreateBuffer { .. } | Call::Complete { .. } => (),
+        Call::Finish { on, .. } | Call::PushDebugGroup { on } | Call::PopDebugGroup { on } => {
+            check_each(known, phase, lane, &[(on, Wanted::Encoder)])
+        }
+        Call::Submit { buffers } => {
+            let buffers = buffers.as_slice();
+            check_all(known, phase, lane, buffers, Wanted::CommandBuffer)
+        }
+        Call::WriteBuffer { buffer, .. } => {
+            check_each(known, phase, lane, &[(buffer, Wanted::Buffer)])
+        }
+        Call::Destroy { object } => {
+            check_each(known, phase, lane, &[(object, Wanted::Destroyable)])
+        }
+        Call::CopyBufferToBuffer {
+            on,
+            source,
+            target,
+            ..
+        } => {
+            let uses = [
+                (on, Wanted::Encoder),
+                (source, Wanted::Buffer),
+                (target, Wanted::Buffer),
+            ];
+            check_each(known, phase, lane, &uses)
+        }
+        Call::ClearBuffer { on, buffer, .. } => {
+            let uses = [(on, Wanted::Encoder), (buffer, Wanted::Buffer)];
+            check_each(known, phase, lane, &uses)
+        }
+        Call::CreateBuffer { .. } | Call::CreateEncoder { .. } | Call::Complete { .. } => Ok(()),
     }
-    Ok(())
 }
 
 /// The name that a call makes, and what it stands for.
@@ -55,7 +108,16 @@ fn made_of(call: &Call) -> Option<(&Name, NameKind)>
 {
     match call {
         Call::CreateBuffer { made, .. } => Some((made, NameKind::Buffer)),
-        Call::WriteBuffer { .. } | Call::Destroy { .. } | Call::Complete { .. } => None,
+        Call::CreateEncoder { made } => Some((made, NameKind::Encoder)),
+        Call::Finish { made, .. } => Some((made, NameKind::CommandBuffer)),
+        Call::Submit { .. }
+        | Call::WriteBuffer { .. }
+        | Call::Destroy { .. }
+        | Call::Complete { .. }
+        | Call::CopyBufferToBuffer { .. }
+        | Call::ClearBuffer { .. }
+        | Call::PushDebugGroup { .. }
+        | Call::PopDebugGroup { .. } => None,
     }
 }
 

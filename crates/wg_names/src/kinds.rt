@@ -6,14 +6,18 @@ ghost use Rattle.wg_names.specs.Uses.{admits};
 #[derive(Clone, Copy, Debug, PartialEq, Eq)]
 pub enum NameKind {
     Buffer,
+    Encoder,
+    CommandBuffer,
 }
 
-/// What the key of a call asks of the name that it holds: that it stands for a buffer, or for
-/// something that can be destroyed.
+/// What the key of a call asks of the name that it holds: that it stands for a buffer, for something
+/// that can be destroyed, for an encoder, or for a command buffer.
 #[derive(Clone, Copy, Debug, PartialEq, Eq)]
 pub enum Wanted {
     Buffer,
     Destroyable,
+    Encoder,
+    CommandBuffer,
 }
 
 impl Wanted {
@@ -24,6 +28,9 @@ impl Wanted {
         match (self, kind) {
             (Wanted::Buffer, NameKind::Buffer) => true,
             (Wanted::Destroyable, NameKind::Buffer) => true,
+            (Wanted::Encoder, NameKind::Encoder) => true,
+            (Wanted::CommandBuffer, NameKind::CommandBuffer) => true,
+            _ => false,
         }
     }
 }

@@ -129,6 +129,85 @@ fn names_that_are_used(rt: HostRuntime) -> Result<(), Fail> {
 }
 
 #[test]
+fn kinds_of_names(rt: HostRuntime) -> Result<(), Fail> {
+    let made =
+        r#"{"do":"createBuffer","size":16,"usage":8,"as":"b"},{"do":"createEncoder","as":"e"},{"do":"finish","on":"e","as":"c"}"#;
+    let rows = [
+        (
+            r#"{"do":"writeBuffer","buffer":"e","offset":0,"size":4}"#,
+            11,
+        ),
+        (
+            r#"{"do":"writeBuffer","buffer":"c","offset":0,"size":4}"#,
+            11,
+        ),
+        (r#"{"do":"destroy","object":"e"}"#, 11),
+        (r#"{"do":"destroy","object":"c"}"#, 11),
+        (r#"{"do":"finish","on":"b","as":"d"}"#, 11),
+        (r#"{"do":"finish","on":"c","as":"d"}"#, 11),
+        (r#"{"do":"pushDebugGroup","on":"b"}"#, 11),
+        (r#"{"do":"popDebugGroup","on":"c"}"#, 11),
+        (r#"{"do":"submit","buffers":["b"]}"#, 11),
+        (r#"{"do":"submit","buffers":["e"]}"#, 11),
+        (r#"{"do":"submit","buffers":["c","e","x"]}"#, 11),
+        (r#"{"do":"submit","buffers":["c","x","e"]}"#, 10),
+        (r#"{"do":"clearBuffer","on":"b","buffer":"b"}"#, 11),
+        (r#"{"do":"clearBuffer","on":"c","buffer":"x"}"#, 11),
+        (r#"{"do":"clearBuffer","on":"e","buffer":"e"}"#, 11),
+        (r#"{"do":"clearBuffer","on":"e","buffer":"c"}"#, 11),
+        (r#"{"do":"clearBuffer","on":"e","buffer":"x"}"#, 10),
+        (
+            r#"{"do":"copyBufferToBuffer","on":"x","source":"e","sourceOffset":0,"target":"b","targetOffset":0,"size":4}"#,
+            10,
+        ),
+        (
+            r#"{"do":"copyBufferToBuffer","on":"c","source":"x","sourceOffset":0,"target":"b","targetOffset":0,"size":4}"#,
+            11,
+        ),
+        (
+            r#"{"do":"copyBufferToBuffer","on":"e","source":"x","sourceOffset":0,"target":"e","targetOffset":0,"size":4}"#,
+            10,
+        ),
+        (
+            r#"{"do":"copyBufferToBuffer","on":"e","source":"c","sourceOffset":0,"target":"x","targetOffset":0,"size":4}"#,
+            11,
+        ),
+        (
+            r#"{"do":"copyBufferToBuffer","on":"e","source":"b","sourceOffset":0,"target":"e","targetOffset":0,"size":4}"#,
+            11,
+        ),
+        (
+            r#"{"do":"copyBufferToBuffer","on":"e","source":"b","sourceOffset":0,"target":"x","targetOffset":0,"size":4}"#,
+            10,
+        ),
+        (r#"{"do":"finish","on":"x","as":"b"}"#, 10),
+        (r#"{"do":"finish","on":"b","as":"b"}"#, 11),
+        (r#"{"do":"finish","on":"d","as":"d"}"#, 10),
+        (r#"{"do":"finish","on":"e","as":"e"}"#, 9),
+        (r#"{"do":"finish","on":"e","as":"a b"}"#, 9),
+        (r#"{"do":"createEncoder","as":"c"}"#, 9),
+        (r#"{"do":"createEncoder","as":""}"#, 9),
+        (r#"{"do":"createBuffer","size":16,"usage":8,"as":"e"}"#, 9),
+    ];
+    for (call, rule) in rows {
+        let calls = format!(in rt.alloc(); "{made},{call}")?;
+        refuses(&rt, rt.alloc(), rule, 3, &[calls.as_str()])?;
+    }
+    let fine = [
+        r#"{"do":"writeBuffer","buffer":"b","offset":0,"size":4},{"do":"destroy","object":"b"},{"do":"clearBuffer","on":"e","buffer":"b"}"#,
+        r#"{"do":"copyBufferToBuffer","on":"e","source":"b","sourceOffset":0,"target":"b","targetOffset":0,"size":4}"#,
+        r#"{"do":"pushDebugGroup","on":"e"},{"do":"popDebugGroup","on":"e"},{"do":"popDebugGroup","on":"e"}"#,
+        r#"{"do":"finish","on":"e","as":"d"},{"do":"submit","buffers":["d","c","d"]},{"do":"submit","buffers":[]}"#,
+        r#"{"do":"createEncoder","as":"f"},{"do":"finish","on":"f","as":"d"},{"do":"submit","buffers":["c","d"]}"#,
+    ];
+    for calls in fine {
+        let calls = format!(in rt.alloc(); "{made},{calls}")?;
+        takes(&rt, rt.alloc(), &[calls.as_str()])?;
+    }
+    Ok(())
+}
+
+#[test]
 fn the_first_reading_first(rt: HostRuntime) -> Result<(), Fail> {
     let scripts = [
         r#"{"do":"destroy","object":"b"},{"do":"complete","op":-1}"#,

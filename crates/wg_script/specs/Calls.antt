@@ -4,12 +4,13 @@ use Rattle.std.specs.Prelude.{ℕ, List, [], ◌∷◌, Bool, false, if◌then�
 use Rattle.serde_json.specs.Data.{Data}
 use Rattle.serde_json.specs.Find.{get, as_str}
 use Rattle.wg_script.specs.Giving.{◌>>=◌}
-use Rattle.wg_script.specs.Values.{check_keys, whole_at, most_whole, most_short, flag_or, name_at, check_not_true}
+use Rattle.wg_script.specs.Values.{check_keys, whole_at, whole_or, whole_if, most_whole, most_short, flag_or, name_at, check_not_true}
+use Rattle.wg_script.specs.Lists.{names_at}
 use Rattle.wg_script.specs.Words.{word_of, is_known}
 use Rattle.wg_script.specs.declared.words.Word.{Word}
 use Rattle.wg_script.specs.declared.words.Word.TheVariants as word
 use Rattle.wg_script.specs.declared.calls.Call.{Call}
-use Rattle.wg_script.specs.declared.calls.Call.TheVariants.{CreateBuffer, WriteBuffer, Destroy, Complete}
+use Rattle.wg_script.specs.declared.calls.Call.TheVariants.{CreateBuffer, CreateEncoder, Finish, Submit, WriteBuffer, Destroy, Complete, CopyBufferToBuffer, ClearBuffer, PushDebugGroup, PopDebugGroup}
 
 -- createBuffer: a buffer that is mapped at its creation is not built yet
 unfoldable pub create_buffer_of : Data → Result Call ℕ
@@ -21,6 +22,28 @@ create_buffer_of d = do
   mapped ← flag_or false (get (codes "mapped") d)
   made ← name_at (get (codes "as") d)
   Ok (CreateBuffer size usage mapped made)
+
+-- createEncoder
+unfoldable pub create_encoder_of : Data → Result Call ℕ
+create_encoder_of d = do
+  fine ← check_keys (codes "do" ∷ codes "as" ∷ []) [] d
+  made ← name_at (get (codes "as") d)
+  Ok (CreateEncoder made)
+
+-- finish
+unfoldable pub finish_of : Data → Result Call ℕ
+finish_of d = do
+  fine ← check_keys (codes "do" ∷ codes "on" ∷ codes "as" ∷ []) [] d
+  on ← name_at (get (codes "on") d)
+  made ← name_at (get (codes "as") d)
+  Ok (Finish on made)
+
+-- submit
+unfoldable pub submit_of : Data → Result Call ℕ
+submit_of d = do
+  fine ← check_keys (codes "do" ∷ codes "buffers" ∷ []) [] d
+  buffers ← names_at (get (codes "buffers") d)
+  Ok (Submit buffers)
 
 -- writeBuffer
 unfoldable pub write_buffer_of : Data → Result Call ℕ
@@ -45,13 +68,58 @@ complete_of d = do
   op ← whole_at most_whole (get (codes "op") d)
   Ok (Complete op)
 
+-- ---- calls that are recorded
+
+-- copyBufferToBuffer
+unfoldable pub copy_buffer_to_buffer_of : Data → Result Call ℕ
+copy_buffer_to_buffer_of d = do
+  fine ← check_keys (codes "do" ∷ codes "on" ∷ codes "source" ∷ codes "sourceOffset" ∷ codes "target" ∷ codes "targetOffset" ∷ codes "size" ∷ []) [] d
+  on ← name_at (get (codes "on") d)
+  source ← name_at (get (codes "source") d)
+  source_offset ← whole_at most_whole (get (codes "sourceOffset") d)
+  target ← name_at (get (codes "target") d)
+  target_offset ← whole_at most_whole (get (codes "targetOffset") d)
+  size ← whole_at most_whole (get (codes "size") d)
+  Ok (CopyBufferToBuffer on source source_offset target target_offset size)
+
+-- clearBuffer: no size stands for what remains of the buffer from the offset on
+unfoldable pub clear_buffer_of : Data → Result Call ℕ
+clear_buffer_of d = do
+  fine ← check_keys (codes "do" ∷ codes "on" ∷ codes "buffer" ∷ []) (codes "offset" ∷ codes "size" ∷ []) d
+  on ← name_at (get (codes "on") d)
+  buffer ← name_at (get (codes "buffer") d)
+  offset ← whole_or most_whole 0 (get (codes "offset") d)
+  size ← whole_if most_whole (get (codes "size") d)
+  Ok (ClearBuffer on buffer offset size)
+
+-- pushDebugGroup
+unfoldable pub push_debug_group_of : Data → Result Call ℕ
+push_debug_group_of d = do
+  fine ← check_keys (codes "do" ∷ codes "on" ∷ []) [] d
+  on ← name_at (get (codes "on") d)
+  Ok (PushDebugGroup on)
+
+-- popDebugGroup
+unfoldable pub pop_debug_group_of : Data → Result Call ℕ
+pop_debug_group_of d = do
+  fine ← check_keys (codes "do" ∷ codes "on" ∷ []) [] d
+  on ← name_at (get (codes "on") d)
+  Ok (PopDebugGroup on)
+
 -- ---- which call
 
 abbrev pub call_as : Word → Data → Result Call ℕ
 call_as word.CreateBuffer d = create_buffer_of d
+call_as word.CreateEncoder d = create_encoder_of d
+call_as word.Finish d = finish_of d
+call_as word.Submit d = submit_of d
 call_as word.WriteBuffer d = write_buffer_of d
 call_as word.Destroy d = destroy_of d
 call_as word.Complete d = complete_of d
+call_as word.CopyBufferToBuffer d = copy_buffer_to_buffer_of d
+call_as word.ClearBuffer d = clear_buffer_of d
+call_as word.PushDebugGroup d = push_debug_group_of d
+call_as word.PopDebugGroup d = pop_debug_group_of d
 
 -- script rule 13: the word names a call that is not built yet. Script rule 6: it names none
 abbrev pub call_named : Option Word → Bool → Data → Result Call ℕ

@@ -1,5 +1,6 @@
 pub mod Giving
 pub mod Values
+pub mod Lists
 pub mod Words
 pub mod Calls
 pub mod Draft

@@ -2,15 +2,22 @@
 use Rattle.std.specs.Prelude.{ℕ, List, [], ◌∷◌, Bool, ◌||◌, bytes_eq, if◌then◌else◌, codes, Option, Some, None}
 use Rattle.std.specs.List.{list_any}
 use Rattle.wg_script.specs.declared.words.Word.{Word}
-use Rattle.wg_script.specs.declared.words.Word.TheVariants.{CreateBuffer, WriteBuffer, Destroy, Complete}
+use Rattle.wg_script.specs.declared.words.Word.TheVariants.{CreateBuffer, CreateEncoder, Finish, Submit, WriteBuffer, Destroy, Complete, CopyBufferToBuffer, ClearBuffer, PushDebugGroup, PopDebugGroup}
 
 -- the call that a word names, of those that are built
 unfoldable pub word_of : List ℕ → Option Word
 word_of s =
     if bytes_eq s (codes "createBuffer") then Some CreateBuffer else
+    (if bytes_eq s (codes "createEncoder") then Some CreateEncoder else
+    (if bytes_eq s (codes "finish") then Some Finish else
+    (if bytes_eq s (codes "submit") then Some Submit else
     (if bytes_eq s (codes "writeBuffer") then Some WriteBuffer else
     (if bytes_eq s (codes "destroy") then Some Destroy else
-    (if bytes_eq s (codes "complete") then Some Complete else None)))
+    (if bytes_eq s (codes "complete") then Some Complete else
+    (if bytes_eq s (codes "copyBufferToBuffer") then Some CopyBufferToBuffer else
+    (if bytes_eq s (codes "clearBuffer") then Some ClearBuffer else
+    (if bytes_eq s (codes "pushDebugGroup") then Some PushDebugGroup else
+    (if bytes_eq s (codes "popDebugGroup") then Some PopDebugGroup else None))))))))))
 
 -- the words of calls that make the objects of a device
 unfoldable pub is_object_word : List ℕ → Bool

@@ -4,6 +4,7 @@
 mod call_reading;
 mod calls;
 mod draft;
+mod lists;
 mod name;
 mod reading;
 mod values;
@@ -11,7 +12,7 @@ mod words;
 
 pub use calls::Call;
 pub use draft::{Draft, Lane, Phase, Phases, Place, Script, ScriptFault};
-pub use name::Name;
+pub use name::{Name, Names};
 pub use reading::read;
 pub use wg_entry::NoMemory;
 

@@ -220,11 +220,8 @@ fn words(rt: HostRuntime) -> Result<(), Fail> {
         "createComputePipeline",
         "createRenderPipeline",
         "createQuerySet",
-        "createEncoder",
         "createBundleEncoder",
-        "finish",
         "finishBundle",
-        "submit",
         "writeTexture",
         "mapAsync",
         "unmap",
@@ -235,14 +232,10 @@ fn words(rt: HostRuntime) -> Result<(), Fail> {
         "lose",
         "beginComputePass",
         "beginRenderPass",
-        "copyBufferToBuffer",
         "copyBufferToTexture",
         "copyTextureToBuffer",
         "copyTextureToTexture",
-        "clearBuffer",
         "resolveQuerySet",
-        "pushDebugGroup",
-        "popDebugGroup",
         "end",
         "setPipeline",
         "setBindGroup",
@@ -307,8 +300,41 @@ fn keys(rt: HostRuntime) -> Result<(), Fail> {
         r#"{"do":"destroy","object":"b","as":"c"}"#,
         r#"{"do":"complete"}"#,
         r#"{"do":"complete","op":1,"":0}"#,
+        r#"{"do":"createEncoder"}"#,
+        r#"{"do":"createEncoder","as":"e","label":"e"}"#,
+        r#"{"do":"finish","on":"e"}"#,
+        r#"{"do":"finish","as":"c"}"#,
+        r#"{"do":"finish","on":"e","as":"c","buffers":[]}"#,
+        r#"{"do":"submit"}"#,
+        r#"{"do":"submit","buffers":7,"on":"e"}"#,
+        r#"{"do":"clearBuffer","on":"e","offset":0,"size":4}"#,
+        r#"{"do":"clearBuffer","buffer":"b","offset":0,"size":4}"#,
+        r#"{"do":"clearBuffer","on":"e","buffer":"b","Size":4}"#,
+        r#"{"do":"pushDebugGroup"}"#,
+        r#"{"do":"pushDebugGroup","on":"e","label":"g"}"#,
+        r#"{"do":"popDebugGroup"}"#,
+        r#"{"do":"popDebugGroup","on":"e","as":"g"}"#,
     ];
     refuses_calls(&rt, rt.alloc(), 7, &wrong)?;
+    let copy = [
+        r#""on":"e""#,
+        r#""source":"b""#,
+        r#""sourceOffset":0"#,
+        r#""target":"b""#,
+        r#""targetOffset":0"#,
+        r#""size":4"#,
+    ];
+    for left_out in 0..copy.len() {
+        let mut call = String::from_str(rt.alloc(), r#"{"do":"copyBufferToBuffer""#)?;
+        for (index, key) in copy.iter().enumerate() {
+            if index != left_out {
+                call.push_str(",")?;
+                call.push_str(key)?;
+            }
+        }
+        call.push_str("}")?;
+        refuses_calls(&rt, rt.alloc(), 7, &[call.as_str()])?;
+    }
     Ok(())
 }
 
@@ -339,12 +365,20 @@ fn values(rt: HostRuntime) -> Result<(), Fail> {
             "{{\"do\":\"writeBuffer\",\"buffer\":\"b\",\"offset\":0,\"size\":{number}}}"
         )?;
         let op = format!(in rt.alloc(); "{{\"do\":\"complete\",\"op\":{number}}}")?;
+        let clear = format!(in rt.alloc();
+            "{{\"do\":\"clearBuffer\",\"on\":\"e\",\"buffer\":\"b\",\"offset\":{number}}}"
+        )?;
+        let rest = format!(in rt.alloc();
+            "{{\"do\":\"clearBuffer\",\"on\":\"e\",\"buffer\":\"b\",\"size\":{number}}}"
+        )?;
         let calls = [
             size.as_str(),
             usage.as_str(),
             offset.as_str(),
             length.as_str(),
             op.as_str(),
+            clear.as_str(),
+            rest.as_str(),
         ];
         refuses_calls(&rt, rt.alloc(), 8, &calls)?;
     }
@@ -356,6 +390,19 @@ fn values(rt: HostRuntime) -> Result<(), Fail> {
         r#"{"do":"writeBuffer","buffer":["b"],"offset":0,"size":16}"#,
         r#"{"do":"destroy","object":null}"#,
         r#"{"do":"complete","op":5,"op":"x"}"#,
+        r#"{"do":"createEncoder","as":7}"#,
+        r#"{"do":"finish","on":7,"as":"c"}"#,
+        r#"{"do":"finish","on":"e","as":null}"#,
+        r#"{"do":"clearBuffer","on":null,"buffer":"b"}"#,
+        r#"{"do":"clearBuffer","on":"e","buffer":["b"]}"#,
+        r#"{"do":"pushDebugGroup","on":7}"#,
+        r#"{"do":"popDebugGroup","on":null}"#,
+        r#"{"do":"copyBufferToBuffer","on":7,"source":"b","sourceOffset":0,"target":"b","targetOffset":0,"size":4}"#,
+        r#"{"do":"copyBufferToBuffer","on":"e","source":7,"sourceOffset":0,"target":"b","targetOffset":0,"size":4}"#,
+        r#"{"do":"copyBufferToBuffer","on":"e","source":"b","sourceOffset":-1,"target":"b","targetOffset":0,"size":4}"#,
+        r#"{"do":"copyBufferToBuffer","on":"e","source":"b","sourceOffset":0,"target":7,"targetOffset":0,"size":4}"#,
+        r#"{"do":"copyBufferToBuffer","on":"e","source":"b","sourceOffset":0,"target":"b","targetOffset":"0","size":4}"#,
+        r#"{"do":"copyBufferToBuffer","on":"e","source":"b","sourceOffset":0,"target":"b","targetOffset":0,"size":null}"#,
     ];
     refuses_calls(&rt, rt.alloc(), 8, &wrong)?;
     let fine = [
@@ -363,8 +410,36 @@ fn values(rt: HostRuntime) -> Result<(), Fail> {
         r#"{"do":"createBuffer","size":0,"usage":0,"as":"not a name"}"#,
         r#"{"do":"writeBuffer","buffer":"","offset":9007199254740991,"size":9007199254740991}"#,
         r#"{"do":"complete","op":9007199254740991}"#,
+        r#"{"do":"copyBufferToBuffer","on":"","source":"","sourceOffset":9007199254740991,"target":"","targetOffset":9007199254740991,"size":9007199254740991}"#,
+        r#"{"do":"clearBuffer","on":"","buffer":"","offset":9007199254740991,"size":9007199254740991}"#,
+        r#"{"do":"clearBuffer","on":"e","buffer":"b"}"#,
     ];
     reads_calls(&rt, rt.alloc(), &fine)?;
+    Ok(())
+}
+
+#[test]
+fn lists_of_names(rt: HostRuntime) -> Result<(), Fail> {
+    let wrong = [
+        r#"{"do":"submit","buffers":"c"}"#,
+        r#"{"do":"submit","buffers":7}"#,
+        r#"{"do":"submit","buffers":null}"#,
+        r#"{"do":"submit","buffers":{"c":"c"}}"#,
+        r#"{"do":"submit","buffers":[7]}"#,
+        r#"{"do":"submit","buffers":["c",null]}"#,
+        r#"{"do":"submit","buffers":[["c"]]}"#,
+    ];
+    refuses_calls(&rt, rt.alloc(), 8, &wrong)?;
+    let most = repeated(rt.alloc(), r#""c","#, 1_023)?;
+    let longest = format!(in rt.alloc(); "{{\"do\":\"submit\",\"buffers\":[{most}\"d\"]}}")?;
+    let fine = [
+        r#"{"do":"submit","buffers":[]}"#,
+        r#"{"do":"submit","buffers":["","c","c"]}"#,
+        longest.as_str(),
+    ];
+    reads_calls(&rt, rt.alloc(), &fine)?;
+    let too_long = format!(in rt.alloc(); "{{\"do\":\"submit\",\"buffers\":[{most}\"c\",\"d\"]}}")?;
+    refuses_calls(&rt, rt.alloc(), 8, &[too_long.as_str()])?;
     Ok(())
 }
 
@@ -402,5 +477,52 @@ fn a_draft(rt: HostRuntime) -> Result<(), Fail> {
     );
     assert!(rt; matches!(third, Call::Destroy { object } if object.as_str() == "b"));
     assert!(rt; matches!(fourth, Call::Complete { op: 1 }));
+    Ok(())
+}
+
+#[test]
+fn recorded_calls(rt: HostRuntime) -> Result<(), Fail> {
+    let text = r#"{"budget":0,"phases":[[[
+        {"do":"createEncoder","as":"e"},
+        {"do":"pushDebugGroup","on":"e"},
+        {"do":"copyBufferToBuffer","on":"e","source":"a","sourceOffset":1,"target":"b","targetOffset":2,"size":3},
+        {"do":"clearBuffer","on":"e","buffer":"b","offset":4,"size":0},
+        {"do":"clearBuffer","buffer":"a","on":"e"},
+        {"do":"popDebugGroup","on":"f"},
+        {"do":"finish","on":"e","as":"c"},
+        {"do":"submit","buffers":["c","d"]}
+    ]]]}"#;
+    let draft = read(rt.alloc(), text.as_bytes()).ok().ok_or("no script")?;
+    let [phase] = draft.phases.as_slice() else {
+        return Err(Fail::from("one phase"));
+    };
+    let [lane] = phase.as_slice() else {
+        return Err(Fail::from("one lane"));
+    };
+    let [create, push, copy, clear, rest, pop, finish, submit] = lane.as_slice() else {
+        return Err(Fail::from("eight calls"));
+    };
+    assert!(rt; matches!(create, Call::CreateEncoder { made } if made.as_str() == "e"));
+    assert!(rt; matches!(push, Call::PushDebugGroup { on } if on.as_str() == "e"));
+    assert!(rt;
+        matches!(copy, Call::CopyBufferToBuffer { on, source, source_offset: 1, target, target_offset: 2, size: 3 }
+            if on.as_str() == "e" && source.as_str() == "a" && target.as_str() == "b")
+    );
+    assert!(rt;
+        matches!(clear, Call::ClearBuffer { on, buffer, offset: 4, size: Some(0) }
+            if on.as_str() == "e" && buffer.as_str() == "b")
+    );
+    assert!(rt;
+        matches!(rest, Call::ClearBuffer { on, buffer, offset: 0, size: None }
+            if on.as_str() == "e" && buffer.as_str() == "a")
+    );
+    assert!(rt; matches!(pop, Call::PopDebugGroup { on } if on.as_str() == "f"));
+    assert!(rt;
+        matches!(finish, Call::Finish { on, made } if on.as_str() == "e" && made.as_str() == "c")
+    );
+    assert!(rt;
+        matches!(submit, Call::Submit { buffers }
+            if matches!(buffers.as_slice(), [first, second] if first.as_str() == "c" && second.as_str() == "d"))
+    );
     Ok(())
 }

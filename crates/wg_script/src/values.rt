@@ -2,16 +2,16 @@
 ghost use Rattle.std.specs.Prelude.{◌≡◌, ◌||◌, ◌++◌, map, bytes_eq, is_some, string_bytes};
 ghost use Rattle.std.specs.List.{list_any, list_all};
 ghost use Rattle.std.specs.BTreeMap.{keys};
-ghost use Rattle.serde_json.specs.Find.{get};
+ghost use Rattle.serde_json.specs.Find.{get, as_str};
 ghost use Rattle.serde_json.specs.View.{view, members_view};
 ghost use Rattle.wg_script.specs.Giving.{Gives};
-ghost use Rattle.wg_script.specs.Values.{fits, check_keys, has_only, has_all, whole, whole_at, most_short, flag_or, name_at, check_not_true};
+ghost use Rattle.wg_script.specs.Values.{fits, check_keys, has_only, has_all, whole, whole_at, whole_or, whole_if, most_short, flag_or, name_at, name_of, check_not_true};
 ghost use Rattle.wg_script.specs.declared.values.Refusal.TheVariants.{NoMemory as OutOfMemory, Rule};
 
 use crate::NoMemory;
 use crate::name::Name;
 use serde_json::{Map, Value};
-use std::alloc::Global;
+use std::alloc::{AllocFailed, Global};
 
 /// Why a call was not read: it breaks a rule, or there was no memory.
 #[derive(Clone, Copy, Debug, PartialEq, Eq)]
@@ -32,6 +32,14 @@ impl From<NoMemory> for Refusal {
     ghost from_gives = { λ _ refusal. refusal ≡ OutOfMemory };
 
     fn from(_error: NoMemory) -> Refusal {
+        Refusal::NoMemory
+    }
+}
+
+impl<T: Drop> From<AllocFailed<T>> for Refusal {
+    ghost from_gives = { λ _ refusal. refusal ≡ OutOfMemory };
+
+    fn from(_error: AllocFailed<T>) -> Refusal {
         Refusal::NoMemory
     }
 }
@@ -121,6 +129,26 @@ pub fn whole_at(object: &Value, key: &str, most: u64) -> Result<u64, u8>
     }
 }
 
+/// A whole number up to `most`, or the default where the key is left out.
+pub fn whole_or(object: &Value, key: &str, most: u64, default: u64) -> Result<u64, u8>
+    ensures { result ≡ whole_or most default (get key.now (view object.now)) }
+{
+    match object.get(key) {
+        Some(value) => whole(value, most),
+        None => Ok(default),
+    }
+}
+
+/// A whole number up to `most`, if the key is there.
+pub fn whole_if(object: &Value, key: &str, most: u64) -> Result<Option<u64>, u8>
+    ensures { result ≡ whole_if most (get key.now (view object.now)) }
+{
+    match object.get(key) {
+        Some(value) => Ok(Some(whole(value, most)?)),
+        None => Ok(None),
+    }
+}
+
 fn short(value: &Value) -> Result<u32, u8>
     ensures { result ≡ whole most_short (view value.now) }
 {
@@ -150,12 +178,22 @@ pub fn flag_or(object: &Value, key: &str, default: bool) -> Result<bool, u8>
     }
 }
 
+/// A name.
+pub fn name_of(alloc: Global, value: &Value) -> Result<Name, Refusal>
+    ensures { Gives result (name_of (as_str (view value.now))) }
+{
+    match value.as_str() {
+        Some(text) => Ok(Name::new(alloc, text)?),
+        None => Err(Refusal::Rule(8)),
+    }
+}
+
 /// A name, under a key that is needed.
 pub fn name_at(alloc: Global, object: &Value, key: &str) -> Result<Name, Refusal>
     ensures { Gives result (name_at (get key.now (view object.now))) }
 {
-    match object.get(key).and_then(Value::as_str) {
-        Some(text) => Ok(Name::new(alloc, text)?),
+    match object.get(key) {
+        Some(value) => name_of(alloc, value),
         None => Err(Refusal::Rule(8)),
     }
 }

@@ -5,9 +5,16 @@ ghost use Rattle.wg_script.specs.Words.{is_known, word_of, is_object_word, is_en
 #[derive(Clone, Copy, Debug, PartialEq, Eq)]
 pub enum Word {
     CreateBuffer,
+    CreateEncoder,
+    Finish,
+    Submit,
     WriteBuffer,
     Destroy,
     Complete,
+    CopyBufferToBuffer,
+    ClearBuffer,
+    PushDebugGroup,
+    PopDebugGroup,
 }
 
 /// The call that a text names, of those that are built.
@@ -17,9 +24,16 @@ pub fn word_of(text: &str) -> Option<Word>
 {
     match text {
         "createBuffer" => Some(Word::CreateBuffer),
+        "createEncoder" => Some(Word::CreateEncoder),
+        "finish" => Some(Word::Finish),
+        "submit" => Some(Word::Submit),
         "writeBuffer" => Some(Word::WriteBuffer),
         "destroy" => Some(Word::Destroy),
         "complete" => Some(Word::Complete),
+        "copyBufferToBuffer" => Some(Word::CopyBufferToBuffer),
+        "clearBuffer" => Some(Word::ClearBuffer),
+        "pushDebugGroup" => Some(Word::PushDebugGroup),
+        "popDebugGroup" => Some(Word::PopDebugGroup),
         _ => None,
     }
 }
