@@ -152,6 +152,8 @@ fn command_step(
     ensures { IfOk result (λ step. option_to_list step ≡ encoder_steps place command.now) }
 {
     match command {
+        Command::CopyBufferToBuffer { size: 0, .. } => return Ok(None),
+        Command::ClearBuffer { size: 0, .. } => return Ok(None),
         Command::CopyBufferToBuffer {
             source,
             source_offset,
@@ -159,9 +161,6 @@ fn command_step(
             target_offset,
             size,
         } => {
-            if *size == 0 {
-                return Ok(None);
-            }
             let from = (source.reference().number, *source_offset);
             let to = (target.reference().number, *target_offset);
             let step = copy_step(alloc, place, from, to, *size)?;
@@ -172,9 +171,6 @@ fn command_step(
             offset,
             size,
         } => {
-            if *size == 0 {
-                return Ok(None);
-            }
             let object = buffer.reference().number;
             let end = end_of(*offset, *size)?;
             let step = write_bytes(alloc, place, StepName::ClearBuffer, object, *offset, end)?;
@@ -248,3 +244,6 @@ pub fn write_step(
         }
     }
 }
+
+#[cfg(test)]
+mod tests;

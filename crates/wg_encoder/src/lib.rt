@@ -10,3 +10,6 @@ mod recorder;
 mod walk;
 
 pub use recorder::{Noted, Recorder, Recording, Stage};
+
+#[cfg(test)]
+mod tests;

@@ -1,5 +1,5 @@
 -- The steps of recorded commands use only the resources that the commands name.
-use Rattle.std.proofs.Common.{◌≡◌, ℕ, ◌+◌, Bool, true, false, ◌&&◌, ◌||◌, ◌==◌, List, [], ◌∷◌, ◌++◌, reverse, Option, Some, None, refl, ap, sym, ◌∙◌, slice_get, if◌then◌else◌}
+use Rattle.std.proofs.Common.{◌≡◌, ℕ, Bool, true, false, ◌||◌, ◌==◌, List, [], ◌∷◌, reverse, Option, Some, None, refl, ap, ◌∙◌, if◌then◌else◌}
 use Rattle.std.specs.List.{list_any}
 use Rattle.std.proofs.lemmas.Bool.{eq-eqb}
 use Rattle.std.proofs.lemmas.List.{reverse-append}
@@ -9,11 +9,11 @@ use Rattle.wg_types.specs.declared.commands.On.TheVariants.{Encoder, Pass}
 use Rattle.wg_types.specs.declared.commands.Command.{Command}
 use Rattle.wg_types.specs.declared.commands.Command.TheVariants.{CopyBufferToBuffer, ClearBuffer}
 use Rattle.wg_orders.specs.Rows.{run_before}
-use Rattle.wg_orders.specs.Steps.{Part, Buffer, PartRun, BufferPart, covers_part, part_sort, Usages, row_set, with_usage, Step, StepPlace, set_of, printed_uses}
+use Rattle.wg_orders.specs.Steps.{Part, Buffer, BufferPart, covers_part, part_sort, Usages, row_set, with_usage, Step, StepPlace, set_of}
 use Rattle.wg_orders.specs.Laws.{object_of, Unused}
 use Rattle.wg_orders.proofs.Runs.{single_part}
 use Rattle.wg_orders.proofs.Unused.{unused_none, unused_one, unused_append}
-use Rattle.wg_model.specs.Walk.{Kept, PassSoFar, open_pass}
+use Rattle.wg_model.specs.Walk.{PassSoFar, open_pass}
 use Rattle.wg_model.specs.Recorded.{copy_src_usage, copy_dst_usage, write_buffer_step, copy_buffer_step, clear_buffer_step, encoder_steps, steps_at, recorded_steps, resources, uses_resource}
 use Rattle.wg_model.specs.StepLaws.{RecordedSpare}
 use Rattle.wg_model.proofs.StepLaws.{in_order, two_uses, pass_none}
