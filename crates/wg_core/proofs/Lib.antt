@@ -1,3 +1,3 @@
-pub mod Adding
+pub mod Planning
 pub mod Freeing
 pub mod Tracing

@@ -1,8 +1,12 @@
 //! The device's state, one event at a time.
-ghost use Rattle.std.specs.Prelude.{◌≡◌, ℕ, [], ◌∷◌, ◌++◌, ◌+◌, ◌≤◌, vec_len, vec_capacity, reverse, IfOk, IfErr, OnErr};
+ghost use Rattle.std.specs.Prelude.{◌≡◌, ℕ, [], ◌∷◌, ◌++◌, ◌+◌, ◌≤◌, length, vec_len, vec_capacity, reverse, IfOk, IfErr, OnErr};
 ghost use Rattle.wg_history.specs.Answers.{reply_to, Run};
 ghost use Rattle.wg_history.specs.Steps.{Steps};
 ghost use Rattle.wg_history.specs.Traces.{Trace};
+ghost use Rattle.wg_tracker.specs.Stands.{Stands};
+ghost use Rattle.wg_core.specs.Cores.{IsTracked};
+ghost use Rattle.wg_core.specs.Plans.{items_of, IsPlanFor, IsReadyFor};
+ghost use Rattle.wg_orders.specs.Trace.{steps_of};
 
 use crate::frees::push_frees;
 use crate::plan::{Plan, Seen, plan_event};
@@ -10,6 +14,7 @@ use std::alloc::Global;
 use std::marker::Model;
 use wg_history::Refused;
 use wg_history::events::{Entry, Event, Setup};
+use wg_tracker::{Prepared, Tracker};
 use wg_types::replies::Reply;
 use wg_types::steps::Item;
 
@@ -24,6 +29,55 @@ where
     let _ = to.append(&mut from);
 }
 
+/// How many items were prepared.
+fn count_of(added: &Option<Prepared>) -> usize
+    ensures { result ≡ length (items_of added.now) }
+{
+    match added {
+        Some(prepared) => prepared.items().len(),
+        None => 0,
+    }
+}
+
+/// Adds what was prepared to a tracker and to the trace that it stands for, in room that there is.
+fn apply(tracker: &mut Tracker, trace: &mut Vec<Item>, added: Option<Prepared>)
+    requires ready { IsReadyFor tracker.old added }
+    requires room { vec_len trace.old + length (items_of added) ≤ vec_capacity trace.old }
+    ensures items { trace.new.items ≡ trace.old.items ++ items_of added }
+    ensures capacity { vec_capacity trace.old ≤ vec_capacity trace.new }
+    ensures stands { Stands tracker.old (steps_of trace.old.items) → Stands tracker.new (steps_of trace.new.items) }
+{
+    let Some(prepared) = added else {
+        return;
+    };
+    let items = tracker.apply(prepared);
+    append_reserved(trace, items);
+}
+
+/// Adds an entry to a history, and what was planned for it to the trace and the tracker, with the
+/// releases that come after it. There is room for all.
+fn add_entry(
+    setup: Setup,
+    history: &mut Vec<Entry>,
+    trace: &mut Vec<Item>,
+    tracker: &mut Tracker,
+    entry: Entry,
+    added: Option<Prepared>,
+)
+    requires run { Run setup history.old.items }
+    requires answers { entry.reply ≡ reply_to setup (reverse history.old.items) entry.event }
+    requires tracked { IsTracked setup history.old.items trace.old.items tracker.old }
+    requires planned { IsPlanFor setup history.old.items tracker.old entry.event entry.reply added }
+    requires place { vec_len history.old + 1 ≤ vec_capacity history.old }
+    requires room { vec_len trace.old + (length (items_of added) + (vec_len history.old + 1)) ≤ vec_capacity trace.old }
+    ensures history { history.new.items ≡ history.old.items ++ entry ∷ [] }
+    ensures tracked { IsTracked setup history.new.items trace.new.items tracker.new }
+{
+    apply(tracker, trace, added);
+    history.push_reserved(entry);
+    push_frees(trace, setup, history.as_slice());
+}
+
 /// The state of a device. Contracts see what it was opened with and its history, which is a run: each
 /// reply is the one answer to its event.
 #[derive(Drop)]
@@ -31,19 +85,19 @@ pub struct Core {
     setup: Setup,
     history: Vec<Entry>,
     trace: Vec<Item>,
+    tracker: Tracker,
     ghost run: { Run setup history.items },
 }
 
 impl Model for Core {
     ghost use Rattle.std.specs.Prelude.{◌≡◌};
-    ghost use Rattle.wg_core.specs.Cores.{CoreValue};
-    ghost use Rattle.wg_history.specs.Traces.{Trace};
+    ghost use Rattle.wg_core.specs.Cores.{CoreValue, IsTracked};
 
     ghost Value = { CoreValue };
 
     ghost view = { λ c. record { setup = c.setup; history = c.history.items; run = c.run } };
 
-    ghost invariant = { λ c. c.trace.items ≡ Trace c.setup c.history.items };
+    ghost invariant = { λ c. IsTracked c.setup c.history.items c.trace.items c.tracker };
 }
 
 impl Core {
@@ -58,6 +112,7 @@ impl Core {
             setup: Setup { serial, budget },
             history: Vec::new(alloc),
             trace: Vec::new(alloc),
+            tracker: Tracker::new(alloc),
         }
     }
 
@@ -97,28 +152,34 @@ impl Core {
         let seen = Seen {
             setup: self.setup,
             history: self.history.as_slice(),
-            trace: self.trace.as_slice(),
+            tracker: &self.tracker,
         };
         let Ok(planned) = plan_event(alloc, seen, &event) else {
             return Err(Refused { call: event });
         };
-        let Plan { reply, items } = planned;
+        let Plan { reply, added } = planned;
         let Ok(kept) = reply.clone() else {
             return Err(Refused { call: event });
         };
-        let Some(room) = items.len().checked_add(self.history.len() + 1) else {
+        let Some(room) = count_of(&added).checked_add(self.history.len() + 1) else {
             return Err(Refused { call: event });
         };
         if self.trace.reserve(room).is_err() {
             return Err(Refused { call: event });
         }
-        append_reserved(&mut self.trace, items);
-        self.history.push_reserved(Entry {
+        let entry = Entry {
             who,
             event,
             reply: kept,
-        });
-        push_frees(&mut self.trace, self.setup, self.history.as_slice());
+        };
+        add_entry(
+            self.setup,
+            &mut self.history,
+            &mut self.trace,
+            &mut self.tracker,
+            entry,
+            added,
+        );
         Ok(reply)
     }
 }

@@ -1,7 +1,6 @@
 //! The state of a device, one event at a time.
 #![tactic(auto)]
 
-mod bars;
 mod buffers;
 mod copies;
 mod device;
@@ -9,6 +8,7 @@ mod frees;
 mod look;
 mod plan;
 mod rules;
+mod uses;
 
 pub use device::Core;
 pub use wg_history::events::{Entry, Event, Setup};

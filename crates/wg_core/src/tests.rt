@@ -1,8 +1,13 @@
 use crate::{Core, Event};
+use std::alloc::Global;
+use std::sync::Arc;
 use std::test::Fail;
-use wg_types::handles::{BufferInfo, ObjRef};
+use wg_encoder::{Noted, Recorder, Recording};
+use wg_types::commands::{Command, On};
+use wg_types::handles::{BufferInfo, Handle, Info, ObjRef};
+use wg_types::items::Items;
 use wg_types::replies::{Answer, Caught, Fault, FaultKind};
-use wg_types::steps::{Item, Sort};
+use wg_types::steps::{Item, Sort, StepName};
 
 /// The object of this number of the device with serial 1.
 fn own(number: u64) -> ObjRef {
@@ -80,5 +85,132 @@ fn each_call_is_answered(rt: HostRuntime) -> Result<(), Fail> {
             }
         )
     );
+    Ok(())
+}
+
+/// A handle of a buffer of the device with serial 1, with these usages and 16 bytes.
+fn handle(alloc: Global, number: u64, usage: u32) -> Result<Handle, Fail> {
+    let info = Info::Buffer(BufferInfo {
+        size: 16,
+        usage,
+        mapped: false,
+    });
+    Ok(Handle::new(own(number), true, Arc::new(alloc, info)?))
+}
+
+/// What a recorder of an encoder keeps of a copy of 16 bytes from the first of two buffers to the
+/// other.
+fn copy(alloc: Global, source: Handle, target: Handle) -> Result<Recording, Fail> {
+    let mut recorder = Recorder::new(alloc, 1);
+    let command = Command::CopyBufferToBuffer {
+        source,
+        source_offset: 0,
+        target,
+        target_offset: 0,
+        size: 16,
+    };
+    let noted = recorder.record(On::Encoder, command)?;
+    if noted == Noted::Late {
+        return Err(Fail::new("late"));
+    }
+    Ok(recorder.take())
+}
+
+/// A submit of the objects with these numbers.
+fn submit(alloc: Global, numbers: &[u64]) -> Result<Event, Fail> {
+    let mut buffers = Items::new(alloc);
+    for number in numbers {
+        buffers.push(own(*number))?;
+    }
+    Ok(Event::Submit { buffers })
+}
+
+/// The answer and the rule of an event.
+fn answer(core: &mut Core, event: Event) -> Result<(Answer, Option<u16>), Fail> {
+    let reply = core.step(0, event).ok().ok_or("no memory")?;
+    Ok((reply.answer, reply.fault.map(|fault| fault.rule)))
+}
+
+#[test]
+fn encoders_are_finished_and_submitted(rt: HostRuntime) -> Result<(), Fail> {
+    let alloc = rt.alloc();
+    let mut core = Core::new(alloc, 1_000_000, 1);
+    let made = |number, valid| Answer::Made { number, valid };
+    let buffer = |usage| Event::CreateBuffer {
+        info: BufferInfo {
+            size: 16,
+            usage,
+            mapped: false,
+        },
+    };
+    let finish = |encoder, recording| Event::Finish { encoder, recording };
+    let empty = Recorder::new(alloc, 1).take();
+    let copied = copy(alloc, handle(alloc, 0, 12)?, handle(alloc, 1, 8)?)?;
+    let forged = copy(alloc, handle(alloc, 0, 4)?, handle(alloc, 1, 8)?)?;
+    let later = copy(alloc, handle(alloc, 0, 12)?, handle(alloc, 1, 8)?)?;
+    let foreign = ObjRef {
+        device: 2,
+        number: 2,
+    };
+    let write = Event::WriteBuffer {
+        buffer: own(0),
+        offset: 0,
+        size: 4,
+    };
+    let cases = [
+        (buffer(12), made(0, true), None),
+        (buffer(8), made(1, true), None),
+        (write, Answer::Queued(1), None),
+        (Event::CreateEncoder, made(2, true), None),
+        (finish(own(2), copied), made(3, true), None),
+        (submit(alloc, &[3])?, Answer::Queued(2), None),
+        (submit(alloc, &[3])?, Answer::Plain, Some(190)),
+        (finish(own(2), empty), made(4, false), Some(180)),
+        (submit(alloc, &[4])?, Answer::Plain, Some(12)),
+        (Event::Late { encoder: own(2) }, Answer::Plain, Some(14)),
+        (Event::CreateEncoder, made(5, true), None),
+        (finish(own(5), forged), made(6, false), Some(11)),
+        (Event::CreateEncoder, made(7, true), None),
+        (
+            finish(foreign, Recorder::new(alloc, 1).take()),
+            made(8, false),
+            Some(10),
+        ),
+        (finish(own(7), later), made(9, true), None),
+        (submit(alloc, &[9, 9])?, Answer::Plain, Some(191)),
+        (submit(alloc, &[9])?, Answer::Plain, Some(190)),
+    ];
+    for (event, expected, rule) in cases {
+        let found = answer(&mut core, event)?;
+        assert_eq!(rt; found.0, expected);
+        assert_eq!(rt; found.1, rule);
+    }
+    // The write; a barrier, the clear of what it left, a barrier, and the copy.
+    assert_eq!(rt; core.trace().len(), 5);
+    assert!(rt; matches!(&core.trace()[2], Item::Step(step) if step.name == StepName::Clear));
+    Ok(())
+}
+
+#[test]
+fn what_is_destroyed_is_not_submitted(rt: HostRuntime) -> Result<(), Fail> {
+    let alloc = rt.alloc();
+    let mut core = Core::new(alloc, 1_000_000, 1);
+    for usage in [12, 8] {
+        let info = BufferInfo {
+            size: 16,
+            usage,
+            mapped: false,
+        };
+        answer(&mut core, Event::CreateBuffer { info })?;
+    }
+    answer(&mut core, Event::CreateEncoder)?;
+    let recording = copy(alloc, handle(alloc, 0, 12)?, handle(alloc, 1, 8)?)?;
+    let encoder = own(2);
+    answer(&mut core, Event::Finish { encoder, recording })?;
+    answer(&mut core, Event::Destroy { object: own(1) })?;
+    let refused = answer(&mut core, submit(alloc, &[3])?)?;
+    assert_eq!(rt; refused.0, Answer::Plain);
+    assert_eq!(rt; refused.1, Some(192));
+    assert_eq!(rt; core.trace().len(), 1);
     Ok(())
 }

@@ -58,10 +58,10 @@ any_grows p q grows (x ∷ xs) e = by_cases (or_cases (q x) (list_any q xs) e) (
 used_destroyed : (setup : Setup) (past : Past) (buffers : List ObjRef) (n : ℕ) → is_destroyed setup past n ≡ true → submit_uses past buffers n ≡ true → any_destroyed setup past buffers ≡ true
 used_destroyed setup past buffers n destroyed used =
     any_grows (λ buffer. any_resource (is_destroyed setup past) (commands_at past buffer.number)) (λ buffer. uses_resource (commands_at past buffer.number) n)
-      (λ buffer in_buffer. any_grows (λ kept. list_any (is_destroyed setup past) (resources kept.1)) (λ kept. list_any (λ r. r == n) (resources kept.1))
-        (λ kept in_command. any_grows (is_destroyed setup past) (λ r. r == n) (λ r same. ap (is_destroyed setup past) (eqb-true r n same) ∙ destroyed) (resources kept.1) in_command)
-        (commands_at past buffer.number) in_buffer)
-      buffers used
+    (λ buffer in_buffer. any_grows (λ kept. list_any (is_destroyed setup past) (resources kept.1)) (λ kept. list_any (λ r. r == n) (resources kept.1))
+    (λ kept in_command. any_grows (is_destroyed setup past) (λ r. r == n) (λ r same. ap (is_destroyed setup past) (eqb-true r n same) ∙ destroyed) (resources kept.1) in_command)
+    (commands_at past buffer.number) in_buffer)
+    buffers used
 
 met_after : (rules more : List Rule) → AreMet (rules ++ more) → AreMet more
 met_after [] more met = met

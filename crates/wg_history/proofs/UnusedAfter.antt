@@ -31,8 +31,8 @@ listed_spare : (past : Past) (op : ℕ) (buffers : List ObjRef) (n : ℕ) → su
 listed_spare past op [] n e = unused_none n
 listed_spare past op (buffer ∷ buffers) n e =
     unused_append n (StepsOf (Op op) (commands_at past buffer.number)) (steps_in (map (λ buffer. StepsOf (Op op) (commands_at past buffer.number)) buffers))
-      (recorded_spare (Op op) (reverse (commands_at past buffer.number)) n (any_reversed (λ kept. list_any (λ r. r == n) (resources kept.1)) (commands_at past buffer.number) ∙ or_first (uses_resource (commands_at past buffer.number) n) (submit_uses past buffers n) e))
-      (listed_spare past op buffers n (or_second (uses_resource (commands_at past buffer.number) n) (submit_uses past buffers n) e))
+    (recorded_spare (Op op) (reverse (commands_at past buffer.number)) n (any_reversed (λ kept. list_any (λ r. r == n) (resources kept.1)) (commands_at past buffer.number) ∙ or_first (uses_resource (commands_at past buffer.number) n) (submit_uses past buffers n) e))
+    (listed_spare past op buffers n (or_second (uses_resource (commands_at past buffer.number) n) (submit_uses past buffers n) e))
 
 -- A write of another object.
 write_spare : (op n offset size : ℕ) (buffer : ObjRef) → (buffer.number ≡ n → ⊥) → Unused n (steps_in (group_of (write_step (Op op) (BufferWrite buffer offset size))))

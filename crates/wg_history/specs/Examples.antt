@@ -1,14 +1,18 @@
--- Three small histories with the replies and the trace that they are to have. A reply that is given here is that of the
+-- Five small histories with the replies and the trace that they are to have. A reply that is given here is that of the
 -- definitions exactly where the history is a run.
 use Rattle.std.specs.Prelude.{◌≡◌, ℕ, true, false, List, [], ◌∷◌, Some, None}
 use Rattle.wg_types.specs.declared.replies.FaultKind.TheVariants.{Validation}
 use Rattle.wg_types.specs.declared.replies.Caught.TheVariants.{Uncaptured}
 use Rattle.wg_types.specs.declared.steps.Sort.TheVariants.{Buffer as BufferSort}
-use Rattle.wg_types.specs.declared.steps.StepName.TheVariants.{WriteBuffer as WriteBufferName}
+use Rattle.wg_types.specs.Handles.{HandleValue}
+use Rattle.wg_types.specs.declared.handles.Info.TheVariants.{Buffer as BufferKind}
+use Rattle.wg_types.specs.declared.commands.On.TheVariants.{Encoder}
+use Rattle.wg_types.specs.declared.commands.Command.TheVariants.{CopyBufferToBuffer}
+use Rattle.wg_types.specs.declared.steps.StepName.TheVariants.{WriteBuffer as WriteBufferName, CopyBufferToBuffer as CopyBufferName, Clear}
 use Rattle.wg_types.specs.declared.steps.StepPlace.TheVariants.{Op}
-use Rattle.wg_orders.specs.Steps.{BufferPart, Bytes, Write}
+use Rattle.wg_orders.specs.Steps.{BufferPart, Bytes, Read, Write}
 use Rattle.wg_orders.specs.Trace.{Item, Bar, StepItem, Free}
-use Rattle.wg_history.specs.Entries.{Setup, Event, CreateBuffer, WriteBuffer, Destroy, Complete, Reply, Entry}
+use Rattle.wg_history.specs.Entries.{Setup, Event, CreateBuffer, CreateEncoder, Finish, Submit, WriteBuffer, Destroy, Complete, Reply, Entry}
 use Rattle.wg_history.specs.Objects.{ObjRef}
 use Rattle.wg_history.specs.Answers.{Answer, Made, Queued, Plain, Run}
 use Rattle.wg_history.specs.Traces.{Trace}
@@ -77,3 +81,43 @@ WriteAfterDestroy = Run setup write_after_destroy × (Trace setup write_after_de
     write_of 1 0 16
     ∷ (Free 0 BufferSort
     ∷ []))
+
+-- the object of a number
+abbrev pub own : ℕ → ObjRef
+own n = record { device = 1; number = n }
+
+-- a handle of a buffer of 16 bytes
+abbrev pub handle : ℕ → ℕ → HandleValue
+handle n usage = record { reference = own n; valid = true; info = BufferKind (record { size = 16; usage = usage; mapped = false }) }
+
+-- A copy that reads a buffer of which the first 4 bytes were written has a clear of the others before it.
+abbrev pub clear_before_read : List Entry
+clear_before_read =
+    entry (made_buffer 12) (answered (Made 0 true))
+    ∷ (entry (made_buffer 8) (answered (Made 1 true))
+    ∷ (entry (WriteBuffer buffer 0 4) (answered (Queued 1))
+    ∷ (entry CreateEncoder (answered (Made 2 true))
+    ∷ (entry (Finish (own 2) (record { device = 1; commands = (Encoder, CopyBufferToBuffer (handle 0 12) 0 (handle 1 8) 0 16) ∷ [] })) (answered (Made 3 true))
+    ∷ (entry (Submit (own 3 ∷ [])) (answered (Queued 2))
+    ∷ [])))))
+
+abbrev pub ClearBeforeRead : Type 0
+ClearBeforeRead = Run setup clear_before_read × (Trace setup clear_before_read ≡
+    write_of 1 0 4
+    ∷ (Bar (BufferPart 0) (Some (record { 0 = 128 })) (record { 0 = 4096 })
+    ∷ (StepItem (record { place = Op 2; name = Clear; uses = (BufferPart 0, record { 0 = 4096 }) ∷ []; accesses = (Bytes 0 4 16, Write) ∷ [] })
+    ∷ (Bar (BufferPart 0) (Some (record { 0 = 4096 })) (record { 0 = 64 })
+    ∷ (StepItem (record { place = Op 2; name = CopyBufferName; uses = (BufferPart 0, record { 0 = 64 }) ∷ ((BufferPart 1, record { 0 = 128 }) ∷ []); accesses = (Bytes 0 0 16, Read) ∷ ((Bytes 1 0 16, Write) ∷ []) })
+    ∷ [])))))
+
+-- A submit that lists a command buffer twice is refused, and consumes it.
+abbrev pub submitted_twice : List Entry
+submitted_twice =
+    entry CreateEncoder (answered (Made 0 true))
+    ∷ (entry (Finish (own 0) (record { device = 1; commands = [] })) (answered (Made 1 true))
+    ∷ (entry (Submit (own 1 ∷ (own 1 ∷ []))) (refused Plain 191)
+    ∷ (entry (Submit (own 1 ∷ [])) (refused Plain 190)
+    ∷ [])))
+
+abbrev pub SubmittedTwice : Type 0
+SubmittedTwice = Run setup submitted_twice × (Trace setup submitted_twice ≡ [])

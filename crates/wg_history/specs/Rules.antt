@@ -94,7 +94,7 @@ finish_rule setup past encoder recording =
 -- whether an event that comes after a past consumes the command buffer n: a submit that lists it does, whether or not it is
 -- accepted
 abbrev pub consumes : Setup → Past → Event → ℕ → Bool
-consumes setup past (Submit buffers) n = list_any (λ buffer. is_own setup past is_command_buffer buffer && buffer.number == n) buffers
+consumes setup past (Submit buffers) n = list_any (λ buffer. buffer.number == n && is_own setup past is_command_buffer buffer) buffers
 consumes setup past _ n = false
 
 abbrev pub is_consumed : Setup → Past → ℕ → Bool

@@ -1,6 +1,6 @@
 //! The laws of histories, as the contracts of functions that do nothing.
 ghost use Rattle.wg_history.specs.Laws.{EveryOrder, FaultsAreFirst, RunGoesOn, RunHas, StepsAreDeclared, StepsGoOn, TraceGoesOn};
-ghost use Rattle.wg_history.specs.Examples.{TwoWrites, WriteAfterDestroy, WriteOfInvalid};
+ghost use Rattle.wg_history.specs.Examples.{ClearBeforeRead, SubmittedTwice, TwoWrites, WriteAfterDestroy, WriteOfInvalid};
 ghost use Rattle.wg_history.specs.ReleaseLaws.{FreedAfterUse, FreedHere, FreedOnce, StaysDue, UnusedAfter};
 
 /// The fault of the one reply to an event is that of its first unmet rule.
@@ -28,12 +28,15 @@ pub fn one_more_entry()
     ensures steps { StepsGoOn }
 {}
 
-/// Three small histories with their replies and traces: two overlapping writes, a write of an
-/// invalid buffer, and a write of a destroyed one.
+/// Five small histories with their replies and traces: two overlapping writes, a write of an invalid
+/// buffer, a write of a destroyed one, a copy that reads fresh memory, and a command buffer that is
+/// submitted twice.
 pub fn worked_histories()
     ensures two_writes { TwoWrites }
     ensures write_of_invalid { WriteOfInvalid }
     ensures write_after_destroy { WriteAfterDestroy }
+    ensures clear_before_read { ClearBeforeRead }
+    ensures submitted_twice { SubmittedTwice }
 {}
 
 /// What is released: each valid resource at the first entry after which it is due and at no other,
