@@ -1,13 +1,24 @@
--- What the names of a script stand for on a device, and which event a call is.
-use Rattle.std.specs.Prelude.{ℕ, List, [], ◌∷◌, bytes_eq, if◌then◌else◌}
+-- What the names of a script stand for on a device, and which event or command a call is.
+use Rattle.std.specs.Prelude.{ℕ, ◌-◌, List, [], ◌∷◌, map, Option, Some, None, unwrap_or, bytes_eq, option_and_then, option_map, slice_get, slice_set, if◌then◌else◌, Bool, true, false}
+use Rattle.std.specs.Option.{option_map_or}
+use Rattle.wg_types.specs.Handles.{HandleValue}
 use Rattle.wg_types.specs.declared.handles.ObjRef.{ObjRef}
+use Rattle.wg_types.specs.declared.handles.Info.{Info}
+use Rattle.wg_types.specs.declared.handles.Info.TheVariants as info
+use Rattle.wg_types.specs.declared.commands.On.TheVariants.{Encoder}
+use Rattle.wg_types.specs.declared.commands.Command.{Command}
+use Rattle.wg_types.specs.declared.commands.Command.TheVariants as command
 use Rattle.wg_types.specs.declared.replies.Answer.{Answer}
 use Rattle.wg_types.specs.declared.replies.Answer.TheVariants.{Made}
+use Rattle.wg_model.specs.Commands.{buffer_of}
+use Rattle.wg_encoder.specs.Recorders.{RecorderValue, RecordingValue, is_late, recorded, after_take}
+use Rattle.wg_encoder.specs.declared.recorder.Stage.TheVariants.{Recording as RecordingStage}
 use Rattle.wg_history.specs.declared.events.Event.{Event}
 use Rattle.wg_history.specs.declared.events.Event.TheVariants as event
 use Rattle.wg_script.specs.declared.calls.Call.{Call}
-use Rattle.wg_script.specs.declared.calls.Call.TheVariants.{CreateBuffer, WriteBuffer, Destroy, Complete}
-use Rattle.wg_top.specs.declared.playing.Named.{Named}
+use Rattle.wg_script.specs.declared.calls.Call.TheVariants.{CreateBuffer, CreateEncoder, Finish, Submit, WriteBuffer, Destroy, Complete, CopyBufferToBuffer, ClearBuffer, PushDebugGroup, PopDebugGroup}
+use Rattle.wg_top.specs.declared.named.Named.{Named}
+use Rattle.wg_top.specs.declared.named.Object.{Object}
 
 -- The number of the object that a name stands for, where the names are given newest first. Each name that a script uses
 -- was made by an earlier call, so that the 0 is not met.
@@ -18,14 +29,76 @@ number_of (named ∷ older) name = if bytes_eq named.name name then named.number
 abbrev pub reference : ℕ → List Named → List ℕ → ObjRef
 reference serial names name = record { device = serial; number = number_of names name }
 
--- the event that a call is: its names stand for what the calls made that have them as `as`
-abbrev pub event_of : ℕ → List Named → Call → Event
-event_of serial names (CreateBuffer size usage mapped made) = event.CreateBuffer (record { size = size; usage = usage; mapped = mapped })
-event_of serial names (WriteBuffer buffer offset size) = event.WriteBuffer (reference serial names buffer) offset size
-event_of serial names (Destroy object) = event.Destroy (reference serial names object)
-event_of serial names (Complete op) = event.Complete op
+-- stands for an object that was not made, which is not met either
+abbrev pub unknown : ℕ → HandleValue
+unknown serial = record { reference = record { device = serial; number = 0 }; valid = false; info = info.CommandBuffer }
 
--- the names after a call that was answered so
-abbrev pub names_after : List Named → Call → Answer → List Named
-names_after names (CreateBuffer size usage mapped made) (Made number valid) = (record { name = made; number = number }) ∷ names
-names_after names _ _ = names
+-- The objects that the calls have made, by their numbers: an object as its caller holds it.
+abbrev pub handle_at : ℕ → List Object → ℕ → HandleValue
+handle_at serial objects n = option_map_or (λ object. object.handle) (slice_get objects n) (unknown serial)
+
+-- the recorder of an encoder
+abbrev pub recorder_at : List Object → ℕ → Option RecorderValue
+recorder_at objects n = option_and_then (λ object. object.recorder) (slice_get objects n)
+
+abbrev pub changed : Object → (RecorderValue → RecorderValue) → Object
+changed object change = record object { recorder = option_map change object.recorder }
+
+-- the objects with a change of an encoder's recorder
+abbrev pub with_recorder : List Object → ℕ → (RecorderValue → RecorderValue) → List Object
+with_recorder objects n change = option_map_or (λ object. slice_set objects n (changed object change)) (slice_get objects n) objects
+
+-- what remains of a buffer from an offset on, which of an invalid one is nothing
+abbrev pub rest_of : HandleValue → ℕ → ℕ
+rest_of buffer offset = if buffer.valid then (buffer_of buffer).size - offset else 0
+
+-- A recording call: the number of the encoder that it stands on, and its command. The other calls are events.
+abbrev pub command_of : ℕ → List Named → List Object → Call → Option (ℕ × Command)
+command_of serial names objects (CopyBufferToBuffer on source source_offset target target_offset size) = Some (number_of names on, command.CopyBufferToBuffer (handle_at serial objects (number_of names source)) source_offset (handle_at serial objects (number_of names target)) target_offset size)
+command_of serial names objects (ClearBuffer on buffer offset size) = Some (number_of names on, command.ClearBuffer (handle_at serial objects (number_of names buffer)) offset (unwrap_or size (rest_of (handle_at serial objects (number_of names buffer)) offset)))
+command_of serial names objects (PushDebugGroup on) = Some (number_of names on, command.PushDebugGroup)
+command_of serial names objects (PopDebugGroup on) = Some (number_of names on, command.PopDebugGroup)
+command_of serial names objects _ = None
+
+-- A recording call is late where its encoder's recorder says so.
+abbrev pub is_late_on : List Object → ℕ → Bool
+is_late_on objects n = option_map_or (λ recorder. is_late recorder Encoder) (recorder_at objects n) true
+
+abbrev pub recorded_on : List Object → ℕ → Command → List Object
+recorded_on objects n command = with_recorder objects n (λ recorder. recorded recorder Encoder command)
+
+-- what a finish takes from the recorder of its encoder, and the recorder after it
+abbrev pub taken_from : ℕ → List Object → ℕ → RecordingValue
+taken_from serial objects n = option_map_or (λ recorder. record { device = recorder.device; commands = recorder.commands }) (recorder_at objects n) (record { device = serial; commands = [] })
+
+abbrev pub taken_on : List Object → ℕ → List Object
+taken_on objects n = with_recorder objects n (λ recorder. record recorder { commands = []; stage = after_take recorder.stage })
+
+-- the event that a call is: its names stand for what the calls made that have them as `as`
+abbrev pub event_of : ℕ → List Named → List Object → Call → Event
+event_of serial names objects (CreateBuffer size usage mapped made) = event.CreateBuffer (record { size = size; usage = usage; mapped = mapped })
+event_of serial names objects (CreateEncoder made) = event.CreateEncoder
+event_of serial names objects (Finish on made) = event.Finish (reference serial names on) (taken_from serial objects (number_of names on))
+event_of serial names objects (Submit buffers) = event.Submit (map (reference serial names) buffers)
+event_of serial names objects (WriteBuffer buffer offset size) = event.WriteBuffer (reference serial names buffer) offset size
+event_of serial names objects (Destroy object) = event.Destroy (reference serial names object)
+event_of serial names objects (Complete op) = event.Complete op
+event_of serial names objects (CopyBufferToBuffer on source source_offset target target_offset size) = event.Late (reference serial names on)
+event_of serial names objects (ClearBuffer on buffer offset size) = event.Late (reference serial names on)
+event_of serial names objects (PushDebugGroup on) = event.Late (reference serial names on)
+event_of serial names objects (PopDebugGroup on) = event.Late (reference serial names on)
+
+-- the name that a call makes, and what is known of the object
+abbrev pub made_by : Call → Option (List ℕ × Info)
+made_by (CreateBuffer size usage mapped made) = Some (made, info.Buffer (record { size = size; usage = usage; mapped = mapped }))
+made_by (CreateEncoder made) = Some (made, info.Encoder)
+made_by (Finish on made) = Some (made, info.CommandBuffer)
+made_by _ = None
+
+abbrev pub recorder_for : ObjRef → Info → Option RecorderValue
+recorder_for encoder info.Encoder = Some (record { device = encoder.device; encoder = Some encoder; commands = []; stage = RecordingStage; passes = 0 })
+recorder_for encoder _ = None
+
+-- an object that was made, an encoder with a recorder that has kept nothing
+abbrev pub object_of : ObjRef → Bool → Info → Object
+object_of named valid known = record { handle = record { reference = named; valid = valid; info = known }; recorder = recorder_for named known }

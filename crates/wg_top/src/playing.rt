@@ -1,98 +1,85 @@
 //! Plays a script on a device.
-ghost use Rattle.std.specs.Prelude.{◌≡◌, [], IfOk, OnOk, reverse, fold};
-ghost use Rattle.wg_history.specs.Objects.{ObjRef};
-ghost use Rattle.wg_top.specs.Names.{number_of, reference, event_of, names_after};
-ghost use Rattle.wg_top.specs.Play.{played, lane_played, phase_played, history_of, setup_of, state_of};
+ghost use Rattle.std.specs.Prelude.{◌≡◌, [], Some, IfOk, OnOk, reverse, fold};
+ghost use Rattle.wg_top.specs.Play.{IsMade, answered, played, played_by, lane_played, phase_played, history_of, setup_of, state_of};
 
+use crate::calls::{Known, command_of, event_of, made_by};
+use crate::named::{Named, Object};
+use crate::objects::{object_of, record_on};
 use std::alloc::Global;
 use wg_core::{Core, Event, NoMemory};
+use wg_encoder::Noted;
 use wg_script::{Call, Lane, Name, Phase, Script};
-use wg_types::handles::{BufferInfo, ObjRef};
+use wg_types::commands::Command;
+use wg_types::handles::ObjRef;
 use wg_types::replies::Answer;
 
 /// The serial of the device on which a script is played.
 const SERIAL: u64 = 1;
 
-/// A name that a call made, and the number of the object that it stands for.
-#[derive(Drop)]
-pub struct Named {
-    pub name: Name,
-    pub number: u64,
-}
-
-/// A device, and what names stand for on it.
+/// A device, what names stand for on it, and the objects that were made.
 #[derive(Drop)]
 struct Player {
     core: Core,
     names: Vec<Named>,
+    objects: Vec<Object>,
 }
 
-/// The number of the object that a name stands for.
-fn number_of(names: &[Named], name: &str) -> u64
-    ensures { result ≡ number_of (reverse names.now) name.now }
+/// Notes the name and the object that a call has made.
+fn note_made(
+    names: &mut Vec<Named>,
+    objects: &mut Vec<Object>,
+    call: &Call,
+    answer: Answer,
+) -> Result<(), NoMemory>
+    ensures { OnOk result (IsMade (reverse names.old.items) objects.old.items call.now answer (reverse names.new.items) objects.new.items) }
 {
-    let mut number = 0;
-    for named in names {
-        if named.name.as_str() == name {
-            number = named.number;
-        }
-    }
-    number
-}
-
-/// The object that a name stands for.
-fn reference(serial: u64, names: &[Named], name: &Name) -> ObjRef
-    ensures { result ≡ reference serial (reverse names.now) name.now }
-{
-    ObjRef {
-        device: serial,
-        number: number_of(names, name.as_str()),
-    }
-}
-
-/// The event that a call is.
-fn event_of(serial: u64, names: &[Named], call: &Call) -> Event
-    ensures { result ≡ event_of serial (reverse names.now) call.now }
-{
-    match call {
-        Call::CreateBuffer {
-            size,
-            usage,
-            mapped,
-            ..
-        } => Event::CreateBuffer {
-            info: BufferInfo {
-                size: *size,
-                usage: *usage,
-                mapped: *mapped,
-            },
-        },
-        Call::WriteBuffer {
-            buffer,
-            offset,
-            size,
-        } => Event::WriteBuffer {
-            buffer: reference(serial, names, buffer),
-            offset: *offset,
-            size: *size,
-        },
-        Call::Destroy { object } => Event::Destroy {
-            object: reference(serial, names, object),
-        },
-        Call::Complete { op } => Event::Complete { op: *op },
-    }
-}
-
-/// Notes what the name that a call makes stands for.
-fn note_name(names: &mut Vec<Named>, call: &Call, answer: Answer) -> Result<(), NoMemory>
-    ensures { OnOk result (reverse names.new.items ≡ names_after (reverse names.old.items) call.now answer) }
-{
-    if let (Call::CreateBuffer { made, .. }, Answer::Made { number, .. }) = (call, answer) {
-        let name = Name::new(*names.allocator(), made.as_str())?;
-        names.push(Named { name, number })?;
+    let (Some((made, info)), Answer::Made { number, valid }) = (made_by(call), answer) else {
         return Ok(());
-    }
+    };
+    let alloc = *names.allocator();
+    let reference = ObjRef {
+        device: SERIAL,
+        number,
+    };
+    let object = object_of(alloc, reference, valid, info)?;
+    let name = Name::new(alloc, made.as_str())?;
+    names.push(Named { name, number })?;
+    objects.push(object)?;
     Ok(())
+}
+
+/// Plays the event of a call.
+fn play_event(player: &mut Player, call: &Call, event: Event) -> Result<(), NoMemory>
+    requires { player.old.core.setup.serial ≡ 1 }
+    ensures setup { player.new.core.setup ≡ player.old.core.setup }
+    ensures played { OnOk result (state_of player.new ≡ answered player.old.core.setup (state_of player.old) call.now event) }
+{
+    let Ok(reply) = player.core.step(0, event) else {
+        return Err(NoMemory);
+    };
+    note_made(&mut player.names, &mut player.objects, call, reply.answer)?;
+    Ok(())
+}
+
+/// Plays a recording call: its encoder's recorder keeps the command, or it is late.
+fn play_recording(
+    player: &mut Player,
+    call: &Call,
+    number: u64,
+    command: Command,
+) -> Result<(), NoMemory>
+    requires { player.old.core.setup.serial ≡ 1 }
+    ensures setup { player.new.core.setup ≡ player.old.core.setup }
+    ensures played { OnOk result (state_of player.new ≡ played_by player.old.core.setup (state_of player.old) call.now (Some (number, command))) }
+{
+    let Noted::Late = record_on(&mut player.objects, number, command)? else {
+        return Ok(());
+    };
+    let encoder = ObjRef {
+        device: SERIAL,
+        number,
+    };
+    play_event(player, call, Event::Late { encoder })
 }
 
 /// Plays one call.
@@ -101,12 +88,23 @@ fn play_call(player: &mut Player, call: &Call) -> Result<(), NoMemory>
     ensures setup { player.new.core.setup ≡ player.old.core.setup }
     ensures played { OnOk result (state_of player.new ≡ played player.old.core.setup (state_of player.old) call.now) }
 {
-    let event = event_of(SERIAL, player.names.as_slice(), call);
-    let Ok(reply) = player.core.step(0, event) else {
-        return Err(NoMemory);
+    let alloc = *player.names.allocator();
+    let known = Known {
+        serial: SERIAL,
+        names: player.names.as_slice(),
+        objects: player.objects.as_slice(),
     };
-    note_name(&mut player.names, call, reply.answer)?;
-    Ok(())
+    if let Some((number, command)) = command_of(alloc, known, call)? {
+        return play_recording(player, call, number, command);
+    }
+    let event = event_of(
+        alloc,
+        SERIAL,
+        player.names.as_slice(),
+        &mut player.objects,
+        call,
+    )?;
+    play_event(player, call, event)
 }
 
 /// Plays the calls of a lane.
@@ -153,8 +151,13 @@ pub fn play(alloc: Global, script: &Script) -> Result<Core, NoMemory>
     let mut player = Player {
         core: Core::new(alloc, script.budget, SERIAL),
         names: Vec::new(alloc),
+        objects: Vec::new(alloc),
     };
     play_phases(&mut player, script.phases.as_slice())?;
-    let Player { core, names: _ } = player;
+    let Player {
+        core,
+        names: _,
+        objects: _,
+    } = player;
     Ok(core)
 }

@@ -103,6 +103,38 @@ fn scripts_have_their_texts(rt: HostRuntime) -> Result<(), Fail> {
     Ok(())
 }
 
+/// A script that records, finishes and submits a copy so many times.
+fn copies(alloc: Global, count: u32) -> Result<String, Fail> {
+    let mut script = String::from_str(
+        alloc,
+        "{\"budget\":1000000,\"phases\":[[[{\"do\":\"createBuffer\",\"as\":\"b\",\"size\":16,\"usage\":12},{\"do\":\"createBuffer\",\"as\":\"d\",\"size\":268435456,\"usage\":8}",
+    )?;
+    for i in 0..count {
+        let calls = format!(in alloc;
+            ",{{\"do\":\"createEncoder\",\"as\":\"e{i}\"}},{{\"do\":\"copyBufferToBuffer\",\"on\":\"e{i}\",\"source\":\"b\",\"sourceOffset\":0,\"target\":\"d\",\"targetOffset\":0,\"size\":16}},{{\"do\":\"finish\",\"on\":\"e{i}\",\"as\":\"c{i}\"}},{{\"do\":\"submit\",\"buffers\":[\"c{i}\"]}}"
+        )?;
+        script.push_str(&calls)?;
+    }
+    script.push_str("]]]}")?;
+    Ok(script)
+}
+
+#[test]
+fn many_encoders_are_submitted(rt: HostRuntime) -> Result<(), Fail> {
+    let alloc = rt.alloc();
+    let script = copies(alloc, 300)?;
+    let (status, written) = run_on(alloc, script.as_bytes(), 4096, Vec::new(alloc), 1_000_000)?;
+    assert_eq!(rt; status.number(), 0);
+    let text = str::from_utf8(&written)?;
+    for line in [
+        "901 0 submit op 300\ntrace\nstep 0 op 1 clear\nuse b 0 clear\nacc write b 0 0 16\nbar b 0 clear copy-src\nstep 1 op 1 copyBufferToBuffer\n",
+        "bar b 1 copy-dst copy-dst\nstep 300 op 300 copyBufferToBuffer\nuse b 0 copy-src\nuse b 1 copy-dst\nacc read b 0 0 16\nacc write b 1 0 16\nend\n",
+    ] {
+        assert!(rt; text.contains(line), "{line}");
+    }
+    Ok(())
+}
+
 #[test]
 fn faults_of_source_and_sink(rt: HostRuntime) -> Result<(), Fail> {
     let alloc = rt.alloc();
