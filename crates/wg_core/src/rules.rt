@@ -2,17 +2,36 @@
 ghost use Rattle.std.specs.Prelude.{◌≡◌, ◌==◌, ◌&&◌, ◌+◌, ◌^◌, ◌<◌, reverse, IsNone};
 ghost use Rattle.std.specs.List.{list_any};
 ghost use Rattle.wg_model.specs.Rules.{first_unmet};
-ghost use Rattle.wg_model.specs.Recorded.{resources, any_resource};
+ghost use Rattle.wg_model.specs.Recorded.{any_named};
+ghost use Rattle.wg_core.specs.Sorted.{named_of};
 ghost use Rattle.wg_history.specs.Objects.{is_own, is_command_buffer};
-ghost use Rattle.wg_history.specs.Rules.{write_buffer_rule, destroy_rule, destroys, is_destroyed, finish_rule, ends_encoder, has_finished, consumes, is_consumed, are_distinct, listed_rules, any_destroyed, submit_rule};
+ghost use Rattle.wg_history.specs.Rules.{create_view_rule, write_buffer_rule, write_texture_rule, destroy_rule, destroys, is_destroyed, finish_rule, ends_encoder, has_finished, consumes, is_consumed, are_distinct, listed_rules, any_destroyed, submit_rule};
 
-use crate::{copies, look, uses};
+use crate::{look, uses};
+use wg_copy::{check_write_buffer, check_write_texture};
 use wg_encoder::Recording;
 use wg_history::events::{Entry, Event, Setup};
+use wg_textures::check_view;
 use wg_types::commands::{Command, On};
 use wg_types::handles::ObjRef;
+use wg_types::steps::Sort;
+use wg_types::textures::{DataLayout, TextureSpot, ViewDesc};
 
-/// The first unmet rule of a destroy (WebGPU, "Buffer Destruction").
+/// The first unmet rule of a createView (WebGPU, "Texture View Creation").
+#[tactic(auto, unfolding(wg_history::specs::Rules::create_view_rule))]
+pub fn create_view(setup: Setup, history: &[Entry], texture: ObjRef, desc: &ViewDesc) -> Option<u16>
+    ensures { result ≡ create_view_rule setup (reverse history.now) texture desc.now }
+{
+    let Some(info) = look::own_texture(setup, history, texture) else {
+        return Some(10);
+    };
+    if !look::is_valid(history, texture.number) {
+        return Some(12);
+    }
+    check_view(&info, desc)
+}
+
+/// The first unmet rule of a destroy (WebGPU, "Buffer Destruction" and "Texture Destruction").
 #[tactic(auto, unfolding(wg_history::specs::Rules::destroy_rule))]
 pub fn destroy(setup: Setup, history: &[Entry], object: ObjRef) -> Option<u16>
     ensures { result ≡ destroy_rule setup (reverse history.now) object }
@@ -66,11 +85,39 @@ pub fn write_buffer(
     if !look::is_valid(history, buffer.number) {
         return Some(12);
     }
-    if let Some(rule) = copies::check_write_buffer(&info, offset, size) {
+    if let Some(rule) = check_write_buffer(&info, offset, size) {
         return Some(rule);
     }
     if is_destroyed(setup, history, buffer.number) {
         return Some(203);
+    }
+    None
+}
+
+/// The first unmet rule of a write of texels (WebGPU, "writeTexture").
+#[tactic(auto, unfolding(wg_history::specs::Rules::write_texture_rule))]
+pub fn write_texture(
+    setup: Setup,
+    history: &[Entry],
+    texture: ObjRef,
+    spot: &TextureSpot,
+    layout: &DataLayout,
+    size: [u32; 3],
+    data_size: u64,
+) -> Option<u16>
+    ensures { result ≡ write_texture_rule setup (reverse history.now) texture spot.now layout.now size data_size }
+{
+    let Some(info) = look::own_texture(setup, history, texture) else {
+        return Some(10);
+    };
+    if !look::is_valid(history, texture.number) {
+        return Some(12);
+    }
+    if let Some(rule) = check_write_texture(&info, spot, layout, size, data_size) {
+        return Some(rule);
+    }
+    if is_destroyed(setup, history, texture.number) {
+        return Some(210);
     }
     None
 }
@@ -208,40 +255,61 @@ fn are_distinct(buffers: &[ObjRef]) -> bool
     true
 }
 
-/// Whether a command names a destroyed resource.
-fn names_destroyed(setup: Setup, history: &[Entry], command: &Command) -> bool
-    ensures { result ≡ list_any (is_destroyed setup (reverse history.now)) (resources command.now) }
+/// Whether a command names a destroyed resource of a sort.
+fn names_destroyed(setup: Setup, history: &[Entry], command: &Command, sort: Sort) -> bool
+    ensures { result ≡ list_any (is_destroyed setup (reverse history.now)) (named_of sort command.now) }
 {
-    match command {
-        Command::CopyBufferToBuffer { source, target, .. } => {
+    match (command, sort) {
+        (Command::CopyBufferToBuffer { source, target, .. }, Sort::Buffer) => {
             is_destroyed(setup, history, source.reference().number)
                 || is_destroyed(setup, history, target.reference().number)
         }
-        Command::ClearBuffer { buffer, .. } => {
+        (Command::CopyBufferToTexture { buffer, .. }, Sort::Buffer) => {
             is_destroyed(setup, history, buffer.reference().number)
+        }
+        (Command::CopyTextureToBuffer { buffer, .. }, Sort::Buffer) => {
+            is_destroyed(setup, history, buffer.reference().number)
+        }
+        (Command::ClearBuffer { buffer, .. }, Sort::Buffer) => {
+            is_destroyed(setup, history, buffer.reference().number)
+        }
+        (Command::CopyBufferToTexture { texture, .. }, Sort::Texture) => {
+            is_destroyed(setup, history, texture.reference().number)
+        }
+        (Command::CopyTextureToBuffer { texture, .. }, Sort::Texture) => {
+            is_destroyed(setup, history, texture.reference().number)
+        }
+        (Command::CopyTextureToTexture { source, target, .. }, Sort::Texture) => {
+            is_destroyed(setup, history, source.reference().number)
+                || is_destroyed(setup, history, target.reference().number)
         }
         _ => false,
     }
 }
 
-/// Whether some recorded command names a destroyed resource.
-fn uses_destroyed(setup: Setup, history: &[Entry], commands: &[(On, Command)]) -> bool
-    ensures { result ≡ any_resource (is_destroyed setup (reverse history.now)) commands.now }
+/// Whether some recorded command names a destroyed resource of a sort.
+fn uses_destroyed(setup: Setup, history: &[Entry], commands: &[(On, Command)], sort: Sort) -> bool
+    ensures { result ≡ any_named (named_of sort) (is_destroyed setup (reverse history.now)) commands.now }
 {
     for kept in commands {
-        if names_destroyed(setup, history, &kept.1) {
+        if names_destroyed(setup, history, &kept.1, sort) {
             return true;
         }
     }
     false
 }
 
-/// Whether some command buffer of a list uses a destroyed resource.
-fn any_destroyed(setup: Setup, history: &[Entry], buffers: &[ObjRef]) -> bool
-    ensures { result ≡ any_destroyed setup (reverse history.now) buffers.now }
+/// Whether some command buffer of a list uses a destroyed resource of a sort.
+fn any_destroyed(setup: Setup, history: &[Entry], buffers: &[ObjRef], sort: Sort) -> bool
+    ensures { result ≡ any_destroyed (named_of sort) setup (reverse history.now) buffers.now }
 {
     for buffer in buffers {
-        if uses_destroyed(setup, history, look::commands_at(history, buffer.number)) {
+        if uses_destroyed(
+            setup,
+            history,
+            look::commands_at(history, buffer.number),
+            sort,
+        ) {
             return true;
         }
     }
@@ -277,8 +345,11 @@ pub fn submit(setup: Setup, history: &[Entry], buffers: &[ObjRef]) -> Option<u16
     if !are_distinct(buffers) {
         return Some(191);
     }
-    if any_destroyed(setup, history, buffers) {
+    if any_destroyed(setup, history, buffers, Sort::Buffer) {
         return Some(192);
+    }
+    if any_destroyed(setup, history, buffers, Sort::Texture) {
+        return Some(193);
     }
     None
 }

@@ -21,6 +21,19 @@ fn names(command: &Command, number: u64) -> bool
         Command::CopyBufferToBuffer { source, target, .. } => {
             source.reference().number == number || target.reference().number == number
         }
+        Command::CopyBufferToTexture {
+            buffer,
+            texture,
+            ..
+        } => buffer.reference().number == number || texture.reference().number == number,
+        Command::CopyTextureToBuffer {
+            buffer,
+            texture,
+            ..
+        } => buffer.reference().number == number || texture.reference().number == number,
+        Command::CopyTextureToTexture { source, target, .. } => {
+            source.reference().number == number || target.reference().number == number
+        }
         Command::ClearBuffer { buffer, .. } => buffer.reference().number == number,
         _ => false,
     }
@@ -60,6 +73,7 @@ fn use_by(history: &[Entry], entry: &Entry, number: u64) -> u64
     let used = match &entry.event {
         Event::Submit { buffers } => submit_uses(history, buffers.as_slice(), number),
         Event::WriteBuffer { buffer, .. } => buffer.number == number,
+        Event::WriteTexture { texture, .. } => texture.number == number,
         _ => false,
     };
     if used { op } else { 0 }
@@ -82,6 +96,23 @@ fn names_forged(setup: Setup, history: &[Entry], command: &Command) -> bool
 {
     match command {
         Command::CopyBufferToBuffer { source, target, .. } => {
+            !look::is_genuine(setup, history, source) || !look::is_genuine(setup, history, target)
+        }
+        Command::CopyBufferToTexture {
+            buffer,
+            texture,
+            ..
+        } => {
+            !look::is_genuine(setup, history, buffer) || !look::is_genuine(setup, history, texture)
+        }
+        Command::CopyTextureToBuffer {
+            buffer,
+            texture,
+            ..
+        } => {
+            !look::is_genuine(setup, history, buffer) || !look::is_genuine(setup, history, texture)
+        }
+        Command::CopyTextureToTexture { source, target, .. } => {
             !look::is_genuine(setup, history, source) || !look::is_genuine(setup, history, target)
         }
         Command::ClearBuffer { buffer, .. } => !look::is_genuine(setup, history, buffer),

@@ -1,27 +1,46 @@
 //! What is recorded, as tables: the expected answers and verdicts are those that the rules ask for.
+mod tables;
+
 use crate::{Noted, Recorder, Recording};
 use std::alloc::Global;
 use std::process::Abort;
 use std::sync::Arc;
 use std::test::Fail;
+use tables::{
+    AROUND, COMMANDS, COPY, ENCODER, FIRST, GREAT, LATE, OPENED_FOR, OTHER_TEXTURE, SEQUENCES,
+    TAKEN, TEXTURE, UNCLEARED,
+};
 use wg_types::NoMemory;
 use wg_types::commands::{Command, CommandPlace, On};
+use wg_types::formats::Format;
 use wg_types::handles::{BufferInfo, Handle, Info, ObjRef};
+use wg_types::textures::{AspectWord, DataLayout, TextureDim, TextureInfo, TextureSpot};
 
-/// An object as a table names it. One without an info of buffers is an encoder.
+/// What is known of an object of a table. A texture has 4 x 4 texels and these usage bits.
+#[derive(Clone, Copy)]
+enum Known {
+    Buffer(BufferInfo),
+    Texture(u32),
+    Encoder,
+}
+
+/// An object as a table names it.
 #[derive(Clone, Copy)]
 struct Object {
     device: u64,
     number: u64,
     valid: bool,
-    buffer: Option<BufferInfo>,
+    info: Known,
 }
 
-/// A command as a table names it.
+/// A command as a table names it. Those that copy texels copy all of a texture's; a buffer comes first.
 #[derive(Clone, Copy)]
 enum Call {
     Begin,
     Copy(Object, u64, Object, u64, u64),
+    ToTexture(Object, Object),
+    ToBuffer(Object, Object),
+    Between(Object, Object),
     Clear(Object, u64, u64),
     Push,
     Pop,
@@ -48,455 +67,40 @@ enum Line {
     TakeAndPutBack(Found),
 }
 
-/// The encoder for which recorders are opened.
-const OPENED_FOR: ObjRef = ObjRef {
-    device: 1,
-    number: 0,
+/// All texels of a texture of a table.
+const SIZE: [u32; 3] = [4, 4, 1];
+
+const ORIGIN: [u32; 3] = [0, 0, 0];
+
+const SPOT: TextureSpot = TextureSpot {
+    mip: 0,
+    origin: [0, 0, 0],
+    aspect: AspectWord::All,
 };
 
-/// The greatest multiple of 4 that has 64 bits.
-const GREATEST: u64 = u64::MAX - 3;
-
-/// 16 bytes that can be copied from.
-const SOURCE: Object = Object {
-    device: 1,
-    number: 3,
-    valid: true,
-    buffer: Some(BufferInfo {
-        size: 16,
-        usage: 4,
-        mapped: false,
-    }),
+const LAYOUT: DataLayout = DataLayout {
+    offset: 0,
+    bytes_per_row: Some(256),
+    rows_per_image: None,
 };
 
-/// 32 bytes that can be copied to.
-const TARGET: Object = Object {
-    device: 1,
-    number: 5,
-    valid: true,
-    buffer: Some(BufferInfo {
-        size: 32,
-        usage: 8,
-        mapped: false,
-    }),
-};
-
-/// 16 bytes that can be copied from and to.
-const BOTH: Object = Object {
-    device: 1,
-    number: 7,
-    valid: true,
-    buffer: Some(BufferInfo {
-        size: 16,
-        usage: 12,
-        mapped: false,
-    }),
-};
-
-/// 16 bytes with every usage.
-const EVERY: Object = Object {
-    device: 1,
-    number: 9,
-    valid: true,
-    buffer: Some(BufferInfo {
-        size: 16,
-        usage: 1023,
-        mapped: false,
-    }),
-};
-
-/// As many bytes as a number can say.
-const GREAT: Object = Object {
-    device: 1,
-    number: 11,
-    valid: true,
-    buffer: Some(BufferInfo {
-        size: u64::MAX,
-        usage: 12,
-        mapped: false,
-    }),
-};
-
-/// A buffer of another device.
-const FOREIGN: Object = Object {
-    device: 2,
-    number: 7,
-    valid: true,
-    buffer: Some(BufferInfo {
-        size: 16,
-        usage: 12,
-        mapped: false,
-    }),
-};
-
-/// An object that is no buffer.
-const OTHER_KIND: Object = Object {
-    device: 1,
-    number: 13,
-    valid: true,
-    buffer: None,
-};
-
-/// A buffer that is invalid.
-const INVALID: Object = Object {
-    device: 1,
-    number: 15,
-    valid: false,
-    buffer: Some(BufferInfo {
-        size: 16,
-        usage: 12,
-        mapped: false,
-    }),
-};
-
-/// An invalid buffer of another device.
-const FOREIGN_INVALID: Object = Object {
-    device: 0,
-    number: 15,
-    valid: false,
-    buffer: Some(BufferInfo {
-        size: 16,
-        usage: 12,
-        mapped: false,
-    }),
-};
-
-/// One command on an encoder, and the verdict.
-static COMMANDS: [(Call, Option<u16>); 50] = [
-    (Call::Begin, None),
-    (Call::Push, None),
-    (Call::Pop, Some(285)),
-    // A copy is taken up to the end of both buffers, also one of no bytes.
-    (Call::Copy(SOURCE, 0, TARGET, 0, 16), None),
-    (Call::Copy(SOURCE, 4, TARGET, 20, 12), None),
-    (Call::Copy(SOURCE, 16, TARGET, 32, 0), None),
-    (Call::Copy(EVERY, 0, BOTH, 8, 8), None),
-    (Call::Copy(GREAT, GREATEST - 4, TARGET, 28, 4), None),
-    // The device and the kind of each object, and whether it is valid: the source's come first.
-    (Call::Copy(FOREIGN, 0, TARGET, 0, 16), Some(10)),
-    (Call::Copy(OTHER_KIND, 0, TARGET, 0, 16), Some(10)),
-    (Call::Copy(SOURCE, 0, FOREIGN, 0, 16), Some(10)),
-    (Call::Copy(SOURCE, 0, OTHER_KIND, 0, 16), Some(10)),
-    (Call::Copy(INVALID, 0, TARGET, 0, 16), Some(12)),
-    (Call::Copy(SOURCE, 0, INVALID, 0, 16), Some(12)),
-    (Call::Copy(FOREIGN_INVALID, 0, TARGET, 0, 16), Some(10)),
-    (Call::Copy(INVALID, 0, FOREIGN, 0, 16), Some(12)),
-    (Call::Copy(TARGET, 0, INVALID, 0, 16), Some(12)),
-    // The usages, the source's first.
-    (Call::Copy(TARGET, 0, BOTH, 0, 16), Some(250)),
-    (Call::Copy(TARGET, 0, SOURCE, 0, 16), Some(250)),
-    (Call::Copy(BOTH, 0, SOURCE, 0, 16), Some(251)),
-    (Call::Copy(SOURCE, 2, SOURCE, 0, 16), Some(251)),
-    // Offsets and sizes.
-    (Call::Copy(SOURCE, 2, TARGET, 0, 4), Some(252)),
-    (Call::Copy(SOURCE, 0, TARGET, 1, 4), Some(252)),
-    (Call::Copy(SOURCE, 0, TARGET, 0, 6), Some(252)),
-    (Call::Copy(SOURCE, 0, TARGET, 0, 18), Some(252)),
-    // Ranges, whose ends may pass every number.
-    (Call::Copy(SOURCE, 4, TARGET, 0, 16), Some(253)),
-    (Call::Copy(SOURCE, 20, TARGET, 0, 0), Some(253)),
-    (Call::Copy(SOURCE, 0, BOTH, 4, 16), Some(253)),
-    (Call::Copy(GREAT, GREATEST, TARGET, 0, 4), Some(253)),
-    (Call::Copy(SOURCE, GREATEST, TARGET, 0, 8), Some(253)),
-    (Call::Copy(SOURCE, 0, TARGET, GREATEST, 4), Some(253)),
-    (Call::Copy(BOTH, 4, BOTH, 4, 16), Some(253)),
-    // One buffer, also where the ranges are apart or empty.
-    (Call::Copy(BOTH, 0, BOTH, 8, 8), Some(254)),
-    (Call::Copy(BOTH, 0, BOTH, 0, 0), Some(254)),
-    // Clears.
-    (Call::Clear(TARGET, 0, 32), None),
-    (Call::Clear(TARGET, 28, 4), None),
-    (Call::Clear(TARGET, 32, 0), None),
-    (Call::Clear(FOREIGN, 0, 16), Some(10)),
-    (Call::Clear(OTHER_KIND, 0, 16), Some(10)),
-    (Call::Clear(FOREIGN_INVALID, 0, 16), Some(10)),
-    (Call::Clear(INVALID, 0, 2), Some(12)),
-    (Call::Clear(SOURCE, 0, 16), Some(275)),
-    (Call::Clear(SOURCE, 2, 32), Some(275)),
-    (Call::Clear(TARGET, 2, 4), Some(276)),
-    (Call::Clear(TARGET, 0, 3), Some(276)),
-    (Call::Clear(TARGET, 0, 34), Some(276)),
-    (Call::Clear(TARGET, 0, 36), Some(277)),
-    (Call::Clear(TARGET, 36, 0), Some(277)),
-    (Call::Clear(TARGET, GREATEST, 4), Some(277)),
-    // An end has its place in a pass; here it has no rule.
-    (Call::End, None),
-];
-
-const COPY: Call = Call::Copy(SOURCE, 0, TARGET, 0, 16);
-
-const SHORT: Call = Call::Copy(SOURCE, 0, TARGET, 0, 32);
-
-const MISPLACED: Call = Call::Clear(FOREIGN, 0, 16);
-
-const UNCLEARED: Call = Call::Clear(SOURCE, 0, 16);
-
-/// Commands on an encoder that is unlocked after a pass, and the verdict. On a locked one it is 240.
-static AROUND: [(Call, Option<u16>); 6] = [
-    (COPY, None),
-    (SHORT, Some(253)),
-    (MISPLACED, Some(10)),
-    (Call::Push, None),
-    (Call::Pop, Some(285)),
-    (Call::Begin, None),
-];
-
-const ENCODER: On = On::Encoder;
-
-const FIRST: On = On::Pass(0);
-
-const SECOND: On = On::Pass(1);
-
-const THIRD: On = On::Pass(2);
-
-const FOURTH: On = On::Pass(3);
-
-static SEQUENCES: [Line; 69] = [
-    // The first rule stays, whatever comes later.
-    Line::Open,
-    Line::Kept(ENCODER, COPY, None),
-    Line::Kept(ENCODER, Call::Clear(TARGET, 0, 16), None),
-    Line::Kept(ENCODER, SHORT, Some(253)),
-    Line::Kept(ENCODER, MISPLACED, Some(253)),
-    Line::Kept(ENCODER, Call::Pop, Some(253)),
-    Line::Kept(ENCODER, Call::Begin, Some(253)),
-    Line::Kept(FIRST, Call::Pop, Some(253)),
-    Line::Kept(ENCODER, COPY, Some(253)),
-    Line::Kept(FIRST, Call::End, Some(253)),
-    Line::Kept(ENCODER, COPY, Some(253)),
-    Line::Take(Found {
-        verdict: Some(253),
-        open_pass: false,
-        open_group: false,
-    }),
-    // Debug groups of the encoder: as many are closed as were opened.
-    Line::Open,
-    Line::Kept(ENCODER, Call::Push, None),
-    Line::Kept(ENCODER, Call::Push, None),
-    Line::Kept(ENCODER, COPY, None),
-    Line::Kept(ENCODER, Call::Pop, None),
-    Line::TakeAndPutBack(Found {
-        verdict: None,
-        open_pass: false,
-        open_group: true,
-    }),
-    Line::Kept(ENCODER, Call::Pop, None),
-    Line::TakeAndPutBack(Found {
-        verdict: None,
-        open_pass: false,
-        open_group: false,
-    }),
-    Line::Kept(ENCODER, Call::Pop, Some(285)),
-    Line::Kept(ENCODER, Call::Push, Some(285)),
-    // A pass counts its own debug groups, and hands its first rule over at its end.
-    Line::Open,
-    Line::Kept(ENCODER, Call::Push, None),
-    Line::Kept(ENCODER, Call::Begin, None),
-    Line::Kept(FIRST, Call::Push, None),
-    Line::Kept(FIRST, Call::Pop, None),
-    Line::Kept(FIRST, Call::End, None),
-    Line::Kept(ENCODER, Call::Pop, None),
-    Line::Kept(ENCODER, Call::Begin, None),
-    Line::Kept(SECOND, Call::End, None),
-    Line::Kept(ENCODER, Call::Pop, Some(285)),
-    Line::Open,
-    Line::Kept(ENCODER, Call::Push, None),
-    Line::Kept(ENCODER, Call::Begin, None),
-    Line::Kept(FIRST, Call::Pop, None),
-    Line::Kept(FIRST, Call::Push, None),
-    Line::Kept(FIRST, Call::End, Some(285)),
-    Line::Kept(ENCODER, Call::Pop, Some(285)),
-    Line::Open,
-    Line::Kept(ENCODER, Call::Begin, None),
-    Line::Kept(FIRST, Call::Push, None),
-    Line::Kept(FIRST, Call::Push, None),
-    Line::Kept(FIRST, Call::Pop, None),
-    Line::TakeAndPutBack(Found {
-        verdict: None,
-        open_pass: true,
-        open_group: false,
-    }),
-    Line::Kept(FIRST, Call::End, Some(310)),
-    Line::Kept(ENCODER, Call::Pop, Some(310)),
-    // The rule of a second pass, which begins with no group open.
-    Line::Open,
-    Line::Kept(ENCODER, Call::Begin, None),
-    Line::Kept(FIRST, Call::End, None),
-    Line::Kept(ENCODER, Call::Begin, None),
-    Line::Kept(SECOND, Call::Push, None),
-    Line::Kept(SECOND, Call::End, Some(310)),
-    // Rule 240 goes to the encoder at once, and the pass's earlier rule only at its end.
-    Line::Open,
-    Line::Kept(ENCODER, Call::Begin, None),
-    Line::Kept(FIRST, Call::Pop, None),
-    Line::Kept(ENCODER, COPY, Some(240)),
-    Line::Kept(FIRST, Call::End, Some(240)),
-    // A group that is pushed on a locked encoder is not opened, and one that is popped stays.
-    Line::Open,
-    Line::Kept(ENCODER, Call::Begin, None),
-    Line::Kept(ENCODER, Call::Push, Some(240)),
-    Line::Kept(FIRST, Call::End, Some(240)),
-    Line::Take(Found {
-        verdict: Some(240),
-        open_pass: false,
-        open_group: false,
-    }),
-    Line::Open,
-    Line::Kept(ENCODER, Call::Push, None),
-    Line::Kept(ENCODER, Call::Begin, None),
-    Line::Kept(ENCODER, Call::Pop, Some(240)),
-    Line::Kept(FIRST, Call::End, Some(240)),
-    Line::Take(Found {
-        verdict: Some(240),
-        open_pass: false,
-        open_group: true,
-    }),
-];
-
-static LATE: [Line; 47] = [
-    // A pass that has ended takes nothing, and what is late breaks no rule.
-    Line::Open,
-    Line::Passes(0),
-    Line::Kept(ENCODER, Call::Begin, None),
-    Line::Kept(FIRST, Call::End, None),
-    Line::Late(FIRST, Call::Push, None),
-    Line::Late(FIRST, Call::Pop, None),
-    Line::Late(FIRST, Call::End, None),
-    Line::Kept(ENCODER, Call::Begin, None),
-    Line::Late(FIRST, Call::End, None),
-    Line::Kept(SECOND, Call::Push, None),
-    Line::Kept(SECOND, Call::Pop, None),
-    Line::Kept(SECOND, Call::End, None),
-    Line::Late(SECOND, Call::End, None),
-    Line::Passes(2),
-    Line::Take(Found {
-        verdict: None,
-        open_pass: false,
-        open_group: false,
-    }),
-    // A pass that was begun on a locked encoder is dead: its calls are kept without effect, also
-    // after its end, and the pass that is open stays open. It is late only with its encoder.
-    Line::Open,
-    Line::Kept(ENCODER, Call::Begin, None),
-    Line::Kept(ENCODER, Call::Begin, Some(240)),
-    Line::Kept(SECOND, Call::End, Some(240)),
-    Line::Kept(SECOND, Call::Push, Some(240)),
-    Line::Passes(2),
-    Line::TakeAndPutBack(Found {
-        verdict: Some(240),
-        open_pass: true,
-        open_group: false,
-    }),
-    Line::Kept(FIRST, Call::Push, Some(240)),
-    Line::Kept(FIRST, Call::End, Some(240)),
-    Line::Late(FIRST, Call::End, Some(240)),
-    Line::Kept(SECOND, Call::End, Some(240)),
-    Line::Kept(ENCODER, Call::Begin, Some(240)),
-    Line::Kept(THIRD, Call::End, Some(240)),
-    Line::Late(THIRD, Call::End, Some(240)),
-    Line::Kept(SECOND, Call::End, Some(240)),
-    Line::Take(Found {
-        verdict: Some(240),
-        open_pass: false,
-        open_group: false,
-    }),
-    // After the encoder's end all is late, also on passes that ended, were dead or only now begin.
-    Line::Late(ENCODER, COPY, None),
-    Line::Late(ENCODER, SHORT, None),
-    Line::Late(FIRST, Call::Push, None),
-    Line::Late(SECOND, Call::Push, None),
-    Line::Late(ENCODER, Call::Begin, None),
-    Line::Late(FOURTH, Call::Push, None),
-    Line::Late(FOURTH, Call::End, None),
-    Line::Passes(4),
-    Line::Take(Found {
-        verdict: None,
-        open_pass: false,
-        open_group: false,
-    }),
-    // So is all on a pass that was open when its encoder ended.
-    Line::Open,
-    Line::Kept(ENCODER, Call::Begin, None),
-    Line::Kept(FIRST, Call::Push, None),
-    Line::Take(Found {
-        verdict: None,
-        open_pass: true,
-        open_group: false,
-    }),
-    Line::Late(FIRST, Call::Pop, None),
-    Line::Late(FIRST, Call::End, None),
-    Line::Passes(1),
-];
-
-static TAKEN: [Line; 26] = [
-    // What is put back is as if it had not been taken: the open pass and its group too.
-    Line::Open,
-    Line::TakeAndPutBack(Found {
-        verdict: None,
-        open_pass: false,
-        open_group: false,
-    }),
-    Line::Kept(ENCODER, Call::Push, None),
-    Line::Kept(ENCODER, COPY, None),
-    Line::Kept(ENCODER, Call::Begin, None),
-    Line::Kept(FIRST, Call::Push, None),
-    Line::TakeAndPutBack(Found {
-        verdict: None,
-        open_pass: true,
-        open_group: true,
-    }),
-    Line::Passes(1),
-    Line::Kept(FIRST, Call::Pop, None),
-    Line::Kept(FIRST, Call::End, None),
-    Line::TakeAndPutBack(Found {
-        verdict: None,
-        open_pass: false,
-        open_group: true,
-    }),
-    Line::Late(FIRST, Call::End, None),
-    Line::Kept(ENCODER, Call::Pop, None),
-    // The verdict comes back, and which passes have ended.
-    Line::Kept(ENCODER, UNCLEARED, Some(275)),
-    Line::TakeAndPutBack(Found {
-        verdict: Some(275),
-        open_pass: false,
-        open_group: false,
-    }),
-    Line::Late(FIRST, Call::End, Some(275)),
-    Line::Kept(ENCODER, Call::Begin, Some(275)),
-    Line::Passes(2),
-    Line::Kept(SECOND, Call::End, Some(275)),
-    Line::Take(Found {
-        verdict: Some(275),
-        open_pass: false,
-        open_group: false,
-    }),
-    // A second take gives nothing, and to put that back leaves the encoder ended.
-    Line::TakeAndPutBack(Found {
-        verdict: None,
-        open_pass: false,
-        open_group: false,
-    }),
-    Line::Late(ENCODER, COPY, None),
-    Line::TakeAndPutBack(Found {
-        verdict: None,
-        open_pass: false,
-        open_group: false,
-    }),
-    Line::Late(SECOND, Call::End, None),
-    Line::Take(Found {
-        verdict: None,
-        open_pass: false,
-        open_group: false,
-    }),
-    Line::Passes(2),
-];
+fn info_of(info: Known) -> Info {
+    match info {
+        Known::Buffer(buffer) => Info::Buffer(buffer),
+        Known::Texture(usage) => Info::Texture(TextureInfo {
+            size: [4, 4, 1],
+            usage,
+            format: Format::Rgba8Unorm,
+            dim: TextureDim::Two,
+            mips: 1,
+            samples: 1,
+        }),
+        Known::Encoder => Info::Encoder,
+    }
+}
 
 fn handle(alloc: Global, object: Object) -> Result<Handle, NoMemory> {
-    let info = match object.buffer {
-        Some(buffer) => Info::Buffer(buffer),
-        None => Info::Encoder,
-    };
+    let info = info_of(object.info);
     let reference = ObjRef {
         device: object.device,
         number: object.number,
@@ -504,9 +108,50 @@ fn handle(alloc: Global, object: Object) -> Result<Handle, NoMemory> {
     Ok(Handle::new(reference, object.valid, Arc::new(alloc, info)?))
 }
 
+fn to_texture(alloc: Global, buffer: Object, texture: Object) -> Result<Command, NoMemory> {
+    let buffer = handle(alloc, buffer)?;
+    let texture = handle(alloc, texture)?;
+    Ok(Command::CopyBufferToTexture {
+        buffer,
+        layout: LAYOUT,
+        texture,
+        spot: SPOT,
+        size: SIZE,
+    })
+}
+
+fn to_buffer(alloc: Global, buffer: Object, texture: Object) -> Result<Command, NoMemory> {
+    let buffer = handle(alloc, buffer)?;
+    let texture = handle(alloc, texture)?;
+    Ok(Command::CopyTextureToBuffer {
+        buffer,
+        layout: LAYOUT,
+        texture,
+        spot: SPOT,
+        size: SIZE,
+    })
+}
+
+fn between(alloc: Global, source: Object, target: Object) -> Result<Command, NoMemory> {
+    let source = handle(alloc, source)?;
+    let target = handle(alloc, target)?;
+    Ok(Command::CopyTextureToTexture {
+        source,
+        source_mip: 0,
+        source_origin: ORIGIN,
+        target,
+        target_mip: 0,
+        target_origin: ORIGIN,
+        size: SIZE,
+    })
+}
+
 fn command(alloc: Global, call: Call) -> Result<Command, NoMemory> {
     match call {
         Call::Begin => Ok(Command::BeginComputePass),
+        Call::ToTexture(buffer, texture) => to_texture(alloc, buffer, texture),
+        Call::ToBuffer(buffer, texture) => to_buffer(alloc, buffer, texture),
+        Call::Between(source, target) => between(alloc, source, target),
         Call::Copy(source, source_offset, target, target_offset, size) => {
             let source = handle(alloc, source)?;
             let target = handle(alloc, target)?;
@@ -556,6 +201,25 @@ fn is_call(command: &Command, call: Call) -> bool {
                 && is_object(target, to)
                 && *target_offset == to_at
                 && *size == bytes
+        }
+        (
+            Command::CopyBufferToTexture {
+                buffer,
+                texture,
+                ..
+            },
+            Call::ToTexture(from, to),
+        ) => is_object(buffer, from) && is_object(texture, to),
+        (
+            Command::CopyTextureToBuffer {
+                buffer,
+                texture,
+                ..
+            },
+            Call::ToBuffer(to, from),
+        ) => is_object(buffer, to) && is_object(texture, from),
+        (Command::CopyTextureToTexture { source, target, .. }, Call::Between(from, to)) => {
+            is_object(source, from) && is_object(target, to)
         }
         (
             Command::ClearBuffer {
@@ -731,9 +395,15 @@ fn many_passes(rt: HostRuntime) -> Result<(), Fail> {
 }
 
 /// A command, and whether it fits an encoder, a compute pass, a render pass and a bundle encoder.
-static FITS: [(Call, [bool; 4]); 6] = [
+static FITS: [(Call, [bool; 4]); 9] = [
     (Call::Begin, [true, false, false, false]),
     (COPY, [true, false, false, false]),
+    (Call::ToTexture(GREAT, TEXTURE), [true, false, false, false]),
+    (Call::ToBuffer(GREAT, TEXTURE), [true, false, false, false]),
+    (
+        Call::Between(TEXTURE, OTHER_TEXTURE),
+        [true, false, false, false],
+    ),
     (UNCLEARED, [true, false, false, false]),
     (Call::Push, [true, true, true, true]),
     (Call::Pop, [true, true, true, true]),

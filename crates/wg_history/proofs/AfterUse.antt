@@ -1,16 +1,21 @@
 -- What is released is used no more, and its uses are complete.
-use Rattle.std.proofs.Common.{◌≡◌, ℕ, ◌+◌, ◌<◌, ◌≤◌, List, [], ◌∷◌, ◌++◌, reverse, Bool, true, false, not, ◌&&◌, ◌||◌, ◌==◌, nat_lt, nat_le, max, is_some, is_none, unwrap_or, refl, ap, sym, ◌∙◌, arith, if◌then◌else◌, true≢false, subst, ◌⊎◌, inl, inr}
+use Rattle.std.proofs.Common.{◌≡◌, ℕ, ◌+◌, ◌<◌, ◌≤◌, List, [], ◌∷◌, ◌++◌, reverse, Bool, true, false, not, ◌&&◌, ◌||◌, ◌==◌, nat_lt, nat_le, max, is_some, is_none, unwrap_or, refl, ap, ap₂, sym, ◌∙◌, arith, if◌then◌else◌, true≢false, subst, ◌⊎◌, inl, inr}
 use Rattle.std.proofs.lemmas.List.{reverse-append}
+use Rattle.std.proofs.lemmas.List.Folds.{list_any-append}
 use Rattle.std.proofs.lemmas.Bool.{and_parts, or_cases, or_left, or_right, leb-true, ltb-true, eqb-true}
 use Rattle.std.proofs.Math.Nat.{zero-max}
 use Rattle.wg_model.proofs.Unmet.{all_met}
 use Rattle.std.specs.List.{list_any}
 use Rattle.wg_model.specs.Rules.{Rule, AreMet}
-use Rattle.wg_model.specs.Recorded.{resources, any_resource, uses_resource}
-use Rattle.wg_history.specs.Entries.{Setup, Event, Submit, WriteBuffer, Complete, Reply, Entry, Past}
+use Rattle.wg_types.specs.declared.commands.On.{On}
+use Rattle.wg_types.specs.declared.commands.Command.{Command}
+use Rattle.wg_types.specs.declared.textures.TextureSpot.{TextureSpot}
+use Rattle.wg_types.specs.declared.textures.DataLayout.{DataLayout}
+use Rattle.wg_model.specs.Recorded.{buffers_of, textures_of, resources, any_named, any_resource, uses_resource}
+use Rattle.wg_history.specs.Entries.{Setup, Event, Submit, WriteBuffer, WriteTexture, Complete, Reply, Entry, Past}
 use Rattle.wg_history.specs.Objects.{ObjRef, resource_at, commands_at}
 use Rattle.wg_history.specs.Operations.{issued, completion, completed, submit_uses, is_used, op_of, use_by, last_use}
-use Rattle.wg_history.specs.Rules.{listed_rules, any_destroyed, submit_list, submit_rule, write_buffer_list, write_buffer_rule, destroys, is_destroyed}
+use Rattle.wg_history.specs.Rules.{listed_rules, any_destroyed, together_rules, submit_list, submit_rule, write_buffer_list, write_buffer_rule, write_texture_list, write_texture_rule, destroys, is_destroyed}
 use Rattle.wg_history.specs.Answers.{Queued, Plain, BadCompletion, reply_to, IsRun}
 use Rattle.wg_history.specs.Releases.{is_due, is_released}
 use Rattle.wg_history.specs.ReleaseLaws.{FreedAfterUse}
@@ -34,16 +39,19 @@ completes_more setup past _ = omega arith
 completed_grows : (setup : Setup) (entry : Entry) (older : Past) → IsRun setup (entry ∷ older) → completed older ≤ completed (entry ∷ older)
 completed_grows setup entry older run = subst (λ (reply : Reply). completed older ≤ unwrap_or (completion entry.event reply.answer) (completed older)) (sym (newest setup entry older run)) (completes_more setup older entry.event)
 
+not_true : (b : Bool) → not b ≡ true → b ≡ false
+not_true true h = absurd (true≢false (sym h))
+not_true false h = refl
+
 -- A write that meets its rules is of a buffer that is not destroyed.
 pub write_stands : (setup : Setup) (past : Past) (buffer : ObjRef) (offset size : ℕ) → is_none (write_buffer_rule setup past buffer offset size) ≡ true → is_destroyed setup past buffer.number ≡ false
 unfolding write_buffer_rule
 write_stands setup past buffer offset size e =
-    let met : not (is_destroyed setup past buffer.number) ≡ true = (all_met (write_buffer_list setup past buffer offset size) e).1.1.1.1.1.0 in
-    by_test (is_destroyed setup past buffer.number) met
-  where
-    by_test : (b : Bool) → not b ≡ true → b ≡ false
-    by_test true h = absurd (true≢false (sym h))
-    by_test false h = refl
+    not_true (is_destroyed setup past buffer.number) (all_met (write_buffer_list setup past buffer offset size) e).1.1.1.1.1.0
+
+pub write_texture_stands : (setup : Setup) (past : Past) (texture : ObjRef) (spot : TextureSpot) (layout : DataLayout) (size : List ℕ) (data_size : ℕ) → is_none (write_texture_rule setup past texture spot layout size data_size) ≡ true → is_destroyed setup past texture.number ≡ false
+unfolding write_texture_rule
+write_texture_stands setup past texture spot layout size data_size e = not_true (is_destroyed setup past texture.number) (all_met (write_texture_list setup past texture spot layout size data_size) e).1.1.1.1.1.1.1.0
 
 -- A test that passes wherever another does passes on a list where that does.
 any_grows : {X : Type 0} (p q : X → Bool) → ((x : X) → q x ≡ true → p x ≡ true) → (xs : List X) → list_any q xs ≡ true → list_any p xs ≡ true
@@ -55,7 +63,7 @@ any_grows p q grows (x ∷ xs) e = by_cases (or_cases (q x) (list_any q xs) e) (
     by_cases (inr later) rest = or_right (p x) (list_any p xs) (rest later)
 
 -- Command buffers that use a destroyed object use some destroyed object.
-used_destroyed : (setup : Setup) (past : Past) (buffers : List ObjRef) (n : ℕ) → is_destroyed setup past n ≡ true → submit_uses past buffers n ≡ true → any_destroyed setup past buffers ≡ true
+used_destroyed : (setup : Setup) (past : Past) (buffers : List ObjRef) (n : ℕ) → is_destroyed setup past n ≡ true → submit_uses past buffers n ≡ true → any_destroyed resources setup past buffers ≡ true
 used_destroyed setup past buffers n destroyed used =
     any_grows (λ buffer. any_resource (is_destroyed setup past) (commands_at past buffer.number)) (λ buffer. uses_resource (commands_at past buffer.number) n)
     (λ buffer in_buffer. any_grows (λ kept. list_any (is_destroyed setup past) (resources kept.1)) (λ kept. list_any (λ r. r == n) (resources kept.1))
@@ -63,22 +71,39 @@ used_destroyed setup past buffers n destroyed used =
     (commands_at past buffer.number) in_buffer)
     buffers used
 
+-- A test that is passed where one of two others is passes on a list where one of them does.
+or_rest : (a b c d : Bool) → (a || b) || (c || d) ≡ (a || c) || (b || d)
+or_rest true b c d = refl
+or_rest false true true d = refl
+or_rest false true false d = refl
+or_rest false false c d = refl
+
+any_either : {X : Type 0} (p q r : X → Bool) → ((x : X) → r x ≡ p x || q x) → (xs : List X) → list_any r xs ≡ list_any p xs || list_any q xs
+any_either p q r is [] = refl
+any_either p q r is (x ∷ xs) = ap₂ ◌||◌ (is x) (any_either p q r is xs) ∙ or_rest (p x) (q x) (list_any p xs) (list_any q xs)
+
+-- A resource is a buffer or a texture.
+any_resource_is : (test : ℕ → Bool) (commands : List (On × Command)) → any_resource test commands ≡ any_named buffers_of test commands || any_named textures_of test commands
+any_resource_is test commands = any_either (λ kept. list_any test (buffers_of kept.1)) (λ kept. list_any test (textures_of kept.1)) (λ kept. list_any test (resources kept.1)) (λ kept. list_any-append test (buffers_of kept.1) (textures_of kept.1)) commands
+
+any_destroyed_is : (setup : Setup) (past : Past) (buffers : List ObjRef) → any_destroyed resources setup past buffers ≡ any_destroyed buffers_of setup past buffers || any_destroyed textures_of setup past buffers
+any_destroyed_is setup past buffers =
+    any_either (λ buffer. any_named buffers_of (is_destroyed setup past) (commands_at past buffer.number)) (λ buffer. any_named textures_of (is_destroyed setup past) (commands_at past buffer.number)) (λ buffer. any_resource (is_destroyed setup past) (commands_at past buffer.number))
+    (λ buffer. any_resource_is (is_destroyed setup past) (commands_at past buffer.number)) buffers
+
 met_after : (rules more : List Rule) → AreMet (rules ++ more) → AreMet more
 met_after [] more met = met
 met_after (rule ∷ rules) more met = met_after rules more met.1
-
-not_true : (b : Bool) → not b ≡ true → b ≡ false
-not_true true h = absurd (true≢false (sym h))
-not_true false h = refl
 
 -- A submit that meets its rules uses nothing that is destroyed.
 pub submit_stands : (setup : Setup) (past : Past) (buffers : List ObjRef) (n : ℕ) → is_none (submit_rule setup past buffers) ≡ true → is_destroyed setup past n ≡ true → submit_uses past buffers n ≡ false
 unfolding submit_rule
 submit_stands setup past buffers n e destroyed =
-    let spared : any_destroyed setup past buffers ≡ false = not_true (any_destroyed setup past buffers) (met_after (listed_rules setup past buffers) _ (all_met (submit_list setup past buffers) e)).1.1.0 in
+    let met : AreMet (together_rules setup past buffers) = met_after (listed_rules setup past buffers) (together_rules setup past buffers) (all_met (submit_list setup past buffers) e) in
+    let spared : any_destroyed resources setup past buffers ≡ false = any_destroyed_is setup past buffers ∙ ap₂ ◌||◌ (not_true (any_destroyed buffers_of setup past buffers) met.1.1.0) (not_true (any_destroyed textures_of setup past buffers) met.1.1.1.0) in
     by_use (submit_uses past buffers n) refl spared
   where
-    by_use : (b : Bool) → submit_uses past buffers n ≡ b → any_destroyed setup past buffers ≡ false → b ≡ false
+    by_use : (b : Bool) → submit_uses past buffers n ≡ b → any_destroyed resources setup past buffers ≡ false → b ≡ false
     by_use true used spared = absurd (true≢false (sym (used_destroyed setup past buffers n destroyed used) ∙ spared))
     by_use false used spared = refl
 
@@ -92,6 +117,15 @@ uses_none setup past (WriteBuffer buffer offset size) n destroyed = by_same (buf
 
     by_same : (b : Bool) → (buffer.number == n) ≡ b → (if b then unwrap_or (op_of (reply_to setup past (WriteBuffer buffer offset size)).answer) 0 else 0) ≡ 0
     by_same true e = by_rule (is_none (write_buffer_rule setup past buffer offset size)) refl (eqb-true buffer.number n e)
+    by_same false e = refl
+uses_none setup past (WriteTexture texture spot layout size data_size) n destroyed = by_same (texture.number == n) refl
+  where
+    by_rule : (b : Bool) → is_none (write_texture_rule setup past texture spot layout size data_size) ≡ b → texture.number ≡ n → unwrap_or (op_of (if b then Queued (issued past + 1) else Plain)) 0 ≡ 0
+    by_rule true e same = absurd (true≢false (sym destroyed ∙ (ap (is_destroyed setup past) (sym same) ∙ write_texture_stands setup past texture spot layout size data_size e)))
+    by_rule false e same = refl
+
+    by_same : (b : Bool) → (texture.number == n) ≡ b → (if b then unwrap_or (op_of (reply_to setup past (WriteTexture texture spot layout size data_size)).answer) 0 else 0) ≡ 0
+    by_same true e = by_rule (is_none (write_texture_rule setup past texture spot layout size data_size)) refl (eqb-true texture.number n e)
     by_same false e = refl
 uses_none setup past (Submit buffers) n destroyed = by_rule (is_none (submit_rule setup past buffers)) refl
   where

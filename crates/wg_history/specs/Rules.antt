@@ -3,24 +3,44 @@ use Rattle.std.specs.Prelude.{ℕ, Bool, true, false, not, ◌&&◌, ◌||◌, �
 use Rattle.std.specs.List.{list_any}
 use Rattle.std.specs.Option.{option_map_or}
 use Rattle.wg_types.specs.Handles.{HandleValue}
+use Rattle.wg_types.specs.declared.textures.TextureInfo.{TextureInfo}
+use Rattle.wg_types.specs.declared.textures.ViewDesc.{ViewDesc}
+use Rattle.wg_types.specs.declared.textures.TextureSpot.{TextureSpot}
+use Rattle.wg_types.specs.declared.textures.DataLayout.{DataLayout}
 use Rattle.wg_types.specs.declared.commands.On.{On}
 use Rattle.wg_types.specs.declared.commands.Command.{Command}
 use Rattle.wg_model.specs.Rules.{Rule, first_unmet, or_else}
 use Rattle.wg_model.specs.Buffers.{create_buffer_rules, write_buffer_rules}
+use Rattle.wg_model.specs.Textures.{create_texture_rules, create_view_rules}
+use Rattle.wg_model.specs.TexelCopies.{write_texture_rules}
 use Rattle.wg_model.specs.Commands.{named, no_buffer}
 use Rattle.wg_model.specs.Scopes.{first_clash}
 use Rattle.wg_model.specs.Walk.{Verdict, ScopesOf, open_pass, encoder_depth}
-use Rattle.wg_model.specs.Recorded.{any_resource}
+use Rattle.wg_model.specs.Recorded.{buffers_of, textures_of, any_named}
 use Rattle.wg_encoder.specs.Recorders.{RecordingValue}
-use Rattle.wg_history.specs.Entries.{Setup, Event, CreateBuffer, CreateEncoder, Finish, Late, Submit, WriteBuffer, Destroy, Complete, Past}
-use Rattle.wg_history.specs.Objects.{BufferInfo, ObjRef, Info, is_own, is_valid, info_at, is_buffer, is_encoder, is_command_buffer, has_memory, buffer_at, commands_at}
+use Rattle.wg_history.specs.Entries.{Setup, Event, CreateBuffer, CreateTexture, CreateView, CreateEncoder, Finish, Late, Submit, WriteBuffer, WriteTexture, Destroy, Complete, Past}
+use Rattle.wg_history.specs.Objects.{BufferInfo, ObjRef, is_own, is_valid, info_at, is_buffer, is_texture, is_encoder, is_command_buffer, has_memory, buffer_at, texture_or_none_at, commands_at}
 use Rattle.wg_history.specs.Infos.{same_kind, same_info, same_bool}
 
 -- createBuffer
-unfoldable pub create_buffer_rule : BufferInfo → Option ℕ
-create_buffer_rule info = first_unmet (create_buffer_rules info)
+unfoldable pub create_buffer_rule : Setup → BufferInfo → Option ℕ
+create_buffer_rule setup info = first_unmet (create_buffer_rules setup.limits info)
 
--- destroy (WebGPU, "Buffer Destruction"): 10 the object is a resource of this device, valid or not
+-- createTexture
+unfoldable pub create_texture_rule : Setup → TextureInfo → Option ℕ
+create_texture_rule setup info = first_unmet (create_texture_rules setup.limits info)
+
+-- The rules of createView: 10 the texture is one of this device, 12 it is valid, then the rules by what the texture is
+abbrev pub create_view_list : Setup → Past → ObjRef → ViewDesc → List Rule
+create_view_list setup past texture desc =
+    (10, is_own setup past is_texture texture)
+    ∷ ((12, is_valid past texture.number)
+    ∷ create_view_rules (texture_or_none_at past texture.number) desc)
+
+unfoldable pub create_view_rule : Setup → Past → ObjRef → ViewDesc → Option ℕ
+create_view_rule setup past texture desc = first_unmet (create_view_list setup past texture desc)
+
+-- destroy (WebGPU, "Buffer Destruction" and "Texture Destruction"): 10 the object is a resource of this device, valid or not
 unfoldable pub destroy_rule : Setup → Past → ObjRef → Option ℕ
 destroy_rule setup past object = first_unmet ((10, is_own setup past has_memory object) ∷ [])
 
@@ -45,6 +65,18 @@ write_buffer_list setup past buffer offset size =
 
 unfoldable pub write_buffer_rule : Setup → Past → ObjRef → ℕ → ℕ → Option ℕ
 write_buffer_rule setup past buffer offset size = first_unmet (write_buffer_list setup past buffer offset size)
+
+-- The rules of writeTexture: 10 the target is a texture of this device, 12 it is valid, then the rules by what it is, and
+-- 210 it is not destroyed
+abbrev pub write_texture_list : Setup → Past → ObjRef → TextureSpot → DataLayout → List ℕ → ℕ → List Rule
+write_texture_list setup past texture spot layout size data_size =
+    (10, is_own setup past is_texture texture)
+    ∷ ((12, is_valid past texture.number)
+    ∷ (write_texture_rules (texture_or_none_at past texture.number) spot layout size data_size
+    ++ (210, not (is_destroyed setup past texture.number)) ∷ []))
+
+unfoldable pub write_texture_rule : Setup → Past → ObjRef → TextureSpot → DataLayout → List ℕ → ℕ → Option ℕ
+write_texture_rule setup past texture spot layout size data_size = first_unmet (write_texture_list setup past texture spot layout size data_size)
 
 -- A handle is genuine where its object was made by this device, and the handle is as that is: of its kind, valid exactly
 -- where it is, and for a valid one with what is known of it.
@@ -114,18 +146,23 @@ listed_rules setup past (buffer ∷ buffers) =
     ∷ ((12, is_valid past buffer.number)
     ∷ listed_rules setup past buffers)
 
--- whether a command of one of these command buffers names a destroyed resource
-abbrev pub any_destroyed : Setup → Past → List ObjRef → Bool
-any_destroyed setup past buffers = list_any (λ buffer. any_resource (is_destroyed setup past) (commands_at past buffer.number)) buffers
+-- whether one of the objects that the commands of these command buffers name is destroyed
+abbrev pub any_destroyed : (Command → List ℕ) → Setup → Past → List ObjRef → Bool
+any_destroyed names setup past buffers = list_any (λ buffer. any_named names (is_destroyed setup past) (commands_at past buffer.number)) buffers
 
--- submit: those rules, and then 190 none was consumed; 191 none is named twice; 192 no resource that they use is destroyed.
-abbrev pub submit_list : Setup → Past → List ObjRef → List Rule
-submit_list setup past buffers =
-    listed_rules setup past buffers
-    ++ ((190, not (list_any (λ buffer. is_consumed setup past buffer.number) buffers))
+-- and those on all of them: 190 none was consumed; 191 none is named twice; 192 no buffer that they use is destroyed; 193 no
+-- texture that they use is.
+abbrev pub together_rules : Setup → Past → List ObjRef → List Rule
+together_rules setup past buffers =
+    (190, not (list_any (λ buffer. is_consumed setup past buffer.number) buffers))
     ∷ ((191, are_distinct buffers)
-    ∷ ((192, not (any_destroyed setup past buffers))
+    ∷ ((192, not (any_destroyed buffers_of setup past buffers))
+    ∷ ((193, not (any_destroyed textures_of setup past buffers))
     ∷ [])))
+
+-- submit
+abbrev pub submit_list : Setup → Past → List ObjRef → List Rule
+submit_list setup past buffers = listed_rules setup past buffers ++ together_rules setup past buffers
 
 unfoldable pub submit_rule : Setup → Past → List ObjRef → Option ℕ
 submit_rule setup past buffers = first_unmet (submit_list setup past buffers)
@@ -133,11 +170,14 @@ submit_rule setup past buffers = first_unmet (submit_list setup past buffers)
 -- The first unmet rule of an event that comes after a past. An event that meets all its rules is met. A recording call that
 -- came after the end of its encoder or pass always has rule 14.
 abbrev pub first_rule : Setup → Past → Event → Option ℕ
-first_rule setup past (CreateBuffer info) = create_buffer_rule info
+first_rule setup past (CreateBuffer info) = create_buffer_rule setup info
+first_rule setup past (CreateTexture info) = create_texture_rule setup info
+first_rule setup past (CreateView texture desc) = create_view_rule setup past texture desc
 first_rule setup past CreateEncoder = None
 first_rule setup past (Finish encoder recording) = finish_rule setup past encoder recording
 first_rule setup past (Late encoder) = Some 14
 first_rule setup past (Submit buffers) = submit_rule setup past buffers
 first_rule setup past (WriteBuffer buffer offset size) = write_buffer_rule setup past buffer offset size
+first_rule setup past (WriteTexture texture spot layout size data_size) = write_texture_rule setup past texture spot layout size data_size
 first_rule setup past (Destroy object) = destroy_rule setup past object
 first_rule setup past (Complete op) = None

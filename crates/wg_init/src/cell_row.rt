@@ -1,7 +1,7 @@
 use wg_types::parts::Aspect;
 
 /// A row of cells: the bytes of a buffer, the queries of a query set, the layers of a mip level and
-/// aspect of a texture that is not 3D, or the slices of a mip level of a 3D texture.
+/// aspect of a texture, or the slices of a mip level of a 3D texture.
 #[derive(Clone, Copy, PartialEq, Eq, Debug)]
 pub enum CellRow {
     Buffer(u64),

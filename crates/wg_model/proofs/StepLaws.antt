@@ -1,140 +1,66 @@
 -- The steps of queue writes and of recorded commands are as the table of uses has them.
-use Rattle.std.proofs.Common.{◌≡◌, ℕ, zero, suc, ◌+◌, Bool, true, false, ◌&&◌, ◌||◌, ◌==◌, List, [], ◌∷◌, ◌++◌, Option, Some, None, refl, ap, ap₂, sym, ◌∙◌, subst, slice_get, if◌then◌else◌}
-use Rattle.wg_types.specs.declared.steps.QueueWrite.TheVariants.{Buffer as BufferWrite}
-use Rattle.wg_types.specs.declared.steps.StepName.{StepName}
-use Rattle.wg_types.specs.declared.steps.StepName.TheVariants.{CopyBufferToBuffer as CopyBufferName}
+use Rattle.std.proofs.Common.{◌≡◌, ℕ, zero, suc, Bool, true, false, ◌==◌, List, [], ◌∷◌, ◌++◌, Option, Some, None, refl, ap, sym, ◌∙◌, subst, slice_get, if◌then◌else◌}
+use Rattle.wg_types.specs.declared.steps.QueueWrite.TheVariants.{Buffer as BufferWrite, Texture as TextureWrite}
+use Rattle.wg_types.specs.declared.steps.StepName.TheVariants as name
 use Rattle.wg_types.specs.declared.commands.On.{On}
 use Rattle.wg_types.specs.declared.commands.On.TheVariants.{Encoder, Pass}
 use Rattle.wg_types.specs.declared.commands.Command.{Command}
-use Rattle.wg_types.specs.declared.commands.Command.TheVariants.{CopyBufferToBuffer, ClearBuffer}
-use Rattle.wg_orders.specs.Rows.{run_before, put, put_at}
-use Rattle.wg_orders.specs.Steps.{PartRun, BufferPart, Cell, Cells, Bytes, Kind, Read, Write, Usages, part_of, covers_part, covers, part_sort, cell_sort, same_set, same_kind, Step, StepPlace, printed_uses, printed_accesses}
-use Rattle.wg_orders.specs.Laws.{FairRows}
-use Rattle.wg_orders.proofs.Declared.{declared_from}
-use Rattle.wg_orders.proofs.Lying.{cells_lie}
+use Rattle.wg_types.specs.declared.commands.Command.TheVariants.{CopyBufferToBuffer, CopyBufferToTexture, CopyTextureToBuffer, CopyTextureToTexture, ClearBuffer}
+use Rattle.wg_types.specs.declared.textures.TextureInfo.{TextureInfo}
+use Rattle.wg_types.specs.declared.textures.TextureSpot.{TextureSpot}
+use Rattle.wg_types.specs.declared.textures.DataLayout.{DataLayout}
+use Rattle.wg_orders.specs.Steps.{Cells, Kind, Write, Step, StepPlace}
+use Rattle.wg_model.specs.Formats.{texel_to}
+use Rattle.wg_model.specs.Subresources.{copied_cells, has_no_texel}
+use Rattle.wg_model.specs.TexelCopies.{whole_spot}
+use Rattle.wg_model.specs.Commands.{texture_of}
 use Rattle.wg_model.specs.Walk.{PassSoFar, open_pass}
-use Rattle.wg_model.specs.Recorded.{copy_src_usage, copy_dst_usage, write_buffer_step, copy_buffer_step, clear_buffer_step, encoder_steps, steps_within, steps_at, recorded_steps}
+use Rattle.wg_model.specs.Recorded.{Touch, touching, read_cells, written_cells, bytes_at, target_kind, copied_to, copied_from, layout_bytes, range_touches, buffer_to_buffer_touches, buffer_to_texture_touches, texture_to_buffer_touches, texture_to_texture_touches, write_buffer_step, write_texture_step, unless, encoder_steps, steps_within, steps_at, recorded_steps}
 use Rattle.wg_model.specs.StepLaws.{IsOwnStep, WritesAreDeclared, RecordedAreDeclared}
+use Rattle.wg_model.proofs.Touching.{AreProper, touching_own, read_proper, written_proper, joined_proper}
 
--- What one row covers and passes.
-only_row : (b : Bool) → ((b && true) || false) ≡ true → b ≡ true
-only_row true e = refl
-only_row false e = e
+-- What each step touches is proper.
+written_one : (kind : Kind) (cells : Cells) → AreProper (written_cells kind cells ∷ [])
+written_one kind cells = (λ e. refl, tt)
 
-row_only : (b : Bool) → b ≡ true → ((b && true) || false) ≡ true
-row_only true e = refl
-row_only false e = e
+read_first : (cells : Cells) (touches : List Touch) → AreProper touches → AreProper (read_cells cells ∷ touches)
+read_first cells touches proper = (λ e. absurd (cc), proper)
 
--- The cells of a range of a buffer lie in the buffer.
-bytes_lie : (object lo hi : ℕ) (c : Cell) → covers (Bytes object lo hi) c ≡ true → covers_part (BufferPart object) (part_of c) ≡ true
-bytes_lie object lo hi c e = cells_lie (Bytes object lo hi) c e
+copied_to_proper : (object : ℕ) (info : TextureInfo) (spot : TextureSpot) (size : List ℕ) → AreProper (copied_to object info spot size)
+copied_to_proper object info spot size = written_proper (target_kind info spot size) (copied_cells object info spot size)
 
--- A step that writes a range of a buffer, which it uses as copy-dst.
-abbrev written_step : StepPlace → StepName → ℕ → ℕ → ℕ → Step
-written_step place name object lo hi = record { place = place; name = name; uses = (BufferPart object, copy_dst_usage) ∷ []; accesses = (Bytes object lo hi, Write) ∷ [] }
+copied_from_proper : (object : ℕ) (info : TextureInfo) (spot : TextureSpot) (size : List ℕ) → AreProper (copied_from object info spot size)
+copied_from_proper object info spot size = read_proper (copied_cells object info spot size)
 
-written_fair : (place : StepPlace) (name : StepName) (object lo hi : ℕ) → FairRows (written_step place name object lo hi)
-written_fair place name object lo hi = record {
-  accessed = λ c e. row_only (covers_part (BufferPart object) (part_of c)) (bytes_lie object lo hi c (only_row (covers (Bytes object lo hi) c) e));
-  written = λ c e. row_only (covers_part (BufferPart object) (part_of c)) (bytes_lie object lo hi c (only_row (covers (Bytes object lo hi) c) e));
-}
+range_proper : (object offset size : ℕ) → AreProper (range_touches object offset size)
+range_proper object offset size = written_one Write (bytes_at object offset size)
 
--- Two rows that are covered give two rows that are.
-after_false : (p : Bool) → ((p && false) || true) ≡ true
-after_false true = refl
-after_false false = refl
+buffers_proper : (source source_offset target target_offset size : ℕ) → AreProper (buffer_to_buffer_touches source source_offset target target_offset size)
+buffers_proper source source_offset target target_offset size = read_first (bytes_at source source_offset size) (range_touches target target_offset size) (range_proper target target_offset size)
 
-carry : (a b p q x y : Bool) → (a ≡ true → p ≡ true) → (b ≡ true → q ≡ true) → ((a && x) || ((b && y) || false)) ≡ true → ((p && x) || ((q && y) || false)) ≡ true
-carry true b p q true y f g h = rw (f refl) refl
-carry true true p q false true f g h = rw (g refl) (after_false p)
-carry true true p q false false f g h = absurd (cc)
-carry true false p q false y f g h = absurd (cc)
-carry false true p q true true f g h = rw (g refl) (either p)
-  where
-    either : (p : Bool) → ((p && true) || true) ≡ true
-    either true = refl
-    either false = refl
-carry false true p q true false f g h = absurd (cc)
-carry false true p q false true f g h = rw (g refl) (after_false p)
-carry false true p q false false f g h = absurd (cc)
-carry false false p q x y f g h = absurd (cc)
+to_texture_proper : (buffer : ℕ) (layout : DataLayout) (texture : ℕ) (info : TextureInfo) (spot : TextureSpot) (size : List ℕ) → AreProper (buffer_to_texture_touches buffer layout texture info spot size)
+to_texture_proper buffer layout texture info spot size = read_first (bytes_at buffer layout.offset (layout_bytes layout (texel_to spot.aspect info.format) size)) (copied_to texture info spot size) (copied_to_proper texture info spot size)
 
--- Two rows, in one order or the other.
-abbrev pub in_order : {A : Type 0} → Bool → A → A → List A
-in_order true x y = x ∷ (y ∷ [])
-in_order false x y = y ∷ (x ∷ [])
+to_buffer_proper : (buffer : ℕ) (layout : DataLayout) (texture : ℕ) (info : TextureInfo) (spot : TextureSpot) (size : List ℕ) → AreProper (texture_to_buffer_touches buffer layout texture info spot size)
+to_buffer_proper buffer layout texture info spot size = (λ e. refl, copied_from_proper texture info spot size)
 
--- A copy with its rows in some order.
-abbrev copied : StepPlace → Bool → Bool → ℕ → ℕ → ℕ → ℕ → ℕ → ℕ → Step
-copied place b d source lo hi target to end =
-    record {
-      place = place;
-      name = CopyBufferName;
-      uses = in_order b (BufferPart source, copy_src_usage) (BufferPart target, copy_dst_usage);
-      accesses = in_order d (Bytes source lo hi, Read) (Bytes target to end, Write);
-    }
-
-abbrev any_two : Bool → Bool → Bool → Bool
-any_two true u v = u || (v || false)
-any_two false u v = v || (u || false)
-
-swap : (u v : Bool) → u || (v || false) ≡ v || (u || false)
-swap true true = refl
-swap true false = refl
-swap false true = refl
-swap false false = refl
-
-ordered : (b d u v r s : Bool) → (u || (v || false) ≡ true → r || (s || false) ≡ true) → any_two d u v ≡ true → any_two b r s ≡ true
-ordered true true u v r s h e = h e
-ordered true false u v r s h e = h (swap u v ∙ e)
-ordered false true u v r s h e = swap s r ∙ h e
-ordered false false u v r s h e = swap s r ∙ h (swap u v ∙ e)
-
-copy_carries : (b d x y : Bool) (source lo hi target to end : ℕ) (c : Cell) → any_two d (covers (Bytes source lo hi) c && x) (covers (Bytes target to end) c && y) ≡ true → any_two b (covers_part (BufferPart source) (part_of c) && x) (covers_part (BufferPart target) (part_of c) && y) ≡ true
-copy_carries b d x y source lo hi target to end c e =
-    ordered b d (covers (Bytes source lo hi) c && x) (covers (Bytes target to end) c && y) (covers_part (BufferPart source) (part_of c) && x) (covers_part (BufferPart target) (part_of c) && y) (carry (covers (Bytes source lo hi) c) (covers (Bytes target to end) c) (covers_part (BufferPart source) (part_of c)) (covers_part (BufferPart target) (part_of c)) x y (bytes_lie source lo hi c) (bytes_lie target to end c)) e
-
-copied_fair : (place : StepPlace) (b d : Bool) (source lo hi target to end : ℕ) → FairRows (copied place b d source lo hi target to end)
-copied_fair place true true source lo hi target to end = record { accessed = copy_carries true true true true source lo hi target to end; written = copy_carries true true false true source lo hi target to end }
-copied_fair place true false source lo hi target to end = record { accessed = copy_carries true false true true source lo hi target to end; written = copy_carries true false false true source lo hi target to end }
-copied_fair place false true source lo hi target to end = record { accessed = copy_carries false true true true source lo hi target to end; written = copy_carries false true false true source lo hi target to end }
-copied_fair place false false source lo hi target to end = record { accessed = copy_carries false false true true source lo hi target to end; written = copy_carries false false false true source lo hi target to end }
-
--- The uses and accesses of a copy as they are printed.
-pub two_uses : (source target : ℕ) → printed_uses ((BufferPart source, copy_src_usage) ∷ ((BufferPart target, copy_dst_usage) ∷ [])) ≡ in_order (run_before part_sort (BufferPart source) (BufferPart target)) (BufferPart source, copy_src_usage) (BufferPart target, copy_dst_usage)
-two_uses source target = by_before (run_before part_sort (BufferPart source) (BufferPart target))
-  where
-    by_before : (b : Bool) → put_at (λ row. put part_sort same_set row []) (BufferPart source, copy_src_usage) (BufferPart target, copy_dst_usage) [] b None ≡ in_order b (BufferPart source, copy_src_usage) (BufferPart target, copy_dst_usage)
-    by_before true = refl
-    by_before false = refl
-
-pub two_accesses : (source lo hi target to end : ℕ) → printed_accesses ((Bytes source lo hi, Read) ∷ ((Bytes target to end, Write) ∷ [])) ≡ in_order (run_before cell_sort (Bytes source lo hi) (Bytes target to end)) (Bytes source lo hi, Read) (Bytes target to end, Write)
-two_accesses source lo hi target to end = by_before (run_before cell_sort (Bytes source lo hi) (Bytes target to end))
-  where
-    by_before : (b : Bool) → put_at (λ row. put cell_sort same_kind row []) (Bytes source lo hi, Read) (Bytes target to end, Write) [] b None ≡ in_order b (Bytes source lo hi, Read) (Bytes target to end, Write)
-    by_before true = refl
-    by_before false = refl
-
-copy_is : (place : StepPlace) (source source_offset target target_offset size : ℕ) → copied place (run_before part_sort (BufferPart source) (BufferPart target)) (run_before cell_sort (Bytes source source_offset (source_offset + size)) (Bytes target target_offset (target_offset + size))) source source_offset (source_offset + size) target target_offset (target_offset + size) ≡ copy_buffer_step place source source_offset target target_offset size
-copy_is place source source_offset target target_offset size =
-    ap₂ (λ (uses : List (PartRun × Usages)) (accesses : List (Cells × Kind)). let step : Step = record { place = place; name = CopyBufferName; uses = uses; accesses = accesses } in step) (sym (two_uses source target)) (sym (two_accesses source source_offset (source_offset + size) target target_offset (target_offset + size)))
-
-copy_own : (place : StepPlace) (source source_offset target target_offset size : ℕ) → IsOwnStep (copy_buffer_step place source source_offset target target_offset size)
-copy_own place source source_offset target target_offset size =
-    subst (λ (s : Step). IsOwnStep s) (copy_is place source source_offset target target_offset size) (declared_from _ (copied_fair place (run_before part_sort (BufferPart source) (BufferPart target)) (run_before cell_sort (Bytes source source_offset (source_offset + size)) (Bytes target target_offset (target_offset + size))) source source_offset (source_offset + size) target target_offset (target_offset + size)), refl)
+textures_proper : (source : ℕ) (from_info : TextureInfo) (from : TextureSpot) (target : ℕ) (to_info : TextureInfo) (to : TextureSpot) (size : List ℕ) → AreProper (texture_to_texture_touches source from_info from target to_info to size)
+textures_proper source from_info from target to_info to size = joined_proper (copied_from source from_info from size) (copied_to target to_info to size) (copied_from_proper source from_info from size) (copied_to_proper target to_info to size)
 
 pub write_own : (place : StepPlace) (object offset size : ℕ) → IsOwnStep (write_buffer_step place object offset size)
-write_own place object offset size = (declared_from (write_buffer_step place object offset size) (written_fair place _ object offset (offset + size)), refl)
+write_own place object offset size = touching_own place name.WriteBuffer (range_touches object offset size) refl (range_proper object offset size)
 
-clear_own : (place : StepPlace) (object offset size : ℕ) → IsOwnStep (clear_buffer_step place object offset size)
-clear_own place object offset size = (declared_from (clear_buffer_step place object offset size) (written_fair place _ object offset (offset + size)), refl)
+write_texture_own : (place : StepPlace) (object : ℕ) (info : TextureInfo) (spot : TextureSpot) (size : List ℕ) → IsOwnStep (write_texture_step place object info spot size)
+write_texture_own place object info spot size = touching_own place name.WriteTexture (copied_to object info spot size) refl (copied_to_proper object info spot size)
+
+-- A step that may be left out.
+by_size : (b : Bool) (step s : Step) → IsOwnStep step → (if b then None else Some step) ≡ Some s → IsOwnStep s
+by_size true step s own e = absurd (cc)
+by_size false step s own e = subst (λ (x : Step). IsOwnStep x) (cc) own
 
 pub writes_are_declared : WritesAreDeclared
-writes_are_declared place (BufferWrite buffer offset size) s e = by_size (size == 0) e
-  where
-    by_size : (b : Bool) → (if b then None else Some (write_buffer_step place buffer.number offset size)) ≡ Some s → IsOwnStep s
-    by_size true e = absurd (cc)
-    by_size false e = subst (λ (x : Step). IsOwnStep x) (cc) (write_own place buffer.number offset size)
+writes_are_declared place (BufferWrite buffer offset size) s e = by_size (size == 0) (write_buffer_step place buffer.number offset size) s (write_own place buffer.number offset size) e
+writes_are_declared place (TextureWrite texture info spot layout size) s e = by_size (has_no_texel size) (write_texture_step place texture.number info spot size) s (write_texture_own place texture.number info spot size) e
 
 -- A step of a list of one step is that step.
 pub no_step : (s : Step) (k : ℕ) → ◌≡◌ {A = Option Step} (slice_get [] k) (Some s) → ⊥
@@ -144,14 +70,27 @@ pub only_step : (only s : Step) (k : ℕ) → slice_get (only ∷ []) k ≡ Some
 only_step only s zero e = cc
 only_step only s (suc k) e = absurd (cc)
 
-one_own : (b : Bool) (only : Step) (k : ℕ) (s : Step) → IsOwnStep only → slice_get (if b then [] else only ∷ []) k ≡ Some s → IsOwnStep s
+one_own : (b : Bool) (only : Step) (k : ℕ) (s : Step) → IsOwnStep only → slice_get (unless b only) k ≡ Some s → IsOwnStep s
 one_own true only k s own e = absurd (no_step s k e)
 one_own false only k s own e = subst (λ (x : Step). IsOwnStep x) (only_step only s k e) own
 
 encoder_own : (place : StepPlace) (command : Command) (k : ℕ) (s : Step) → slice_get (encoder_steps place command) k ≡ Some s → IsOwnStep s
 unfolding encoder_steps
-encoder_own place (CopyBufferToBuffer source source_offset target target_offset size) k s e = one_own (size == 0) _ k s (copy_own place source.reference.number source_offset target.reference.number target_offset size) e
-encoder_own place (ClearBuffer buffer offset size) k s e = one_own (size == 0) _ k s (clear_own place buffer.reference.number offset size) e
+encoder_own place (CopyBufferToBuffer source source_offset target target_offset size) k s e =
+    let touches : List Touch = buffer_to_buffer_touches source.reference.number source_offset target.reference.number target_offset size in
+    one_own (size == 0) (touching place name.CopyBufferToBuffer touches) k s (touching_own place name.CopyBufferToBuffer touches refl (buffers_proper source.reference.number source_offset target.reference.number target_offset size)) e
+encoder_own place (CopyBufferToTexture buffer layout texture spot size) k s e =
+    let touches : List Touch = buffer_to_texture_touches buffer.reference.number layout texture.reference.number (texture_of texture) spot size in
+    one_own (has_no_texel size) (touching place name.CopyBufferToTexture touches) k s (touching_own place name.CopyBufferToTexture touches refl (to_texture_proper buffer.reference.number layout texture.reference.number (texture_of texture) spot size)) e
+encoder_own place (CopyTextureToBuffer buffer layout texture spot size) k s e =
+    let touches : List Touch = texture_to_buffer_touches buffer.reference.number layout texture.reference.number (texture_of texture) spot size in
+    one_own (has_no_texel size) (touching place name.CopyTextureToBuffer touches) k s (touching_own place name.CopyTextureToBuffer touches refl (to_buffer_proper buffer.reference.number layout texture.reference.number (texture_of texture) spot size)) e
+encoder_own place (CopyTextureToTexture source source_mip source_origin target target_mip target_origin size) k s e =
+    let touches : List Touch = texture_to_texture_touches source.reference.number (texture_of source) (whole_spot source_mip source_origin) target.reference.number (texture_of target) (whole_spot target_mip target_origin) size in
+    one_own (has_no_texel size) (touching place name.CopyTextureToTexture touches) k s (touching_own place name.CopyTextureToTexture touches refl (textures_proper source.reference.number (texture_of source) (whole_spot source_mip source_origin) target.reference.number (texture_of target) (whole_spot target_mip target_origin) size)) e
+encoder_own place (ClearBuffer buffer offset size) k s e =
+    let touches : List Touch = range_touches buffer.reference.number offset size in
+    one_own (size == 0) (touching place name.ClearBuffer touches) k s (touching_own place name.ClearBuffer touches refl (range_proper buffer.reference.number offset size)) e
 encoder_own place _ k s e = absurd (no_step s k e)
 
 -- A pass makes no step yet.

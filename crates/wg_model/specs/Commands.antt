@@ -4,11 +4,15 @@ use Rattle.wg_types.specs.Handles.{HandleValue}
 use Rattle.wg_types.specs.declared.handles.ObjRef.{ObjRef}
 use Rattle.wg_types.specs.declared.handles.BufferInfo.{BufferInfo}
 use Rattle.wg_types.specs.declared.handles.Info.{Info}
-use Rattle.wg_types.specs.declared.handles.Info.TheVariants.{Buffer}
+use Rattle.wg_types.specs.declared.handles.Info.TheVariants.{Buffer, Texture}
+use Rattle.wg_types.specs.declared.formats.Format.TheVariants.{R8Unorm}
+use Rattle.wg_types.specs.declared.textures.TextureDim.TheVariants.{Two}
+use Rattle.wg_types.specs.declared.textures.TextureInfo.{TextureInfo}
 use Rattle.wg_types.specs.declared.commands.Command.{Command}
-use Rattle.wg_types.specs.declared.commands.Command.TheVariants.{CopyBufferToBuffer, ClearBuffer, PopDebugGroup}
+use Rattle.wg_types.specs.declared.commands.Command.TheVariants.{CopyBufferToBuffer, CopyBufferToTexture, CopyTextureToBuffer, CopyTextureToTexture, ClearBuffer, PopDebugGroup}
 use Rattle.wg_model.specs.Rules.{Rule}
 use Rattle.wg_model.specs.Buffers.{copy_src, copy_dst, has_usage}
+use Rattle.wg_model.specs.TexelCopies.{buffer_to_texture_rules, texture_to_buffer_rules, texture_to_texture_rules, whole_spot}
 
 abbrev pub is_buffer : Info → Bool
 is_buffer (Buffer info) = true
@@ -26,6 +30,22 @@ buffer_or_none _ = no_buffer
 abbrev pub buffer_of : HandleValue → BufferInfo
 buffer_of handle = buffer_or_none handle.info
 
+abbrev pub is_texture : Info → Bool
+is_texture (Texture info) = true
+is_texture _ = false
+
+-- likewise for what is known of a texture
+abbrev pub no_texture : TextureInfo
+no_texture = record { size = 0 ∷ (0 ∷ (0 ∷ [])); usage = 0; format = R8Unorm; dim = Two; mips = 0; samples = 0 }
+
+abbrev pub texture_or_none : Info → TextureInfo
+texture_or_none (Texture info) = info
+texture_or_none _ = no_texture
+
+-- what a handle of a texture knows of it
+abbrev pub texture_of : HandleValue → TextureInfo
+texture_of handle = texture_or_none handle.info
+
 -- An object that a command names, with the kind that it has to be of.
 abbrev pub Named : Type 0
 Named = HandleValue × (Info → Bool)
@@ -33,11 +53,14 @@ Named = HandleValue × (Info → Bool)
 -- the objects that a command names, in the order of its keys
 abbrev pub named : Command → List Named
 named (CopyBufferToBuffer source source_offset target target_offset size) = (source, is_buffer) ∷ ((target, is_buffer) ∷ [])
+named (CopyBufferToTexture buffer layout texture spot size) = (buffer, is_buffer) ∷ ((texture, is_texture) ∷ [])
+named (CopyTextureToBuffer buffer layout texture spot size) = (buffer, is_buffer) ∷ ((texture, is_texture) ∷ [])
+named (CopyTextureToTexture source source_mip source_origin target target_mip target_origin size) = (source, is_texture) ∷ ((target, is_texture) ∷ [])
 named (ClearBuffer buffer offset size) = (buffer, is_buffer) ∷ []
 named _ = []
 
--- The rules that go before the others of a command, of one object after another (WebGPU, "Device Timeline" and "Object
--- validity"): 10 it is of the recorder's device and of the kind that is asked for, as far as its handle tells; 12 it is
+-- The rules that go before the others of a command, of one object after another (WebGPU, "Device Timeline" and "Invalid
+-- Internal Objects & Contagious Invalidity"): 10 it is of the recorder's device and of the kind that is asked for, as far as its handle tells; 12 it is
 -- valid.
 abbrev pub common_rules : ℕ → List Named → List Rule
 common_rules device [] = []
@@ -72,6 +95,9 @@ clear_buffer_rules buffer offset size =
 -- a command's own rules, but for those that look at the commands before it
 abbrev pub own_rules : Command → List Rule
 own_rules (CopyBufferToBuffer source source_offset target target_offset size) = copy_buffer_rules source source_offset target target_offset size
+own_rules (CopyBufferToTexture buffer layout texture spot size) = buffer_to_texture_rules (buffer_of buffer) layout (texture_of texture) spot size
+own_rules (CopyTextureToBuffer buffer layout texture spot size) = texture_to_buffer_rules (buffer_of buffer) layout (texture_of texture) spot size
+own_rules (CopyTextureToTexture source source_mip source_origin target target_mip target_origin size) = texture_to_texture_rules (same_object source.reference target.reference) (texture_of source) (whole_spot source_mip source_origin) (texture_of target) (whole_spot target_mip target_origin) size
 own_rules (ClearBuffer buffer offset size) = clear_buffer_rules buffer offset size
 own_rules _ = []
 

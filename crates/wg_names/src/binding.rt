@@ -5,7 +5,7 @@ ghost use Rattle.std.specs.List.{list_all};
 ghost use Rattle.wg_script.specs.Outcome.{Reads};
 ghost use Rattle.wg_names.specs.Names.{is_name, is_name_byte};
 ghost use Rattle.wg_names.specs.Known.{names_in};
-ghost use Rattle.wg_names.specs.Uses.{all_wanted, uses_of, made_of};
+ghost use Rattle.wg_names.specs.Uses.{all_wanted, copy_uses_of, uses_of, made_of};
 ghost use Rattle.wg_names.specs.Script.{check_uses, call_bound, lane_bound, phase_bound, phases_bound, script_from, script_of, Binds, Finds};
 ghost use Rattle.wg_names.specs.Bound.{IsBound};
 
@@ -63,24 +63,11 @@ fn check_each(known: &Known<'_>, phase: u32, lane: u32, uses: &[(&Name, Wanted)]
     Ok(())
 }
 
-/// Tests the names that a call uses, in the order of its keys.
-fn check_uses(known: &Known<'_>, phase: u32, lane: u32, call: &Call) -> Result<(), u8>
-    ensures { result ≡ check_uses (names_in known.now) phase lane (uses_of call.now) }
+/// The three names that a copy uses, in the order of its keys; a call of another kind has none.
+fn check_copy_uses(known: &Known<'_>, phase: u32, lane: u32, call: &Call) -> Result<(), u8>
+    ensures { result ≡ check_uses (names_in known.now) phase lane (copy_uses_of call.now) }
 {
     match call {
-        Call::Finish { on, .. } | Call::PushDebugGroup { on } | Call::PopDebugGroup { on } => {
-            check_each(known, phase, lane, &[(on, Wanted::Encoder)])
-        }
-        Call::Submit { buffers } => {
-            let buffers = buffers.as_slice();
-            check_all(known, phase, lane, buffers, Wanted::CommandBuffer)
-        }
-        Call::WriteBuffer { buffer, .. } => {
-            check_each(known, phase, lane, &[(buffer, Wanted::Buffer)])
-        }
-        Call::Destroy { object } => {
-            check_each(known, phase, lane, &[(object, Wanted::Destroyable)])
-        }
         Call::CopyBufferToBuffer {
             on,
             source,
@@ -94,11 +81,68 @@ fn check_uses(known: &Known<'_>, phase: u32, lane: u32, call: &Call) -> Result<(
             ];
             check_each(known, phase, lane, &uses)
         }
+        Call::CopyBufferToTexture {
+            on,
+            buffer,
+            texture,
+            ..
+        }
+        | Call::CopyTextureToBuffer {
+            on,
+            buffer,
+            texture,
+            ..
+        } => {
+            let uses = [
+                (on, Wanted::Encoder),
+                (buffer, Wanted::Buffer),
+                (texture, Wanted::Texture),
+            ];
+            check_each(known, phase, lane, &uses)
+        }
+        Call::CopyTextureToTexture {
+            on,
+            source,
+            target,
+            ..
+        } => {
+            let uses = [
+                (on, Wanted::Encoder),
+                (source, Wanted::Texture),
+                (target, Wanted::Texture),
+            ];
+            check_each(known, phase, lane, &uses)
+        }
+        _ => Ok(()),
+    }
+}
+
+/// Tests the names that a call uses, in the order of its keys.
+fn check_uses(known: &Known<'_>, phase: u32, lane: u32, call: &Call) -> Result<(), u8>
+    ensures { result ≡ check_uses (names_in known.now) phase lane (uses_of call.now) }
+{
+    match call {
+        Call::Finish { on, .. } | Call::PushDebugGroup { on } | Call::PopDebugGroup { on } => {
+            check_each(known, phase, lane, &[(on, Wanted::Encoder)])
+        }
+        Call::Submit { buffers } => {
+            let buffers = buffers.as_slice();
+            check_all(known, phase, lane, buffers, Wanted::CommandBuffer)
+        }
+        Call::CreateView { texture, .. } | Call::WriteTexture { texture, .. } => {
+            check_each(known, phase, lane, &[(texture, Wanted::Texture)])
+        }
+        Call::WriteBuffer { buffer, .. } => {
+            check_each(known, phase, lane, &[(buffer, Wanted::Buffer)])
+        }
+        Call::Destroy { object } => {
+            check_each(known, phase, lane, &[(object, Wanted::Destroyable)])
+        }
         Call::ClearBuffer { on, buffer, .. } => {
             let uses = [(on, Wanted::Encoder), (buffer, Wanted::Buffer)];
             check_each(known, phase, lane, &uses)
         }
-        Call::CreateBuffer { .. } | Call::CreateEncoder { .. } | Call::Complete { .. } => Ok(()),
+        _ => check_copy_uses(known, phase, lane, call),
     }
 }
 
@@ -108,13 +152,19 @@ fn made_of(call: &Call) -> Option<(&Name, NameKind)>
 {
     match call {
         Call::CreateBuffer { made, .. } => Some((made, NameKind::Buffer)),
+        Call::CreateTexture { made, .. } => Some((made, NameKind::Texture)),
+        Call::CreateView { made, .. } => Some((made, NameKind::View)),
         Call::CreateEncoder { made } => Some((made, NameKind::Encoder)),
         Call::Finish { made, .. } => Some((made, NameKind::CommandBuffer)),
         Call::Submit { .. }
         | Call::WriteBuffer { .. }
+        | Call::WriteTexture { .. }
         | Call::Destroy { .. }
         | Call::Complete { .. }
         | Call::CopyBufferToBuffer { .. }
+        | Call::CopyBufferToTexture { .. }
+        | Call::CopyTextureToBuffer { .. }
+        | Call::CopyTextureToTexture { .. }
         | Call::ClearBuffer { .. }
         | Call::PushDebugGroup { .. }
         | Call::PopDebugGroup { .. } => None,

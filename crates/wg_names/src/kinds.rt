@@ -6,15 +6,18 @@ ghost use Rattle.wg_names.specs.Uses.{admits};
 #[derive(Clone, Copy, Debug, PartialEq, Eq)]
 pub enum NameKind {
     Buffer,
+    Texture,
+    View,
     Encoder,
     CommandBuffer,
 }
 
-/// What the key of a call asks of the name that it holds: that it stands for a buffer, for something
-/// that can be destroyed, for an encoder, or for a command buffer.
+/// What the key of a call asks of the name that it holds: that it stands for a buffer, for a texture,
+/// for something that can be destroyed, for an encoder, or for a command buffer.
 #[derive(Clone, Copy, Debug, PartialEq, Eq)]
 pub enum Wanted {
     Buffer,
+    Texture,
     Destroyable,
     Encoder,
     CommandBuffer,
@@ -27,7 +30,9 @@ impl Wanted {
     {
         match (self, kind) {
             (Wanted::Buffer, NameKind::Buffer) => true,
+            (Wanted::Texture, NameKind::Texture) => true,
             (Wanted::Destroyable, NameKind::Buffer) => true,
+            (Wanted::Destroyable, NameKind::Texture) => true,
             (Wanted::Encoder, NameKind::Encoder) => true,
             (Wanted::CommandBuffer, NameKind::CommandBuffer) => true,
             _ => false,

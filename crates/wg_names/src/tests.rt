@@ -128,10 +128,12 @@ fn names_that_are_used(rt: HostRuntime) -> Result<(), Fail> {
     Ok(())
 }
 
+/// Five calls, which make a buffer b, an encoder e, a command buffer c, a texture t and a view v.
+const MADE: &str =
+    r#"{"do":"createBuffer","size":16,"usage":8,"as":"b"},{"do":"createEncoder","as":"e"},{"do":"finish","on":"e","as":"c"},{"do":"createTexture","size":[1,1,1],"usage":2,"format":"r8unorm","as":"t"},{"do":"createView","texture":"t","as":"v"}"#;
+
 #[test]
 fn kinds_of_names(rt: HostRuntime) -> Result<(), Fail> {
-    let made =
-        r#"{"do":"createBuffer","size":16,"usage":8,"as":"b"},{"do":"createEncoder","as":"e"},{"do":"finish","on":"e","as":"c"}"#;
     let rows = [
         (
             r#"{"do":"writeBuffer","buffer":"e","offset":0,"size":4}"#,
@@ -188,10 +190,11 @@ fn kinds_of_names(rt: HostRuntime) -> Result<(), Fail> {
         (r#"{"do":"createEncoder","as":"c"}"#, 9),
         (r#"{"do":"createEncoder","as":""}"#, 9),
         (r#"{"do":"createBuffer","size":16,"usage":8,"as":"e"}"#, 9),
+        (r#"{"do":"createBuffer","size":16,"usage":8,"as":"v"}"#, 9),
     ];
     for (call, rule) in rows {
-        let calls = format!(in rt.alloc(); "{made},{call}")?;
-        refuses(&rt, rt.alloc(), rule, 3, &[calls.as_str()])?;
+        let calls = format!(in rt.alloc(); "{MADE},{call}")?;
+        refuses(&rt, rt.alloc(), rule, 5, &[calls.as_str()])?;
     }
     let fine = [
         r#"{"do":"writeBuffer","buffer":"b","offset":0,"size":4},{"do":"destroy","object":"b"},{"do":"clearBuffer","on":"e","buffer":"b"}"#,
@@ -201,7 +204,173 @@ fn kinds_of_names(rt: HostRuntime) -> Result<(), Fail> {
         r#"{"do":"createEncoder","as":"f"},{"do":"finish","on":"f","as":"d"},{"do":"submit","buffers":["c","d"]}"#,
     ];
     for calls in fine {
-        let calls = format!(in rt.alloc(); "{made},{calls}")?;
+        let calls = format!(in rt.alloc(); "{MADE},{calls}")?;
+        takes(&rt, rt.alloc(), &[calls.as_str()])?;
+    }
+    Ok(())
+}
+
+/// A call with the size of a texture.
+fn sized(alloc: Global, keys: &str) -> Result<String, AllocError> {
+    format!(in alloc; "{{\"do\":{keys},\"size\":[1,1,1]}}")
+}
+
+#[test]
+fn kinds_of_names_of_textures(rt: HostRuntime) -> Result<(), Fail> {
+    let rows = [
+        (
+            r#""createTexture","usage":0,"format":"r8unorm","as":"t""#,
+            9,
+        ),
+        (
+            r#""createTexture","usage":0,"format":"r8unorm","as":"v""#,
+            9,
+        ),
+        (
+            r#""createTexture","usage":0,"format":"r8unorm","as":"a b""#,
+            9,
+        ),
+        (r#""writeTexture","texture":"b","dataSize":4"#, 11),
+        (r#""writeTexture","texture":"v","dataSize":4"#, 11),
+        (r#""writeTexture","texture":"c","dataSize":4"#, 11),
+        (r#""writeTexture","texture":"x","dataSize":4"#, 10),
+        (
+            r#""copyBufferToTexture","on":"x","buffer":"t","texture":"b""#,
+            10,
+        ),
+        (
+            r#""copyBufferToTexture","on":"t","buffer":"x","texture":"t""#,
+            11,
+        ),
+        (
+            r#""copyBufferToTexture","on":"e","buffer":"x","texture":"b""#,
+            10,
+        ),
+        (
+            r#""copyBufferToTexture","on":"e","buffer":"t","texture":"x""#,
+            11,
+        ),
+        (
+            r#""copyBufferToTexture","on":"e","buffer":"b","texture":"b""#,
+            11,
+        ),
+        (
+            r#""copyBufferToTexture","on":"e","buffer":"b","texture":"v""#,
+            11,
+        ),
+        (
+            r#""copyBufferToTexture","on":"e","buffer":"b","texture":"x""#,
+            10,
+        ),
+        (
+            r#""copyTextureToBuffer","on":"c","buffer":"x","texture":"t""#,
+            11,
+        ),
+        (
+            r#""copyTextureToBuffer","on":"x","buffer":"b","texture":"v""#,
+            10,
+        ),
+        (
+            r#""copyTextureToBuffer","on":"e","buffer":"v","texture":"x""#,
+            11,
+        ),
+        (
+            r#""copyTextureToBuffer","on":"e","buffer":"x","texture":"v""#,
+            10,
+        ),
+        (
+            r#""copyTextureToBuffer","on":"e","buffer":"b","texture":"b""#,
+            11,
+        ),
+        (
+            r#""copyTextureToBuffer","on":"e","buffer":"b","texture":"v""#,
+            11,
+        ),
+        (
+            r#""copyTextureToBuffer","on":"e","buffer":"b","texture":"x""#,
+            10,
+        ),
+        (
+            r#""copyTextureToTexture","on":"x","source":"b","target":"b""#,
+            10,
+        ),
+        (
+            r#""copyTextureToTexture","on":"v","source":"x","target":"t""#,
+            11,
+        ),
+        (
+            r#""copyTextureToTexture","on":"e","source":"b","target":"x""#,
+            11,
+        ),
+        (
+            r#""copyTextureToTexture","on":"e","source":"x","target":"b""#,
+            10,
+        ),
+        (
+            r#""copyTextureToTexture","on":"e","source":"v","target":"t""#,
+            11,
+        ),
+        (
+            r#""copyTextureToTexture","on":"e","source":"t","target":"v""#,
+            11,
+        ),
+        (
+            r#""copyTextureToTexture","on":"e","source":"t","target":"b""#,
+            11,
+        ),
+        (
+            r#""copyTextureToTexture","on":"e","source":"t","target":"x""#,
+            10,
+        ),
+    ];
+    for (keys, rule) in rows {
+        let call = sized(rt.alloc(), keys)?;
+        let calls = format!(in rt.alloc(); "{MADE},{call}")?;
+        refuses(&rt, rt.alloc(), rule, 5, &[calls.as_str()])?;
+    }
+    let rows = [
+        (r#"{"do":"createView","texture":"b","as":"w"}"#, 11),
+        (r#"{"do":"createView","texture":"v","as":"w"}"#, 11),
+        (r#"{"do":"createView","texture":"x","as":"v"}"#, 10),
+        (r#"{"do":"createView","texture":"w","as":"w"}"#, 10),
+        (r#"{"do":"createView","texture":"t","as":"v"}"#, 9),
+        (r#"{"do":"createView","texture":"t","as":"t"}"#, 9),
+        (r#"{"do":"createView","texture":"t","as":""}"#, 9),
+        (r#"{"do":"destroy","object":"v"}"#, 11),
+        (
+            r#"{"do":"writeBuffer","buffer":"t","offset":0,"size":4}"#,
+            11,
+        ),
+        (
+            r#"{"do":"writeBuffer","buffer":"v","offset":0,"size":4}"#,
+            11,
+        ),
+        (r#"{"do":"finish","on":"t","as":"d"}"#, 11),
+        (r#"{"do":"finish","on":"v","as":"d"}"#, 11),
+        (r#"{"do":"submit","buffers":["c","t"]}"#, 11),
+        (r#"{"do":"submit","buffers":["v"]}"#, 11),
+        (r#"{"do":"clearBuffer","on":"e","buffer":"t"}"#, 11),
+    ];
+    for (call, rule) in rows {
+        let calls = format!(in rt.alloc(); "{MADE},{call}")?;
+        refuses(&rt, rt.alloc(), rule, 5, &[calls.as_str()])?;
+    }
+    let fine = [
+        r#""createTexture","usage":0,"format":"stencil8","as":"u""#,
+        r#""writeTexture","texture":"t","dataSize":4"#,
+        r#""copyBufferToTexture","on":"e","buffer":"b","texture":"t""#,
+        r#""copyTextureToBuffer","on":"e","buffer":"b","texture":"t""#,
+        r#""copyTextureToTexture","on":"e","source":"t","target":"t""#,
+    ];
+    for keys in fine {
+        let call = sized(rt.alloc(), keys)?;
+        let calls = format!(in rt.alloc();
+            "{MADE},{call},{{\"do\":\"createView\",\"texture\":\"t\",\"as\":\"w\"}}"
+        )?;
+        takes(&rt, rt.alloc(), &[calls.as_str()])?;
+        let calls = format!(in rt.alloc();
+            "{MADE},{{\"do\":\"destroy\",\"object\":\"t\"}},{call}"
+        )?;
         takes(&rt, rt.alloc(), &[calls.as_str()])?;
     }
     Ok(())

@@ -2,7 +2,7 @@
 use Rattle.std.specs.Prelude.{ℕ, List, [], ◌++◌, Bool, true, false, codes, decimal, Option, Some, None}
 use Rattle.std.specs.List.{flat_map}
 use Rattle.wg_types.specs.declared.replies.Verb.{Verb}
-use Rattle.wg_types.specs.declared.replies.Verb.TheVariants.{CreateBuffer, CreateEncoder, Finish, Late, Submit, WriteBuffer, Destroy, Complete}
+use Rattle.wg_types.specs.declared.replies.Verb.TheVariants.{CreateBuffer, CreateTexture, CreateView, CreateEncoder, Finish, Late, Submit, WriteBuffer, WriteTexture, Destroy, Complete}
 use Rattle.wg_types.specs.declared.replies.FaultKind.{FaultKind}
 use Rattle.wg_types.specs.declared.replies.FaultKind.TheVariants.{Validation, OutOfMemory}
 use Rattle.wg_types.specs.declared.replies.Caught.{Caught}
@@ -18,11 +18,14 @@ use Rattle.wg_types.specs.declared.replies.Reply.{Reply}
 -- the script's word for the event
 abbrev pub verb_text : Verb → List ℕ
 verb_text CreateBuffer = codes "createBuffer"
+verb_text CreateTexture = codes "createTexture"
+verb_text CreateView = codes "createView"
 verb_text CreateEncoder = codes "createEncoder"
 verb_text Finish = codes "finish"
 verb_text Late = codes "late"
 verb_text Submit = codes "submit"
 verb_text WriteBuffer = codes "writeBuffer"
+verb_text WriteTexture = codes "writeTexture"
 verb_text Destroy = codes "destroy"
 verb_text Complete = codes "complete"
 

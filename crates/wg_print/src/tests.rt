@@ -100,6 +100,33 @@ fn entries_are_printed(rt: HostRuntime) -> Result<(), Fail> {
             "0 0 createBuffer made 0 valid\n",
         ),
         (
+            1,
+            0,
+            Verb::CreateTexture,
+            made(1, true),
+            None,
+            None,
+            "1 0 createTexture made 1 valid\n",
+        ),
+        (
+            2,
+            0,
+            Verb::CreateView,
+            made(2, false),
+            fault(validation, 120, Caught::Uncaptured),
+            None,
+            "2 0 createView made 2 invalid fault validation 120 uncaptured\n",
+        ),
+        (
+            6,
+            0,
+            Verb::WriteTexture,
+            Answer::Queued(3),
+            None,
+            None,
+            "6 0 writeTexture op 3\n",
+        ),
+        (
             3,
             0,
             Verb::CreateEncoder,
@@ -294,6 +321,20 @@ fn barriers_and_releases_are_printed(rt: HostRuntime) -> Result<(), Fail> {
                 to: Usages::CONSTANT,
             },
             "bar t 2 depth 0 0 1 attachment constant\n",
+        ),
+        (
+            Item::Bar {
+                part: PartRun::Texture {
+                    object: 7,
+                    aspect: Aspect::Stencil,
+                    mip: 1,
+                    lo: 2,
+                    hi: 5,
+                },
+                from: None,
+                to: copied,
+            },
+            "bar t 7 stencil 1 2 5 none copy-dst\n",
         ),
         (
             Item::Bar {

@@ -12,11 +12,14 @@ pub fn verb_word(verb: Verb) -> &'static str
 {
     match verb {
         Verb::CreateBuffer => "createBuffer",
+        Verb::CreateTexture => "createTexture",
+        Verb::CreateView => "createView",
         Verb::CreateEncoder => "createEncoder",
         Verb::Finish => "finish",
         Verb::Late => "late",
         Verb::Submit => "submit",
         Verb::WriteBuffer => "writeBuffer",
+        Verb::WriteTexture => "writeTexture",
         Verb::Destroy => "destroy",
         Verb::Complete => "complete",
     }

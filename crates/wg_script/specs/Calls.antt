@@ -1,11 +1,13 @@
 -- Which call an object is, or the first script rule that it breaks: for each call that is built, its
--- keys, and what each holds, in the order in which they are tested.
+-- keys, and what each holds, in the order in which they are tested. Calls on textures have definitions
+-- of their own.
 use Rattle.std.specs.Prelude.{ℕ, List, [], ◌∷◌, Bool, false, if◌then◌else◌, codes, Option, Some, None, option_and_then, Result, Ok, Err}
 use Rattle.serde_json.specs.Data.{Data}
 use Rattle.serde_json.specs.Find.{get, as_str}
 use Rattle.wg_script.specs.Giving.{◌>>=◌}
 use Rattle.wg_script.specs.Values.{check_keys, whole_at, whole_or, whole_if, most_whole, most_short, flag_or, name_at, check_not_true}
 use Rattle.wg_script.specs.Lists.{names_at}
+use Rattle.wg_script.specs.TextureCalls.{create_texture_of, create_view_of, write_texture_of, copy_buffer_to_texture_of, copy_texture_to_buffer_of, copy_texture_to_texture_of}
 use Rattle.wg_script.specs.Words.{word_of, is_known}
 use Rattle.wg_script.specs.declared.words.Word.{Word}
 use Rattle.wg_script.specs.declared.words.Word.TheVariants as word
@@ -110,13 +112,19 @@ pop_debug_group_of d = do
 
 abbrev pub call_as : Word → Data → Result Call ℕ
 call_as word.CreateBuffer d = create_buffer_of d
+call_as word.CreateTexture d = create_texture_of d
+call_as word.CreateView d = create_view_of d
 call_as word.CreateEncoder d = create_encoder_of d
 call_as word.Finish d = finish_of d
 call_as word.Submit d = submit_of d
 call_as word.WriteBuffer d = write_buffer_of d
+call_as word.WriteTexture d = write_texture_of d
 call_as word.Destroy d = destroy_of d
 call_as word.Complete d = complete_of d
 call_as word.CopyBufferToBuffer d = copy_buffer_to_buffer_of d
+call_as word.CopyBufferToTexture d = copy_buffer_to_texture_of d
+call_as word.CopyTextureToBuffer d = copy_texture_to_buffer_of d
+call_as word.CopyTextureToTexture d = copy_texture_to_texture_of d
 call_as word.ClearBuffer d = clear_buffer_of d
 call_as word.PushDebugGroup d = push_debug_group_of d
 call_as word.PopDebugGroup d = pop_debug_group_of d

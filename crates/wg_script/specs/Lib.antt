@@ -2,6 +2,8 @@ pub mod Giving
 pub mod Values
 pub mod Lists
 pub mod Words
+pub mod TextureWords
+pub mod TextureCalls
 pub mod Calls
 pub mod Draft
 pub mod Outcome

@@ -1,4 +1,5 @@
-//! Reads a call: a function for each call that is built, with its keys in its first line.
+//! Reads a call: a function for each call that is built, with its keys in its first line. Those of
+//! calls on textures stand in a file of their own.
 ghost use Rattle.std.specs.Prelude.{◌≡◌};
 ghost use Rattle.serde_json.specs.View.{view};
 ghost use Rattle.wg_script.specs.Giving.{Gives};
@@ -6,15 +7,17 @@ ghost use Rattle.wg_script.specs.Calls.{call_of, create_buffer_of, create_encode
 
 use crate::calls::Call;
 use crate::lists::names_at;
+use crate::texture_calls::{
+    copy_buffer_to_texture, copy_texture_to_buffer, copy_texture_to_texture, create_texture,
+    create_view, write_texture,
+};
 use crate::values::{
-    Refusal, check_keys, check_not_true, flag_or, name_at, short_at, whole_at, whole_if, whole_or,
+    MOST_WHOLE, Refusal, check_keys, check_not_true, flag_or, name_at, short_at, whole_at,
+    whole_if, whole_or,
 };
 use crate::words::{Word, is_known, word_of};
 use serde_json::Value;
 use std::alloc::Global;
-
-/// The greatest whole number of a script.
-pub const MOST_WHOLE: u64 = (1 << 53) - 1;
 
 #[tactic(auto, unfolding(crate::specs::Calls::create_buffer_of))]
 fn create_buffer(alloc: Global, call: &Value) -> Result<Call, Refusal>
@@ -170,13 +173,19 @@ pub fn call_of(alloc: Global, call: &Value) -> Result<Call, Refusal>
     match call.get("do").and_then(Value::as_str) {
         Some(text) => match word_of(text) {
             Some(Word::CreateBuffer) => create_buffer(alloc, call),
+            Some(Word::CreateTexture) => create_texture(alloc, call),
+            Some(Word::CreateView) => create_view(alloc, call),
             Some(Word::CreateEncoder) => create_encoder(alloc, call),
             Some(Word::Finish) => finish(alloc, call),
             Some(Word::Submit) => submit(alloc, call),
             Some(Word::WriteBuffer) => write_buffer(alloc, call),
+            Some(Word::WriteTexture) => write_texture(alloc, call),
             Some(Word::Destroy) => destroy(alloc, call),
             Some(Word::Complete) => complete(call),
             Some(Word::CopyBufferToBuffer) => copy_buffer_to_buffer(alloc, call),
+            Some(Word::CopyBufferToTexture) => copy_buffer_to_texture(alloc, call),
+            Some(Word::CopyTextureToBuffer) => copy_texture_to_buffer(alloc, call),
+            Some(Word::CopyTextureToTexture) => copy_texture_to_texture(alloc, call),
             Some(Word::ClearBuffer) => clear_buffer(alloc, call),
             Some(Word::PushDebugGroup) => push_debug_group(alloc, call),
             Some(Word::PopDebugGroup) => pop_debug_group(alloc, call),

@@ -7,6 +7,8 @@ mod draft;
 mod lists;
 mod name;
 mod reading;
+mod texture_calls;
+mod texture_words;
 mod values;
 mod words;
 

@@ -1,3 +1,5 @@
+mod textures;
+
 use crate::{Call, Place, ScriptFault, read};
 use std::alloc::{AllocError, Global};
 use std::process::Abort;
@@ -211,8 +213,6 @@ fn words(rt: HostRuntime) -> Result<(), Fail> {
     ];
     refuses_calls(&rt, rt.alloc(), 6, &unknown)?;
     let later = [
-        "createTexture",
-        "createView",
         "createSampler",
         "createBindGroupLayout",
         "createPipelineLayout",
@@ -222,7 +222,6 @@ fn words(rt: HostRuntime) -> Result<(), Fail> {
         "createQuerySet",
         "createBundleEncoder",
         "finishBundle",
-        "writeTexture",
         "mapAsync",
         "unmap",
         "drop",
@@ -232,9 +231,6 @@ fn words(rt: HostRuntime) -> Result<(), Fail> {
         "lose",
         "beginComputePass",
         "beginRenderPass",
-        "copyBufferToTexture",
-        "copyTextureToBuffer",
-        "copyTextureToTexture",
         "resolveQuerySet",
         "end",
         "setPipeline",

@@ -25,9 +25,9 @@ pub answered_is : (setup : Setup) (names new_names : List Named) (objects new_ob
     → ◌≡◌ {A = Played} (record { names = new_names; objects = new_objects; past = reverse new_history }) (answered setup (record { names = names; objects = objects; past = reverse history }) call event)
 answered_is setup names new_names objects new_objects history new_history call event reply serial replied grown noted =
     noted (reverse new_history)
-    ∙ (ap (λ (past : Past). made 1 (state past) (made_by call) reply.answer) (ap reverse grown ∙ reverse-append history (entry_of reply ∷ []))
-    ∙ (ap (λ (r : Reply). made 1 (state (entry_of r ∷ reverse history)) (made_by call) r.answer) replied
-    ∙ ap (λ (n : ℕ). made n (state (entry_of (reply_to setup (reverse history) event) ∷ reverse history)) (made_by call) (reply_to setup (reverse history) event).answer) (sym serial)))
+    ∙ (ap (λ (past : Past). made 1 (state past) (made_by 1 names objects call) reply.answer) (ap reverse grown ∙ reverse-append history (entry_of reply ∷ []))
+    ∙ (ap (λ (r : Reply). made 1 (state (entry_of r ∷ reverse history)) (made_by 1 names objects call) r.answer) replied
+    ∙ ap (λ (n : ℕ). made n (state (entry_of (reply_to setup (reverse history) event) ∷ reverse history)) (made_by n names objects call) (reply_to setup (reverse history) event).answer) (sym serial)))
   where
     entry_of : Reply → Entry
     entry_of r = record { who = 0; event = event; reply = r }

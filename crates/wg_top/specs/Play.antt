@@ -4,6 +4,7 @@ use Rattle.wg_types.specs.declared.handles.Info.{Info}
 use Rattle.wg_types.specs.declared.commands.Command.{Command}
 use Rattle.wg_types.specs.declared.replies.Answer.{Answer}
 use Rattle.wg_types.specs.declared.replies.Answer.TheVariants.{Made}
+use Rattle.wg_model.specs.Limits.{default_limits}
 use Rattle.wg_history.specs.declared.events.Setup.{Setup}
 use Rattle.wg_history.specs.declared.events.Event.{Event}
 use Rattle.wg_history.specs.declared.events.Event.TheVariants.{Late}
@@ -41,13 +42,13 @@ made serial state _ _ = state
 
 -- The names and the objects are those that a call has made, of a device with the serial 1.
 abbrev pub IsMade : List Named → List Object → Call → Answer → List Named → List Object → Type 0
-IsMade names objects call answer new_names new_objects = (past : Past) → ◌≡◌ {A = Played} (record { names = new_names; objects = new_objects; past = past }) (made 1 (record { names = names; objects = objects; past = past }) (made_by call) answer)
+IsMade names objects call answer new_names new_objects = (past : Past) → ◌≡◌ {A = Played} (record { names = new_names; objects = new_objects; past = past }) (made 1 (record { names = names; objects = objects; past = past }) (made_by 1 names objects call) answer)
 
 -- An event gets the one reply; its caller is the lane's index.
 abbrev pub answered : Setup → Played → Call → Event → Played
 answered setup state call event =
     let reply = reply_to setup state.past event in
-    made setup.serial (record state { past = (record { who = 0; event = event; reply = reply }) ∷ state.past }) (made_by call) reply.answer
+    made setup.serial (record state { past = (record { who = 0; event = event; reply = reply }) ∷ state.past }) (made_by setup.serial state.names state.objects call) reply.answer
 
 -- the objects once an event has taken what it carries: a finish the commands of its encoder
 abbrev pub objects_taken : List Named → List Object → Call → List Object
@@ -75,9 +76,9 @@ phase_played setup state lanes = fold (lane_played setup) state lanes
 abbrev pub phases_played : Setup → List (List (List Call)) → Played
 phases_played setup phases = fold (phase_played setup) start phases
 
--- The device has the serial 1 and the script's budget.
+-- The device has the serial 1, the script's budget and the limits of every device.
 abbrev pub setup_of : Script → Setup
-setup_of script = record { serial = 1; budget = script.budget }
+setup_of script = record { serial = 1; budget = script.budget; limits = default_limits }
 
 abbrev pub history_of : Script → List Entry
 history_of script = reverse (phases_played (setup_of script) script.phases).past

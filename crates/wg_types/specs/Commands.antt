@@ -1,7 +1,7 @@
 -- Where commands may stand, and which begin and end a pass.
 use Rattle.std.specs.Prelude.{Bool, true, false}
 use Rattle.wg_types.specs.declared.commands.Command.{Command}
-use Rattle.wg_types.specs.declared.commands.Command.TheVariants.{BeginComputePass, CopyBufferToBuffer, ClearBuffer, PushDebugGroup, PopDebugGroup, End}
+use Rattle.wg_types.specs.declared.commands.Command.TheVariants.{BeginComputePass, CopyBufferToBuffer, CopyBufferToTexture, CopyTextureToBuffer, CopyTextureToTexture, ClearBuffer, PushDebugGroup, PopDebugGroup, End}
 use Rattle.wg_types.specs.declared.commands.CommandPlace.{CommandPlace}
 use Rattle.wg_types.specs.declared.commands.CommandPlace.TheVariants.{Encoder, ComputePass, RenderPass}
 
@@ -18,6 +18,9 @@ is_pass _ = false
 abbrev pub fits : Command → CommandPlace → Bool
 fits BeginComputePass place = is_encoder place
 fits (CopyBufferToBuffer source source_offset target target_offset size) place = is_encoder place
+fits (CopyBufferToTexture buffer layout texture spot size) place = is_encoder place
+fits (CopyTextureToBuffer buffer layout texture spot size) place = is_encoder place
+fits (CopyTextureToTexture source source_mip source_origin target target_mip target_origin size) place = is_encoder place
 fits (ClearBuffer buffer offset size) place = is_encoder place
 fits PushDebugGroup place = true
 fits PopDebugGroup place = true

@@ -3,6 +3,7 @@ ghost use Rattle.std.specs.Prelude.{◌≡◌};
 ghost use Rattle.wg_types.specs.Commands.{fits, is_begin, is_end};
 
 use crate::handles::Handle;
+use crate::textures::{DataLayout, TextureSpot};
 
 /// What a command stands on: the encoder itself, or the pass with this number. Passes are numbered
 /// from 0 by the commands that begin them.
@@ -22,8 +23,9 @@ pub enum CommandPlace {
     Bundle,
 }
 
-/// One command, with the objects that it names as its caller holds them. Offsets and sizes are in
-/// bytes (WebGPU, "Command Encoding").
+/// One command, with the objects that it names as its caller holds them. Offsets and sizes of buffers
+/// are in bytes, origins and sizes of textures in texels (WebGPU, "Command Encoding"). A copy from
+/// texture to texture copies all aspects.
 #[derive(Drop)]
 pub enum Command {
     BeginComputePass,
@@ -33,6 +35,29 @@ pub enum Command {
         target: Handle,
         target_offset: u64,
         size: u64,
+    },
+    CopyBufferToTexture {
+        buffer: Handle,
+        layout: DataLayout,
+        texture: Handle,
+        spot: TextureSpot,
+        size: [u32; 3],
+    },
+    CopyTextureToBuffer {
+        buffer: Handle,
+        layout: DataLayout,
+        texture: Handle,
+        spot: TextureSpot,
+        size: [u32; 3],
+    },
+    CopyTextureToTexture {
+        source: Handle,
+        source_mip: u32,
+        source_origin: [u32; 3],
+        target: Handle,
+        target_mip: u32,
+        target_origin: [u32; 3],
+        size: [u32; 3],
     },
     ClearBuffer {
         buffer: Handle,

@@ -3,6 +3,7 @@ ghost use Rattle.std.specs.Prelude.{◌≡◌, IfOk};
 ghost use Rattle.std.specs.Arc.{arc_value};
 
 use crate::NoMemory;
+use crate::textures::{TextureInfo, ViewInfo};
 use std::marker::Model;
 use std::sync::Arc;
 
@@ -26,6 +27,8 @@ pub struct BufferInfo {
 #[derive(Clone, Drop)]
 pub enum Info {
     Buffer(BufferInfo),
+    Texture(TextureInfo),
+    View(ViewInfo),
     Encoder,
     CommandBuffer,
 }

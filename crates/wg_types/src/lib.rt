@@ -2,12 +2,15 @@
 #![tactic(auto)]
 
 pub mod commands;
+pub mod formats;
 pub mod handles;
 pub mod items;
+pub mod limits;
 pub mod parts;
 pub mod replies;
 pub mod same;
 pub mod steps;
+pub mod textures;
 pub mod usages;
 
 pub use wg_entry::NoMemory;

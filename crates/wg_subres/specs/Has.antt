@@ -1,0 +1,67 @@
+-- Which subresources a view and a copy have, told one by one, and that their runs have just these.
+use Rattle.std.specs.Prelude.{◌≡◌, ℕ, ◌+◌, ◌==◌, nat_lt, Bool, false, ◌&&◌, List, map}
+use Rattle.std.specs.List.{list_any}
+use Rattle.wg_types.specs.declared.textures.TextureInfo.{TextureInfo}
+use Rattle.wg_types.specs.declared.textures.TextureSpot.{TextureSpot}
+use Rattle.wg_types.specs.declared.textures.ViewInfo.{ViewInfo}
+use Rattle.wg_types.specs.Formats.{row}
+use Rattle.wg_orders.specs.Rows.{in_range, Apart}
+use Rattle.wg_orders.specs.Steps.{Aspect, aspect_number, Part, Subresource, PartRun, covers_part, part_sort, Usages, printed_uses, Cells, cell_sort, Kind, printed_accesses}
+use Rattle.wg_model.specs.Formats.{named_aspects}
+use Rattle.wg_model.specs.Textures.{layer_count}
+use Rattle.wg_model.specs.Subresources.{view_runs, first_layer, end_layer, copied_cells, copy_runs}
+
+-- whether an aspect is one of these
+abbrev pub is_among : Aspect → List Aspect → Bool
+is_among aspect aspects = list_any (λ other. aspect_number other == aspect_number aspect) aspects
+
+-- Whether a view has a part: a subresource of its texture, of an aspect that it names, with mip level and layer in its
+-- ranges and in the texture.
+abbrev pub view_has : ViewInfo → Part → Bool
+view_has view (Subresource object aspect mip layer) =
+    view.texture.number == object
+    && (is_among aspect (named_aspects view.aspect (row view.texture_info.format).aspects)
+    && ((in_range view.base_mip (view.base_mip + view.mips) mip && nat_lt mip view.texture_info.mips)
+    && (in_range view.base_layer (view.base_layer + view.layers) layer && nat_lt layer (layer_count view.texture_info))))
+view_has view _ = false
+
+-- Whether a copy has a part: a subresource of its texture, of an aspect that it names, at its mip level, with the layer in
+-- its range.
+abbrev pub copy_has : ℕ → TextureInfo → TextureSpot → List ℕ → Part → Bool
+copy_has texture info spot size (Subresource object aspect mip layer) =
+    texture == object
+    && (is_among aspect (named_aspects spot.aspect (row info.format).aspects)
+    && (spot.mip == mip
+    && in_range (first_layer info.dim spot.origin) (end_layer info.dim spot.origin size) layer))
+copy_has texture info spot size _ = false
+
+-- The runs of a view cover what it has,
+abbrev pub ViewsCover : Type 0
+ViewsCover = (view : ViewInfo) (part : Part) → list_any (λ run. covers_part run part) (view_runs view) ≡ view_has view part
+
+-- and so do those of a copy.
+abbrev pub CopiesCover : Type 0
+CopiesCover = (texture : ℕ) (info : TextureInfo) (spot : TextureSpot) (size : List ℕ) (part : Part) → list_any (λ run. covers_part run part) (copy_runs texture info spot size) ≡ copy_has texture info spot size part
+
+-- the runs, each used in this way
+abbrev pub all_used : Usages → List PartRun → List (PartRun × Usages)
+all_used usage runs = map (λ (run : PartRun). (run, usage)) runs
+
+-- Used in one way the runs of a view are in printed form,
+pub record ViewsPrinted : Type 0 where
+  pub apart : (view : ViewInfo) (usage : Usages) → Apart part_sort (all_used usage (view_runs view))
+  pub printed : (view : ViewInfo) (usage : Usages) → printed_uses (all_used usage (view_runs view)) ≡ all_used usage (view_runs view)
+
+-- and so are those of a copy.
+pub record CopiesPrinted : Type 0 where
+  pub apart : (texture : ℕ) (info : TextureInfo) (spot : TextureSpot) (size : List ℕ) (usage : Usages) → Apart part_sort (all_used usage (copy_runs texture info spot size))
+  pub printed : (texture : ℕ) (info : TextureInfo) (spot : TextureSpot) (size : List ℕ) (usage : Usages) → printed_uses (all_used usage (copy_runs texture info spot size)) ≡ all_used usage (copy_runs texture info spot size)
+
+-- the cells, each accessed in this way
+abbrev pub all_accessed : Kind → List Cells → List (Cells × Kind)
+all_accessed kind cells = map (λ (run : Cells). (run, kind)) cells
+
+-- Accessed in one way the cells of a copy are in printed form too.
+pub record CellsPrinted : Type 0 where
+  pub apart : (texture : ℕ) (info : TextureInfo) (spot : TextureSpot) (size : List ℕ) (kind : Kind) → Apart cell_sort (all_accessed kind (copied_cells texture info spot size))
+  pub printed : (texture : ℕ) (info : TextureInfo) (spot : TextureSpot) (size : List ℕ) (kind : Kind) → printed_accesses (all_accessed kind (copied_cells texture info spot size)) ≡ all_accessed kind (copied_cells texture info spot size)

@@ -1,0 +1,231 @@
+//! The subresources of views and of copies, in runs of layers.
+#![tactic(auto)]
+
+ghost use Rattle.std.specs.Prelude.{◌≡◌, ◌++◌, ◌+◌, min, map, [], IfOk, OnOk};
+ghost use Rattle.wg_types.specs.Formats.{row};
+ghost use Rattle.wg_orders.specs.Rows.{numbers};
+ghost use Rattle.wg_orders.specs.Laws.{run_part};
+ghost use Rattle.wg_model.specs.Formats.{named_aspects};
+ghost use Rattle.wg_model.specs.Subresources.{level_runs, aspect_runs, view_runs, end_layer, layer_cells, copied_cells, copy_runs};
+ghost use Rattle.wg_subres.specs.Has.{ViewsCover, CopiesCover, ViewsPrinted, CopiesPrinted, CellsPrinted};
+
+use std::alloc::Global;
+use wg_formats::{end_layer, first_layer, layer_count, named_aspects};
+use wg_types::NoMemory;
+use wg_types::items::Items;
+use wg_types::parts::{Aspect, Cells, PartRun};
+use wg_types::textures::{TextureDim, TextureInfo, TextureSpot, ViewInfo};
+
+/// Runs of parts, in printed order.
+pub type PartRuns = Items<PartRun>;
+
+/// The end of a range that does not pass a count.
+fn end_within(base: u32, count: u32, most: u32) -> u32
+    ensures { result ≡ min (base + count) most }
+{
+    match base.checked_add(count) {
+        Some(end) => {
+            if end < most {
+                return end;
+            }
+            return most;
+        }
+        None => return most,
+    }
+}
+
+/// Adds the layers of each of a range of mip levels of an aspect.
+#[tactic(auto, using(crate::proofs::Numbers::numbers_none))]
+fn push_levels(
+    runs: &mut PartRuns,
+    object: u64,
+    layers: (u32, u32),
+    mips: (u32, u32),
+    aspect: Aspect,
+) -> Result<(), NoMemory>
+    ensures { OnOk result (runs.new ≡ runs.old ++ level_runs object layers.0 layers.1 (numbers mips.0 mips.1) aspect) }
+{
+    let mut mip = mips.0;
+    while mip < mips.1 {
+        runs.push(PartRun::Texture {
+            object,
+            aspect,
+            mip,
+            lo: layers.0,
+            hi: layers.1,
+        })?;
+        mip += 1;
+    }
+    Ok(())
+}
+
+/// The layers of each of a range of mip levels of each aspect.
+fn aspect_runs(
+    alloc: Global,
+    object: u64,
+    layers: (u32, u32),
+    mips: (u32, u32),
+    aspects: &[Aspect],
+) -> Result<PartRuns, NoMemory>
+    ensures { IfOk result (λ runs. runs ≡ aspect_runs object layers.0 layers.1 (numbers mips.0 mips.1) aspects.now) }
+{
+    let mut runs = Items::new(alloc);
+    for aspect in aspects {
+        push_levels(&mut runs, object, layers, mips, *aspect)?;
+    }
+    Ok(runs)
+}
+
+/// The subresources of a view that its texture has, a run for each aspect and mip level; what lies past
+/// the texture's end adds none (WebGPU, "Texture Views").
+#[tactic(auto, unfolding(wg_model::specs::Subresources::view_runs))]
+pub fn of_view(alloc: Global, view: &ViewInfo) -> Result<PartRuns, NoMemory>
+    ensures { IfOk result (λ runs. runs ≡ view_runs view.now) }
+{
+    let info = &view.texture_info;
+    let end = end_within(view.base_layer, view.layers, layer_count(info));
+    if view.base_layer >= end {
+        return Ok(Items::new(alloc));
+    }
+    let mips = (
+        view.base_mip,
+        end_within(view.base_mip, view.mips, info.mips),
+    );
+    let aspects = named_aspects(view.aspect, info.format);
+    aspect_runs(
+        alloc,
+        view.texture.number,
+        (view.base_layer, end),
+        mips,
+        aspects,
+    )
+}
+
+/// The layer past the last of a copy. One past every number is in no texture, and no copy whose place
+/// is in its texture has it; it is answered as want of memory.
+fn last_layer(dim: TextureDim, origin: [u32; 3], size: [u32; 3]) -> Result<u32, NoMemory>
+    ensures { IfOk result (λ end. end ≡ end_layer dim origin size) }
+{
+    let end = end_layer(dim, origin, size);
+    if end > 4294967295 {
+        return Err(NoMemory);
+    }
+    Ok(end as u32)
+}
+
+/// The cells of a range of layers of each aspect.
+fn layer_cells(
+    alloc: Global,
+    object: u64,
+    mip: u32,
+    layers: (u32, u32),
+    aspects: &[Aspect],
+) -> Result<Items<Cells>, NoMemory>
+    ensures { IfOk result (λ cells. cells ≡ layer_cells object mip layers.0 layers.1 aspects.now) }
+{
+    let mut cells = Items::new(alloc);
+    if layers.0 >= layers.1 {
+        return Ok(cells);
+    }
+    for aspect in aspects {
+        cells.push(Cells::Layers {
+            object,
+            aspect: *aspect,
+            mip,
+            lo: layers.0,
+            hi: layers.1,
+        })?;
+    }
+    Ok(cells)
+}
+
+/// The parts of a range of layers of each aspect.
+fn layer_parts(
+    alloc: Global,
+    object: u64,
+    mip: u32,
+    layers: (u32, u32),
+    aspects: &[Aspect],
+) -> Result<PartRuns, NoMemory>
+    ensures { IfOk result (λ runs. runs ≡ map run_part (layer_cells object mip layers.0 layers.1 aspects.now)) }
+{
+    let mut runs = Items::new(alloc);
+    if layers.0 >= layers.1 {
+        return Ok(runs);
+    }
+    for aspect in aspects {
+        runs.push(PartRun::Texture {
+            object,
+            aspect: *aspect,
+            mip,
+            lo: layers.0,
+            hi: layers.1,
+        })?;
+    }
+    Ok(runs)
+}
+
+/// The cells that a copy accesses in a texture, a run of layers for each aspect that it names: a 3D
+/// texture has layer 0 alone (WebGPU, "Texel Copies"). A copy whose layers pass every number is answered
+/// as want of memory; its place is in no texture.
+#[tactic(auto, unfolding(wg_model::specs::Subresources::copied_cells))]
+pub fn cells_of_copy(
+    alloc: Global,
+    texture: u64,
+    info: &TextureInfo,
+    spot: &TextureSpot,
+    size: [u32; 3],
+) -> Result<Items<Cells>, NoMemory>
+    ensures { IfOk result (λ cells. cells ≡ copied_cells texture info.now spot.now size) }
+{
+    let end = last_layer(info.dim, spot.origin, size)?;
+    let layers = (first_layer(info.dim, spot.origin), end);
+    layer_cells(
+        alloc,
+        texture,
+        spot.mip,
+        layers,
+        named_aspects(spot.aspect, info.format),
+    )
+}
+
+/// The subresources of a copy, a run of layers for each aspect that it names (WebGPU, "Texel Copies"). A
+/// copy whose layers pass every number is answered as want of memory; its place is in no texture.
+#[tactic(auto, unfolding(wg_model::specs::Subresources::copied_cells))]
+pub fn of_copy(
+    alloc: Global,
+    texture: u64,
+    info: &TextureInfo,
+    spot: &TextureSpot,
+    size: [u32; 3],
+) -> Result<PartRuns, NoMemory>
+    ensures { IfOk result (λ runs. runs ≡ copy_runs texture info.now spot.now size) }
+{
+    let end = last_layer(info.dim, spot.origin, size)?;
+    let layers = (first_layer(info.dim, spot.origin), end);
+    layer_parts(
+        alloc,
+        texture,
+        spot.mip,
+        layers,
+        named_aspects(spot.aspect, info.format),
+    )
+}
+
+/// The runs of a view cover just the subresources that the view has, and those of a copy just what the
+/// copy has.
+pub fn runs_cover()
+    ensures views { ViewsCover }
+    ensures copies { CopiesCover }
+{}
+
+/// Where all runs of a view are used in one way they are in printed form, and so are the runs of a copy
+/// and the cells that it accesses.
+pub fn runs_are_printed()
+    ensures views { ViewsPrinted }
+    ensures copies { CopiesPrinted }
+    ensures cells { CellsPrinted }
+{}
+
+#[cfg(test)]
+mod tests;

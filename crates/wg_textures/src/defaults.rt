@@ -1,0 +1,101 @@
+//! What is known of a view, and what one is of which parts are left out.
+ghost use Rattle.std.specs.Prelude.{◌≡◌, ◌-◌};
+ghost use Rattle.wg_model.specs.Commands.{no_texture};
+ghost use Rattle.wg_model.specs.Textures.{layer_count};
+ghost use Rattle.wg_model.specs.Views.{view_info, dim_by, layers_by, view_of};
+
+use wg_formats::layer_count;
+use wg_types::formats::Format;
+use wg_types::handles::ObjRef;
+use wg_types::textures::{AspectWord, TextureDim, TextureInfo, ViewDesc, ViewDim, ViewInfo};
+
+/// Stands for what is known of a texture where an object is none.
+pub fn no_texture() -> TextureInfo
+    ensures { result ≡ no_texture }
+{
+    TextureInfo {
+        size: [0, 0, 0],
+        usage: 0,
+        format: Format::R8Unorm,
+        dim: TextureDim::Two,
+        mips: 0,
+        samples: 0,
+    }
+}
+
+/// The dimension that a view has by its texture.
+fn dim_by(dim: TextureDim, layers: u32) -> ViewDim
+    ensures { result ≡ dim_by dim layers }
+{
+    match dim {
+        TextureDim::One => ViewDim::One,
+        TextureDim::Two => {
+            if layers > 1 {
+                ViewDim::TwoArray
+            } else {
+                ViewDim::Two
+            }
+        }
+        TextureDim::Three => ViewDim::Three,
+    }
+}
+
+/// How many layers a view has by its dimension.
+fn layers_by(dim: ViewDim, remaining: u32) -> u32
+    ensures { result ≡ layers_by dim remaining }
+{
+    match dim {
+        ViewDim::Cube => 6,
+        ViewDim::TwoArray => remaining,
+        ViewDim::CubeArray => remaining,
+        _ => 1,
+    }
+}
+
+/// What is asked of a view, each part of which may be left out.
+#[derive(Clone, Copy)]
+pub struct Asked {
+    pub dim: Option<ViewDim>,
+    pub aspect: AspectWord,
+    pub base_mip: u32,
+    pub mips: Option<u32>,
+    pub base_layer: u32,
+    pub layers: Option<u32>,
+}
+
+/// The description of a view of which parts may be left out (WebGPU, "resolving
+/// GPUTextureViewDescriptor defaults").
+pub fn view_of(info: &TextureInfo, asked: Asked) -> ViewDesc
+    ensures { result ≡ view_of info.now asked.dim asked.aspect asked.base_mip asked.mips asked.base_layer asked.layers }
+{
+    let all = layer_count(info);
+    let dim = asked.dim.unwrap_or(dim_by(info.dim, all));
+    ViewDesc {
+        dim,
+        aspect: asked.aspect,
+        base_mip: asked.base_mip,
+        mips: asked
+            .mips
+            .unwrap_or(info.mips.saturating_sub(asked.base_mip)),
+        base_layer: asked.base_layer,
+        layers: asked
+            .layers
+            .unwrap_or(layers_by(dim, all.saturating_sub(asked.base_layer))),
+    }
+}
+
+/// What is known of a view of a texture.
+pub fn view_info(info: TextureInfo, texture: ObjRef, desc: &ViewDesc) -> ViewInfo
+    ensures { result ≡ view_info info texture desc.now }
+{
+    ViewInfo {
+        texture,
+        texture_info: info,
+        dim: desc.dim,
+        aspect: desc.aspect,
+        base_mip: desc.base_mip,
+        mips: desc.mips,
+        base_layer: desc.base_layer,
+        layers: desc.layers,
+    }
+}

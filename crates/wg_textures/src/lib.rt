@@ -1,0 +1,13 @@
+//! The rules of textures and of their views.
+#![tactic(auto)]
+
+mod create;
+mod defaults;
+mod view;
+
+pub use create::check_create;
+pub use defaults::{Asked, no_texture, view_info, view_of};
+pub use view::check_view;
+
+#[cfg(test)]
+mod tests;
