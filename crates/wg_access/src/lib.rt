@@ -17,8 +17,7 @@ use touches::{
     texture_to_buffer_touches, texture_to_texture_touches,
 };
 use touching::touching;
-use wg_copy::{texture_of, whole_spot};
-use wg_formats::has_no_texel;
+use wg_formats::{has_no_texel, size_or_rest, texture_of, whole_spot};
 use wg_types::NoMemory;
 use wg_types::commands::{Command, On};
 use wg_types::items::Items;
@@ -123,14 +122,18 @@ fn command_step(
             offset,
             size,
         } => {
-            if *size == 0 {
+            let size = size_or_rest(buffer, *offset, *size);
+            if size == 0 {
                 return Ok(None);
             }
-            let end = end_of(*offset, *size)?;
+            let end = end_of(*offset, size)?;
             let touches = range_touches(alloc, buffer.reference().number, *offset, end)?;
             return one_step(alloc, place, StepName::ClearBuffer, touches);
         }
-        _ => return Ok(None),
+        Command::BeginComputePass
+        | Command::PushDebugGroup
+        | Command::PopDebugGroup
+        | Command::End => return Ok(None),
     }
 }
 

@@ -2,7 +2,6 @@
 #![tactic(auto)]
 
 mod buffers;
-mod handles;
 mod texels;
 
 ghost use Rattle.std.specs.Prelude.{◌≡◌};
@@ -11,8 +10,8 @@ ghost use Rattle.wg_model.specs.Commands.{own_rules, buffer_of, texture_of, same
 ghost use Rattle.wg_model.specs.TexelCopies.{buffer_to_texture_rules, texture_to_buffer_rules, texture_to_texture_rules, whole_spot};
 
 pub use buffers::check_write_buffer;
-pub use handles::{buffer_of, same_object, texture_of};
-pub use texels::{check_write_texture, whole_spot};
+pub use texels::check_write_texture;
+pub use wg_formats::{buffer_of, same_object, size_or_rest, texture_of, whole_spot};
 use wg_types::commands::Command;
 
 /// The first unmet rule of a command (WebGPU, "Copy Commands" and "Clear Commands"), but for those on
@@ -76,8 +75,14 @@ pub fn check(command: &Command) -> Option<u16>
             buffer,
             offset,
             size,
-        } => return buffers::check_clear(buffer, *offset, *size),
-        _ => return None,
+        } => {
+            let size = size_or_rest(buffer, *offset, *size);
+            return buffers::check_clear(buffer, *offset, size);
+        }
+        Command::BeginComputePass
+        | Command::PushDebugGroup
+        | Command::PopDebugGroup
+        | Command::End => return None,
     }
 }
 

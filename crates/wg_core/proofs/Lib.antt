@@ -1,3 +1,4 @@
 pub mod Planning
-pub mod Freeing
 pub mod Tracing
+pub mod Submitting
+pub mod Distinct

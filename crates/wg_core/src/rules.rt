@@ -1,31 +1,33 @@
 //! The first unmet rule of each event.
-ghost use Rattle.std.specs.Prelude.{◌≡◌, ◌==◌, ◌&&◌, ◌+◌, ◌^◌, ◌<◌, reverse, IsNone};
+ghost use Rattle.std.specs.Prelude.{◌≡◌, ◌==◌, ◌&&◌, ◌+◌, ◌^◌, ◌<◌, reverse, Some, IsNone, IfOk};
 ghost use Rattle.std.specs.List.{list_any};
 ghost use Rattle.wg_model.specs.Rules.{first_unmet};
-ghost use Rattle.wg_model.specs.Recorded.{any_named};
-ghost use Rattle.wg_core.specs.Sorted.{named_of};
+ghost use Rattle.wg_core.specs.Plans.{use_rules};
+ghost use Rattle.wg_state.specs.Uses.{uses_of, is_sort, is_used_as};
 ghost use Rattle.wg_history.specs.Objects.{is_own, is_command_buffer};
-ghost use Rattle.wg_history.specs.Rules.{create_view_rule, write_buffer_rule, write_texture_rule, destroy_rule, destroys, is_destroyed, finish_rule, ends_encoder, has_finished, consumes, is_consumed, are_distinct, listed_rules, any_destroyed, submit_rule};
+ghost use Rattle.wg_history.specs.Rules.{create_view_rule, write_buffer_rule, write_texture_rule, destroy_rule, destroys, is_destroyed, finish_rule, ends_encoder, has_finished, consumes, is_consumed, are_distinct, listed_rules, submit_rule};
 
-use crate::{look, uses};
+use crate::uses;
+use std::alloc::Global;
+use std::collections::BTreeSet;
 use wg_copy::{check_write_buffer, check_write_texture};
 use wg_encoder::Recording;
-use wg_history::events::{Entry, Event, Setup};
+use wg_history::NoMemory;
+use wg_state::{State, Used};
 use wg_textures::check_view;
-use wg_types::commands::{Command, On};
 use wg_types::handles::ObjRef;
 use wg_types::steps::Sort;
 use wg_types::textures::{DataLayout, TextureSpot, ViewDesc};
 
 /// The first unmet rule of a createView (WebGPU, "Texture View Creation").
 #[tactic(auto, unfolding(wg_history::specs::Rules::create_view_rule))]
-pub fn create_view(setup: Setup, history: &[Entry], texture: ObjRef, desc: &ViewDesc) -> Option<u16>
-    ensures { result ≡ create_view_rule setup (reverse history.now) texture desc.now }
+pub fn create_view(state: &State, texture: ObjRef, desc: &ViewDesc) -> Option<u16>
+    ensures { result ≡ create_view_rule state.now.setup (reverse state.now.history) texture desc.now }
 {
-    let Some(info) = look::own_texture(setup, history, texture) else {
+    let Some(info) = wg_state::own_texture(state.setup(), state.book(), texture) else {
         return Some(10);
     };
-    if !look::is_valid(history, texture.number) {
+    if !state.book().is_valid(texture.number) {
         return Some(12);
     }
     check_view(&info, desc)
@@ -33,62 +35,31 @@ pub fn create_view(setup: Setup, history: &[Entry], texture: ObjRef, desc: &View
 
 /// The first unmet rule of a destroy (WebGPU, "Buffer Destruction" and "Texture Destruction").
 #[tactic(auto, unfolding(wg_history::specs::Rules::destroy_rule))]
-pub fn destroy(setup: Setup, history: &[Entry], object: ObjRef) -> Option<u16>
-    ensures { result ≡ destroy_rule setup (reverse history.now) object }
+pub fn destroy(state: &State, object: ObjRef) -> Option<u16>
+    ensures { result ≡ destroy_rule state.now.setup (reverse state.now.history) object }
 {
-    if !look::is_own_resource(setup, history, object) {
+    if !wg_state::is_own_resource(state.setup(), state.book(), object) {
         return Some(10);
     }
     None
 }
 
-/// Whether an event that comes after a history destroys the object.
-pub fn destroys(setup: Setup, history: &[Entry], event: &Event, number: u64) -> bool
-    ensures { result ≡ destroys setup (reverse history.now) event.now number }
-{
-    match event {
-        Event::Destroy { object } => {
-            object.number == number && destroy(setup, history, *object).is_none()
-        }
-        _ => false,
-    }
-}
-
-/// Whether the object is destroyed.
-pub fn is_destroyed(setup: Setup, history: &[Entry], number: u64) -> bool
-    ensures { result ≡ is_destroyed setup (reverse history.now) number }
-{
-    let mut found = false;
-    for i in 0..history.len() {
-        if destroys(setup, &history[..i], &history[i].event, number) {
-            found = true;
-        }
-    }
-    found
-}
-
 /// The first unmet rule of a write (WebGPU, "writeBuffer").
 #[tactic(auto, unfolding(wg_history::specs::Rules::write_buffer_rule))]
-pub fn write_buffer(
-    setup: Setup,
-    history: &[Entry],
-    buffer: ObjRef,
-    offset: u64,
-    size: u64,
-) -> Option<u16>
-    ensures rule { result ≡ write_buffer_rule setup (reverse history.now) buffer offset size }
+pub fn write_buffer(state: &State, buffer: ObjRef, offset: u64, size: u64) -> Option<u16>
+    ensures rule { result ≡ write_buffer_rule state.now.setup (reverse state.now.history) buffer offset size }
     ensures fits { IsNone result → offset + size < 2 ^ 64 }
 {
-    let Some(info) = look::own_buffer(setup, history, buffer) else {
+    let Some(info) = wg_state::own_buffer(state.setup(), state.book(), buffer) else {
         return Some(10);
     };
-    if !look::is_valid(history, buffer.number) {
+    if !state.book().is_valid(buffer.number) {
         return Some(12);
     }
     if let Some(rule) = check_write_buffer(&info, offset, size) {
         return Some(rule);
     }
-    if is_destroyed(setup, history, buffer.number) {
+    if state.is_destroyed(buffer.number) {
         return Some(203);
     }
     None
@@ -97,73 +68,42 @@ pub fn write_buffer(
 /// The first unmet rule of a write of texels (WebGPU, "writeTexture").
 #[tactic(auto, unfolding(wg_history::specs::Rules::write_texture_rule))]
 pub fn write_texture(
-    setup: Setup,
-    history: &[Entry],
+    state: &State,
     texture: ObjRef,
     spot: &TextureSpot,
     layout: &DataLayout,
     size: [u32; 3],
     data_size: u64,
 ) -> Option<u16>
-    ensures { result ≡ write_texture_rule setup (reverse history.now) texture spot.now layout.now size data_size }
+    ensures { result ≡ write_texture_rule state.now.setup (reverse state.now.history) texture spot.now layout.now size data_size }
 {
-    let Some(info) = look::own_texture(setup, history, texture) else {
+    let Some(info) = wg_state::own_texture(state.setup(), state.book(), texture) else {
         return Some(10);
     };
-    if !look::is_valid(history, texture.number) {
+    if !state.book().is_valid(texture.number) {
         return Some(12);
     }
     if let Some(rule) = check_write_texture(&info, spot, layout, size, data_size) {
         return Some(rule);
     }
-    if is_destroyed(setup, history, texture.number) {
+    if state.is_destroyed(texture.number) {
         return Some(210);
     }
     None
 }
 
-/// Whether an event ends the encoder of this number.
-fn ends_encoder(setup: Setup, event: &Event, number: u64) -> bool
-    ensures { result ≡ ends_encoder setup event.now number }
-{
-    match event {
-        Event::Finish { encoder, .. } => {
-            encoder.device == setup.serial && encoder.number == number
-        }
-        _ => false,
-    }
-}
-
-/// Whether the encoder has ended.
-fn has_finished(setup: Setup, history: &[Entry], number: u64) -> bool
-    ensures { result ≡ has_finished setup (reverse history.now) number }
-{
-    let mut found = false;
-    for entry in history {
-        if ends_encoder(setup, &entry.event, number) {
-            found = true;
-        }
-    }
-    found
-}
-
 /// The first unmet rule of a finish (WebGPU, "finish").
 #[tactic(auto, unfolding(wg_history::specs::Rules::finish_rule))]
-pub fn finish(
-    setup: Setup,
-    history: &[Entry],
-    encoder: ObjRef,
-    recording: &Recording,
-) -> Option<u16>
-    ensures { result ≡ finish_rule setup (reverse history.now) encoder recording.now }
+pub fn finish(state: &State, encoder: ObjRef, recording: &Recording) -> Option<u16>
+    ensures { result ≡ finish_rule state.now.setup (reverse state.now.history) encoder recording.now }
 {
-    if !look::is_own_encoder(setup, history, encoder) {
+    if !wg_state::is_own_encoder(state.setup(), state.book(), encoder) {
         return Some(10);
     }
-    if !look::is_valid(history, encoder.number) {
+    if !state.book().is_valid(encoder.number) {
         return Some(12);
     }
-    if has_finished(setup, history, encoder.number) {
+    if state.has_finished(encoder.number) {
         return Some(180);
     }
     if let Some(rule) = recording.verdict() {
@@ -175,7 +115,7 @@ pub fn finish(
     if recording.open_group() {
         return Some(183);
     }
-    if uses::any_forged(setup, history, recording.commands()) {
+    if uses::any_forged(state, recording.commands()) {
         return Some(11);
     }
     if recording.scopes().is_some() {
@@ -184,59 +124,12 @@ pub fn finish(
     None
 }
 
-/// Whether a list names the command buffer of this device with this number.
-fn lists_own(setup: Setup, history: &[Entry], buffers: &[ObjRef], number: u64) -> bool
-    ensures { result ≡ list_any (λ buffer. buffer.number == number && is_own setup (reverse history.now) is_command_buffer buffer) buffers.now }
-{
-    for buffer in buffers {
-        if buffer.number == number && look::is_own_command_buffer(setup, history, *buffer) {
-            return true;
-        }
-    }
-    false
-}
-
-/// Whether an event that comes after a history consumes the command buffer of this number.
-fn consumes(setup: Setup, history: &[Entry], event: &Event, number: u64) -> bool
-    ensures { result ≡ consumes setup (reverse history.now) event.now number }
-{
-    match event {
-        Event::Submit { buffers } => lists_own(setup, history, buffers.as_slice(), number),
-        _ => false,
-    }
-}
-
-/// Whether the command buffer was consumed.
-fn is_consumed(setup: Setup, history: &[Entry], number: u64) -> bool
-    ensures { result ≡ is_consumed setup (reverse history.now) number }
-{
-    let mut found = false;
-    for i in 0..history.len() {
-        if consumes(setup, &history[..i], &history[i].event, number) {
-            found = true;
-        }
-    }
-    found
-}
-
 /// Whether some command buffer of a list was consumed.
-fn any_consumed(setup: Setup, history: &[Entry], buffers: &[ObjRef]) -> bool
-    ensures { result ≡ list_any (λ buffer. is_consumed setup (reverse history.now) buffer.number) buffers.now }
+fn any_consumed(state: &State, buffers: &[ObjRef]) -> bool
+    ensures { result ≡ list_any (λ buffer. is_consumed state.now.setup (reverse state.now.history) buffer.number) buffers.now }
 {
     for buffer in buffers {
-        if is_consumed(setup, history, buffer.number) {
-            return true;
-        }
-    }
-    false
-}
-
-/// Whether a list names the object of this number.
-fn lists(buffers: &[ObjRef], number: u64) -> bool
-    ensures { result ≡ list_any (λ other. other.number == number) buffers.now }
-{
-    for buffer in buffers {
-        if buffer.number == number {
+        if state.is_consumed(buffer.number) {
             return true;
         }
     }
@@ -244,72 +137,36 @@ fn lists(buffers: &[ObjRef], number: u64) -> bool
 }
 
 /// Whether a list names no object twice.
-fn are_distinct(buffers: &[ObjRef]) -> bool
-    ensures { result ≡ are_distinct buffers.now }
+#[tactic(auto, using(crate::proofs::Distinct::fresh_none, crate::proofs::Distinct::fresh_met, crate::proofs::Distinct::fresh_next))]
+fn are_distinct(alloc: Global, buffers: &[ObjRef]) -> Result<bool, NoMemory>
+    ensures { IfOk result (λ distinct. distinct ≡ are_distinct buffers.now) }
 {
-    for (i, buffer) in buffers.iter().enumerate() {
-        if lists(&buffers[i + 1..], buffer.number) {
-            return false;
-        }
-    }
-    true
-}
-
-/// Whether a command names a destroyed resource of a sort.
-fn names_destroyed(setup: Setup, history: &[Entry], command: &Command, sort: Sort) -> bool
-    ensures { result ≡ list_any (is_destroyed setup (reverse history.now)) (named_of sort command.now) }
-{
-    match (command, sort) {
-        (Command::CopyBufferToBuffer { source, target, .. }, Sort::Buffer) => {
-            is_destroyed(setup, history, source.reference().number)
-                || is_destroyed(setup, history, target.reference().number)
-        }
-        (Command::CopyBufferToTexture { buffer, .. }, Sort::Buffer) => {
-            is_destroyed(setup, history, buffer.reference().number)
-        }
-        (Command::CopyTextureToBuffer { buffer, .. }, Sort::Buffer) => {
-            is_destroyed(setup, history, buffer.reference().number)
-        }
-        (Command::ClearBuffer { buffer, .. }, Sort::Buffer) => {
-            is_destroyed(setup, history, buffer.reference().number)
-        }
-        (Command::CopyBufferToTexture { texture, .. }, Sort::Texture) => {
-            is_destroyed(setup, history, texture.reference().number)
-        }
-        (Command::CopyTextureToBuffer { texture, .. }, Sort::Texture) => {
-            is_destroyed(setup, history, texture.reference().number)
-        }
-        (Command::CopyTextureToTexture { source, target, .. }, Sort::Texture) => {
-            is_destroyed(setup, history, source.reference().number)
-                || is_destroyed(setup, history, target.reference().number)
-        }
-        _ => false,
-    }
-}
-
-/// Whether some recorded command names a destroyed resource of a sort.
-fn uses_destroyed(setup: Setup, history: &[Entry], commands: &[(On, Command)], sort: Sort) -> bool
-    ensures { result ≡ any_named (named_of sort) (is_destroyed setup (reverse history.now)) commands.now }
-{
-    for kept in commands {
-        if names_destroyed(setup, history, &kept.1, sort) {
-            return true;
-        }
-    }
-    false
-}
-
-/// Whether some command buffer of a list uses a destroyed resource of a sort.
-fn any_destroyed(setup: Setup, history: &[Entry], buffers: &[ObjRef], sort: Sort) -> bool
-    ensures { result ≡ any_destroyed (named_of sort) setup (reverse history.now) buffers.now }
-{
+    let mut seen = BTreeSet::new(alloc);
     for buffer in buffers {
-        if uses_destroyed(
-            setup,
-            history,
-            look::commands_at(history, buffer.number),
-            sort,
-        ) {
+        if !seen.insert(buffer.number)? {
+            return Ok(false);
+        }
+    }
+    Ok(true)
+}
+
+/// Whether two sorts are the same.
+fn is_sort(a: Sort, b: Sort) -> bool
+    ensures { result ≡ is_sort a b }
+{
+    match a {
+        Sort::Buffer => matches!(b, Sort::Buffer),
+        Sort::Texture => matches!(b, Sort::Texture),
+        Sort::Queries => matches!(b, Sort::Queries),
+    }
+}
+
+/// Whether a resource of a sort is used and destroyed.
+fn any_destroyed(state: &State, uses: &[Used], sort: Sort) -> bool
+    ensures { result ≡ list_any (is_used_as sort (is_destroyed state.now.setup (reverse state.now.history))) uses.now }
+{
+    for used in uses {
+        if is_sort(sort, used.sort) && state.is_destroyed(used.number) {
             return true;
         }
     }
@@ -317,39 +174,66 @@ fn any_destroyed(setup: Setup, history: &[Entry], buffers: &[ObjRef], sort: Sort
 }
 
 /// The first unmet rule on the command buffers of a submit, one after another.
-fn check_listed(setup: Setup, history: &[Entry], buffers: &[ObjRef]) -> Option<u16>
-    ensures { result ≡ first_unmet (listed_rules setup (reverse history.now) buffers.now) }
+fn check_listed(state: &State, buffers: &[ObjRef]) -> Option<u16>
+    ensures { result ≡ first_unmet (listed_rules state.now.setup (reverse state.now.history) buffers.now) }
 {
     for buffer in buffers {
-        if !look::is_own_command_buffer(setup, history, *buffer) {
+        if !wg_state::is_own_command_buffer(state.setup(), state.book(), *buffer) {
             return Some(10);
         }
-        if !look::is_valid(history, buffer.number) {
+        if !state.book().is_valid(buffer.number) {
             return Some(12);
         }
     }
     None
 }
 
-/// The first unmet rule of a submit (WebGPU, "submit").
-#[tactic(auto, unfolding(wg_history::specs::Rules::submit_rule), using(wg_model::proofs::Unmet::first_unmet_joined))]
-pub fn submit(setup: Setup, history: &[Entry], buffers: &[ObjRef]) -> Option<u16>
-    ensures { result ≡ submit_rule setup (reverse history.now) buffers.now }
+/// The first unmet rule of a submit, and what its command buffers use.
+#[derive(Drop)]
+pub struct Submitted {
+    pub rule: Option<u16>,
+    pub uses: Vec<Used>,
+}
+
+/// A submit that is refused by a rule before it is known what it uses.
+fn refused(alloc: Global, rule: u16) -> Submitted
+    ensures { result.rule ≡ Some rule }
 {
-    if let Some(rule) = check_listed(setup, history, buffers) {
-        return Some(rule);
+    Submitted {
+        rule: Some(rule),
+        uses: Vec::new(alloc),
     }
-    if any_consumed(setup, history, buffers) {
-        return Some(190);
-    }
-    if !are_distinct(buffers) {
-        return Some(191);
-    }
-    if any_destroyed(setup, history, buffers, Sort::Buffer) {
+}
+
+/// The first unmet rule on the resources that a submit uses.
+fn check_uses(state: &State, uses: &[Used]) -> Option<u16>
+    ensures { result ≡ first_unmet (use_rules state.now.setup (reverse state.now.history) uses.now) }
+{
+    if any_destroyed(state, uses, Sort::Buffer) {
         return Some(192);
     }
-    if any_destroyed(setup, history, buffers, Sort::Texture) {
+    if any_destroyed(state, uses, Sort::Texture) {
         return Some(193);
     }
     None
+}
+
+/// The first unmet rule of a submit (WebGPU, "submit"), with what its command buffers use.
+#[tactic(auto, unfolding(wg_history::specs::Rules::submit_rule), using(wg_model::proofs::Unmet::first_unmet_joined, crate::proofs::Submitting::submit_found))]
+pub fn submit(alloc: Global, state: &State, buffers: &[ObjRef]) -> Result<Submitted, NoMemory>
+    ensures rule { IfOk result (λ submitted. submitted.rule ≡ submit_rule state.now.setup (reverse state.now.history) buffers.now) }
+    ensures uses { IfOk result (λ submitted. IsNone submitted.rule → submitted.uses.items ≡ uses_of (reverse state.now.history) buffers.now) }
+{
+    if let Some(rule) = check_listed(state, buffers) {
+        return Ok(refused(alloc, rule));
+    }
+    if any_consumed(state, buffers) {
+        return Ok(refused(alloc, 190));
+    }
+    if !are_distinct(alloc, buffers)? {
+        return Ok(refused(alloc, 191));
+    }
+    let uses = wg_state::uses_of(alloc, state.book(), buffers)?;
+    let rule = check_uses(state, uses.as_slice());
+    Ok(Submitted { rule, uses })
 }

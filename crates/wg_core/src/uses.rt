@@ -1,133 +1,43 @@
-//! What recorded commands name, and which operations use an object.
+//! What recorded commands name.
 ghost use Rattle.std.specs.Prelude.{◌≡◌, ◌==◌, reverse, not};
-ghost use Rattle.std.specs.List.{list_any};
-ghost use Rattle.wg_model.specs.Commands.{named};
-ghost use Rattle.wg_model.specs.Recorded.{resources, any_resource, uses_resource};
-ghost use Rattle.wg_history.specs.Objects.{commands_at};
-ghost use Rattle.wg_history.specs.Operations.{submit_uses, use_by, last_use};
+ghost use Rattle.wg_model.specs.Recorded.{any_object};
 ghost use Rattle.wg_history.specs.Rules.{is_genuine, any_forged};
 
-use crate::look;
-use wg_history::events::{Entry, Event, Setup};
+use wg_state::State;
 use wg_types::commands::{Command, On};
-use wg_types::handles::ObjRef;
-use wg_types::replies::Answer;
+use wg_types::handles::Handle;
+use wg_types::refs::Test;
+use wg_types::wanted::Wanted;
 
-/// Whether a command names the object as a resource.
-fn names(command: &Command, number: u64) -> bool
-    ensures { result ≡ list_any (λ r. r == number) (resources command.now) }
-{
-    match command {
-        Command::CopyBufferToBuffer { source, target, .. } => {
-            source.reference().number == number || target.reference().number == number
-        }
-        Command::CopyBufferToTexture {
-            buffer,
-            texture,
-            ..
-        } => buffer.reference().number == number || texture.reference().number == number,
-        Command::CopyTextureToBuffer {
-            buffer,
-            texture,
-            ..
-        } => buffer.reference().number == number || texture.reference().number == number,
-        Command::CopyTextureToTexture { source, target, .. } => {
-            source.reference().number == number || target.reference().number == number
-        }
-        Command::ClearBuffer { buffer, .. } => buffer.reference().number == number,
-        _ => false,
-    }
-}
-
-/// Whether recorded commands use the object.
-fn uses_resource(commands: &[(On, Command)], number: u64) -> bool
-    ensures { result ≡ uses_resource commands.now number }
+/// Whether a test holds of some object that recorded commands name.
+pub fn any_object<T: Test<Handle>>(commands: &[(On, Command)], test: &T) -> bool
+    ensures { result ≡ any_object (T.holds test.now) commands.now }
 {
     for kept in commands {
-        if names(&kept.1, number) {
+        if kept.1.any(test) {
             return true;
         }
     }
     false
 }
 
-/// Whether a submit of these command buffers uses the object.
-fn submit_uses(history: &[Entry], buffers: &[ObjRef], number: u64) -> bool
-    ensures { result ≡ submit_uses (reverse history.now) buffers.now number }
-{
-    for buffer in buffers {
-        if uses_resource(look::commands_at(history, buffer.number), number) {
-            return true;
-        }
-    }
-    false
+/// Tests whether a handle is not genuine.
+#[derive(Drop)]
+struct IsForged<'a> {
+    state: &'a State,
 }
 
-/// The operation by which an entry that comes after a history uses the object, or 0.
-fn use_by(history: &[Entry], entry: &Entry, number: u64) -> u64
-    ensures { result ≡ use_by (reverse history.now) entry.now number }
-{
-    let Answer::Queued(op) = entry.reply.answer else {
-        return 0;
-    };
-    let used = match &entry.event {
-        Event::Submit { buffers } => submit_uses(history, buffers.as_slice(), number),
-        Event::WriteBuffer { buffer, .. } => buffer.number == number,
-        Event::WriteTexture { texture, .. } => texture.number == number,
-        _ => false,
-    };
-    if used { op } else { 0 }
-}
+impl Test<Handle> for IsForged<'_> {
+    ghost holds = { λ test object. not (is_genuine test.state.now.setup (reverse test.state.now.history) object.0) };
 
-/// The last operation that uses the object, or 0.
-pub fn last_use(history: &[Entry], number: u64) -> u64
-    ensures { result ≡ last_use (reverse history.now) number }
-{
-    let mut last = 0;
-    for i in 0..history.len() {
-        last = use_by(&history[..i], &history[i], number).max(last);
-    }
-    last
-}
-
-/// Whether a command names a handle that is not genuine.
-fn names_forged(setup: Setup, history: &[Entry], command: &Command) -> bool
-    ensures { result ≡ list_any (λ object. not (is_genuine setup (reverse history.now) object.0)) (named command.now) }
-{
-    match command {
-        Command::CopyBufferToBuffer { source, target, .. } => {
-            !look::is_genuine(setup, history, source) || !look::is_genuine(setup, history, target)
-        }
-        Command::CopyBufferToTexture {
-            buffer,
-            texture,
-            ..
-        } => {
-            !look::is_genuine(setup, history, buffer) || !look::is_genuine(setup, history, texture)
-        }
-        Command::CopyTextureToBuffer {
-            buffer,
-            texture,
-            ..
-        } => {
-            !look::is_genuine(setup, history, buffer) || !look::is_genuine(setup, history, texture)
-        }
-        Command::CopyTextureToTexture { source, target, .. } => {
-            !look::is_genuine(setup, history, source) || !look::is_genuine(setup, history, target)
-        }
-        Command::ClearBuffer { buffer, .. } => !look::is_genuine(setup, history, buffer),
-        _ => false,
+    fn holds(&self, object: &Handle, _wanted: Wanted) -> bool {
+        !wg_state::is_genuine(self.state.setup(), self.state.book(), object)
     }
 }
 
 /// Whether some handle that recorded commands name is not genuine.
-pub fn any_forged(setup: Setup, history: &[Entry], commands: &[(On, Command)]) -> bool
-    ensures { result ≡ any_forged setup (reverse history.now) commands.now }
+pub fn any_forged(state: &State, commands: &[(On, Command)]) -> bool
+    ensures { result ≡ any_forged state.now.setup (reverse state.now.history) commands.now }
 {
-    for kept in commands {
-        if names_forged(setup, history, &kept.1) {
-            return true;
-        }
-    }
-    false
+    any_object(commands, &IsForged { state })
 }

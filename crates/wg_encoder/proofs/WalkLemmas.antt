@@ -7,10 +7,10 @@ use Rattle.std.proofs.lemmas.Bool.{cases_lt}
 use Rattle.std.proofs.lemmas.Bool.Decides.{nat_tests}
 use Rattle.std.proofs.lemmas.List.{get_or_append_left}
 use Rattle.std.proofs.Math.Seq.{get_or-append_seam}
-use Rattle.wg_types.specs.declared.commands.Command.{Command}
+use Rattle.wg_types.specs.Commands.{Command}
 use Rattle.wg_types.specs.declared.commands.On.TheVariants.{Encoder, Pass}
-use Rattle.wg_types.specs.declared.parts.PartRun.{PartRun}
-use Rattle.wg_types.specs.declared.commands.Command.TheVariants.{BeginComputePass}
+use Rattle.wg_types.specs.declared.parts.Part.{Part}
+use Rattle.wg_types.specs.declared.commands.CommandOf.TheVariants.{BeginComputePass}
 use Rattle.wg_model.proofs.Walks.{ended_new, open_number_below}
 use Rattle.wg_types.specs.Commands.{is_begin, is_end}
 use Rattle.wg_model.specs.Rules.{or_else, first_unmet}
@@ -97,11 +97,7 @@ walk_locked device kept command walk m l b = let q = some_is (open_pass kept) l 
 pub walk_dead_begun : (device : ℕ) (kept : Kept) (command : Command) (walk : Walk) → IsWalkOf device kept walk → is_some (open_pass kept) ≡ true → is_begin command ≡ true → IsWalkOf device ((Encoder, command) ∷ kept) (record walk { verdict = or_else walk.verdict (Some 240); ended = walk.ended ++ false ∷ [] })
 walk_dead_begun device kept command walk m l b = let q = some_is (open_pass kept) l in dead_begun device kept q.0 command walk m q.1 b
 
--- a begin has no rule of the encoder, and leaves its debug groups
-begin_rule_none : (device depth : ℕ) (command : Command) → is_begin command ≡ true → first_unmet (command_rules device depth command) ≡ None
-begin_rule_none device depth BeginComputePass b = refl
-begin_rule_none device depth _ b = absurd (cc)
-
+-- a begin leaves the debug groups of the encoder
 begin_depth : (depth : ℕ) (command : Command) → is_begin command ≡ true → depth_after depth command ≡ depth
 begin_depth depth BeginComputePass b = refl
 begin_depth depth _ b = absurd (cc)
@@ -111,7 +107,7 @@ begun : (device : ℕ) (kept : Kept) (command : Command) (walk : Walk) (opened :
 begun device kept command walk opened m e b n s = record {
   count = rw b (length-append walk.ended (false ∷ []) ∙ omega (arith, m.count));
   ended_is = λ k lt. at_push walk.ended (begins kept) k (has_ended kept) m.count m.ended_is (ended_new kept) (rw b at lt);
-  verdict_is = rw e (rw (begin_rule_none device (encoder_depth kept) command b) (m.verdict_is ∙ sym (or_none _)));
+  verdict_is = rw e (rw b (m.verdict_is ∙ sym (or_none _)));
   depth_is = rw e (m.depth_is ∙ sym (begin_depth (encoder_depth kept) command b));
   open_is = rw e (rw b (n, s));
   clash_is = λ v r. m.clash_is (or_first _ _ v) (rw e refl) ∙ ap first_clash (sym (append-nil (scopes_of kept)));
@@ -122,7 +118,7 @@ command_free : (device : ℕ) (kept : Kept) (command : Command) (walk : Walk) �
 command_free device kept command walk m e b = record {
   count = rw b m.count;
   ended_is = λ n lt. m.ended_is n (rw b at lt);
-  verdict_is = rw e (rw m.verdict_is (rw m.depth_is refl));
+  verdict_is = rw e (rw b (rw m.verdict_is (rw m.depth_is refl)));
   depth_is = rw e (ap (λ d. depth_after d command) m.depth_is);
   open_is = let o = m.open_is in rw e (rw b (rw e at o));
   clash_is = λ v r. m.clash_is (or_first _ _ v) (rw e refl) ∙ ap first_clash (sym (append-nil (scopes_of kept)));
@@ -138,11 +134,11 @@ open_some : (opened : Option PassSoFar) (pass : ℕ) → is_open opened pass ≡
 open_some None pass h = absurd (cc)
 open_some (Some q) pass h = (q, refl)
 
-clash_after : (device : ℕ) (kept : Kept) (q : PassSoFar) (command : Command) (walk : Walk) (old new : Opened) (found : Option PartRun) (rule : Option ℕ) → IsWalkOf device kept walk → open_pass kept ≡ Some q → IsOpenOf device (Some q) (Some old) → IsNext device command old new found rule → verdict device kept ≡ None → pass_rule device q.begin (command ∷ q.earlier) ≡ None → or_else walk.clash found ≡ first_clash (scopes_of kept ++ scopes_in q.begin q.earlier command)
+clash_after : (device : ℕ) (kept : Kept) (q : PassSoFar) (command : Command) (walk : Walk) (old new : Opened) (found : Option Part) (rule : Option ℕ) → IsWalkOf device kept walk → open_pass kept ≡ Some q → IsOpenOf device (Some q) (Some old) → IsNext device command old new found rule → verdict device kept ≡ None → pass_rule device q.begin (command ∷ q.earlier) ≡ None → or_else walk.clash found ≡ first_clash (scopes_of kept ++ scopes_in q.begin q.earlier command)
 clash_after device kept q command walk old new found rule m e o next v r =
     rw (m.clash_is v (rw e (or_first _ _ r))) (rw (next.clash_is q.begin q.earlier (next.took q.begin q.earlier o.1) r) (sym (first_clash-append (scopes_of kept) (scopes_in q.begin q.earlier command))))
 
-inside : (device : ℕ) (kept : Kept) (pass : ℕ) (q : PassSoFar) (command : Command) (walk : Walk) (old new : Opened) (found : Option PartRun) (rule : Option ℕ) → IsWalkOf device kept walk → open_pass kept ≡ Some q → pass == q.number ≡ true → is_end command ≡ false → IsOpenOf device (Some q) (Some old) → IsNext device command old new found rule → IsWalkOf device ((Pass pass, command) ∷ kept) (record walk { opened = Some new; clash = or_else walk.clash found })
+inside : (device : ℕ) (kept : Kept) (pass : ℕ) (q : PassSoFar) (command : Command) (walk : Walk) (old new : Opened) (found : Option Part) (rule : Option ℕ) → IsWalkOf device kept walk → open_pass kept ≡ Some q → pass == q.number ≡ true → is_end command ≡ false → IsOpenOf device (Some q) (Some old) → IsNext device command old new found rule → IsWalkOf device ((Pass pass, command) ∷ kept) (record walk { opened = Some new; clash = or_else walk.clash found })
 inside device kept pass q command walk old new found rule m e h b o next = record {
   count = m.count;
   ended_is = λ n lt. m.ended_is n lt ∙ rw e (rw h (rw b refl));
@@ -159,7 +155,7 @@ at_set_by false marks p n d e lt each = let other : n ≢ p = grind (arith, nat_
 at_set : (marks : List Bool) (p n c : ℕ) (d : ℕ → Bool) → length marks ≡ c → p < c → ((k : ℕ) → k < c → slice_index_or marks k false ≡ d k) → n < c → slice_index_or (slice_set marks p true) n false ≡ (p == n) || d n
 at_set marks p n c d len lt each below = at_set_by (p == n) marks p n (d n) refl (omega (arith, len, lt)) (each n below)
 
-ended : (device : ℕ) (kept : Kept) (pass : ℕ) (q : PassSoFar) (command : Command) (walk : Walk) (old new : Opened) (found : Option PartRun) (rule : Option ℕ) → IsWalkOf device kept walk → open_pass kept ≡ Some q → pass == q.number ≡ true → is_end command ≡ true → IsOpenOf device (Some q) (Some old) → IsNext device command old new found rule → pass < begins kept → IsWalkOf device ((Pass pass, command) ∷ kept) (record walk { opened = None; clash = or_else walk.clash found; verdict = or_else walk.verdict rule; ended = slice_set walk.ended pass true })
+ended : (device : ℕ) (kept : Kept) (pass : ℕ) (q : PassSoFar) (command : Command) (walk : Walk) (old new : Opened) (found : Option Part) (rule : Option ℕ) → IsWalkOf device kept walk → open_pass kept ≡ Some q → pass == q.number ≡ true → is_end command ≡ true → IsOpenOf device (Some q) (Some old) → IsNext device command old new found rule → pass < begins kept → IsWalkOf device ((Pass pass, command) ∷ kept) (record walk { opened = None; clash = or_else walk.clash found; verdict = or_else walk.verdict rule; ended = slice_set walk.ended pass true })
 ended device kept pass q command walk old new found rule m e h b o next lt = record {
   count = length-set walk.ended pass true ∙ m.count;
   ended_is = λ n below. at_set walk.ended pass n (begins kept) (has_ended kept) m.count lt m.ended_is below ∙ rw e (rw h (rw b refl));
@@ -173,13 +169,13 @@ opened_is : (device : ℕ) (opened : Option PassSoFar) (q : PassSoFar) (held : O
 opened_is device opened q held old o e h = let x = rw e at o in rw h at x
 
 -- a command of the open pass that is no end
-pub walk_inside : (device : ℕ) (kept : Kept) (pass : ℕ) (command : Command) (walk : Walk) (old new : Opened) (found : Option PartRun) (rule : Option ℕ) → IsWalkOf device kept walk → walk.opened ≡ Some old → is_open (open_pass kept) pass ≡ true → is_end command ≡ false → IsNext device command old new found rule → IsWalkOf device ((Pass pass, command) ∷ kept) (record walk { opened = Some new; clash = or_else walk.clash found })
+pub walk_inside : (device : ℕ) (kept : Kept) (pass : ℕ) (command : Command) (walk : Walk) (old new : Opened) (found : Option Part) (rule : Option ℕ) → IsWalkOf device kept walk → walk.opened ≡ Some old → is_open (open_pass kept) pass ≡ true → is_end command ≡ false → IsNext device command old new found rule → IsWalkOf device ((Pass pass, command) ∷ kept) (record walk { opened = Some new; clash = or_else walk.clash found })
 walk_inside device kept pass command walk old new found rule m h i b next =
     let q = open_some (open_pass kept) pass i in
     inside device kept pass q.0 command walk old new found rule m q.1 (rw q.1 at i) b (opened_is device (open_pass kept) q.0 walk.opened old m.open_is q.1 h) next
 
 -- the end of the open pass
-pub walk_ended : (device : ℕ) (kept : Kept) (pass : ℕ) (command : Command) (walk : Walk) (old new : Opened) (found : Option PartRun) (rule : Option ℕ) → IsWalkOf device kept walk → walk.opened ≡ Some old → is_open (open_pass kept) pass ≡ true → is_end command ≡ true → IsNext device command old new found rule → IsWalkOf device ((Pass pass, command) ∷ kept) (record walk { opened = None; clash = or_else walk.clash found; verdict = or_else walk.verdict rule; ended = slice_set walk.ended pass true })
+pub walk_ended : (device : ℕ) (kept : Kept) (pass : ℕ) (command : Command) (walk : Walk) (old new : Opened) (found : Option Part) (rule : Option ℕ) → IsWalkOf device kept walk → walk.opened ≡ Some old → is_open (open_pass kept) pass ≡ true → is_end command ≡ true → IsNext device command old new found rule → IsWalkOf device ((Pass pass, command) ∷ kept) (record walk { opened = None; clash = or_else walk.clash found; verdict = or_else walk.verdict rule; ended = slice_set walk.ended pass true })
 walk_ended device kept pass command walk old new found rule m h i b next =
     let q = open_some (open_pass kept) pass i in
     ended device kept pass q.0 command walk old new found rule m q.1 (rw q.1 at i) b (opened_is device (open_pass kept) q.0 walk.opened old m.open_is q.1 h) next (open_number_below kept pass i)

@@ -1,36 +1,30 @@
 -- What contracts see of recorders and their recordings, and what calls of a recorder do.
-use Rattle.std.specs.Prelude.{◌≡◌, ℕ, ◌+◌, ◌<◌, ◌++◌, Bool, true, false, ◌||◌, List, [], ◌∷◌, Option, reverse, if◌then◌else◌}
+use Rattle.std.specs.Prelude.{◌≡◌, ℕ, ◌+◌, ◌-◌, ◌<◌, nat_lt, ◌++◌, Bool, true, false, ◌||◌, List, [], ◌∷◌, Option, reverse, if◌then◌else◌}
 use Rattle.wg_types.specs.declared.handles.ObjRef.{ObjRef}
 use Rattle.wg_types.specs.declared.commands.On.{On}
 use Rattle.wg_types.specs.declared.commands.On.TheVariants.{Encoder, Pass}
-use Rattle.wg_types.specs.declared.commands.Command.{Command}
+use Rattle.wg_types.specs.Commands.{Command}
 use Rattle.wg_model.specs.Walk.{begins, begins_pass, has_ended}
 use Rattle.wg_encoder.specs.declared.recorder.Noted.{Noted}
 use Rattle.wg_encoder.specs.declared.recorder.Noted.TheVariants.{Kept, Late}
-use Rattle.wg_encoder.specs.declared.recorder.Stage.{Stage}
-use Rattle.wg_encoder.specs.declared.recorder.Stage.TheVariants.{Recording as RecordingStage, Taken, Ended}
 
 -- A recording: the number of its recorder's device, and the commands in order, each with what it stands on.
 pub record RecordingValue : Type 0 where
   pub device : ℕ
   pub commands : List (On × Command)
 
--- A recorder: the number of its device, the encoder that it was opened with, the kept commands in order, its stage, and how
--- many passes were begun on it, late ones too.
+-- A recorder: the number of its device, the encoder that it was opened with, the kept commands in order, how often it
+-- was taken, and how many passes were begun on it, late ones too.
 pub record RecorderValue : Type 0 where
   pub device : ℕ
   pub encoder : Option ObjRef
   pub commands : List (On × Command)
-  pub stage : Stage
+  pub takes : ℕ
   pub passes : ℕ
-
-abbrev pub has_stopped : Stage → Bool
-has_stopped RecordingStage = false
-has_stopped _ = true
 
 -- whether a recorder's encoder has ended
 abbrev pub has_taken : RecorderValue → Bool
-has_taken recorder = has_stopped recorder.stage
+has_taken recorder = nat_lt 0 recorder.takes
 
 -- whether the pass that a command stands on has ended
 abbrev pub on_ended : On → List (On × Command) → Bool
@@ -57,21 +51,23 @@ abbrev pub IsBegunOn : On → ℕ → Type 0
 IsBegunOn Encoder passes = Unit {0}
 IsBegunOn (Pass pass) passes = pass < passes
 
--- the stage after a take, and after what it took was put back
-abbrev pub after_take : Stage → Stage
-after_take RecordingStage = Taken
-after_take _ = Ended
+-- how often a recorder was taken is counted up to this number
+abbrev pub most_takes : ℕ
+most_takes = 18446744073709551615
 
-abbrev pub after_put_back : Stage → Stage
-after_put_back Taken = RecordingStage
-after_put_back _ = Ended
+abbrev pub after_take : ℕ → ℕ
+after_take takes = if nat_lt takes most_takes then takes + 1 else takes
 
--- What the last take of a recorder gave. Its first take gave the commands, which begin as many passes as the recorder has;
--- a later one gave none.
-abbrev pub IsTakenAt : Stage → ℕ → List (On × Command) → Type 0
-IsTakenAt RecordingStage passes commands = ⊥
-IsTakenAt Taken passes commands = passes ≡ begins (reverse commands)
-IsTakenAt Ended passes commands = commands ≡ []
+-- What the last of so many takes of a recorder gave: the first gave the commands, which begin as many passes as the
+-- recorder has; a later one gave none.
+pub record IsTakenAt (takes passes : ℕ) (commands : List (On × Command)) : Type 0 where
+  pub was_taken : nat_lt 0 takes ≡ true
+  pub first : takes ≡ 1 → passes ≡ begins (reverse commands)
+  pub later : nat_lt 1 takes ≡ true → commands ≡ []
 
 abbrev pub IsTakenFrom : RecordingValue → RecorderValue → Type 0
-IsTakenFrom recording recorder = (recording.device ≡ recorder.device) × IsTakenAt recorder.stage recorder.passes recording.commands
+IsTakenFrom recording recorder = (recording.device ≡ recorder.device) × IsTakenAt recorder.takes recorder.passes recording.commands
+
+-- a recorder before the take that gave this
+abbrev pub restored : RecordingValue → RecorderValue → RecorderValue
+restored recording recorder = record recorder { commands = recording.commands; takes = recorder.takes - 1 }

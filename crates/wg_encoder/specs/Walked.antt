@@ -1,8 +1,9 @@
 -- What a recorder keeps in place of a walk over its commands, and that it is what the walk finds.
 use Rattle.std.specs.Prelude.{◌≡◌, ℕ, ◌<◌, false, List, ◌∷◌, Option, Some, None, length, slice_index_or}
-use Rattle.wg_types.specs.declared.parts.PartRun.{PartRun}
-use Rattle.wg_types.specs.declared.commands.Command.{Command}
-use Rattle.wg_types.specs.declared.commands.Command.TheVariants.{BeginComputePass}
+use Rattle.wg_types.specs.declared.parts.Part.{Part}
+use Rattle.wg_types.specs.Commands.{Command, bracket}
+use Rattle.wg_types.specs.declared.commands.Bracket.{Bracket}
+use Rattle.wg_types.specs.declared.commands.Bracket.TheVariants as brackets
 use Rattle.wg_model.specs.Compute.{ComputeSet, compute_set, compute_rules}
 use Rattle.wg_model.specs.Rules.{first_unmet, or_else}
 use Rattle.wg_model.specs.Commands.{named, common_rules}
@@ -14,9 +15,15 @@ use Rattle.wg_encoder.specs.declared.pass.PassState.TheVariants.{Refused, Comput
 use Rattle.wg_encoder.specs.declared.walk.Opened.{Opened}
 use Rattle.wg_encoder.specs.declared.walk.Walk.{Walk}
 
+abbrev pub IsComputeBy : Bracket → List Command → ComputeSet → Type 0
+IsComputeBy brackets.BeginComputePass earlier set = set ≡ compute_set earlier
+IsComputeBy brackets.EndPass earlier set = ⊥
+IsComputeBy brackets.PushGroup earlier set = ⊥
+IsComputeBy brackets.PopGroup earlier set = ⊥
+IsComputeBy brackets.Neither earlier set = ⊥
+
 abbrev pub IsComputeOf : Command → List Command → ComputeSet → Type 0
-IsComputeOf BeginComputePass earlier set = set ≡ compute_set earlier
-IsComputeOf _ earlier set = ⊥
+IsComputeOf begin earlier set = IsComputeBy (bracket begin) earlier set
 
 -- The state of a pass is what its commands give.
 abbrev pub IsStateOf : ℕ → Command → List Command → PassState → Type 0
@@ -50,7 +57,7 @@ pub record IsComputeTaken (device : ℕ) (old : ComputeSet) (command : Command) 
 
 -- What a command of the open pass does to the pass's state: it takes the command, and gives the clash of the scope that it
 -- completes, and the pass's rule.
-pub record IsNext (device : ℕ) (command : Command) (old new : Opened) (found : Option PartRun) (rule : Option ℕ) : Type 0 where
+pub record IsNext (device : ℕ) (command : Command) (old new : Opened) (found : Option Part) (rule : Option ℕ) : Type 0 where
   pub number : new.number ≡ old.number
   pub took : (begin : Command) (earlier : List Command) → IsStateOf device begin earlier old.state → IsStateOf device begin (command ∷ earlier) new.state
   pub clash_is : (begin : Command) (earlier : List Command) → IsStateOf device begin (command ∷ earlier) new.state → pass_rule device begin (command ∷ earlier) ≡ None → found ≡ first_clash (scopes_in begin earlier command)

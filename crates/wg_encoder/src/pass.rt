@@ -1,6 +1,6 @@
 //! One pass: its state, in place of a walk over its commands.
 ghost use Rattle.std.specs.Prelude.{◌≡◌, ◌∷◌, [], ℕ, List, Some, None, true, IfOk, OnOk, OnErr};
-ghost use Rattle.wg_types.specs.declared.commands.Command.{Command};
+ghost use Rattle.wg_types.specs.Commands.{Command};
 ghost use Rattle.wg_types.specs.Commands.{is_begin, is_end};
 ghost use Rattle.wg_model.specs.Rules.{or_else};
 ghost use Rattle.wg_model.specs.Scopes.{first_clash};
@@ -11,7 +11,7 @@ use crate::compute::ComputeState;
 use crate::named::check_named;
 use wg_types::NoMemory;
 use wg_types::commands::Command;
-use wg_types::parts::PartRun;
+use wg_types::parts::Part;
 
 /// The state of a pass: its first unmet rule, or what is set in it.
 #[derive(Drop)]
@@ -21,11 +21,13 @@ pub enum PassState {
 }
 
 /// The state of a pass that was just begun.
-pub fn begin(command: &Command) -> PassState
+pub fn begin(device: u64, command: &Command) -> PassState
     requires { is_begin command.now ≡ true }
-    ensures { (device : ℕ) → IsStateOf device command.now [] result }
+    ensures { IsStateOf device command.now [] result }
 {
-    let _ = command;
+    if let Some(rule) = check_named(device, command) {
+        return PassState::Refused(rule);
+    }
     PassState::Compute(ComputeState::new())
 }
 
@@ -40,7 +42,7 @@ pub fn rule(state: &PassState) -> Option<u16>
 }
 
 /// The clash of the scope that the last command completed. No command of a compute pass completes one.
-pub fn clash(state: &PassState, command: &Command) -> Option<PartRun>
+pub fn clash(state: &PassState, command: &Command) -> Option<Part>
     ensures { (device : ℕ) (begin : Command) (earlier : List Command) → IsStateOf device begin (command.now ∷ earlier) state.now → pass_rule device begin (command.now ∷ earlier) ≡ None → result ≡ first_clash (scopes_in begin earlier command.now) }
 {
     let _ = command;

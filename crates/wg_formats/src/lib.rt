@@ -1,14 +1,16 @@
-//! Texture formats, extents of mip levels, and the layout of texels in bytes.
+//! Texture formats, extents of mip levels, the layout of texels in bytes, and what handles know of buffers and textures.
 #![tactic(auto)]
 
 mod aspects;
 mod extents;
+mod handles;
 mod layout;
 
 pub use aspects::{copy_compatible, has_named, is_color, named_aspects, texel_from, texel_to};
 pub use extents::{
     covers_all, end_layer, extent, first_layer, has_no_texel, layer_count, spot_fits,
 };
+pub use handles::{buffer_of, no_texture, same_object, size_or_rest, texture_of, whole_spot};
 pub use layout::{bytes_fit, required};
 
 #[cfg(test)]

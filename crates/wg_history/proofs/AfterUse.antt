@@ -8,7 +8,7 @@ use Rattle.wg_model.proofs.Unmet.{all_met}
 use Rattle.std.specs.List.{list_any}
 use Rattle.wg_model.specs.Rules.{Rule, AreMet}
 use Rattle.wg_types.specs.declared.commands.On.{On}
-use Rattle.wg_types.specs.declared.commands.Command.{Command}
+use Rattle.wg_types.specs.Commands.{Command}
 use Rattle.wg_types.specs.declared.textures.TextureSpot.{TextureSpot}
 use Rattle.wg_types.specs.declared.textures.DataLayout.{DataLayout}
 use Rattle.wg_model.specs.Recorded.{buffers_of, textures_of, resources, any_named, any_resource, uses_resource}
@@ -39,7 +39,7 @@ completes_more setup past _ = omega arith
 completed_grows : (setup : Setup) (entry : Entry) (older : Past) → IsRun setup (entry ∷ older) → completed older ≤ completed (entry ∷ older)
 completed_grows setup entry older run = subst (λ (reply : Reply). completed older ≤ unwrap_or (completion entry.event reply.answer) (completed older)) (sym (newest setup entry older run)) (completes_more setup older entry.event)
 
-not_true : (b : Bool) → not b ≡ true → b ≡ false
+pub not_true : (b : Bool) → not b ≡ true → b ≡ false
 not_true true h = absurd (true≢false (sym h))
 not_true false h = refl
 
@@ -54,7 +54,7 @@ unfolding write_texture_rule
 write_texture_stands setup past texture spot layout size data_size e = not_true (is_destroyed setup past texture.number) (all_met (write_texture_list setup past texture spot layout size data_size) e).1.1.1.1.1.1.1.0
 
 -- A test that passes wherever another does passes on a list where that does.
-any_grows : {X : Type 0} (p q : X → Bool) → ((x : X) → q x ≡ true → p x ≡ true) → (xs : List X) → list_any q xs ≡ true → list_any p xs ≡ true
+pub any_grows : {X : Type 0} (p q : X → Bool) → ((x : X) → q x ≡ true → p x ≡ true) → (xs : List X) → list_any q xs ≡ true → list_any p xs ≡ true
 any_grows p q grows [] e = e
 any_grows p q grows (x ∷ xs) e = by_cases (or_cases (q x) (list_any q xs) e) (any_grows p q grows xs)
   where

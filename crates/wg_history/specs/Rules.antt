@@ -8,7 +8,7 @@ use Rattle.wg_types.specs.declared.textures.ViewDesc.{ViewDesc}
 use Rattle.wg_types.specs.declared.textures.TextureSpot.{TextureSpot}
 use Rattle.wg_types.specs.declared.textures.DataLayout.{DataLayout}
 use Rattle.wg_types.specs.declared.commands.On.{On}
-use Rattle.wg_types.specs.declared.commands.Command.{Command}
+use Rattle.wg_types.specs.Commands.{Command}
 use Rattle.wg_model.specs.Rules.{Rule, first_unmet, or_else}
 use Rattle.wg_model.specs.Buffers.{create_buffer_rules, write_buffer_rules}
 use Rattle.wg_model.specs.Textures.{create_texture_rules, create_view_rules}
@@ -47,7 +47,16 @@ destroy_rule setup past object = first_unmet ((10, is_own setup past has_memory 
 -- whether an event that comes after a past destroys object n
 abbrev pub destroys : Setup → Past → Event → ℕ → Bool
 destroys setup past (Destroy object) n = object.number == n && is_none (destroy_rule setup past object)
-destroys setup past _ n = false
+destroys setup past (CreateBuffer info) n = false
+destroys setup past (CreateTexture info) n = false
+destroys setup past (CreateView texture desc) n = false
+destroys setup past CreateEncoder n = false
+destroys setup past (Finish encoder recording) n = false
+destroys setup past (Late encoder) n = false
+destroys setup past (Submit buffers) n = false
+destroys setup past (WriteBuffer buffer offset size) n = false
+destroys setup past (WriteTexture texture spot layout size data_size) n = false
+destroys setup past (Complete op) n = false
 
 -- whether object n is destroyed: some destroy of it met its rules at its place
 abbrev pub is_destroyed : Setup → Past → ℕ → Bool
@@ -90,14 +99,24 @@ is_genuine setup past handle =
 abbrev pub any_forged : Setup → Past → List (On × Command) → Bool
 any_forged setup past commands = list_any (λ kept. list_any (λ object. not (is_genuine setup past object.0)) (named kept.1)) commands
 
--- whether an event ends the encoder n, as its finish does whether or not it is accepted
-abbrev pub ends_encoder : Setup → Event → ℕ → Bool
-ends_encoder setup (Finish encoder recording) n = encoder.device == setup.serial && encoder.number == n
-ends_encoder setup _ n = false
+-- whether an event that comes after a past ends the encoder n: a finish of it does, whether or not it is accepted. A finish
+-- that names a number which no encoder of this device has ends nothing, also if one gets that number later.
+abbrev pub ends_encoder : Setup → Past → Event → ℕ → Bool
+ends_encoder setup past (Finish encoder recording) n = encoder.number == n && is_own setup past is_encoder encoder
+ends_encoder setup past (CreateBuffer info) n = false
+ends_encoder setup past (CreateTexture info) n = false
+ends_encoder setup past (CreateView texture desc) n = false
+ends_encoder setup past CreateEncoder n = false
+ends_encoder setup past (Late encoder) n = false
+ends_encoder setup past (Submit buffers) n = false
+ends_encoder setup past (WriteBuffer buffer offset size) n = false
+ends_encoder setup past (WriteTexture texture spot layout size data_size) n = false
+ends_encoder setup past (Destroy object) n = false
+ends_encoder setup past (Complete op) n = false
 
 abbrev pub has_finished : Setup → Past → ℕ → Bool
 has_finished setup [] n = false
-has_finished setup (entry ∷ older) n = ends_encoder setup entry.event n || has_finished setup older n
+has_finished setup (entry ∷ older) n = ends_encoder setup older entry.event n || has_finished setup older n
 
 -- The rules of finish that go before those of the commands (WebGPU, "finish"): 10 the encoder is one of this device; 12 it
 -- is valid; 180 it has not ended.
@@ -127,7 +146,16 @@ finish_rule setup past encoder recording =
 -- accepted
 abbrev pub consumes : Setup → Past → Event → ℕ → Bool
 consumes setup past (Submit buffers) n = list_any (λ buffer. buffer.number == n && is_own setup past is_command_buffer buffer) buffers
-consumes setup past _ n = false
+consumes setup past (CreateBuffer info) n = false
+consumes setup past (CreateTexture info) n = false
+consumes setup past (CreateView texture desc) n = false
+consumes setup past CreateEncoder n = false
+consumes setup past (Finish encoder recording) n = false
+consumes setup past (Late encoder) n = false
+consumes setup past (WriteBuffer buffer offset size) n = false
+consumes setup past (WriteTexture texture spot layout size data_size) n = false
+consumes setup past (Destroy object) n = false
+consumes setup past (Complete op) n = false
 
 abbrev pub is_consumed : Setup → Past → ℕ → Bool
 is_consumed setup [] n = false

@@ -1,9 +1,11 @@
 -- Notes of accesses.
 use Rattle.std.proofs.Common.{◌≡◌, ℕ, ◌+◌, ◌<◌, ◌&&◌, List, [], ◌∷◌, length, drop, get_or, Bool, true, false, ◌==◌, refl, ap, sym, ◌∙◌, if◌then◌else◌, subst, eqb-true, nat_lt, arith}
 use Rattle.std.proofs.lemmas.List.{at_drop_more}
-use Rattle.wg_orders.specs.Steps.{Cells, Kind, Step, cell_spot, cell_line, cell_lo, cell_hi, kind_writes, kind_unsets}
+use Rattle.wg_rows.specs.Runs.{Cells, cell_spot, cell_line, cell_lo, cell_hi}
+use Rattle.wg_rows.specs.Uses.{Kind, kind_writes, kind_unsets}
+use Rattle.wg_orders.specs.Steps.{Step}
 use Rattle.std.proofs.lemmas.Bool.{ltb-true}
-use Rattle.wg_orders.specs.Rows.{list_eq}
+use Rattle.wg_rows.specs.Rows.{list_eq}
 use Rattle.wg_num.specs.Runs.{Runs, AreApart, is_in, with_run, cut_runs}
 use Rattle.wg_num.proofs.Members.{with_apart, cut_apart}
 use Rattle.wg_init.proofs.Effects.{runs_with}

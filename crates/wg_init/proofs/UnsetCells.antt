@@ -1,23 +1,25 @@
 -- The cells found that a step reads and that are unset are those of the definition.
 use Rattle.std.proofs.Common.{◌≡◌, ℕ, ◌+◌, ◌<◌, ◌≤◌, min, max, List, [], ◌∷◌, ◌++◌, map, Bool, true, false, not, ◌&&◌, ◌||◌, refl, ap, ap₂, sym, ◌∙◌, ◌⊎◌, inl, inr, arith, if◌then◌else◌, true≢false, nat_lt, filter}
 use Rattle.std.proofs.lemmas.Bool.{lt-ltb, or_cases, and_parts}
-use Rattle.wg_orders.specs.Steps.{Cells, Bytes, Layers, Slices, Queries, Kind, Write, Step, Cell, Byte, Texels, Slice, Query, cell_sort, cell_line, cell_lo, cell_hi, cell_widen, cell_spot, cell_run, kind_reads, same_kind, covers, reads, writes, printed_accesses}
+use Rattle.wg_rows.specs.Runs.{Cells, Bytes, Layers, Slices, Queries, Cell, Byte, Texels, Slice, Query, cell_sort, cell_line, cell_lo, cell_hi, cell_widen, cell_spot, cell_run, covers}
+use Rattle.wg_rows.specs.Uses.{Kind, Write, kind_reads, same_kind, printed_accesses}
+use Rattle.wg_orders.specs.Steps.{Step, reads, writes}
 use Rattle.wg_orders.specs.Trace.{Item, is_unset, steps_of, needs, cells_of, to_clear}
-use Rattle.wg_orders.specs.Rows.{list_eq, Spot, in_range, covers_spot, put, EachRow, Apart, any_row, has_value, Alike, Fits, AllFit}
-use Rattle.wg_orders.specs.Cut.{put_all}
+use Rattle.wg_rows.specs.Rows.{list_eq, Spot, in_range, covers_spot, put, EachRow, Apart, any_row, has_value, Alike, Fits, AllFit}
+use Rattle.wg_rows.specs.Cut.{put_all}
 use Rattle.wg_num.specs.Runs.{Runs, in_run, is_in, AreApart, full_run, missing_runs}
 use Rattle.wg_bars.specs.Kept.{rows_in}
 use Rattle.wg_init.specs.Rows.{row_of, row_object, SetRows, runs_in, line_object, set_at, KeepsSet, RunsApart}
 use Rattle.wg_init.specs.Effects.{is_full}
 use Rattle.wg_init.specs.Unset.{written, cells_at, unset_in, unset_rows}
-use Rattle.wg_orders.proofs.Rows.{any, Each_value, put_const, put_any, list_eq_true}
-use Rattle.wg_orders.proofs.Runs.{cell_widens, single_cell}
-use Rattle.wg_orders.proofs.Printed.{put_apart, respects}
-use Rattle.wg_orders.proofs.Told.{accesses_tell, accesses_printed}
+use Rattle.wg_rows.proofs.Put.{any, Each_value, put_const, put_any, list_eq_true}
+use Rattle.wg_rows.proofs.Runs.{cell_widens, single_cell}
+use Rattle.wg_rows.proofs.Printed.{put_apart, respects}
+use Rattle.wg_rows.proofs.Told.{accesses_tell, accesses_printed}
 use Rattle.wg_orders.proofs.Clears.{has_cell, write_rows, each_write}
 use Rattle.wg_orders.proofs.Built.{step_read_among}
 use Rattle.wg_num.proofs.Members.{missing_in, missing_apart}
-use Rattle.wg_bars.proofs.Parts.{covered}
+use Rattle.wg_rows.proofs.Sets.{covered}
 use Rattle.wg_init.proofs.Effects.{row_object_is}
 
 -- Runs that end no later than a number.

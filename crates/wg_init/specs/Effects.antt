@@ -1,8 +1,10 @@
 -- What accesses make of the cells that are set.
 use Rattle.std.specs.Prelude.{ℕ, ◌≡◌, Bool, ◌&&◌, List, [], ◌∷◌, ◌==◌, nat_lt, if◌then◌else◌}
 use Rattle.wg_num.specs.Runs.{Runs, insert_run, remove_run}
-use Rattle.wg_orders.specs.Rows.{list_eq}
-use Rattle.wg_orders.specs.Steps.{Cells, Kind, cell_line, cell_lo, cell_hi, kind_writes, kind_unsets, Step}
+use Rattle.wg_rows.specs.Rows.{list_eq}
+use Rattle.wg_rows.specs.Runs.{Cells, cell_line, cell_lo, cell_hi}
+use Rattle.wg_rows.specs.Uses.{Kind, kind_writes, kind_unsets}
+use Rattle.wg_orders.specs.Steps.{Step}
 use Rattle.wg_bars.specs.Kept.{rows_in, over}
 use Rattle.wg_init.specs.Rows.{row_line, row_of, row_object, SetRow, SetRows}
 

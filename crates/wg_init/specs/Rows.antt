@@ -3,8 +3,9 @@ use Rattle.std.specs.Prelude.{ℕ, ◌≡◌, Bool, not, List, [], ◌∷◌, if
 use Rattle.wg_init.specs.declared.cell_row.CellRow.{CellRow}
 use Rattle.wg_init.specs.declared.cell_row.CellRow.TheVariants.{Buffer as BufferRow, Queries as QueryRow, Layers as LayerRow, Slices as SliceRow}
 use Rattle.wg_num.specs.Runs.{Runs, is_in, AreApart}
-use Rattle.wg_orders.specs.Rows.{list_eq, Spot}
-use Rattle.wg_orders.specs.Steps.{aspect_number, Cells, Bytes, Layers, Slices, Queries, Cell, cell_spot, Step}
+use Rattle.wg_rows.specs.Rows.{list_eq, Spot}
+use Rattle.wg_rows.specs.Runs.{aspect_number, Cells, Bytes, Layers, Slices, Queries, Cell, cell_spot}
+use Rattle.wg_orders.specs.Steps.{Step}
 use Rattle.wg_orders.specs.Trace.{is_unset}
 use Rattle.wg_bars.specs.Kept.{rows_in}
 

@@ -1,8 +1,10 @@
 -- The cells that a step reads and that are unset.
 use Rattle.std.specs.Prelude.{◌&&◌, min, List, [], ◌∷◌, if◌then◌else◌}
 use Rattle.wg_num.specs.Runs.{Runs, missing_runs}
-use Rattle.wg_orders.specs.Cut.{put_all}
-use Rattle.wg_orders.specs.Steps.{Cells, Kind, Write, cell_sort, cell_line, cell_lo, cell_hi, cell_widen, kind_reads, same_kind, Step}
+use Rattle.wg_rows.specs.Cut.{put_all}
+use Rattle.wg_rows.specs.Runs.{Cells, cell_sort, cell_line, cell_lo, cell_hi, cell_widen}
+use Rattle.wg_rows.specs.Uses.{Kind, Write, kind_reads, same_kind}
+use Rattle.wg_orders.specs.Steps.{Step}
 use Rattle.wg_orders.specs.Trace.{Item, to_clear, clear_of}
 use Rattle.wg_bars.specs.Kept.{rows_in}
 use Rattle.wg_init.specs.Rows.{row_of, row_object, SetRows, runs_in}

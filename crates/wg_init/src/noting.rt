@@ -1,16 +1,16 @@
 //! What accesses make of the cells that are set.
 ghost use Rattle.std.specs.Prelude.{◌≡◌, ◌≤◌, ◌++◌, IfOk, OnOk, OnErr};
-ghost use Rattle.wg_orders.specs.Steps.{cell_lo, cell_hi};
+ghost use Rattle.wg_rows.specs.Runs.{cell_lo, cell_hi};
 ghost use Rattle.wg_bars.specs.Kept.{with_notes};
 ghost use Rattle.wg_init.specs.Effects.{effect, with_effect, AreNotes, IsAfter, NotesOne};
 
 use crate::cell_row::CellRow;
-use crate::cells::{row_object, row_of, same_row, unsets, writes};
+use crate::cells::{row_object, row_of, same_row};
 use std::alloc::Global;
-use wg_bars::cell_runs::{cell_hi, cell_lo};
 use wg_bars::kept::{Notes, apply, current, grow, most, reserve_to, set_note};
 use wg_entry::NoMemory;
 use wg_num::RunSet;
+use wg_rows::cell_runs::{cell_hi, cell_lo, unsets, writes};
 use wg_types::items::Items;
 use wg_types::parts::{Cells, Kind};
 
@@ -29,7 +29,7 @@ fn effect(set: &RunSet, kind: Kind, lo: u64, hi: u64) -> Result<RunSet, NoMemory
 }
 
 /// Adds copies of rows at the end.
-pub fn push_copies(
+pub(crate) fn push_copies(
     out: &mut Vec<(CellRow, RunSet)>,
     rows: &[(CellRow, RunSet)],
 ) -> Result<(), NoMemory>
@@ -75,7 +75,7 @@ fn note_one(
     fresh: &mut Notes<(CellRow, RunSet)>,
     access: (Cells, Kind),
 ) -> Result<(), NoMemory>
-    ensures { OnOk result (NotesOne kept.now fresh.old.items access fresh.new.items) }
+    ensures { OnOk result (NotesOne kept.now fresh.old access fresh.new) }
 {
     if !writes(access.1) {
         return Ok(());
@@ -84,12 +84,7 @@ fn note_one(
         return Ok(());
     }
     let object = row_object(row_of(access.0));
-    let rows = with_effect(
-        alloc,
-        current(kept, fresh.as_slice(), object),
-        access.0,
-        access.1,
-    )?;
+    let rows = with_effect(alloc, current(kept, fresh, object), access.0, access.1)?;
     set_note(fresh, object, Items::from_vec(rows))?;
     Ok(())
 }
@@ -101,9 +96,9 @@ pub fn notes_of(
     fresh: Notes<(CellRow, RunSet)>,
     accesses: &[(Cells, Kind)],
 ) -> Result<Notes<(CellRow, RunSet)>, NoMemory>
-    ensures notes { IfOk result (λ v. AreNotes kept.now fresh.items accesses.now v.items) }
+    ensures notes { IfOk result (λ v. AreNotes kept.now fresh accesses.now v) }
     ensures noted { IfOk result (λ v.
-        IsAfter (with_notes kept.now fresh.items) accesses.now (with_notes kept.now v.items)) }
+        IsAfter (with_notes kept.now fresh) accesses.now (with_notes kept.now v)) }
 {
     let mut fresh = fresh;
     for access in accesses {
@@ -121,8 +116,8 @@ pub fn note_in(
     ensures unchanged { OnErr result (kept.new.items ≡ kept.old.items) }
 {
     let alloc = *kept.allocator();
-    let fresh = notes_of(alloc, kept.as_slice(), Vec::new(alloc), accesses)?;
-    let top = most(fresh.as_slice());
+    let fresh = notes_of(alloc, kept.as_slice(), Notes::new(alloc), accesses)?;
+    let top = most(&fresh);
     reserve_to(kept, top)?;
     grow(kept, top);
     apply(kept, fresh);

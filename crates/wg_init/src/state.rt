@@ -64,7 +64,12 @@ impl CellState {
             KeepsSet self.now (steps_of trace) → map written v.items ≡ cleared trace step.now) }
     {
         let alloc = *self.kept.allocator();
-        let found = unset_rows(alloc, self.kept.as_slice(), &[], step.accesses.as_slice())?;
+        let found = unset_rows(
+            alloc,
+            self.kept.as_slice(),
+            &Notes::new(alloc),
+            step.accesses.as_slice(),
+        )?;
         let cells = cells_of(alloc, found.as_slice())?;
         Ok(cells)
     }
@@ -91,9 +96,9 @@ impl CellState {
     /// Puts notes in place, in room that was taken for them. It takes no memory.
     pub fn place(&mut self, room: Vec<Items<(CellRow, RunSet)>>, fresh: Notes<(CellRow, RunSet)>)
         requires empty { room.items ≡ [] }
-        requires enough { HasRoom self.old fresh.items (vec_capacity room) }
-        requires apart { RunsApart (with_notes self.old fresh.items) }
-        ensures { SameRows (with_notes self.old fresh.items) self.new }
+        requires enough { HasRoom self.old fresh (vec_capacity room) }
+        requires apart { RunsApart (with_notes self.old fresh) }
+        ensures { SameRows (with_notes self.old fresh) self.new }
     {
         place(&mut self.kept, room, fresh);
     }

@@ -1,21 +1,22 @@
 //! The cells that accesses read and that are not set.
-ghost use Rattle.std.specs.Prelude.{◌≡◌, IfOk, map};
-ghost use Rattle.wg_orders.specs.Cut.{put_all};
-ghost use Rattle.wg_orders.specs.Steps.{cell_sort, same_kind};
+ghost use Rattle.std.specs.Prelude.{◌≡◌, [], IfOk, OnOk, map};
+ghost use Rattle.wg_rows.specs.Cut.{put_all};
+ghost use Rattle.wg_rows.specs.Runs.{cell_sort};
+ghost use Rattle.wg_rows.specs.Uses.{same_kind};
 ghost use Rattle.wg_num.specs.Runs.{AreApart};
 ghost use Rattle.wg_bars.specs.Kept.{with_notes};
 ghost use Rattle.wg_init.specs.Rows.{row_line, runs_in};
 ghost use Rattle.wg_init.specs.Unset.{cells_at, unset_rows};
 
 use crate::cell_row::CellRow;
-use crate::cells::{cells_to, reads, row_object, row_of, same_row};
+use crate::cells::{row_object, row_of, same_row};
 use std::alloc::Global;
-use wg_bars::cell_runs::{cell_hi, cell_lo};
-use wg_bars::kept::current;
-use wg_bars::rows::put;
+use wg_bars::kept::{Notes, current};
 use wg_entry::NoMemory;
 use wg_num::RunSet;
 use wg_num::runs::missing_runs;
+use wg_rows::cell_runs::{cell_hi, cell_lo, cells_to, reads};
+use wg_rows::rows::put_all;
 use wg_types::items::Items;
 use wg_types::parts::{Cells, Kind};
 
@@ -32,25 +33,31 @@ pub fn runs_in(rows: &[(CellRow, RunSet)], row: CellRow) -> &[(u64, u64)]
     &[]
 }
 
-/// Adds runs of the row of a run to cells in printed form.
-fn put_cells(
-    alloc: Global,
-    rows: Vec<(Cells, Kind)>,
-    run: Cells,
-    runs: &[(u64, u64)],
-) -> Result<Vec<(Cells, Kind)>, NoMemory>
-    ensures { IfOk result
-        (λ v. v.items ≡ put_all cell_sort same_kind (cells_at run runs.now) rows.items) }
+/// Runs as cells of the row of a run, each written.
+fn cells_at(alloc: Global, run: Cells, runs: &[(u64, u64)]) -> Result<Vec<(Cells, Kind)>, NoMemory>
+    ensures { IfOk result (λ v. v.items ≡ cells_at run runs.now) }
 {
-    let mut out = rows;
+    let mut out = Vec::with_capacity(alloc, runs.len())?;
     for part in runs {
-        out = put(
-            alloc,
-            out.as_slice(),
-            (cells_to(run, part.0, part.1), Kind::Write),
-        )?;
+        out.push((cells_to(run, part.0, part.1), Kind::Write))?;
     }
     Ok(out)
+}
+
+/// Adds runs of the row of a run at the end of other cells.
+#[tactic(auto, using(wg_rows::proofs::Chained::put_all_more))]
+fn push_cells(
+    cells: &mut Vec<(Cells, Kind)>,
+    run: Cells,
+    runs: &[(u64, u64)],
+) -> Result<(), NoMemory>
+    ensures { OnOk result (put_all cell_sort same_kind cells.new.items []
+        ≡ put_all cell_sort same_kind (cells_at run runs.now)
+        (put_all cell_sort same_kind cells.old.items [])) }
+{
+    let more = cells_at(*cells.allocator(), run, runs)?;
+    cells.extend_from_slice(more.as_slice())?;
+    Ok(())
 }
 
 /// The cells that accesses read and that are not set in kept rows with notes over them, in printed
@@ -58,13 +65,13 @@ fn put_cells(
 pub fn unset_rows(
     alloc: Global,
     kept: &[Items<(CellRow, RunSet)>],
-    fresh: &[(u64, Items<(CellRow, RunSet)>)],
+    fresh: &Notes<(CellRow, RunSet)>,
     accesses: &[(Cells, Kind)],
 ) -> Result<Vec<(Cells, Kind)>, NoMemory>
     ensures { IfOk result
         (λ v. v.items ≡ unset_rows (with_notes kept.now fresh.now) accesses.now) }
 {
-    let mut out = Vec::new(alloc);
+    let mut cells = Vec::new(alloc);
     let mut i = accesses.len();
     while i > 0 {
         i -= 1;
@@ -73,10 +80,10 @@ pub fn unset_rows(
             let row = row_of(access.0);
             let runs = runs_in(current(kept, fresh, row_object(row)), row);
             let missing = missing_runs(alloc, runs, cell_lo(access.0), cell_hi(access.0))?;
-            out = put_cells(alloc, out, access.0, missing.as_slice())?;
+            push_cells(&mut cells, access.0, missing.as_slice())?;
         }
     }
-    Ok(out)
+    put_all(alloc, Vec::new(alloc), cells.as_slice())
 }
 
 /// The cells of rows.

@@ -6,17 +6,19 @@ use Rattle.std.proofs.lemmas.List.Folds.{list_any-append}
 use Rattle.wg_types.specs.declared.steps.StepName.TheVariants as name
 use Rattle.wg_types.specs.declared.commands.On.{On}
 use Rattle.wg_types.specs.declared.commands.On.TheVariants.{Encoder, Pass}
-use Rattle.wg_types.specs.declared.commands.Command.{Command}
-use Rattle.wg_types.specs.declared.commands.Command.TheVariants.{CopyBufferToBuffer, CopyBufferToTexture, CopyTextureToBuffer, CopyTextureToTexture, ClearBuffer}
+use Rattle.wg_types.specs.Commands.{Command}
+use Rattle.wg_types.specs.declared.commands.CommandOf.TheVariants.{CopyBufferToBuffer, CopyBufferToTexture, CopyTextureToBuffer, CopyTextureToTexture, ClearBuffer}
 use Rattle.wg_types.specs.declared.textures.TextureInfo.{TextureInfo}
 use Rattle.wg_types.specs.declared.textures.TextureSpot.{TextureSpot}
-use Rattle.wg_orders.specs.Steps.{Part, Step, StepPlace, set_of}
-use Rattle.wg_orders.specs.Laws.{object_of, Unused}
+use Rattle.wg_rows.specs.Runs.{Part, object_of}
+use Rattle.wg_orders.specs.Steps.{Step, StepPlace, set_of}
+use Rattle.wg_orders.specs.Laws.{Unused}
 use Rattle.wg_orders.proofs.Unused.{unused_none, unused_one, unused_append}
 use Rattle.wg_model.specs.Subresources.{copied_cells, has_no_texel}
 use Rattle.wg_model.specs.TexelCopies.{whole_spot}
 use Rattle.wg_model.specs.Commands.{texture_of}
 use Rattle.wg_model.specs.Walk.{PassSoFar, open_pass}
+use Rattle.wg_model.specs.Commands.{size_or_rest}
 use Rattle.wg_model.specs.Recorded.{Touch, touching, target_kind, copied_to, copied_from, range_touches, buffer_to_buffer_touches, buffer_to_texture_touches, texture_to_buffer_touches, texture_to_texture_touches, write_buffer_step, write_texture_step, unless, encoder_steps, steps_at, recorded_steps, resources, uses_resource}
 use Rattle.wg_model.specs.StepLaws.{RecordedSpare}
 use Rattle.wg_model.proofs.StepLaws.{pass_none}
@@ -78,8 +80,8 @@ encoder_spares place (CopyTextureToTexture source source_mip source_origin targe
     let others : AreTwo n source.reference.number target.reference.number = two_others n source.reference.number target.reference.number e in
     if_unused (has_no_texel size) n (touching place name.CopyTextureToTexture touches) (touching_spares place name.CopyTextureToTexture touches n (joined_away n (copied_from source.reference.number (texture_of source) from size) (copied_to target.reference.number (texture_of target) to size) (copied_from_away n source.reference.number (texture_of source) from size others.0) (copied_to_away n target.reference.number (texture_of target) to size others.1)))
 encoder_spares place (ClearBuffer buffer offset size) n e =
-    let touches : List Touch = range_touches buffer.reference.number offset size in
-    if_unused (size == 0) n (touching place name.ClearBuffer touches) (touching_spares place name.ClearBuffer touches n (or_first (buffer.reference.number == n) false e, tt))
+    let touches : List Touch = range_touches buffer.reference.number offset (size_or_rest buffer offset size) in
+    if_unused (size_or_rest buffer offset size == 0) n (touching place name.ClearBuffer touches) (touching_spares place name.ClearBuffer touches n (or_first (buffer.reference.number == n) false e, tt))
 encoder_spares place _ n e = unused_none n
 
 at_spares : (place : StepPlace) (opened : Option PassSoFar) (on : On) (command : Command) (n : ℕ) → list_any (λ r. r == n) (resources command) ≡ false → Unused n (steps_at place opened on command)

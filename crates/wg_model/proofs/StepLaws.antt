@@ -4,17 +4,20 @@ use Rattle.wg_types.specs.declared.steps.QueueWrite.TheVariants.{Buffer as Buffe
 use Rattle.wg_types.specs.declared.steps.StepName.TheVariants as name
 use Rattle.wg_types.specs.declared.commands.On.{On}
 use Rattle.wg_types.specs.declared.commands.On.TheVariants.{Encoder, Pass}
-use Rattle.wg_types.specs.declared.commands.Command.{Command}
-use Rattle.wg_types.specs.declared.commands.Command.TheVariants.{CopyBufferToBuffer, CopyBufferToTexture, CopyTextureToBuffer, CopyTextureToTexture, ClearBuffer}
+use Rattle.wg_types.specs.Commands.{Command}
+use Rattle.wg_types.specs.declared.commands.CommandOf.TheVariants.{CopyBufferToBuffer, CopyBufferToTexture, CopyTextureToBuffer, CopyTextureToTexture, ClearBuffer}
 use Rattle.wg_types.specs.declared.textures.TextureInfo.{TextureInfo}
 use Rattle.wg_types.specs.declared.textures.TextureSpot.{TextureSpot}
 use Rattle.wg_types.specs.declared.textures.DataLayout.{DataLayout}
-use Rattle.wg_orders.specs.Steps.{Cells, Kind, Write, Step, StepPlace}
+use Rattle.wg_rows.specs.Runs.{Cells}
+use Rattle.wg_rows.specs.Uses.{Kind, Write}
+use Rattle.wg_orders.specs.Steps.{Step, StepPlace}
 use Rattle.wg_model.specs.Formats.{texel_to}
 use Rattle.wg_model.specs.Subresources.{copied_cells, has_no_texel}
 use Rattle.wg_model.specs.TexelCopies.{whole_spot}
 use Rattle.wg_model.specs.Commands.{texture_of}
 use Rattle.wg_model.specs.Walk.{PassSoFar, open_pass}
+use Rattle.wg_model.specs.Commands.{size_or_rest}
 use Rattle.wg_model.specs.Recorded.{Touch, touching, read_cells, written_cells, bytes_at, target_kind, copied_to, copied_from, layout_bytes, range_touches, buffer_to_buffer_touches, buffer_to_texture_touches, texture_to_buffer_touches, texture_to_texture_touches, write_buffer_step, write_texture_step, unless, encoder_steps, steps_within, steps_at, recorded_steps}
 use Rattle.wg_model.specs.StepLaws.{IsOwnStep, WritesAreDeclared, RecordedAreDeclared}
 use Rattle.wg_model.proofs.Touching.{AreProper, touching_own, read_proper, written_proper, joined_proper}
@@ -89,8 +92,8 @@ encoder_own place (CopyTextureToTexture source source_mip source_origin target t
     let touches : List Touch = texture_to_texture_touches source.reference.number (texture_of source) (whole_spot source_mip source_origin) target.reference.number (texture_of target) (whole_spot target_mip target_origin) size in
     one_own (has_no_texel size) (touching place name.CopyTextureToTexture touches) k s (touching_own place name.CopyTextureToTexture touches refl (textures_proper source.reference.number (texture_of source) (whole_spot source_mip source_origin) target.reference.number (texture_of target) (whole_spot target_mip target_origin) size)) e
 encoder_own place (ClearBuffer buffer offset size) k s e =
-    let touches : List Touch = range_touches buffer.reference.number offset size in
-    one_own (size == 0) (touching place name.ClearBuffer touches) k s (touching_own place name.ClearBuffer touches refl (range_proper buffer.reference.number offset size)) e
+    let touches : List Touch = range_touches buffer.reference.number offset (size_or_rest buffer offset size) in
+    one_own (size_or_rest buffer offset size == 0) (touching place name.ClearBuffer touches) k s (touching_own place name.ClearBuffer touches refl (range_proper buffer.reference.number offset (size_or_rest buffer offset size))) e
 encoder_own place _ k s e = absurd (no_step s k e)
 
 -- A pass makes no step yet.

@@ -1,5 +1,5 @@
 -- The objects that commands name, and the rules of each command (WebGPU, "Command Encoding").
-use Rattle.std.specs.Prelude.{ℕ, ◌+◌, ◌%◌, Bool, true, false, not, ◌&&◌, ◌==◌, nat_lt, nat_le, List, [], ◌∷◌, ◌++◌}
+use Rattle.std.specs.Prelude.{ℕ, ◌+◌, ◌%◌, Bool, true, false, not, ◌&&◌, ◌==◌, nat_lt, nat_le, List, [], ◌∷◌, ◌++◌, ◌-◌, Option, unwrap_or, if◌then◌else◌}
 use Rattle.wg_types.specs.Handles.{HandleValue}
 use Rattle.wg_types.specs.declared.handles.ObjRef.{ObjRef}
 use Rattle.wg_types.specs.declared.handles.BufferInfo.{BufferInfo}
@@ -8,8 +8,14 @@ use Rattle.wg_types.specs.declared.handles.Info.TheVariants.{Buffer, Texture}
 use Rattle.wg_types.specs.declared.formats.Format.TheVariants.{R8Unorm}
 use Rattle.wg_types.specs.declared.textures.TextureDim.TheVariants.{Two}
 use Rattle.wg_types.specs.declared.textures.TextureInfo.{TextureInfo}
-use Rattle.wg_types.specs.declared.commands.Command.{Command}
-use Rattle.wg_types.specs.declared.commands.Command.TheVariants.{CopyBufferToBuffer, CopyBufferToTexture, CopyTextureToBuffer, CopyTextureToTexture, ClearBuffer, PopDebugGroup}
+use Rattle.wg_types.specs.Wanted.{admits}
+use Rattle.wg_types.specs.Kinds.{kind_of}
+use Rattle.wg_types.specs.declared.wanted.Wanted.{Wanted}
+pub use Rattle.wg_types.specs.Commands.{Command, named}
+use Rattle.wg_types.specs.Commands.{bracket}
+use Rattle.wg_types.specs.declared.commands.Bracket.{Bracket}
+use Rattle.wg_types.specs.declared.commands.Bracket.TheVariants as brackets
+use Rattle.wg_types.specs.declared.commands.CommandOf.TheVariants.{BeginComputePass, CopyBufferToBuffer, CopyBufferToTexture, CopyTextureToBuffer, CopyTextureToTexture, ClearBuffer, PushDebugGroup, PopDebugGroup, End}
 use Rattle.wg_model.specs.Rules.{Rule}
 use Rattle.wg_model.specs.Buffers.{copy_src, copy_dst, has_usage}
 use Rattle.wg_model.specs.TexelCopies.{buffer_to_texture_rules, texture_to_buffer_rules, texture_to_texture_rules, whole_spot}
@@ -30,6 +36,14 @@ buffer_or_none _ = no_buffer
 abbrev pub buffer_of : HandleValue → BufferInfo
 buffer_of handle = buffer_or_none handle.info
 
+-- what remains of a buffer from an offset on, which of an invalid one is nothing
+abbrev pub rest_of : HandleValue → ℕ → ℕ
+rest_of buffer offset = if buffer.valid then (buffer_of buffer).size - offset else 0
+
+-- a size, or what remains where none is given
+abbrev pub size_or_rest : HandleValue → ℕ → Option ℕ → ℕ
+size_or_rest buffer offset size = unwrap_or size (rest_of buffer offset)
+
 abbrev pub is_texture : Info → Bool
 is_texture (Texture info) = true
 is_texture _ = false
@@ -46,28 +60,18 @@ texture_or_none _ = no_texture
 abbrev pub texture_of : HandleValue → TextureInfo
 texture_of handle = texture_or_none handle.info
 
--- An object that a command names, with the kind that it has to be of.
-abbrev pub Named : Type 0
-Named = HandleValue × (Info → Bool)
-
--- the objects that a command names, in the order of its keys
-abbrev pub named : Command → List Named
-named (CopyBufferToBuffer source source_offset target target_offset size) = (source, is_buffer) ∷ ((target, is_buffer) ∷ [])
-named (CopyBufferToTexture buffer layout texture spot size) = (buffer, is_buffer) ∷ ((texture, is_texture) ∷ [])
-named (CopyTextureToBuffer buffer layout texture spot size) = (buffer, is_buffer) ∷ ((texture, is_texture) ∷ [])
-named (CopyTextureToTexture source source_mip source_origin target target_mip target_origin size) = (source, is_texture) ∷ ((target, is_texture) ∷ [])
-named (ClearBuffer buffer offset size) = (buffer, is_buffer) ∷ []
-named _ = []
-
 -- The rules that go before the others of a command, of one object after another (WebGPU, "Device Timeline" and "Invalid
 -- Internal Objects & Contagious Invalidity"): 10 it is of the recorder's device and of the kind that is asked for, as far as its handle tells; 12 it is
 -- valid.
-abbrev pub common_rules : ℕ → List Named → List Rule
-common_rules device [] = []
-common_rules device (object ∷ objects) =
-    (10, object.0.reference.device == device && object.1 object.0.info)
+abbrev pub object_rules : ℕ → HandleValue × Wanted → List Rule
+object_rules device object =
+    (10, object.0.reference.device == device && admits object.1 (kind_of object.0.info))
     ∷ ((12, object.0.valid)
-    ∷ common_rules device objects)
+    ∷ [])
+
+abbrev pub common_rules : ℕ → List (HandleValue × Wanted) → List Rule
+common_rules device [] = []
+common_rules device (object ∷ objects) = object_rules device object ++ common_rules device objects
 
 abbrev pub same_object : ObjRef → ObjRef → Bool
 same_object a b = a.device == b.device && a.number == b.number
@@ -94,17 +98,26 @@ clear_buffer_rules buffer offset size =
 
 -- a command's own rules, but for those that look at the commands before it
 abbrev pub own_rules : Command → List Rule
+own_rules BeginComputePass = []
 own_rules (CopyBufferToBuffer source source_offset target target_offset size) = copy_buffer_rules source source_offset target target_offset size
 own_rules (CopyBufferToTexture buffer layout texture spot size) = buffer_to_texture_rules (buffer_of buffer) layout (texture_of texture) spot size
 own_rules (CopyTextureToBuffer buffer layout texture spot size) = texture_to_buffer_rules (buffer_of buffer) layout (texture_of texture) spot size
 own_rules (CopyTextureToTexture source source_mip source_origin target target_mip target_origin size) = texture_to_texture_rules (same_object source.reference target.reference) (texture_of source) (whole_spot source_mip source_origin) (texture_of target) (whole_spot target_mip target_origin) size
-own_rules (ClearBuffer buffer offset size) = clear_buffer_rules buffer offset size
-own_rules _ = []
+own_rules (ClearBuffer buffer offset size) = clear_buffer_rules buffer offset (size_or_rest buffer offset size)
+own_rules PushDebugGroup = []
+own_rules PopDebugGroup = []
+own_rules End = []
 
 -- popDebugGroup (WebGPU, "Debug Markers"), by how many groups of its place are open: 285 one is.
+abbrev pub group_rules_by : ℕ → Bracket → List Rule
+group_rules_by depth brackets.BeginComputePass = []
+group_rules_by depth brackets.EndPass = []
+group_rules_by depth brackets.PushGroup = []
+group_rules_by depth brackets.PopGroup = (285, nat_lt 0 depth) ∷ []
+group_rules_by depth brackets.Neither = []
+
 abbrev pub group_rules : ℕ → Command → List Rule
-group_rules depth PopDebugGroup = (285, nat_lt 0 depth) ∷ []
-group_rules depth _ = []
+group_rules depth command = group_rules_by depth (bracket command)
 
 -- The rules of a command on an encoder that is not locked, where this many debug groups of the encoder are open.
 abbrev pub command_rules : ℕ → ℕ → Command → List Rule

@@ -1,25 +1,30 @@
 -- The steps of queue writes and of recorded commands, and the resources that commands name (WebGPU, "Queues", "Command
 -- Encoding" and "Resource Usages").
-use Rattle.std.specs.Prelude.{ℕ, ◌+◌, ◌*◌, ◌==◌, nat_lt, Bool, List, [], ◌∷◌, ◌++◌, map, Option, Some, None, unwrap_or, reverse, if◌then◌else◌}
-use Rattle.std.specs.List.{list_any}
+use Rattle.std.specs.Prelude.{ℕ, ◌+◌, ◌*◌, ◌==◌, nat_lt, Bool, true, false, ◌||◌, ◌&&◌, List, [], ◌∷◌, ◌++◌, map, Option, Some, None, unwrap_or, reverse, if◌then◌else◌}
+use Rattle.std.specs.List.{list_any, filter}
 use Rattle.wg_types.specs.declared.steps.QueueWrite.{QueueWrite}
 use Rattle.wg_types.specs.declared.steps.QueueWrite.TheVariants.{Buffer as BufferWrite, Texture as TextureWrite}
 use Rattle.wg_types.specs.declared.steps.StepName.{StepName}
 use Rattle.wg_types.specs.declared.steps.StepName.TheVariants as name
 use Rattle.wg_types.specs.declared.commands.On.{On}
 use Rattle.wg_types.specs.declared.commands.On.TheVariants.{Encoder, Pass}
-use Rattle.wg_types.specs.declared.commands.Command.{Command}
-use Rattle.wg_types.specs.declared.commands.Command.TheVariants.{CopyBufferToBuffer, CopyBufferToTexture, CopyTextureToBuffer, CopyTextureToTexture, ClearBuffer}
+use Rattle.wg_types.specs.Handles.{HandleValue}
+use Rattle.wg_types.specs.Commands.{Command, named}
+use Rattle.wg_types.specs.declared.wanted.Wanted.{Wanted}
+use Rattle.wg_types.specs.declared.wanted.Wanted.TheVariants as wanted
+use Rattle.wg_types.specs.declared.commands.CommandOf.TheVariants.{BeginComputePass, CopyBufferToBuffer, CopyBufferToTexture, CopyTextureToBuffer, CopyTextureToTexture, ClearBuffer, PushDebugGroup, PopDebugGroup, End}
 use Rattle.wg_types.specs.declared.textures.TextureInfo.{TextureInfo}
 use Rattle.wg_types.specs.declared.textures.TextureSpot.{TextureSpot}
 use Rattle.wg_types.specs.declared.textures.DataLayout.{DataLayout}
 use Rattle.wg_types.specs.Textures.{width, height, depth}
-use Rattle.wg_orders.specs.Steps.{PartRun, Usages, Cells, Bytes, Kind, Read, Write, Both, Step, StepPlace, printed_uses, printed_accesses}
-use Rattle.wg_orders.specs.Laws.{run_part}
+use Rattle.wg_rows.specs.Runs.{PartRun, Cells, Bytes, cell_lo, cell_hi, run_part}
+use Rattle.wg_rows.specs.Uses.{Usages, Kind, Read, Write, Both, printed_accesses}
+use Rattle.wg_orders.specs.Steps.{Step, StepPlace}
+use Rattle.wg_rows.specs.Sets.{sets}
 use Rattle.wg_model.specs.Formats.{texel_from, texel_to}
 use Rattle.wg_model.specs.Subresources.{copied_cells, has_no_texel}
 use Rattle.wg_model.specs.TexelCopies.{required, covers_all, bytes_in, whole_spot}
-use Rattle.wg_model.specs.Commands.{texture_of}
+use Rattle.wg_model.specs.Commands.{texture_of, size_or_rest}
 use Rattle.wg_model.specs.Walk.{Kept, PassSoFar, is_open, open_pass}
 
 abbrev pub copy_src_usage : Usages
@@ -38,14 +43,19 @@ use_of touch = (run_part touch.0, touch.1.0)
 abbrev pub access_of : Touch → Cells × Kind
 access_of touch = (touch.0, touch.1.1)
 
--- the step that does all of these
-abbrev pub touching : StepPlace → StepName → List Touch → Step
+-- whether a run has a cell
+abbrev pub has_cells : Cells × Kind → Bool
+has_cells row = nat_lt (cell_lo row.0) (cell_hi row.0)
+
+-- The step that does all of these: it uses each part by the union of what its touches use it as, one row for the parts that
+-- are used alike. Where a touch has no cell its part is used and nothing is accessed.
+unfoldable pub touching : StepPlace → StepName → List Touch → Step
 touching place name touches =
     record {
       place = place;
       name = name;
-      uses = printed_uses (map use_of touches);
-      accesses = printed_accesses (map access_of touches);
+      uses = sets (map use_of touches);
+      accesses = printed_accesses (filter has_cells (map access_of touches));
     }
 
 -- copies read the cells that they copy from, and write those that they copy to
@@ -118,12 +128,15 @@ unless nothing step = if nothing then [] else step ∷ []
 
 -- the step of a command on an encoder, if it makes one; a copy or clear of size 0 is no step
 unfoldable pub encoder_steps : StepPlace → Command → List Step
+encoder_steps place BeginComputePass = []
 encoder_steps place (CopyBufferToBuffer source source_offset target target_offset size) = unless (size == 0) (touching place name.CopyBufferToBuffer (buffer_to_buffer_touches source.reference.number source_offset target.reference.number target_offset size))
 encoder_steps place (CopyBufferToTexture buffer layout texture spot size) = unless (has_no_texel size) (touching place name.CopyBufferToTexture (buffer_to_texture_touches buffer.reference.number layout texture.reference.number (texture_of texture) spot size))
 encoder_steps place (CopyTextureToBuffer buffer layout texture spot size) = unless (has_no_texel size) (touching place name.CopyTextureToBuffer (texture_to_buffer_touches buffer.reference.number layout texture.reference.number (texture_of texture) spot size))
 encoder_steps place (CopyTextureToTexture source source_mip source_origin target target_mip target_origin size) = unless (has_no_texel size) (touching place name.CopyTextureToTexture (texture_to_texture_touches source.reference.number (texture_of source) (whole_spot source_mip source_origin) target.reference.number (texture_of target) (whole_spot target_mip target_origin) size))
-encoder_steps place (ClearBuffer buffer offset size) = unless (size == 0) (touching place name.ClearBuffer (range_touches buffer.reference.number offset size))
-encoder_steps place _ = []
+encoder_steps place (ClearBuffer buffer offset size) = unless (size_or_rest buffer offset size == 0) (touching place name.ClearBuffer (range_touches buffer.reference.number offset (size_or_rest buffer offset size)))
+encoder_steps place PushDebugGroup = []
+encoder_steps place PopDebugGroup = []
+encoder_steps place End = []
 
 -- the steps that a command of a pass completes; those of a compute pass are of commands that are not there yet
 abbrev pub pass_steps : StepPlace → Command → List Command → Command → List Step
@@ -145,20 +158,29 @@ recorded_steps place (kept ∷ older) = recorded_steps place older ++ steps_at p
 abbrev pub StepsOf : StepPlace → List (On × Command) → List Step
 StepsOf place commands = recorded_steps place (reverse commands)
 
+abbrev pub wants_buffer : Wanted → Bool
+wants_buffer wanted.Buffer = true
+wants_buffer _ = false
+
+abbrev pub wants_texture : Wanted → Bool
+wants_texture wanted.Texture = true
+wants_texture _ = false
+
+abbrev pub wants_resource : Wanted → Bool
+wants_resource asked = wants_buffer asked || wants_texture asked
+
+-- the numbers of the objects of which this is wanted
+abbrev pub numbers_of : (Wanted → Bool) → List (HandleValue × Wanted) → List ℕ
+numbers_of wants [] = []
+numbers_of wants (object ∷ objects) = if wants object.1 then object.0.reference.number ∷ numbers_of wants objects else numbers_of wants objects
+
 -- the numbers of the buffers that a command names, whether or not a step comes of it
 abbrev pub buffers_of : Command → List ℕ
-buffers_of (CopyBufferToBuffer source source_offset target target_offset size) = source.reference.number ∷ (target.reference.number ∷ [])
-buffers_of (CopyBufferToTexture buffer layout texture spot size) = buffer.reference.number ∷ []
-buffers_of (CopyTextureToBuffer buffer layout texture spot size) = buffer.reference.number ∷ []
-buffers_of (ClearBuffer buffer offset size) = buffer.reference.number ∷ []
-buffers_of _ = []
+buffers_of command = numbers_of wants_buffer (named command)
 
 -- likewise of the textures
 abbrev pub textures_of : Command → List ℕ
-textures_of (CopyBufferToTexture buffer layout texture spot size) = texture.reference.number ∷ []
-textures_of (CopyTextureToBuffer buffer layout texture spot size) = texture.reference.number ∷ []
-textures_of (CopyTextureToTexture source source_mip source_origin target target_mip target_origin size) = source.reference.number ∷ (target.reference.number ∷ [])
-textures_of _ = []
+textures_of command = numbers_of wants_texture (named command)
 
 -- and of all resources
 abbrev pub resources : Command → List ℕ
@@ -167,6 +189,14 @@ resources command = buffers_of command ++ textures_of command
 -- whether one of the objects that recorded commands name passes the test
 abbrev pub any_named : (Command → List ℕ) → (ℕ → Bool) → List (On × Command) → Bool
 any_named names test commands = list_any (λ kept. list_any test (names kept.1)) commands
+
+-- whether an object is wanted so and its number passes the test
+abbrev pub numbered : (Wanted → Bool) → (ℕ → Bool) → HandleValue × Wanted → Bool
+numbered wants test object = wants object.1 && test object.0.reference.number
+
+-- whether one of the objects passes a test that sees what its handle tells and what is wanted of it
+abbrev pub any_object : (HandleValue × Wanted → Bool) → List (On × Command) → Bool
+any_object holds commands = list_any (λ kept. list_any holds (named kept.1)) commands
 
 abbrev pub any_resource : (ℕ → Bool) → List (On × Command) → Bool
 any_resource test commands = any_named resources test commands

@@ -3,9 +3,10 @@
 use Rattle.std.specs.Prelude.{ℕ, ◌+◌, ◌==◌, ◌&&◌, ◌||◌, Bool, false, List, [], ◌∷◌, ◌++◌, Option, Some, None, is_none, reverse, if◌then◌else◌}
 use Rattle.wg_types.specs.declared.commands.On.{On}
 use Rattle.wg_types.specs.declared.commands.On.TheVariants.{Encoder, Pass}
-use Rattle.wg_types.specs.declared.commands.Command.{Command}
-use Rattle.wg_types.specs.declared.commands.Command.TheVariants.{BeginComputePass}
-use Rattle.wg_types.specs.Commands.{is_begin, is_end}
+use Rattle.wg_types.specs.Commands.{Command}
+use Rattle.wg_types.specs.declared.commands.Bracket.{Bracket}
+use Rattle.wg_types.specs.declared.commands.Bracket.TheVariants as brackets
+use Rattle.wg_types.specs.Commands.{bracket, is_begin, is_end}
 use Rattle.wg_model.specs.Rules.{first_unmet, or_else}
 use Rattle.wg_model.specs.Commands.{named, common_rules, command_rules}
 use Rattle.wg_model.specs.Compute.{depth_after, compute_set, compute_rules}
@@ -23,14 +24,20 @@ pub record PassSoFar : Type 0 where
 
 -- One pass. It keeps its own first unmet rule.
 
--- the first unmet rule of the begin of a pass; a compute pass has none
+-- the first unmet rule of the begin of a pass: of the objects that it names; a compute pass has none of its own
 abbrev pub begun_rule : ℕ → Command → Option ℕ
-begun_rule device begin = None
+begun_rule device begin = first_unmet (common_rules device (named begin))
 
--- the first unmet rule of a command of a pass, after the earlier ones
+-- the first unmet rule of a command of a pass, after the earlier ones; only a begin begins a pass
+abbrev pub rule_by : ℕ → Bracket → List Command → Command → Option ℕ
+rule_by device brackets.BeginComputePass earlier command = or_else (first_unmet (common_rules device (named command))) (first_unmet (compute_rules (compute_set earlier) command))
+rule_by device brackets.EndPass earlier command = None
+rule_by device brackets.PushGroup earlier command = None
+rule_by device brackets.PopGroup earlier command = None
+rule_by device brackets.Neither earlier command = None
+
 abbrev pub rule_in : ℕ → Command → List Command → Command → Option ℕ
-rule_in device BeginComputePass earlier command = or_else (first_unmet (common_rules device (named command))) (first_unmet (compute_rules (compute_set earlier) command))
-rule_in device _ earlier command = None
+rule_in device begin earlier command = rule_by device (bracket begin) earlier command
 
 -- a pass's own first unmet rule
 abbrev pub pass_rule : ℕ → Command → List Command → Option ℕ
@@ -104,10 +111,11 @@ abbrev pub handed : ℕ → Option PassSoFar → Command → Option ℕ
 handed device None command = None
 handed device (Some pass) command = if is_end command then pass_rule device pass.begin (command ∷ pass.earlier) else None
 
--- what a command on the encoder gives it: on a locked one rule 240, on an unlocked one its own first unmet rule
+-- what a command on the encoder gives it: on a locked one rule 240, on an unlocked one its own first unmet rule; that of a
+-- begin goes to the pass that it begins
 abbrev pub encoder_gives : ℕ → Option PassSoFar → ℕ → Command → Option ℕ
 encoder_gives device (Some pass) depth command = Some 240
-encoder_gives device None depth command = first_unmet (command_rules device depth command)
+encoder_gives device None depth command = if is_begin command then None else first_unmet (command_rules device depth command)
 
 -- what a command gives the encoder; of a pass only the end of the open one gives it something
 abbrev pub given : ℕ → Option PassSoFar → ℕ → On → Command → Option ℕ

@@ -1,36 +1,36 @@
--- A script of which no name is refused is bound.
-use Rattle.std.proofs.Common.{◌≡◌, ℕ, ◌+◌, ◌<◌, List, [], ◌∷◌, ◌++◌, map, Bool, true, false, Option, Some, None, Result, Ok, refl, sym, ap, subst, inl, inr, arith, append_assoc}
-use Rattle.std.specs.Prelude.{◌⊎◌, ◌&&◌, ◌==◌, nat_lt, bytes_eq, All, Contains, ⊤, is_none}
-use Rattle.std.specs.List.{flat_map, IsDistinct, list_any}
+-- Of a draft of which no name is refused each used name was made by an earlier visible call.
+use Rattle.std.proofs.Common.{◌≡◌, ℕ, ◌+◌, ◌<◌, List, [], ◌∷◌, ◌++◌, Bool, true, false, Option, Some, None, Ok, refl, sym, ap, subst, inl, inr, arith, append_assoc}
+use Rattle.std.specs.Prelude.{◌⊎◌, ◌&&◌, ◌==◌, nat_lt, bytes_eq, All, Contains, ⊤, if◌then◌else◌}
+use Rattle.std.specs.List.{flat_map}
 use Rattle.std.specs.Option.{option_to_list}
-use Rattle.std.proofs.lemmas.List.{append-nil, map-append}
-use Rattle.std.proofs.lemmas.Bool.{or_cases, and_parts, ltb-true, eqb-true, cases_Bool, false_from_ne_true}
-use Rattle.std.proofs.lemmas.Cmp.{nat_list_eq_equiv}
-use Rattle.std.proofs.lemmas.Map.Keys.{IsDistinct-push}
-use Rattle.std.proofs.lemmas.List.Elements.{All-nil, All-cons, All-head, All-tail, All-push, All-weaker, Contains-append_left, Contains-append_right, Contains-push}
+use Rattle.std.proofs.lemmas.List.{append-nil}
+use Rattle.std.proofs.lemmas.Bool.{or_cases, and_parts, ltb-true, eqb-true}
+use Rattle.std.proofs.lemmas.List.Elements.{All-nil, All-cons, Contains-append_left, Contains-append_right, Contains-push}
 use Rattle.std.proofs.lemmas.Slice.Eq.{bytes_eq-Decides}
-use Rattle.wg_script.specs.Draft.{Stop}
-use Rattle.wg_script.specs.declared.calls.Call.{Call}
+use Rattle.wg_script.specs.CallOf.{Call}
 use Rattle.wg_names.specs.Uses.{uses_of, made_of}
-use Rattle.wg_names.specs.Names.{Names, no_names, with_name, is_name, is_visible, check_use}
-use Rattle.wg_names.specs.Script.{check_uses, call_bound, walk, lane_bound, phase_bound, phases_bound}
-use Rattle.wg_names.specs.Bound.{Made, made_by, made_in, IsFound, LaneIsBound, PhasesAreBound, IsBound}
-use Rattle.wg_names.specs.declared.kinds.NameKind.{NameKind}
-use Rattle.wg_names.specs.declared.kinds.Wanted.{Wanted}
-use Rattle.wg_names.specs.declared.kinds.Mark.{Mark}
+use Rattle.wg_names.specs.Names.{Names, is_visible, check_use}
+use Rattle.wg_names.specs.Script.{check_uses, call_bound, walk, lane_bound, phase_bound}
+use Rattle.wg_names.specs.Bound.{Made, made_by, made_in, IsFound, LaneIsBound, PhasesAreBound}
+use Rattle.wg_types.specs.declared.wanted.Kind.{Kind}
+use Rattle.wg_types.specs.declared.wanted.Wanted.{Wanted}
+use Rattle.wg_names.specs.declared.known.Mark.{Mark}
 use Rattle.wg_names.proofs.Passing.{bind_ok, stands_of, Makes, passes_of}
+
+abbrev pub MadeNames : Type 0
+MadeNames = Made (List ℕ)
 
 -- ---- what a lane sees
 
 -- what a lane sees was made in this list
-abbrev Sees : ℕ → ℕ → Names → Made → Type 0
-Sees p l names made = (name : List ℕ) (mark : Mark) → names name ≡ Some mark → is_visible p l mark ≡ true → Contains made (name, mark.kind)
+abbrev Sees : ℕ → ℕ → Names → MadeNames → Type 0
+Sees p l names made = (name : List ℕ) (mark : Mark) → names.marks name ≡ Some mark → is_visible p l mark ≡ true → Contains made (name, mark.kind)
 
-uses_found : (p l : ℕ) (names : Names) (made : Made) → Sees p l names made → (us : List (List ℕ × Wanted)) (fine : ⊤) → check_uses names p l us ≡ Ok fine → All (IsFound made) us
+uses_found : (p l : ℕ) (names : Names) (made : MadeNames) → Sees p l names made → (us : List (List ℕ × Wanted)) (fine : ⊤) → check_uses names p l us ≡ Ok fine → All (IsFound made) us
 uses_found p l names made sees [] fine e = All-nil (IsFound made)
 uses_found p l names made sees (u ∷ us) fine e =
     let step = bind_ok (check_use names p l u) (λ done. check_uses names p l us) fine e in
-    let found = stands_of p l u.1 (names u.0) step.0 step.1 in
+    let found = stands_of p l u.1 (names.marks u.0) step.0 step.1 in
     All-cons (IsFound made) u us
     (record { kind = found.mark.kind; stands = sees u.0 found.mark found.is found.visible; fits = found.admits })
     (uses_found p l names made sees us fine step.2)
@@ -38,35 +38,34 @@ uses_found p l names made sees (u ∷ us) fine e =
 -- ---- what calls of a lane add
 
 -- each name stands for what it did, or was made in this lane and is in the list
-abbrev Adds : ℕ → ℕ → Names → Names → Made → Type 0
-Adds p l old new made = (name : List ℕ) (mark : Mark) → new name ≡ Some mark
-    → (old name ≡ Some mark) ⊎ ((mark.phase ≡ p) × (mark.lane ≡ l) × Contains made (name, mark.kind))
+abbrev Adds : ℕ → ℕ → Names → Names → MadeNames → Type 0
+Adds p l old new made = (name : List ℕ) (mark : Mark) → new.marks name ≡ Some mark
+    → (old.marks name ≡ Some mark) ⊎ ((mark.phase ≡ p) × (mark.lane ≡ l) × Contains made (name, mark.kind))
 
 -- the only name of a list
-only_made : (m : List ℕ × NameKind) (name : List ℕ) (kind : NameKind) → m.0 ≡ name → m.1 ≡ kind → Contains (m ∷ []) (name, kind)
+only_made : (m : List ℕ × Kind) (name : List ℕ) (kind : Kind) → m.0 ≡ name → m.1 ≡ kind → Contains (m ∷ []) (name, kind)
 only_made m name kind name_is kind_is =
-    let P : List ℕ × NameKind → Type 0 = λ q. Contains (m ∷ []) q in
+    let P : List ℕ × Kind → Type 0 = λ q. Contains (m ∷ []) q in
     let there : (m.0, m.1) ≡ (name, kind) = cc in
     subst P there (Contains-push [] m)
 
 -- what a name stands for, once one more was made
-one_more : (p l : ℕ) (names : Names) (m : List ℕ × NameKind) (name : List ℕ) (mark : Mark) (b : Bool) → bytes_eq m.0 name ≡ b
-    → with_name m.0 (record { kind = m.1; phase = p; lane = l }) names name ≡ Some mark
-    → (names name ≡ Some mark) ⊎ ((mark.phase ≡ p) × (mark.lane ≡ l) × Contains (m ∷ []) (name, mark.kind))
+one_more : (p l : ℕ) (names : Names) (m : List ℕ × Kind) (name : List ℕ) (mark : Mark) (b : Bool) → bytes_eq m.0 name ≡ b
+    → (let found : Option Mark = if b then Some (record { kind = m.1; phase = p; lane = l; slot = names.made }) else names.marks name in found) ≡ Some mark
+    → (names.marks name ≡ Some mark) ⊎ ((mark.phase ≡ p) × (mark.lane ≡ l) × Contains (m ∷ []) (name, mark.kind))
 one_more p l names m name mark true same is =
-    let made : Some (let k : Mark = record { kind = m.1; phase = p; lane = l } in k) ≡ Some mark = rw same at is in
-    let mark_is : (let k : Mark = record { kind = m.1; phase = p; lane = l } in k) ≡ mark = cc made in
+    let mark_is : (let k : Mark = record { kind = m.1; phase = p; lane = l; slot = names.made } in k) ≡ mark = cc is in
     let name_is : m.0 ≡ name = (bytes_eq-Decides m.0 name).0 same in
     let kind_is : m.1 ≡ mark.kind = ap (λ (k : Mark). k.kind) mark_is in
     inr (sym (ap (λ (k : Mark). k.phase) mark_is), sym (ap (λ (k : Mark). k.lane) mark_is), only_made m name mark.kind name_is kind_is)
-one_more p l names m name mark false other is = inl (rw other at is)
+one_more p l names m name mark false other is = inl is
 
-adds_made : (p l : ℕ) (names more : Names) (o : Option (List ℕ × NameKind)) → Makes p l names more o → Adds p l names more (option_to_list o)
-adds_made p l names more None same name mark is = inl (let P : Names → Type 0 = λ ns. ns name ≡ Some mark in subst P (sym same) is)
+adds_made : (p l : ℕ) (names more : Names) (o : Option (List ℕ × Kind)) → Makes p l names more o → Adds p l names more (option_to_list o)
+adds_made p l names more None same name mark is = inl (let P : Names → Type 0 = λ ns. ns.marks name ≡ Some mark in subst P (sym same) is)
 adds_made p l names more (Some m) made name mark is =
-    one_more p l names m name mark (bytes_eq m.0 name) refl (let P : Names → Type 0 = λ ns. ns name ≡ Some mark in subst P (sym made.2) is)
+    one_more p l names m name mark (bytes_eq m.0 name) refl (let P : Names → Type 0 = λ ns. ns.marks name ≡ Some mark in subst P (sym made.2) is)
 
-adds_then : (p l : ℕ) (a b c : Names) (xs ys : Made) → Adds p l a b xs → Adds p l b c ys → Adds p l a c (xs ++ ys)
+adds_then : (p l : ℕ) (a b c : Names) (xs ys : MadeNames) → Adds p l a b xs → Adds p l b c ys → Adds p l a c (xs ++ ys)
 adds_then p l a b c xs ys f g name mark is = elim (g name mark is) [
   | inl old ↦ elim (f name mark old) [
     | inl older ↦ inl older
@@ -75,21 +74,21 @@ adds_then p l a b c xs ys f g name mark is = elim (g name mark is) [
   | inr there ↦ inr (there.0, there.1, Contains-append_right xs ys (name, mark.kind) there.2)
 ]
 
-sees_more : (p l : ℕ) (names more : Names) (made extra : Made) → Sees p l names made → Adds p l names more extra → Sees p l more (made ++ extra)
+sees_more : (p l : ℕ) (names more : Names) (made extra : MadeNames) → Sees p l names made → Adds p l names more extra → Sees p l more (made ++ extra)
 sees_more p l names more made extra sees adds name mark is visible = elim (adds name mark is) [
   | inl old ↦ Contains-append_left made extra (name, mark.kind) (sees name mark old visible)
   | inr there ↦ Contains-append_right made extra (name, mark.kind) there.2
 ]
 
 lane_adds : (p l i : ℕ) (names : Names) (calls : List Call) (end : Names) → walk (call_bound p l) i names calls ≡ Ok end → Adds p l names end (made_in calls)
-lane_adds p l i names [] end e = λ name mark is. inl (let P : Names → Type 0 = λ ns. ns name ≡ Some mark in subst P (let same : end ≡ names = cc in same) is)
+lane_adds p l i names [] end e = λ name mark is. inl (let P : Names → Type 0 = λ ns. ns.marks name ≡ Some mark in subst P (let same : end ≡ names = cc in same) is)
 lane_adds p l i names (call ∷ calls) end e =
     let step = bind_ok (call_bound p l i names call) (λ more. walk (call_bound p l) (i + 1) more calls) end e in
     let passes = passes_of p l i names step.0 call step.1 in
     adds_then p l names step.0 end (made_by call) (made_in calls) (adds_made p l names step.0 (made_of call) passes.makes)
     (lane_adds p l (i + 1) step.0 calls end step.2)
 
-lane_is_bound : (p l i : ℕ) (names : Names) (made : Made) → Sees p l names made → (calls : List Call) (end : Names)
+lane_is_bound : (p l i : ℕ) (names : Names) (made : MadeNames) → Sees p l names made → (calls : List Call) (end : Names)
     → walk (call_bound p l) i names calls ≡ Ok end → LaneIsBound made calls
 lane_is_bound p l i names made sees [] end e = tt
 lane_is_bound p l i names made sees (call ∷ calls) end e =
@@ -103,8 +102,8 @@ lane_is_bound p l i names made sees (call ∷ calls) end e =
 -- ---- the lanes of a phase
 
 -- at lane l of phase p each name was made before the phase, or by an earlier lane of it
-abbrev Splits : ℕ → ℕ → Names → Made → Made → Type 0
-Splits p l names before beside = (name : List ℕ) (mark : Mark) → names name ≡ Some mark
+abbrev pub Splits : ℕ → ℕ → Names → MadeNames → MadeNames → Type 0
+Splits p l names before beside = (name : List ℕ) (mark : Mark) → names.marks name ≡ Some mark
     → ((mark.phase < p) × Contains before (name, mark.kind)) ⊎ ((mark.phase ≡ p) × (mark.lane < l) × Contains beside (name, mark.kind))
 
 not_visible : (p l : ℕ) (mark : Mark) → mark.phase ≡ p → mark.lane < l → is_visible p l mark ≡ true → ⊥
@@ -113,13 +112,13 @@ not_visible p l mark phase lane visible = elim (or_cases (nat_lt mark.phase p) (
   | inr e ↦ (let same : mark.lane ≡ l = eqb-true mark.lane l (and_parts (mark.phase == p) (mark.lane == l) e).1 in omega arith)
 ]
 
-lane_sees : (p l : ℕ) (names : Names) (before beside : Made) → Splits p l names before beside → Sees p l names before
+lane_sees : (p l : ℕ) (names : Names) (before beside : MadeNames) → Splits p l names before beside → Sees p l names before
 lane_sees p l names before beside splits name mark is visible = elim (splits name mark is) [
   | inl there ↦ there.1
   | inr here ↦ absurd (not_visible p l mark here.0 here.1 visible)
 ]
 
-splits_more : (p l : ℕ) (names more : Names) (before beside made : Made) → Splits p l names before beside → Adds p l names more made
+splits_more : (p l : ℕ) (names more : Names) (before beside made : MadeNames) → Splits p l names before beside → Adds p l names more made
     → Splits p (l + 1) more before (beside ++ made)
 splits_more p l names more before beside made splits adds name mark is = elim (adds name mark is) [
   | inl old ↦ elim (splits name mark old) [
@@ -130,23 +129,23 @@ splits_more p l names more before beside made splits adds name mark is = elim (a
 ]
 
 -- the lanes of a phase are bound, and what their names stand for splits at the last lane
-record Phase (p : ℕ) (end : Names) (before made : Made) (lanes : List (List Call)) : Type 0 where
+record Phase (p : ℕ) (end : Names) (before made : MadeNames) (lanes : List (List Call)) : Type 0 where
   bound : All (LaneIsBound before) lanes
   last : ℕ
   splits : Splits p last end before made
 
-lanes_are_bound : (p l : ℕ) (names : Names) (before beside : Made) → Splits p l names before beside → (lanes : List (List Call)) (end : Names)
+lanes_are_bound : (p l : ℕ) (names : Names) (before beside : MadeNames) → Splits p l names before beside → (lanes : List (List Call)) (end : Names)
     → walk (lane_bound p) l names lanes ≡ Ok end → Phase p end before (beside ++ flat_map made_in lanes) lanes
 lanes_are_bound p l names before beside splits [] end e =
     let same : names ≡ end = cc in
     let P : Names → Type 0 = λ ns. Splits p l ns before (beside ++ []) in
-    let Q : Made → Type 0 = λ made. Splits p l names before made in
+    let Q : MadeNames → Type 0 = λ made. Splits p l names before made in
     record { bound = All-nil (LaneIsBound before); last = l; splits = subst P same (subst Q (sym (append-nil beside)) splits) }
 lanes_are_bound p l names before beside splits (lane ∷ lanes) end e =
     let step = bind_ok (lane_bound p l names lane) (λ more. walk (lane_bound p) (l + 1) more lanes) end e in
     let adds = lane_adds p l 0 names lane step.0 step.1 in
     let rest = lanes_are_bound p (l + 1) step.0 before (beside ++ made_in lane) (splits_more p l names step.0 before beside (made_in lane) splits adds) lanes end step.2 in
-    let Q : Made → Type 0 = λ made. Splits p rest.last end before made in
+    let Q : MadeNames → Type 0 = λ made. Splits p rest.last end before made in
     record {
       bound = All-cons (LaneIsBound before) lane lanes (lane_is_bound p l 0 names before (lane_sees p l names before beside splits) lane step.0 step.1) rest.bound;
       last = rest.last;
@@ -155,96 +154,16 @@ lanes_are_bound p l names before beside splits (lane ∷ lanes) end e =
 
 -- ---- the phases
 
-next_phase : (p l : ℕ) (names : Names) (before made : Made) → Splits p l names before made → Splits (p + 1) 0 names (before ++ made) []
+next_phase : (p l : ℕ) (names : Names) (before made : MadeNames) → Splits p l names before made → Splits (p + 1) 0 names (before ++ made) []
 next_phase p l names before made splits name mark is = elim (splits name mark is) [
   | inl there ↦ inl (omega (arith, there.0), Contains-append_left before made (name, mark.kind) there.1)
   | inr here ↦ inl (omega (arith, here.0), Contains-append_right before made (name, mark.kind) here.2)
 ]
 
-phases_are_bound : (p : ℕ) (names : Names) (before : Made) → Splits p 0 names before [] → (phases : List (List (List Call))) (end : Names)
+pub phases_are_bound : (p : ℕ) (names : Names) (before : MadeNames) → Splits p 0 names before [] → (phases : List (List (List Call))) (end : Names)
     → walk phase_bound p names phases ≡ Ok end → PhasesAreBound before phases
 phases_are_bound p names before splits [] end e = tt
 phases_are_bound p names before splits (lanes ∷ phases) end e =
     let step = bind_ok (phase_bound p names lanes) (λ more. walk phase_bound (p + 1) more phases) end e in
     let phase = lanes_are_bound p 0 names before [] splits lanes step.0 step.1 in
     (phase.bound, phases_are_bound (p + 1) step.0 (before ++ flat_map made_in lanes) (next_phase p phase.last step.0 before (flat_map made_in lanes) phase.splits) phases end step.2)
-
--- ---- names are well formed, and are made once
-
--- the names of a list are well formed and differ, and each stands for something
-record Keeps (names : Names) (made : Made) : Type 0 where
-  formed : All (λ name. is_name name ≡ true) (map (λ m. m.0) made)
-  once : IsDistinct bytes_eq (map (λ m. m.0) made)
-  kept : All (λ name. is_none (names name) ≡ false) (map (λ m. m.0) made)
-
-some_kept : (names : Names) (m : List ℕ × NameKind) (mark : Mark) (other : List ℕ) → is_none (names other) ≡ false → is_none (with_name m.0 mark names other) ≡ false
-some_kept names m mark other kept = elim (cases_Bool (bytes_eq m.0 other)) [ inl same ↦ rw same refl | inr differs ↦ rw differs kept ]
-
-own_kept : (names : Names) (name : List ℕ) (mark : Mark) → is_none (with_name name mark names name) ≡ false
-own_kept names name mark = let same : bytes_eq name name ≡ true = (bytes_eq-Decides name name).1 refl in rw same refl
-
-not_among : (names : Names) (name : List ℕ) → names name ≡ None → (others : List (List ℕ)) → All (λ other. is_none (names other) ≡ false) others → list_any (bytes_eq name) others ≡ false
-not_among names name none [] kept = refl
-not_among names name none (other ∷ others) kept =
-    let differs : bytes_eq name other ≡ false = false_from_ne_true (bytes_eq name other)
-    (λ same. let is : name ≡ other = (bytes_eq-Decides name other).0 same in
-    let gone : names other ≡ None = let P : List ℕ → Type 0 = λ n. names n ≡ None in subst P is none in
-    let here : is_none (names other) ≡ false = All-head (λ o. is_none (names o) ≡ false) other others kept in
-    let there : is_none (names other) ≡ true = rw gone refl in cc) in
-    rw differs (not_among names name none others (All-tail (λ o. is_none (names o) ≡ false) other others kept))
-
-keeps_made : (p l : ℕ) (names more : Names) (made : Made) (o : Option (List ℕ × NameKind)) → Makes p l names more o → Keeps names made → Keeps more (made ++ option_to_list o)
-keeps_made p l names more made None same keeps =
-    let P : Names → Type 0 = λ ns. Keeps ns (made ++ []) in
-    let Q : Made → Type 0 = λ ms. Keeps names ms in
-    subst P same (subst Q (sym (append-nil made)) keeps)
-keeps_made p l names more made (Some m) makes keeps =
-    let mark : Mark = record { kind = m.1; phase = p; lane = l } in
-    let firsts : List (List ℕ) = map (λ (k : List ℕ × NameKind). k.0) made in
-    let P : Names → Type 0 = λ ns. Keeps ns (made ++ m ∷ []) in
-    let shape : map (λ (k : List ℕ × NameKind). k.0) (made ++ m ∷ []) ≡ firsts ++ m.0 ∷ [] = map-append (λ (k : List ℕ × NameKind). k.0) made (m ∷ []) in
-    let Formed : List (List ℕ) → Type 0 = λ ns. All (λ name. is_name name ≡ true) ns in
-    let Once : List (List ℕ) → Type 0 = λ ns. IsDistinct bytes_eq ns in
-    let Kept : List (List ℕ) → Type 0 = λ ns. All (λ name. is_none (with_name m.0 mark names name) ≡ false) ns in
-    let old : Kept firsts = All-weaker (λ name. is_none (names name) ≡ false) (λ name. is_none (with_name m.0 mark names name) ≡ false) (some_kept names m mark) firsts keeps.kept in
-    subst P makes.2 (record {
-      formed = subst Formed (sym shape) (All-push (λ name. is_name name ≡ true) firsts m.0 keeps.formed makes.0);
-      once = subst Once (sym shape) (IsDistinct-push nat_list_eq_equiv firsts m.0 keeps.once (not_among names m.0 makes.1 firsts keeps.kept));
-      kept = subst Kept (sym shape) (All-push (λ name. is_none (with_name m.0 mark names name) ≡ false) firsts m.0 old (own_kept names m.0 mark));
-    })
-
--- what each item of a list keeps, the list keeps
-abbrev KeepsOn : {X : Type 0} → (ℕ → Names → X → Result Names Stop) → (X → Made) → Type 0
-KeepsOn {X} f g = (i : ℕ) (names : Names) (x : X) (more : Names) (made : Made) → f i names x ≡ Ok more → Keeps names made → Keeps more (made ++ g x)
-
-walk_keeps : {X : Type 0} (f : ℕ → Names → X → Result Names Stop) (g : X → Made) → KeepsOn f g → (i : ℕ) (names : Names) (xs : List X) (end : Names) (made : Made)
-    → walk f i names xs ≡ Ok end → Keeps names made → Keeps end (made ++ flat_map g xs)
-walk_keeps f g on i names [] end made e keeps =
-    let same : names ≡ end = cc in
-    let P : Names → Type 0 = λ ns. Keeps ns (made ++ []) in
-    let Q : Made → Type 0 = λ ms. Keeps names ms in
-    subst P same (subst Q (sym (append-nil made)) keeps)
-walk_keeps f g on i names (x ∷ xs) end made e keeps =
-    let step = bind_ok (f i names x) (λ more. walk f (i + 1) more xs) end e in
-    let Q : Made → Type 0 = λ ms. Keeps end ms in
-    subst Q (append_assoc made (g x) (flat_map g xs))
-    (walk_keeps f g on (i + 1) step.0 xs end (made ++ g x) step.2 (on i names x step.0 made step.1 keeps))
-
-call_keeps : (p l : ℕ) → KeepsOn (call_bound p l) made_by
-call_keeps p l i names call more made e keeps = keeps_made p l names more made (made_of call) (passes_of p l i names more call e).makes keeps
-
-lane_keeps : (p : ℕ) → KeepsOn (lane_bound p) made_in
-lane_keeps p l names calls more made e keeps = walk_keeps (call_bound p l) made_by (call_keeps p l) 0 names calls more made e keeps
-
-phase_keeps : KeepsOn phase_bound (flat_map made_in)
-phase_keeps p names lanes more made e keeps = walk_keeps (lane_bound p) made_in (lane_keeps p) 0 names lanes more made e keeps
-
--- ---- the whole script
-
-pub bound_of : (phases : List (List (List Call))) (end : Names) → phases_bound phases ≡ Ok end → IsBound phases
-unfolding IsDistinct
-bound_of phases end e =
-    let none : Splits 0 0 no_names [] [] = λ name mark is. absurd (cc) in
-    let start : Keeps no_names [] = record { formed = All-nil (λ name. is_name name ≡ true); once = tt; kept = All-nil (λ name. is_none (no_names name) ≡ false) } in
-    let all = walk_keeps phase_bound (flat_map made_in) phase_keeps 0 no_names phases end [] e start in
-    record { used = phases_are_bound 0 no_names [] none phases end e; formed = all.formed; once = all.once }

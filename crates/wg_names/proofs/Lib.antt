@@ -1,2 +1,5 @@
 pub mod Passing
 pub mod BoundLemmas
+pub mod Keeping
+pub mod Mapped
+pub mod Asking

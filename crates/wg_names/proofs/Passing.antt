@@ -3,15 +3,15 @@ use Rattle.std.proofs.Common.{◌≡◌, ℕ, List, Bool, true, false, Option, S
 use Rattle.std.specs.Prelude.{◌&&◌, is_none, if◌then◌else◌, ⊤}
 use Rattle.wg_script.specs.Giving.{◌>>=◌}
 use Rattle.wg_script.specs.Draft.{at}
-use Rattle.wg_script.specs.declared.calls.Call.{Call}
+use Rattle.wg_script.specs.CallOf.{Call}
 use Rattle.wg_script.specs.declared.draft.Place.{Place}
 use Rattle.wg_script.specs.declared.draft.Place.TheVariants as place
 use Rattle.wg_names.specs.Uses.{admits, uses_of, made_of}
 use Rattle.wg_names.specs.Names.{Names, with_name, is_name, is_visible, check_wanted, check_mark}
 use Rattle.wg_names.specs.Script.{check_uses, with_made, call_bound}
-use Rattle.wg_names.specs.declared.kinds.NameKind.{NameKind}
-use Rattle.wg_names.specs.declared.kinds.Wanted.{Wanted}
-use Rattle.wg_names.specs.declared.kinds.Mark.{Mark}
+use Rattle.wg_types.specs.declared.wanted.Kind.{Kind}
+use Rattle.wg_types.specs.declared.wanted.Wanted.{Wanted}
+use Rattle.wg_names.specs.declared.known.Mark.{Mark}
 
 -- both steps of a reading
 pub bind_ok : {A B E : Type 0} (r : Result A E) (f : A → Result B E) (y : B) → r >>= f ≡ Ok y → (x : A) × (r ≡ Ok x) × (f x ≡ Ok y)
@@ -32,7 +32,7 @@ none_of (Some x) e = absurd (cc)
 
 -- ---- a name that is used
 
-admitted : (wanted : Wanted) (kind : NameKind) (x : ⊤) (b : Bool) → admits wanted kind ≡ b → (let r : Result ⊤ ℕ = if b then Ok tt else Err 11 in r) ≡ Ok x → admits wanted kind ≡ true
+admitted : (wanted : Wanted) (kind : Kind) (x : ⊤) (b : Bool) → admits wanted kind ≡ b → (let r : Result ⊤ ℕ = if b then Ok tt else Err 11 in r) ≡ Ok x → admits wanted kind ≡ true
 admitted wanted kind x true is e = is
 admitted wanted kind x false is e = absurd (cc)
 
@@ -55,20 +55,20 @@ stands_of p l wanted (Some mark) x e = seen p l wanted mark x (is_visible p l ma
 -- ---- a name that is made
 
 -- the names after a call that makes this name, or none
-abbrev pub Makes : ℕ → ℕ → Names → Names → Option (List ℕ × NameKind) → Type 0
+abbrev pub Makes : ℕ → ℕ → Names → Names → Option (List ℕ × Kind) → Type 0
 Makes p l names more None = names ≡ more
-Makes p l names more (Some m) = (is_name m.0 ≡ true) × (names m.0 ≡ None) × (with_name m.0 (record { kind = m.1; phase = p; lane = l }) names ≡ more)
+Makes p l names more (Some m) = (is_name m.0 ≡ true) × (names.marks m.0 ≡ None) × (with_name p l m.0 m.1 names ≡ more)
 
-made_new : (p l : ℕ) (names more : Names) (m : List ℕ × NameKind) (b : Bool) → is_name m.0 && is_none (names m.0) ≡ b
-    → (let r : Result Names ℕ = if b then Ok (with_name m.0 (record { kind = m.1; phase = p; lane = l }) names) else Err 9 in r) ≡ Ok more → Makes p l names more (Some m)
+made_new : (p l : ℕ) (names more : Names) (m : List ℕ × Kind) (b : Bool) → is_name m.0 && is_none (names.marks m.0) ≡ b
+    → (let r : Result Names ℕ = if b then Ok (with_name p l m.0 m.1 names) else Err 9 in r) ≡ Ok more → Makes p l names more (Some m)
 made_new p l names more m true is e =
-    let both = both_true (is_name m.0) (is_none (names m.0)) is in
-    (both.0, none_of (names m.0) both.1, cc)
+    let both = both_true (is_name m.0) (is_none (names.marks m.0)) is in
+    (both.0, none_of (names.marks m.0) both.1, cc)
 made_new p l names more m false is e = absurd (cc)
 
-pub makes_of : (p l : ℕ) (names more : Names) (o : Option (List ℕ × NameKind)) → with_made p l names o ≡ Ok more → Makes p l names more o
+pub makes_of : (p l : ℕ) (names more : Names) (o : Option (List ℕ × Kind)) → with_made p l names o ≡ Ok more → Makes p l names more o
 makes_of p l names more None e = cc
-makes_of p l names more (Some m) e = made_new p l names more m (is_name m.0 && is_none (names m.0)) refl e
+makes_of p l names more (Some m) e = made_new p l names more m (is_name m.0 && is_none (names.marks m.0)) refl e
 
 -- ---- a call
 

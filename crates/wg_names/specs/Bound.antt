@@ -1,49 +1,72 @@
 -- What a script whose names are bound holds.
-use Rattle.std.specs.Prelude.{◌≡◌, ℕ, List, [], ◌∷◌, ◌++◌, map, true, All, Contains, bytes_eq}
+use Rattle.std.specs.Prelude.{◌≡◌, ℕ, zero, suc, List, [], ◌∷◌, ◌++◌, map, true, All, Contains, bytes_eq, Ok}
 use Rattle.std.specs.List.{flat_map, IsDistinct}
 use Rattle.std.specs.Option.{option_to_list}
-use Rattle.wg_script.specs.declared.calls.Call.{Call}
+use Rattle.wg_script.specs.CallOf.{Call, BoundCall}
+use Rattle.wg_script.specs.Draft.{draft_of}
+use Rattle.wg_script.specs.declared.calls.CallOf.{CallOf}
+use Rattle.wg_script.specs.declared.draft.Draft.{Draft}
 use Rattle.wg_names.specs.Uses.{uses_of, made_of, admits}
 use Rattle.wg_names.specs.Names.{is_name}
-use Rattle.wg_names.specs.declared.kinds.NameKind.{NameKind}
-use Rattle.wg_names.specs.declared.kinds.Wanted.{Wanted}
+use Rattle.wg_names.specs.Script.{map_phases}
+use Rattle.wg_types.specs.declared.wanted.Kind.{Kind}
+use Rattle.wg_types.specs.declared.wanted.Wanted.{Wanted}
 
--- names, each with the kind of what it stands for
-abbrev pub Made : Type 0
-Made = List (List ℕ × NameKind)
+-- names or slots, each with the kind of what it stands for
+abbrev pub Made : Type 0 → Type 0
+Made R = List (R × Kind)
 
--- the name that a call makes, if it makes one
-abbrev pub made_by : Call → Made
+-- what a call makes, if it makes something
+abbrev pub made_by : {R : Type 0} → CallOf R → Made R
 made_by call = option_to_list (made_of call)
 
--- the names that calls make, in order
-abbrev pub made_in : List Call → Made
+-- what calls make, in order
+abbrev pub made_in : {R : Type 0} → List (CallOf R) → Made R
 made_in calls = flat_map made_by calls
 
--- the name was made, and stands for what is wanted
-pub record IsFound (made : Made) (key : List ℕ × Wanted) : Type 0 where
-  pub kind : NameKind
+-- what is used was made, and stands for what is wanted
+pub record IsFound {R : Type 0} (made : Made R) (key : R × Wanted) : Type 0 where
+  pub kind : Kind
   pub stands : Contains made (key.0, kind)
   pub fits : admits key.1 kind ≡ true
 
 -- each name that a call of a lane uses is found among what was made before the phase, and what the
 -- lane made before the call
-abbrev pub LaneIsBound : Made → List Call → Type 0
+abbrev pub LaneIsBound : {R : Type 0} → Made R → List (CallOf R) → Type 0
 LaneIsBound made [] = Unit {0}
 LaneIsBound made (call ∷ calls) = All (IsFound made) (uses_of call) × LaneIsBound (made ++ made_by call) calls
 
 -- the lanes of a phase see what earlier phases made, and not one another
-abbrev pub PhasesAreBound : Made → List (List (List Call)) → Type 0
+abbrev pub PhasesAreBound : {R : Type 0} → Made R → List (List (List (CallOf R))) → Type 0
 PhasesAreBound made [] = Unit {0}
 PhasesAreBound made (lanes ∷ phases) = All (LaneIsBound made) lanes × PhasesAreBound (made ++ flat_map made_in lanes) phases
 
--- the names that the calls of a script make, in reading order
-abbrev pub all_made : List (List (List Call)) → List (List ℕ)
+-- the names or slots that the calls of a script make, in reading order
+abbrev pub all_made : {R : Type 0} → List (List (List (CallOf R))) → List R
 all_made phases = map (λ m. m.0) (flat_map (flat_map made_in) phases)
 
--- each used name was made by an earlier visible call and stands for what is wanted, each made name is
--- well formed, and none is made twice
-pub record IsBound (phases : List (List (List Call))) : Type 0 where
+-- the numbers from 0 on that are below n
+abbrev pub numbers_below : ℕ → List ℕ
+numbers_below zero = []
+numbers_below (suc n) = numbers_below n ++ n ∷ []
+
+-- In a script each used slot was made by an earlier visible call and stands for what is wanted, and the slots that the calls
+-- make are the numbers from 0 on, in reading order.
+pub record IsBound (phases : List (List (List BoundCall))) : Type 0 where
   pub used : PhasesAreBound [] phases
-  pub formed : All (λ name. is_name name ≡ true) (all_made phases)
-  pub once : IsDistinct bytes_eq (all_made phases)
+  pub count : ℕ
+  pub numbered : all_made phases ≡ numbers_below count
+
+-- The script's calls are those of the draft, with one slot for each name in place of it. In the draft each made name is well
+-- formed, and none is made twice.
+pub record IsBoundFrom (draft : List (List (List Call))) (phases : List (List (List BoundCall))) : Type 0 where
+  pub slot : List ℕ → ℕ
+  pub same : phases ≡ map_phases slot draft
+  pub formed : All (λ name. is_name name ≡ true) (all_made draft)
+  pub once : IsDistinct bytes_eq (all_made draft)
+
+-- The script's calls are those of the draft that the bytes give.
+pub record IsBoundRead (bytes : List ℕ) (phases : List (List (List BoundCall))) : Type 0 where
+  pub draft : Draft
+  pub read : draft_of bytes ≡ Ok draft
+  pub from : IsBoundFrom draft.phases phases

@@ -1,11 +1,12 @@
 -- What names stand for, and which call sees them.
-use Rattle.std.specs.Prelude.{ℕ, List, length, Bool, ◌||◌, ◌&&◌, ◌==◌, nat_lt, nat_le, bytes_eq, if◌then◌else◌, Option, Some, None, Result, Ok, Err, ⊤}
+use Rattle.std.specs.Prelude.{ℕ, ◌+◌, List, length, Bool, ◌||◌, ◌&&◌, ◌==◌, nat_lt, nat_le, bytes_eq, if◌then◌else◌, Option, Some, None, Result, Ok, Err, ⊤}
 use Rattle.std.specs.Char.{is_ascii_alphanumeric}
 use Rattle.std.specs.List.{list_all}
+use Rattle.std.specs.Option.{option_map_or}
 use Rattle.wg_names.specs.Uses.{admits}
-use Rattle.wg_names.specs.declared.kinds.NameKind.{NameKind}
-use Rattle.wg_names.specs.declared.kinds.Wanted.{Wanted}
-use Rattle.wg_names.specs.declared.kinds.Mark.{Mark}
+use Rattle.wg_types.specs.declared.wanted.Kind.{Kind}
+use Rattle.wg_types.specs.declared.wanted.Wanted.{Wanted}
+use Rattle.wg_names.specs.declared.known.Mark.{Mark}
 
 -- ---- what a name looks like
 
@@ -19,23 +20,31 @@ is_name text = nat_le 1 (length text) && (nat_le (length text) 64 && list_all is
 
 -- ---- what names stand for
 
--- what each text stands for, where an earlier call in reading order has made it
-abbrev pub Names : Type 0
-Names = List ℕ → Option Mark
+-- what each text stands for, where an earlier call in reading order has made it, and how many names were made
+pub record Names : Type 0 where
+  pub marks : List ℕ → Option Mark
+  pub made : ℕ
 
 abbrev pub no_names : Names
-no_names = λ name. None
+no_names = record { marks = λ name. None; made = 0 }
 
--- one more name
-abbrev pub with_name : List ℕ → Mark → Names → Names
-with_name name mark names = λ other. if bytes_eq name other then Some mark else names other
+-- one more name, which a call of phase p and lane l makes; its slot is how many names were made before
+abbrev pub with_name : ℕ → ℕ → List ℕ → Kind → Names → Names
+with_name p l name kind names = record {
+  marks = λ other. if bytes_eq name other then Some (record { kind = kind; phase = p; lane = l; slot = names.made }) else names.marks other;
+  made = names.made + 1;
+}
+
+-- the slot of a name; each name that a call uses or makes was made, so that the 0 is not met
+abbrev pub slot_in : Names → List ℕ → ℕ
+slot_in names name = option_map_or (λ mark. mark.slot) (names.marks name) 0
 
 -- a call of phase p and lane l sees what earlier phases made, and what its own lane made
 abbrev pub is_visible : ℕ → ℕ → Mark → Bool
 is_visible p l mark = nat_lt mark.phase p || (mark.phase == p && mark.lane == l)
 
 -- script rule 11: what the name stands for is not wanted here
-abbrev pub check_wanted : Wanted → NameKind → Result ⊤ ℕ
+abbrev pub check_wanted : Wanted → Kind → Result ⊤ ℕ
 check_wanted wanted kind = if admits wanted kind then Ok tt else Err 11
 
 -- script rule 10: no call has made the name, or none that is visible
@@ -45,4 +54,4 @@ check_mark p l wanted (Some mark) = if is_visible p l mark then check_wanted wan
 
 -- a name that a call of phase p and lane l uses, with what it must stand for
 abbrev pub check_use : Names → ℕ → ℕ → (List ℕ × Wanted) → Result ⊤ ℕ
-check_use names p l u = check_mark p l u.1 (names u.0)
+check_use names p l u = check_mark p l u.1 (names.marks u.0)

@@ -1,17 +1,18 @@
 -- The second reading of a script, and both readings together.
-use Rattle.std.specs.Prelude.{◌≡◌, ℕ, ◌+◌, List, [], ◌∷◌, ◌&&◌, is_none, if◌then◌else◌, Option, Some, None, Result, Ok, Err, ⊤}
+use Rattle.std.specs.Prelude.{◌≡◌, ℕ, ◌+◌, List, [], ◌∷◌, map, ◌&&◌, is_none, if◌then◌else◌, Option, Some, None, Result, Ok, Err, ⊤}
 use Rattle.wg_script.specs.Giving.{◌>>=◌}
+use Rattle.wg_script.specs.CallOf.{Call, map_call}
 use Rattle.wg_script.specs.Draft.{Stop, at, draft_of}
 use Rattle.wg_script.specs.Outcome.{Refuses}
-use Rattle.wg_script.specs.declared.calls.Call.{Call}
+use Rattle.wg_script.specs.declared.calls.CallOf.{CallOf}
 use Rattle.wg_script.specs.declared.draft.Place.TheVariants as place
 use Rattle.wg_script.specs.declared.draft.Draft.{Draft}
 use Rattle.wg_script.specs.declared.draft.Script.{Script}
 use Rattle.wg_script.specs.declared.draft.ScriptFault.{ScriptFault}
 use Rattle.wg_names.specs.Uses.{uses_of, made_of}
-use Rattle.wg_names.specs.Names.{Names, no_names, with_name, is_name, check_use}
-use Rattle.wg_names.specs.declared.kinds.NameKind.{NameKind}
-use Rattle.wg_names.specs.declared.kinds.Wanted.{Wanted}
+use Rattle.wg_names.specs.Names.{Names, no_names, with_name, slot_in, is_name, check_use}
+use Rattle.wg_types.specs.declared.wanted.Kind.{Kind}
+use Rattle.wg_types.specs.declared.wanted.Wanted.{Wanted}
 
 -- ---- a call
 
@@ -21,10 +22,9 @@ check_uses names p l [] = Ok tt
 check_uses names p l (u ∷ us) = check_use names p l u >>= λ fine. check_uses names p l us
 
 -- script rule 9: the name that a call makes is malformed, or was made before, visible or not
-abbrev pub with_made : ℕ → ℕ → Names → Option (List ℕ × NameKind) → Result Names ℕ
+abbrev pub with_made : ℕ → ℕ → Names → Option (List ℕ × Kind) → Result Names ℕ
 with_made p l names None = Ok names
-with_made p l names (Some m) = if is_name m.0 && is_none (names m.0)
-    then Ok (with_name m.0 (record { kind = m.1; phase = p; lane = l }) names) else Err 9
+with_made p l names (Some m) = if is_name m.0 && is_none (names.marks m.0) then Ok (with_name p l m.0 m.1 names) else Err 9
 
 -- the names after call c of phase p and lane l: it uses its names first, and makes its own last
 unfoldable pub call_bound : ℕ → ℕ → ℕ → Names → Call → Result Names Stop
@@ -50,9 +50,19 @@ phases_bound phases = walk phase_bound 0 no_names phases
 
 -- ---- the script
 
--- the script that a draft is: the same calls, where no name is refused
+-- the calls with what stands for each name in place of it
+abbrev pub map_lane : {R S : Type 0} → (R → S) → List (CallOf R) → List (CallOf S)
+map_lane f calls = map (map_call f) calls
+
+abbrev pub map_phase : {R S : Type 0} → (R → S) → List (List (CallOf R)) → List (List (CallOf S))
+map_phase f lanes = map (map_lane f) lanes
+
+abbrev pub map_phases : {R S : Type 0} → (R → S) → List (List (List (CallOf R))) → List (List (List (CallOf S)))
+map_phases f phases = map (map_phase f) phases
+
+-- the script that a draft is: the same calls, with the slot of each name in place of it, where no name is refused
 abbrev pub script_from : Draft → Result Script Stop
-script_from draft = phases_bound draft.phases >>= λ names. Ok (record { budget = draft.budget; phases = draft.phases })
+script_from draft = phases_bound draft.phases >>= λ names. Ok (record { budget = draft.budget; phases = map_phases (slot_in names) draft.phases })
 
 -- the script that the bytes are, or the rule that they break first, with its place
 abbrev pub script_of : List ℕ → Result Script Stop
@@ -64,8 +74,3 @@ script_of bytes = draft_of bytes >>= script_from
 abbrev pub Binds : Result ⊤ ScriptFault → Names → Result Names Stop → Type 0
 Binds (Ok done) names read = read ≡ Ok names
 Binds (Err fault) names read = Refuses fault read
-
--- no name is refused, unless memory ran out
-abbrev pub Finds : Result ⊤ ScriptFault → Result Names Stop → Type 0
-Finds (Ok done) read = (names : Names) × (read ≡ Ok names)
-Finds (Err fault) read = Refuses fault read

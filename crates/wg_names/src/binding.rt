@@ -1,18 +1,17 @@
 //! Goes through the calls of a script in order, and through the names of each.
-ghost use Rattle.std.specs.Prelude.{◌≡◌, map, IfOk, MatchResult};
-ghost use Rattle.std.specs.Option.{option_map};
+ghost use Rattle.std.specs.Prelude.{◌≡◌, IfOk, MatchResult};
 ghost use Rattle.std.specs.List.{list_all};
 ghost use Rattle.wg_script.specs.Outcome.{Reads};
 ghost use Rattle.wg_names.specs.Names.{is_name, is_name_byte};
 ghost use Rattle.wg_names.specs.Known.{names_in};
-ghost use Rattle.wg_names.specs.Uses.{all_wanted, copy_uses_of, uses_of, made_of};
-ghost use Rattle.wg_names.specs.Script.{check_uses, call_bound, lane_bound, phase_bound, phases_bound, script_from, script_of, Binds, Finds};
-ghost use Rattle.wg_names.specs.Bound.{IsBound};
+ghost use Rattle.wg_names.specs.Script.{call_bound, lane_bound, phase_bound, walk, script_from, script_of, Binds};
+ghost use Rattle.wg_names.specs.Bound.{IsBound, IsBoundFrom, IsBoundRead};
 
-use crate::kinds::{Mark, NameKind, Wanted};
 use crate::known::Known;
+use crate::slots::bound_phases;
+use crate::uses::{check_uses, made_of};
 use std::alloc::Global;
-use wg_script::{Call, Draft, Lane, Name, Phase, Place, Script, ScriptFault};
+use wg_script::{Call, Draft, Lane, Phase, Place, Script, ScriptFault};
 
 /// How many letters a name may have.
 const MOST_LETTERS: usize = 64;
@@ -37,140 +36,6 @@ fn is_name(text: &str) -> bool
     !bytes.is_empty() && bytes.len() <= MOST_LETTERS && all_name_bytes(bytes)
 }
 
-/// Tests the names of a list, each of which must stand for what is wanted.
-fn check_all(
-    known: &Known<'_>,
-    phase: u32,
-    lane: u32,
-    names: &[Name],
-    wanted: Wanted,
-) -> Result<(), u8>
-    ensures { result ≡ check_uses (names_in known.now) phase lane (all_wanted wanted names.now) }
-{
-    for name in names {
-        known.check_use(phase, lane, name, wanted)?;
-    }
-    Ok(())
-}
-
-/// Tests names one after another, each with what it must stand for.
-fn check_each(known: &Known<'_>, phase: u32, lane: u32, uses: &[(&Name, Wanted)]) -> Result<(), u8>
-    ensures { result ≡ check_uses (names_in known.now) phase lane (map (λ u. (u.0.now, u.1)) uses.now) }
-{
-    for (name, wanted) in uses {
-        known.check_use(phase, lane, name, *wanted)?;
-    }
-    Ok(())
-}
-
-/// The three names that a copy uses, in the order of its keys; a call of another kind has none.
-fn check_copy_uses(known: &Known<'_>, phase: u32, lane: u32, call: &Call) -> Result<(), u8>
-    ensures { result ≡ check_uses (names_in known.now) phase lane (copy_uses_of call.now) }
-{
-    match call {
-        Call::CopyBufferToBuffer {
-            on,
-            source,
-            target,
-            ..
-        } => {
-            let uses = [
-                (on, Wanted::Encoder),
-                (source, Wanted::Buffer),
-                (target, Wanted::Buffer),
-            ];
-            check_each(known, phase, lane, &uses)
-        }
-        Call::CopyBufferToTexture {
-            on,
-            buffer,
-            texture,
-            ..
-        }
-        | Call::CopyTextureToBuffer {
-            on,
-            buffer,
-            texture,
-            ..
-        } => {
-            let uses = [
-                (on, Wanted::Encoder),
-                (buffer, Wanted::Buffer),
-                (texture, Wanted::Texture),
-            ];
-            check_each(known, phase, lane, &uses)
-        }
-        Call::CopyTextureToTexture {
-            on,
-            source,
-            target,
-            ..
-        } => {
-            let uses = [
-                (on, Wanted::Encoder),
-                (source, Wanted::Texture),
-                (target, Wanted::Texture),
-            ];
-            check_each(known, phase, lane, &uses)
-        }
-        _ => Ok(()),
-    }
-}
-
-/// Tests the names that a call uses, in the order of its keys.
-fn check_uses(known: &Known<'_>, phase: u32, lane: u32, call: &Call) -> Result<(), u8>
-    ensures { result ≡ check_uses (names_in known.now) phase lane (uses_of call.now) }
-{
-    match call {
-        Call::Finish { on, .. } | Call::PushDebugGroup { on } | Call::PopDebugGroup { on } => {
-            check_each(known, phase, lane, &[(on, Wanted::Encoder)])
-        }
-        Call::Submit { buffers } => {
-            let buffers = buffers.as_slice();
-            check_all(known, phase, lane, buffers, Wanted::CommandBuffer)
-        }
-        Call::CreateView { texture, .. } | Call::WriteTexture { texture, .. } => {
-            check_each(known, phase, lane, &[(texture, Wanted::Texture)])
-        }
-        Call::WriteBuffer { buffer, .. } => {
-            check_each(known, phase, lane, &[(buffer, Wanted::Buffer)])
-        }
-        Call::Destroy { object } => {
-            check_each(known, phase, lane, &[(object, Wanted::Destroyable)])
-        }
-        Call::ClearBuffer { on, buffer, .. } => {
-            let uses = [(on, Wanted::Encoder), (buffer, Wanted::Buffer)];
-            check_each(known, phase, lane, &uses)
-        }
-        _ => check_copy_uses(known, phase, lane, call),
-    }
-}
-
-/// The name that a call makes, and what it stands for.
-fn made_of(call: &Call) -> Option<(&Name, NameKind)>
-    ensures { option_map (λ m. (m.0.now, m.1)) result ≡ made_of call.now }
-{
-    match call {
-        Call::CreateBuffer { made, .. } => Some((made, NameKind::Buffer)),
-        Call::CreateTexture { made, .. } => Some((made, NameKind::Texture)),
-        Call::CreateView { made, .. } => Some((made, NameKind::View)),
-        Call::CreateEncoder { made } => Some((made, NameKind::Encoder)),
-        Call::Finish { made, .. } => Some((made, NameKind::CommandBuffer)),
-        Call::Submit { .. }
-        | Call::WriteBuffer { .. }
-        | Call::WriteTexture { .. }
-        | Call::Destroy { .. }
-        | Call::Complete { .. }
-        | Call::CopyBufferToBuffer { .. }
-        | Call::CopyBufferToTexture { .. }
-        | Call::CopyTextureToBuffer { .. }
-        | Call::CopyTextureToTexture { .. }
-        | Call::ClearBuffer { .. }
-        | Call::PushDebugGroup { .. }
-        | Call::PopDebugGroup { .. } => None,
-    }
-}
-
 /// Tests the names of a call, and adds the one that it makes.
 #[tactic(auto, unfolding(crate::specs::Script::call_bound))]
 fn bind_call<'a>(
@@ -190,7 +55,7 @@ fn bind_call<'a>(
         if !is_name(name.as_str()) || !known.is_new(name.as_str()) {
             return Err(ScriptFault::Bad { rule: 9, place });
         }
-        known.add(name, Mark { kind, phase, lane })?;
+        known.add(phase, lane, name, kind)?;
     }
     Ok(())
 }
@@ -233,29 +98,32 @@ fn bind_phase<'a>(known: &mut Known<'a>, phase: u32, lanes: &'a [Lane]) -> Resul
 }
 
 /// Goes through the phases of a script.
-fn bind_phases(alloc: Global, phases: &[Phase]) -> Result<(), ScriptFault>
-    ensures { Finds result (phases_bound phases.now) }
+fn bind_phases<'a>(known: &mut Known<'a>, phases: &'a [Phase]) -> Result<(), ScriptFault>
+    ensures { Binds result (names_in known.new) (walk phase_bound 0 (names_in known.old) phases.now) }
 {
-    let mut known = Known::new(alloc);
     for (index, lanes) in phases.iter().enumerate() {
         let phase = number_of(index)?;
-        bind_phase(&mut known, phase, lanes.as_slice())?;
+        bind_phase(known, phase, lanes.as_slice())?;
     }
     Ok(())
 }
 
-/// Binds the names of a script. What comes back is the script with the same calls, each name of which
-/// was made by an earlier call that is visible and stands for what is wanted, or the rule that is
-/// broken first and its place, or that there was no memory. A list of 2^32 phases, lanes or calls,
-/// whose places have no number, counts as want of memory.
+/// Binds the names of a script. What comes back is the script with the same calls, in which each name
+/// has become the slot of what it stands for, was made by an earlier call that is visible and stands for
+/// what is wanted; or the rule that is broken first and its place; or that there was no memory. A list
+/// of 2^32 phases, lanes or calls, whose places have no number, counts as want of memory, and so does
+/// the 2^32-th name.
 pub fn bind(alloc: Global, draft: Draft) -> Result<Script, ScriptFault>
     ensures read { Reads result (script_from draft) }
     ensures bound { IfOk result (λ script. IsBound script.phases) }
+    ensures from { IfOk result (λ script. IsBoundFrom draft.phases script.phases) }
 {
-    bind_phases(alloc, draft.phases.as_slice())?;
+    let mut known = Known::new(alloc);
+    bind_phases(&mut known, draft.phases.as_slice())?;
+    let phases = bound_phases(alloc, &known, draft.phases.as_slice())?;
     Ok(Script {
         budget: draft.budget,
-        phases: draft.phases,
+        phases,
     })
 }
 
@@ -263,6 +131,7 @@ pub fn bind(alloc: Global, draft: Draft) -> Result<Script, ScriptFault>
 pub fn read_script(alloc: Global, bytes: &[u8]) -> Result<Script, ScriptFault>
     ensures read { Reads result (script_of bytes.now) }
     ensures bound { IfOk result (λ script. IsBound script.phases) }
+    ensures from { IfOk result (λ script. IsBoundRead bytes.now script.phases) }
 {
     match wg_script::read(alloc, bytes) {
         Ok(draft) => bind(alloc, draft),

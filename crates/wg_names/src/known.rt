@@ -1,16 +1,27 @@
 //! The names that calls have made so far.
 ghost use Rattle.std.specs.Prelude.{◌≡◌, ◌||◌, ◌&&◌, ◌==◌, nat_lt, OnOk, OnErr, is_none};
-ghost use Rattle.wg_names.specs.Names.{no_names, with_name, is_visible, check_use};
+ghost use Rattle.wg_names.specs.Names.{no_names, with_name, slot_in, is_visible, check_use};
 
-use crate::kinds::{Mark, Wanted};
 use std::alloc::Global;
 use std::collections::BTreeMap;
 use wg_script::{Name, NoMemory};
+use wg_types::wanted::{Kind, Wanted};
 
-/// What each name stands for, of those that were made so far.
+/// What a name stands for, the phase and the lane whose call made it, and how many names were made
+/// before it.
+#[derive(Clone, Copy, Debug, PartialEq, Eq)]
+pub struct Mark {
+    pub kind: Kind,
+    pub phase: u32,
+    pub lane: u32,
+    pub slot: u32,
+}
+
+/// What each name stands for, of those that were made so far, and how many these are.
 #[derive(Drop)]
 pub struct Known<'a> {
     marks: BTreeMap<&'a str, Mark>,
+    made: u32,
 }
 
 impl<'a> Known<'a> {
@@ -22,19 +33,30 @@ impl<'a> Known<'a> {
     {
         Known {
             marks: BTreeMap::new(alloc),
+            made: 0,
         }
     }
 
     /// What a name stands for, if a call has made it.
-    fn find(&self, name: &str) -> Option<Mark>
-        ensures { result ≡ names_in self.now name.now }
+    pub fn find(&self, name: &str) -> Option<Mark>
+        ensures { result ≡ (names_in self.now).marks name.now }
     {
         self.marks.get(name).copied()
     }
 
+    /// The slot of a name that a call has made.
+    pub fn slot(&self, name: &Name) -> u32
+        ensures { result ≡ slot_in (names_in self.now) name.now }
+    {
+        match self.find(name.as_str()) {
+            Some(mark) => mark.slot,
+            None => 0,
+        }
+    }
+
     /// Whether no call has made a name.
     pub fn is_new(&self, name: &str) -> bool
-        ensures { result ≡ is_none (names_in self.now name.now) }
+        ensures { result ≡ is_none ((names_in self.now).marks name.now) }
     {
         self.find(name).is_none()
     }
@@ -56,12 +78,24 @@ impl<'a> Known<'a> {
         }
     }
 
-    /// Adds a name.
-    pub fn add(&mut self, name: &'a Name, mark: Mark) -> Result<(), NoMemory>
-        ensures ok { OnOk result (names_in self.new ≡ with_name name.now mark (names_in self.old)) }
+    /// Adds a name that a call of this phase and lane makes. The 2^32-th, which would have no slot
+    /// after it, counts as want of memory.
+    pub fn add(&mut self, phase: u32, lane: u32, name: &'a Name, kind: Kind) -> Result<(), NoMemory>
+        ensures ok { OnOk result (names_in self.new ≡ with_name phase lane name.now kind (names_in self.old)) }
         ensures err { OnErr result (names_in self.new ≡ names_in self.old) }
     {
+        let slot = self.made;
+        let Some(made) = slot.checked_add(1) else {
+            return Err(NoMemory);
+        };
+        let mark = Mark {
+            kind,
+            phase,
+            lane,
+            slot,
+        };
         self.marks.insert(name.as_str(), mark)?;
+        self.made = made;
         Ok(())
     }
 }

@@ -1,5 +1,3 @@
-pub mod Rows
-pub mod Runs
 pub mod Latest
 pub mod Places
 pub mod Conflicts
@@ -14,10 +12,6 @@ pub mod Built
 pub mod Examples
 pub mod Steps
 pub mod Declared
-pub mod Printed
-pub mod Told
-pub mod Cut
-pub mod Values
 pub mod Agreeing
-pub mod Lying
 pub mod Unused
+pub mod Sets

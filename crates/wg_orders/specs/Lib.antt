@@ -1,6 +1,5 @@
-pub mod Rows
-pub mod Cut
 pub mod Steps
+pub mod Sets
 pub mod Trace
 pub mod Orders
 pub mod Laws

@@ -2,7 +2,8 @@
 use Rattle.std.specs.Prelude.{ℕ, List, [], ◌++◌, Bool, true, false, codes, decimal, Option, Some, None}
 use Rattle.std.specs.List.{flat_map}
 use Rattle.wg_types.specs.declared.replies.Verb.{Verb}
-use Rattle.wg_types.specs.declared.replies.Verb.TheVariants.{CreateBuffer, CreateTexture, CreateView, CreateEncoder, Finish, Late, Submit, WriteBuffer, WriteTexture, Destroy, Complete}
+use Rattle.wg_types.specs.declared.replies.Verb.TheVariants.{Call, Late}
+use Rattle.wg_types.specs.Words.{word_text}
 use Rattle.wg_types.specs.declared.replies.FaultKind.{FaultKind}
 use Rattle.wg_types.specs.declared.replies.FaultKind.TheVariants.{Validation, OutOfMemory}
 use Rattle.wg_types.specs.declared.replies.Caught.{Caught}
@@ -15,19 +16,10 @@ use Rattle.wg_types.specs.declared.replies.How.TheVariants.{Mapped, Done, Aborte
 use Rattle.wg_types.specs.declared.replies.Settlement.{Settlement}
 use Rattle.wg_types.specs.declared.replies.Reply.{Reply}
 
--- the script's word for the event
+-- the event: the word of its call, or that it came too late
 abbrev pub verb_text : Verb → List ℕ
-verb_text CreateBuffer = codes "createBuffer"
-verb_text CreateTexture = codes "createTexture"
-verb_text CreateView = codes "createView"
-verb_text CreateEncoder = codes "createEncoder"
-verb_text Finish = codes "finish"
+verb_text (Call word) = word_text word
 verb_text Late = codes "late"
-verb_text Submit = codes "submit"
-verb_text WriteBuffer = codes "writeBuffer"
-verb_text WriteTexture = codes "writeTexture"
-verb_text Destroy = codes "destroy"
-verb_text Complete = codes "complete"
 
 abbrev pub fault_kind_text : FaultKind → List ℕ
 fault_kind_text Validation = codes "validation"

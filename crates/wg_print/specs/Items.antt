@@ -7,30 +7,14 @@ use Rattle.wg_types.specs.declared.parts.Kind.{Kind}
 use Rattle.wg_types.specs.declared.usages.Usages.{Usages}
 use Rattle.wg_types.specs.declared.steps.StepPlace.{StepPlace}
 use Rattle.wg_types.specs.declared.steps.StepPlace.TheVariants.{Op, Host}
-use Rattle.wg_types.specs.declared.steps.StepName.{StepName}
-use Rattle.wg_types.specs.declared.steps.StepName.TheVariants.{Clear, WriteBuffer, WriteTexture, CopyBufferToBuffer, CopyBufferToTexture, CopyTextureToBuffer, CopyTextureToTexture, ClearBuffer, ResolveQuerySet, Dispatch, RenderPass, HostRead, HostWrite}
 use Rattle.wg_types.specs.declared.steps.Step.{Step}
 use Rattle.wg_types.specs.declared.steps.Sort.{Sort}
 use Rattle.wg_types.specs.declared.steps.Sort.TheVariants.{Buffer, Texture, Queries}
 use Rattle.wg_types.specs.declared.steps.Item.{Item}
 use Rattle.wg_types.specs.declared.steps.Item.TheVariants.{Bar, Step as StepItem, Free}
+use Rattle.wg_types.specs.Words.{step_name_text}
 use Rattle.wg_print.specs.Parts.{access_kind_text, part_text, cells_text}
 use Rattle.wg_print.specs.UsageSets.{usages_text}
-
-abbrev pub step_name_text : StepName → List ℕ
-step_name_text Clear = codes "clear"
-step_name_text WriteBuffer = codes "writeBuffer"
-step_name_text WriteTexture = codes "writeTexture"
-step_name_text CopyBufferToBuffer = codes "copyBufferToBuffer"
-step_name_text CopyBufferToTexture = codes "copyBufferToTexture"
-step_name_text CopyTextureToBuffer = codes "copyTextureToBuffer"
-step_name_text CopyTextureToTexture = codes "copyTextureToTexture"
-step_name_text ClearBuffer = codes "clearBuffer"
-step_name_text ResolveQuerySet = codes "resolveQuerySet"
-step_name_text Dispatch = codes "dispatch"
-step_name_text RenderPass = codes "renderPass"
-step_name_text HostRead = codes "hostRead"
-step_name_text HostWrite = codes "hostWrite"
 
 -- the operation, or the entry of a step on the host
 abbrev pub place_text : StepPlace → List ℕ

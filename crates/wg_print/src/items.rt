@@ -8,7 +8,7 @@ ghost use Rattle.wg_print.specs.Seen.{seen, reference, IsLive};
 use crate::pieces::{Piece, put_all};
 use crate::printing::Out;
 use crate::usage_sets::put_usages;
-use crate::words::{access_kind_word, aspect_word, sort_word, step_name_word};
+use crate::words::{access_kind_word, aspect_word, sort_word};
 use wg_io::{Failed, Sink};
 use wg_types::parts::{Cells, Kind, PartRun};
 use wg_types::steps::{Item, Sort, Step, StepPlace};
@@ -215,7 +215,7 @@ fn put_step<W: Sink>(out: &mut Out<'_, W>, number: u64, step: &Step)
         out,
         &[
             Piece::Word(" "),
-            Piece::Word(step_name_word(step.name)),
+            Piece::Word(step.name.as_str()),
             Piece::Word("\n"),
         ],
     );

@@ -1,27 +1,18 @@
 ghost use Rattle.std.specs.Prelude.{◌≡◌};
 ghost use Rattle.wg_print.specs.Entries.{verb_text, fault_kind_text, validity_text};
-ghost use Rattle.wg_print.specs.Items.{step_name_text, sort_text};
+ghost use Rattle.wg_print.specs.Items.{sort_text};
 ghost use Rattle.wg_print.specs.Parts.{aspect_text, access_kind_text};
 
 use wg_types::parts::{Aspect, Kind};
 use wg_types::replies::{FaultKind, Verb};
-use wg_types::steps::{Sort, StepName};
+use wg_types::steps::Sort;
 
 pub fn verb_word(verb: Verb) -> &'static str
     ensures { result.now ≡ verb_text verb }
 {
     match verb {
-        Verb::CreateBuffer => "createBuffer",
-        Verb::CreateTexture => "createTexture",
-        Verb::CreateView => "createView",
-        Verb::CreateEncoder => "createEncoder",
-        Verb::Finish => "finish",
+        Verb::Call(word) => word.as_str(),
         Verb::Late => "late",
-        Verb::Submit => "submit",
-        Verb::WriteBuffer => "writeBuffer",
-        Verb::WriteTexture => "writeTexture",
-        Verb::Destroy => "destroy",
-        Verb::Complete => "complete",
     }
 }
 
@@ -69,25 +60,5 @@ pub fn sort_word(sort: Sort) -> &'static str
         Sort::Buffer => "b",
         Sort::Texture => "t",
         Sort::Queries => "q",
-    }
-}
-
-pub fn step_name_word(name: StepName) -> &'static str
-    ensures { result.now ≡ step_name_text name }
-{
-    match name {
-        StepName::Clear => "clear",
-        StepName::WriteBuffer => "writeBuffer",
-        StepName::WriteTexture => "writeTexture",
-        StepName::CopyBufferToBuffer => "copyBufferToBuffer",
-        StepName::CopyBufferToTexture => "copyBufferToTexture",
-        StepName::CopyTextureToBuffer => "copyTextureToBuffer",
-        StepName::CopyTextureToTexture => "copyTextureToTexture",
-        StepName::ClearBuffer => "clearBuffer",
-        StepName::ResolveQuerySet => "resolveQuerySet",
-        StepName::Dispatch => "dispatch",
-        StepName::RenderPass => "renderPass",
-        StepName::HostRead => "hostRead",
-        StepName::HostWrite => "hostWrite",
     }
 }

@@ -1,115 +1,110 @@
 -- Which call an object is, or the first script rule that it breaks: for each call that is built, its
--- keys, and what each holds, in the order in which they are tested. Calls on textures have definitions
+-- keys, and what each holds, in the order in which they are read. Calls on textures have definitions
 -- of their own.
-use Rattle.std.specs.Prelude.{ℕ, List, [], ◌∷◌, Bool, false, if◌then◌else◌, codes, Option, Some, None, option_and_then, Result, Ok, Err}
+use Rattle.std.specs.Prelude.{ℕ, List, false, codes, Option, Some, None, option_and_then, Result, Err}
 use Rattle.serde_json.specs.Data.{Data}
 use Rattle.serde_json.specs.Find.{get, as_str}
 use Rattle.wg_script.specs.Giving.{◌>>=◌}
-use Rattle.wg_script.specs.Values.{check_keys, whole_at, whole_or, whole_if, most_whole, most_short, flag_or, name_at, check_not_true}
+use Rattle.wg_script.specs.Values.{whole_at, whole_or, whole_if, most_whole, most_short, flag_or, name_at, check_not_true}
 use Rattle.wg_script.specs.Lists.{names_at}
+use Rattle.wg_script.specs.Readers.{Reader, gives, need, may, ◌▹◌, read_by}
 use Rattle.wg_script.specs.TextureCalls.{create_texture_of, create_view_of, write_texture_of, copy_buffer_to_texture_of, copy_texture_to_buffer_of, copy_texture_to_texture_of}
-use Rattle.wg_script.specs.Words.{word_of, is_known}
-use Rattle.wg_script.specs.declared.words.Word.{Word}
-use Rattle.wg_script.specs.declared.words.Word.TheVariants as word
-use Rattle.wg_script.specs.declared.calls.Call.{Call}
-use Rattle.wg_script.specs.declared.calls.Call.TheVariants.{CreateBuffer, CreateEncoder, Finish, Submit, WriteBuffer, Destroy, Complete, CopyBufferToBuffer, ClearBuffer, PushDebugGroup, PopDebugGroup}
+use Rattle.wg_types.specs.Words.{word_of}
+use Rattle.wg_types.specs.declared.words.Word.{Word}
+use Rattle.wg_types.specs.declared.words.Word.TheVariants as word
+use Rattle.wg_script.specs.CallOf.{Call}
+use Rattle.wg_types.specs.declared.commands.CommandOf.{CommandOf}
+use Rattle.wg_types.specs.declared.commands.CommandOf.TheVariants.{CopyBufferToBuffer, ClearBuffer, PushDebugGroup, PopDebugGroup}
+use Rattle.wg_types.specs.declared.requests.RequestOf.TheVariants.{CreateBuffer, CreateEncoder, Finish, Submit, WriteBuffer, Destroy, Complete}
+use Rattle.wg_script.specs.Calling.{recording, asking, making}
 
 -- createBuffer: a buffer that is mapped at its creation is not built yet
+abbrev pub create_buffer_keys : Reader Call
+create_buffer_keys = gives (λ size usage mapped made. making (CreateBuffer (record { size = size; usage = usage; mapped = mapped })) made)
+    ▹ need (codes "size") (whole_at most_whole)
+    ▹ need (codes "usage") (whole_at most_short)
+    ▹ may (codes "mapped") (flag_or false)
+    ▹ need (codes "as") name_at
+
 unfoldable pub create_buffer_of : Data → Result Call ℕ
-create_buffer_of d = do
-  built ← check_not_true (get (codes "mapped") d)
-  fine ← check_keys (codes "do" ∷ codes "size" ∷ codes "usage" ∷ codes "as" ∷ []) (codes "mapped" ∷ []) d
-  size ← whole_at most_whole (get (codes "size") d)
-  usage ← whole_at most_short (get (codes "usage") d)
-  mapped ← flag_or false (get (codes "mapped") d)
-  made ← name_at (get (codes "as") d)
-  Ok (CreateBuffer size usage mapped made)
+create_buffer_of d = check_not_true (get (codes "mapped") d) >>= λ built. read_by create_buffer_keys d
 
 -- createEncoder
 unfoldable pub create_encoder_of : Data → Result Call ℕ
-create_encoder_of d = do
-  fine ← check_keys (codes "do" ∷ codes "as" ∷ []) [] d
-  made ← name_at (get (codes "as") d)
-  Ok (CreateEncoder made)
+create_encoder_of d = read_by (gives (making CreateEncoder) ▹ need (codes "as") name_at) d
 
 -- finish
+abbrev pub finish_keys : Reader Call
+finish_keys = gives (λ on made. making (Finish on) made)
+    ▹ need (codes "on") name_at
+    ▹ need (codes "as") name_at
+
 unfoldable pub finish_of : Data → Result Call ℕ
-finish_of d = do
-  fine ← check_keys (codes "do" ∷ codes "on" ∷ codes "as" ∷ []) [] d
-  on ← name_at (get (codes "on") d)
-  made ← name_at (get (codes "as") d)
-  Ok (Finish on made)
+finish_of d = read_by finish_keys d
 
 -- submit
 unfoldable pub submit_of : Data → Result Call ℕ
-submit_of d = do
-  fine ← check_keys (codes "do" ∷ codes "buffers" ∷ []) [] d
-  buffers ← names_at (get (codes "buffers") d)
-  Ok (Submit buffers)
+submit_of d = read_by (gives (λ buffers. asking (Submit buffers)) ▹ need (codes "buffers") names_at) d
 
 -- writeBuffer
+abbrev pub write_buffer_keys : Reader Call
+write_buffer_keys = gives (λ buffer offset size. asking (WriteBuffer buffer offset size))
+    ▹ need (codes "buffer") name_at
+    ▹ need (codes "offset") (whole_at most_whole)
+    ▹ need (codes "size") (whole_at most_whole)
+
 unfoldable pub write_buffer_of : Data → Result Call ℕ
-write_buffer_of d = do
-  fine ← check_keys (codes "do" ∷ codes "buffer" ∷ codes "offset" ∷ codes "size" ∷ []) [] d
-  buffer ← name_at (get (codes "buffer") d)
-  offset ← whole_at most_whole (get (codes "offset") d)
-  size ← whole_at most_whole (get (codes "size") d)
-  Ok (WriteBuffer buffer offset size)
+write_buffer_of d = read_by write_buffer_keys d
 
 -- destroy
 unfoldable pub destroy_of : Data → Result Call ℕ
-destroy_of d = do
-  fine ← check_keys (codes "do" ∷ codes "object" ∷ []) [] d
-  dead ← name_at (get (codes "object") d)
-  Ok (Destroy dead)
+destroy_of d = read_by (gives (λ dead. asking (Destroy dead)) ▹ need (codes "object") name_at) d
 
 -- complete
 unfoldable pub complete_of : Data → Result Call ℕ
-complete_of d = do
-  fine ← check_keys (codes "do" ∷ codes "op" ∷ []) [] d
-  op ← whole_at most_whole (get (codes "op") d)
-  Ok (Complete op)
+complete_of d = read_by (gives (λ op. asking (Complete op)) ▹ need (codes "op") (whole_at most_whole)) d
 
 -- ---- calls that are recorded
 
 -- copyBufferToBuffer
+abbrev pub copy_buffer_to_buffer_keys : Reader Call
+copy_buffer_to_buffer_keys = gives (λ on source source_offset target target_offset size. recording on (CopyBufferToBuffer source source_offset target target_offset size))
+    ▹ need (codes "on") name_at
+    ▹ need (codes "source") name_at
+    ▹ need (codes "sourceOffset") (whole_at most_whole)
+    ▹ need (codes "target") name_at
+    ▹ need (codes "targetOffset") (whole_at most_whole)
+    ▹ need (codes "size") (whole_at most_whole)
+
 unfoldable pub copy_buffer_to_buffer_of : Data → Result Call ℕ
-copy_buffer_to_buffer_of d = do
-  fine ← check_keys (codes "do" ∷ codes "on" ∷ codes "source" ∷ codes "sourceOffset" ∷ codes "target" ∷ codes "targetOffset" ∷ codes "size" ∷ []) [] d
-  on ← name_at (get (codes "on") d)
-  source ← name_at (get (codes "source") d)
-  source_offset ← whole_at most_whole (get (codes "sourceOffset") d)
-  target ← name_at (get (codes "target") d)
-  target_offset ← whole_at most_whole (get (codes "targetOffset") d)
-  size ← whole_at most_whole (get (codes "size") d)
-  Ok (CopyBufferToBuffer on source source_offset target target_offset size)
+copy_buffer_to_buffer_of d = read_by copy_buffer_to_buffer_keys d
 
 -- clearBuffer: no size stands for what remains of the buffer from the offset on
+abbrev pub clear_buffer_keys : Reader Call
+clear_buffer_keys = gives (λ on buffer offset size. recording on (ClearBuffer buffer offset size))
+    ▹ need (codes "on") name_at
+    ▹ need (codes "buffer") name_at
+    ▹ may (codes "offset") (whole_or most_whole 0)
+    ▹ may (codes "size") (whole_if most_whole)
+
 unfoldable pub clear_buffer_of : Data → Result Call ℕ
-clear_buffer_of d = do
-  fine ← check_keys (codes "do" ∷ codes "on" ∷ codes "buffer" ∷ []) (codes "offset" ∷ codes "size" ∷ []) d
-  on ← name_at (get (codes "on") d)
-  buffer ← name_at (get (codes "buffer") d)
-  offset ← whole_or most_whole 0 (get (codes "offset") d)
-  size ← whole_if most_whole (get (codes "size") d)
-  Ok (ClearBuffer on buffer offset size)
+clear_buffer_of d = read_by clear_buffer_keys d
+
+-- what is recorded with no other key than what it stands on
+abbrev pub bare_of : CommandOf (List ℕ) → Data → Result Call ℕ
+bare_of command d = read_by (gives (λ on. recording on command) ▹ need (codes "on") name_at) d
 
 -- pushDebugGroup
 unfoldable pub push_debug_group_of : Data → Result Call ℕ
-push_debug_group_of d = do
-  fine ← check_keys (codes "do" ∷ codes "on" ∷ []) [] d
-  on ← name_at (get (codes "on") d)
-  Ok (PushDebugGroup on)
+push_debug_group_of d = bare_of PushDebugGroup d
 
 -- popDebugGroup
 unfoldable pub pop_debug_group_of : Data → Result Call ℕ
-pop_debug_group_of d = do
-  fine ← check_keys (codes "do" ∷ codes "on" ∷ []) [] d
-  on ← name_at (get (codes "on") d)
-  Ok (PopDebugGroup on)
+pop_debug_group_of d = bare_of PopDebugGroup d
 
 -- ---- which call
 
+-- a call that is built, by its keys. Script rule 13: the word names a call that is not built yet
 abbrev pub call_as : Word → Data → Result Call ℕ
 call_as word.CreateBuffer d = create_buffer_of d
 call_as word.CreateTexture d = create_texture_of d
@@ -128,16 +123,49 @@ call_as word.CopyTextureToTexture d = copy_texture_to_texture_of d
 call_as word.ClearBuffer d = clear_buffer_of d
 call_as word.PushDebugGroup d = push_debug_group_of d
 call_as word.PopDebugGroup d = pop_debug_group_of d
+call_as word.CreateSampler d = Err 13
+call_as word.CreateBindGroupLayout d = Err 13
+call_as word.CreatePipelineLayout d = Err 13
+call_as word.CreateBindGroup d = Err 13
+call_as word.CreateComputePipeline d = Err 13
+call_as word.CreateRenderPipeline d = Err 13
+call_as word.CreateQuerySet d = Err 13
+call_as word.CreateBundleEncoder d = Err 13
+call_as word.BeginComputePass d = Err 13
+call_as word.BeginRenderPass d = Err 13
+call_as word.End d = Err 13
+call_as word.FinishBundle d = Err 13
+call_as word.MapAsync d = Err 13
+call_as word.Unmap d = Err 13
+call_as word.WorkDone d = Err 13
+call_as word.Drop d = Err 13
+call_as word.PushErrorScope d = Err 13
+call_as word.PopErrorScope d = Err 13
+call_as word.Lose d = Err 13
+call_as word.ResolveQuerySet d = Err 13
+call_as word.SetPipeline d = Err 13
+call_as word.SetBindGroup d = Err 13
+call_as word.SetVertexBuffer d = Err 13
+call_as word.SetIndexBuffer d = Err 13
+call_as word.Dispatch d = Err 13
+call_as word.DispatchIndirect d = Err 13
+call_as word.BeginOcclusionQuery d = Err 13
+call_as word.EndOcclusionQuery d = Err 13
+call_as word.ExecuteBundles d = Err 13
+call_as word.Draw d = Err 13
+call_as word.DrawIndexed d = Err 13
+call_as word.DrawIndirect d = Err 13
+call_as word.DrawIndexedIndirect d = Err 13
+call_as word.CreateCanvas d = Err 13
+call_as word.ConfigureCanvas d = Err 13
+call_as word.CurrentTexture d = Err 13
+call_as word.Present d = Err 13
 
--- script rule 13: the word names a call that is not built yet. Script rule 6: it names none
-abbrev pub call_named : Option Word → Bool → Data → Result Call ℕ
-call_named (Some w) known d = call_as w d
-call_named None known d = if known then Err 13 else Err 6
-
-abbrev pub call_spelled : Option (List ℕ) → Data → Result Call ℕ
-call_spelled None d = Err 6
-call_spelled (Some s) d = call_named (word_of s) (is_known s) d
+-- script rule 6: the word names no call, or there is no word
+abbrev pub call_named : Option Word → Data → Result Call ℕ
+call_named None d = Err 6
+call_named (Some w) d = call_as w d
 
 -- the call that an object is, by its key `do`; what is no object has no key
 abbrev pub call_of : Data → Result Call ℕ
-call_of d = call_spelled (option_and_then as_str (get (codes "do") d)) d
+call_of d = call_named (option_and_then word_of (option_and_then as_str (get (codes "do") d))) d

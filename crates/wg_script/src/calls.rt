@@ -1,103 +1,63 @@
-use crate::name::{Name, Names};
-use wg_types::textures::{AspectWord, DataLayout, TextureInfo, TextureSpot, ViewDim};
+ghost use Rattle.std.specs.Prelude.{◌≡◌, IfOk, option_map};
+ghost use Rattle.wg_script.specs.CallOf.{map_call};
 
-/// A call of a script, with its keys. The key `as` is the field `made`. The size of a clear is `None`
-/// where its key is left out: it is then what remains of the buffer from the offset on. So are the
-/// dimension, the mip levels and the layers of a view, which then depend on the texture.
+use crate::NoMemory;
+use crate::name::Name;
+use std::alloc::Global;
+use wg_types::commands::CommandOf;
+use wg_types::refs::Find;
+use wg_types::requests::RequestOf;
+
+/// A call of a script, with its names as `R`. A recording call stands on an encoder or a pass, and any
+/// other asks the device. The key `as` is `made`.
 #[derive(Drop)]
-pub enum Call {
-    CreateBuffer {
-        size: u64,
-        usage: u32,
-        mapped: bool,
-        made: Name,
+pub enum CallOf<R> {
+    Record {
+        on: R,
+        command: CommandOf<R>,
+        made: Option<R>,
     },
-    CreateTexture {
-        info: TextureInfo,
-        made: Name,
+    Ask {
+        request: RequestOf<R>,
+        made: Option<R>,
     },
-    CreateView {
-        texture: Name,
-        dim: Option<ViewDim>,
-        aspect: AspectWord,
-        base_mip: u32,
-        mips: Option<u32>,
-        base_layer: u32,
-        layers: Option<u32>,
-        made: Name,
-    },
-    CreateEncoder {
-        made: Name,
-    },
-    Finish {
-        on: Name,
-        made: Name,
-    },
-    Submit {
-        buffers: Names,
-    },
-    WriteBuffer {
-        buffer: Name,
-        offset: u64,
-        size: u64,
-    },
-    WriteTexture {
-        texture: Name,
-        spot: TextureSpot,
-        layout: DataLayout,
-        size: [u32; 3],
-        data_size: u64,
-    },
-    Destroy {
-        object: Name,
-    },
-    Complete {
-        op: u64,
-    },
-    CopyBufferToBuffer {
-        on: Name,
-        source: Name,
-        source_offset: u64,
-        target: Name,
-        target_offset: u64,
-        size: u64,
-    },
-    CopyBufferToTexture {
-        on: Name,
-        buffer: Name,
-        layout: DataLayout,
-        texture: Name,
-        spot: TextureSpot,
-        size: [u32; 3],
-    },
-    CopyTextureToBuffer {
-        on: Name,
-        buffer: Name,
-        layout: DataLayout,
-        texture: Name,
-        spot: TextureSpot,
-        size: [u32; 3],
-    },
-    CopyTextureToTexture {
-        on: Name,
-        source: Name,
-        source_mip: u32,
-        source_origin: [u32; 3],
-        target: Name,
-        target_mip: u32,
-        target_origin: [u32; 3],
-        size: [u32; 3],
-    },
-    ClearBuffer {
-        on: Name,
-        buffer: Name,
-        offset: u64,
-        size: Option<u64>,
-    },
-    PushDebugGroup {
-        on: Name,
-    },
-    PopDebugGroup {
-        on: Name,
-    },
+}
+
+/// A call as a script gives it.
+pub type Call = CallOf<Name>;
+
+/// A call with slots in place of its names. The names that calls make are numbered from 0 in reading
+/// order, and a name's slot is its number.
+pub type BoundCall = CallOf<u32>;
+
+fn map_made<R, S: Drop, F: Find<R, S>>(find: &F, made: &Option<R>) -> Result<Option<S>, NoMemory>
+    ensures { IfOk result (λ found. found ≡ option_map (F.finds find.now) made.now) }
+{
+    match made {
+        Some(name) => Ok(Some(find.find(name)?)),
+        None => Ok(None),
+    }
+}
+
+impl<R> CallOf<R> {
+    /// The call with what stands for each name in place of it.
+    pub fn map<S: Drop, F: Find<R, S>>(
+        &self,
+        alloc: Global,
+        find: &F,
+    ) -> Result<CallOf<S>, NoMemory>
+        ensures { IfOk result (λ call. call ≡ map_call (F.finds find.now) self.now) }
+    {
+        match self {
+            CallOf::Record { on, command, made } => Ok(CallOf::Record {
+                on: find.find(on)?,
+                command: command.map(alloc, find)?,
+                made: map_made(find, made)?,
+            }),
+            CallOf::Ask { request, made } => Ok(CallOf::Ask {
+                request: request.map(alloc, find)?,
+                made: map_made(find, made)?,
+            }),
+        }
+    }
 }

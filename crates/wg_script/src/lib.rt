@@ -2,6 +2,7 @@
 #![tactic(auto)]
 
 mod call_reading;
+mod calling;
 mod calls;
 mod draft;
 mod lists;
@@ -12,8 +13,8 @@ mod texture_words;
 mod values;
 mod words;
 
-pub use calls::Call;
-pub use draft::{Draft, Lane, Phase, Phases, Place, Script, ScriptFault};
+pub use calls::{BoundCall, Call, CallOf};
+pub use draft::{BoundLane, BoundPhase, Draft, Lane, Phase, Phases, Place, Script, ScriptFault};
 pub use name::{Name, Names};
 pub use reading::read;
 pub use wg_entry::NoMemory;

@@ -4,13 +4,12 @@ use Rattle.std.specs.List.{list_any}
 use Rattle.std.proofs.lemmas.Bool.Decides.{nat_tests}
 use Rattle.std.proofs.lemmas.List.Folds.{list_any-append}
 use Rattle.std.proofs.lemmas.List.Concat.{flat_map-cons}
-use Rattle.wg_orders.specs.Rows.{in_range, count_up, numbers}
+use Rattle.wg_rows.specs.Rows.{in_range, count_up, numbers}
 use Rattle.wg_types.specs.Formats.{row}
-use Rattle.wg_orders.specs.Steps.{Aspect, aspect_number, Part, Buffer, Subresource, QuerySet, PartRun, LayerParts, Cells, Layers, covers_part}
-use Rattle.wg_orders.specs.Laws.{run_part}
+use Rattle.wg_rows.specs.Runs.{Aspect, aspect_number, Part, Buffer, Subresource, QuerySet, PartRun, LayerParts, covers_part}
 use Rattle.wg_model.specs.Formats.{named_aspects}
 use Rattle.wg_model.specs.Textures.{layer_count}
-use Rattle.wg_model.specs.Subresources.{level_runs, aspect_runs, view_runs, first_layer, end_layer, copied_cells}
+use Rattle.wg_model.specs.Subresources.{level_runs, aspect_runs, view_runs, first_layer, end_layer, copy_runs}
 use Rattle.wg_subres.specs.Has.{is_among, ViewsCover, CopiesCover}
 
 -- Ranges.
@@ -137,40 +136,36 @@ one_layer true false e z = refl
 one_layer true true false z = refl
 one_layer true true true z = refl
 
-copy_covers : (object mip lo hi : ℕ) (aspects : List Aspect) (o : ℕ) (a : Aspect) (m l : ℕ) → list_any (λ run. covers_part run (Subresource o a m l)) (map run_part (map (λ aspect. Layers object aspect mip lo hi) aspects)) ≡ (object == o) && (is_among a aspects && ((mip == m) && in_range lo hi l))
+copy_covers : (object mip lo hi : ℕ) (aspects : List Aspect) (o : ℕ) (a : Aspect) (m l : ℕ) → list_any (λ run. covers_part run (Subresource o a m l)) (map (λ aspect. LayerParts object aspect mip lo hi) aspects) ≡ (object == o) && (is_among a aspects && ((mip == m) && in_range lo hi l))
 unfolding covers_part
 copy_covers object mip lo hi [] o a m l = none_second (object == o) ((mip == m) && in_range lo hi l)
 copy_covers object mip lo hi (aspect ∷ aspects) o a m l =
     ap₂ (λ b c. b || c) (one_layer (object == o) (aspect_number aspect == aspect_number a) (mip == m) (in_range lo hi l)) (copy_covers object mip lo hi aspects o a m l)
     ∙ or_second (object == o) (aspect_number aspect == aspect_number a) (is_among a aspects) ((mip == m) && in_range lo hi l)
 
-copy_no_buffer : (object mip lo hi : ℕ) (aspects : List Aspect) (o : ℕ) → list_any (λ run. covers_part run (Buffer o)) (map run_part (map (λ aspect. Layers object aspect mip lo hi) aspects)) ≡ false
+copy_no_buffer : (object mip lo hi : ℕ) (aspects : List Aspect) (o : ℕ) → list_any (λ run. covers_part run (Buffer o)) (map (λ aspect. LayerParts object aspect mip lo hi) aspects) ≡ false
 unfolding covers_part
 copy_no_buffer object mip lo hi [] o = refl
 copy_no_buffer object mip lo hi (aspect ∷ aspects) o = ap₂ (λ b c. b || c) (no_line (object == o) (in_range lo hi 0)) (copy_no_buffer object mip lo hi aspects o)
 
-copy_no_queries : (object mip lo hi : ℕ) (aspects : List Aspect) (o : ℕ) → list_any (λ run. covers_part run (QuerySet o)) (map run_part (map (λ aspect. Layers object aspect mip lo hi) aspects)) ≡ false
+copy_no_queries : (object mip lo hi : ℕ) (aspects : List Aspect) (o : ℕ) → list_any (λ run. covers_part run (QuerySet o)) (map (λ aspect. LayerParts object aspect mip lo hi) aspects) ≡ false
 unfolding covers_part
 copy_no_queries object mip lo hi [] o = refl
 copy_no_queries object mip lo hi (aspect ∷ aspects) o = ap₂ (λ b c. b || c) (no_line (object == o) (in_range lo hi 0)) (copy_no_queries object mip lo hi aspects o)
 
-layers_cover : (b : Bool) (object mip lo hi : ℕ) (aspects : List Aspect) → nat_lt lo hi ≡ b → (o : ℕ) (a : Aspect) (m l : ℕ) → list_any (λ run. covers_part run (Subresource o a m l)) (map run_part (if b then map (λ aspect. Layers object aspect mip lo hi) aspects else [])) ≡ (object == o) && (is_among a aspects && ((mip == m) && in_range lo hi l))
+layers_cover : (b : Bool) (object mip lo hi : ℕ) (aspects : List Aspect) → nat_lt lo hi ≡ b → (o : ℕ) (a : Aspect) (m l : ℕ) → list_any (λ run. covers_part run (Subresource o a m l)) (if b then map (λ aspect. LayerParts object aspect mip lo hi) aspects else []) ≡ (object == o) && (is_among a aspects && ((mip == m) && in_range lo hi l))
 layers_cover true object mip lo hi aspects e o a m l = copy_covers object mip lo hi aspects o a m l
 layers_cover false object mip lo hi aspects e o a m l =
     none_fourth (object == o) (is_among a aspects) (mip == m)
     ∙ ap (λ c. (object == o) && (is_among a aspects && ((mip == m) && c))) (sym (range_empty lo hi l e))
 
-if_no_layers : (test : PartRun → Bool) (b : Bool) (cells : List Cells) → list_any test (map run_part cells) ≡ false → list_any test (map run_part (if b then cells else [])) ≡ false
-if_no_layers test true cells none = none
-if_no_layers test false cells none = refl
-
 pub copies_cover : CopiesCover
-unfolding copied_cells
+unfolding copy_runs
 copies_cover texture info spot size (Buffer o) =
-    if_no_layers (λ run. covers_part run (Buffer o)) (nat_lt (first_layer info.dim spot.origin) (end_layer info.dim spot.origin size)) (map (λ aspect. Layers texture aspect spot.mip (first_layer info.dim spot.origin) (end_layer info.dim spot.origin size)) (named_aspects spot.aspect (row info.format).aspects))
+    if_none (λ run. covers_part run (Buffer o)) (nat_lt (first_layer info.dim spot.origin) (end_layer info.dim spot.origin size)) (map (λ aspect. LayerParts texture aspect spot.mip (first_layer info.dim spot.origin) (end_layer info.dim spot.origin size)) (named_aspects spot.aspect (row info.format).aspects))
     (copy_no_buffer texture spot.mip (first_layer info.dim spot.origin) (end_layer info.dim spot.origin size) (named_aspects spot.aspect (row info.format).aspects) o)
 copies_cover texture info spot size (QuerySet o) =
-    if_no_layers (λ run. covers_part run (QuerySet o)) (nat_lt (first_layer info.dim spot.origin) (end_layer info.dim spot.origin size)) (map (λ aspect. Layers texture aspect spot.mip (first_layer info.dim spot.origin) (end_layer info.dim spot.origin size)) (named_aspects spot.aspect (row info.format).aspects))
+    if_none (λ run. covers_part run (QuerySet o)) (nat_lt (first_layer info.dim spot.origin) (end_layer info.dim spot.origin size)) (map (λ aspect. LayerParts texture aspect spot.mip (first_layer info.dim spot.origin) (end_layer info.dim spot.origin size)) (named_aspects spot.aspect (row info.format).aspects))
     (copy_no_queries texture spot.mip (first_layer info.dim spot.origin) (end_layer info.dim spot.origin size) (named_aspects spot.aspect (row info.format).aspects) o)
 copies_cover texture info spot size (Subresource o a m l) =
     layers_cover (nat_lt (first_layer info.dim spot.origin) (end_layer info.dim spot.origin size)) texture spot.mip (first_layer info.dim spot.origin) (end_layer info.dim spot.origin size) (named_aspects spot.aspect (row info.format).aspects) refl o a m l

@@ -1,3 +1,4 @@
 pub mod Numbers
 pub mod Covered
 pub mod Printed
+pub mod Meeting

@@ -1,7 +1,7 @@
 -- The numbers of a range, one after another.
 use Rattle.std.proofs.Common.{◌≡◌, ℕ, suc, ◌+◌, ◌-◌, ◌<◌, ◌≤◌, List, [], ◌∷◌, ◌++◌, refl, sym, ap, ◌∙◌, append_assoc, add-one, arith}
-use Rattle.wg_orders.specs.Rows.{count_up, numbers}
-use Rattle.wg_orders.specs.Steps.{Aspect, PartRun, LayerParts}
+use Rattle.wg_rows.specs.Rows.{count_up, numbers}
+use Rattle.wg_rows.specs.Runs.{Aspect, PartRun, LayerParts}
 use Rattle.wg_model.specs.Subresources.{level_runs}
 
 pub numbers_more : (lo hi : ℕ) → lo < hi → numbers lo hi ≡ lo ∷ numbers (lo + 1) hi

@@ -1,15 +1,16 @@
 -- Which subresources a view and a copy have, told one by one, and that their runs have just these.
-use Rattle.std.specs.Prelude.{◌≡◌, ℕ, ◌+◌, ◌==◌, nat_lt, Bool, false, ◌&&◌, List, map}
+use Rattle.std.specs.Prelude.{◌≡◌, ℕ, ◌+◌, ◌==◌, nat_lt, Bool, true, false, ◌&&◌, List, map}
 use Rattle.std.specs.List.{list_any}
 use Rattle.wg_types.specs.declared.textures.TextureInfo.{TextureInfo}
 use Rattle.wg_types.specs.declared.textures.TextureSpot.{TextureSpot}
 use Rattle.wg_types.specs.declared.textures.ViewInfo.{ViewInfo}
 use Rattle.wg_types.specs.Formats.{row}
-use Rattle.wg_orders.specs.Rows.{in_range, Apart}
-use Rattle.wg_orders.specs.Steps.{Aspect, aspect_number, Part, Subresource, PartRun, covers_part, part_sort, Usages, printed_uses, Cells, cell_sort, Kind, printed_accesses}
+use Rattle.wg_rows.specs.Rows.{in_range, Apart}
+use Rattle.wg_rows.specs.Runs.{Aspect, aspect_number, Part, Buffer, Subresource, QuerySet, PartRun, covers_part, part_sort, Cells, cell_sort, run_part}
+use Rattle.wg_rows.specs.Uses.{Usages, printed_uses, Kind, printed_accesses}
 use Rattle.wg_model.specs.Formats.{named_aspects}
 use Rattle.wg_model.specs.Textures.{layer_count}
-use Rattle.wg_model.specs.Subresources.{view_runs, first_layer, end_layer, copied_cells, copy_runs}
+use Rattle.wg_model.specs.Subresources.{view_runs, first_layer, end_layer, copied_cells, copy_runs, copies_meet}
 
 -- whether an aspect is one of these
 abbrev pub is_among : Aspect → List Aspect → Bool
@@ -23,7 +24,8 @@ view_has view (Subresource object aspect mip layer) =
     && (is_among aspect (named_aspects view.aspect (row view.texture_info.format).aspects)
     && ((in_range view.base_mip (view.base_mip + view.mips) mip && nat_lt mip view.texture_info.mips)
     && (in_range view.base_layer (view.base_layer + view.layers) layer && nat_lt layer (layer_count view.texture_info))))
-view_has view _ = false
+view_has view (Buffer object) = false
+view_has view (QuerySet object) = false
 
 -- Whether a copy has a part: a subresource of its texture, of an aspect that it names, at its mip level, with the layer in
 -- its range.
@@ -33,7 +35,8 @@ copy_has texture info spot size (Subresource object aspect mip layer) =
     && (is_among aspect (named_aspects spot.aspect (row info.format).aspects)
     && (spot.mip == mip
     && in_range (first_layer info.dim spot.origin) (end_layer info.dim spot.origin size) layer))
-copy_has texture info spot size _ = false
+copy_has texture info spot size (Buffer object) = false
+copy_has texture info spot size (QuerySet object) = false
 
 -- The runs of a view cover what it has,
 abbrev pub ViewsCover : Type 0
@@ -42,6 +45,15 @@ ViewsCover = (view : ViewInfo) (part : Part) → list_any (λ run. covers_part r
 -- and so do those of a copy.
 abbrev pub CopiesCover : Type 0
 CopiesCover = (texture : ℕ) (info : TextureInfo) (spot : TextureSpot) (size : List ℕ) (part : Part) → list_any (λ run. covers_part run part) (copy_runs texture info spot size) ≡ copy_has texture info spot size part
+
+-- The cells that a copy accesses lie in the parts that it has.
+abbrev pub CopiedCellsLie : Type 0
+CopiedCellsLie = (texture : ℕ) (info : TextureInfo) (spot : TextureSpot) (size : List ℕ) → map run_part (copied_cells texture info spot size) ≡ copy_runs texture info spot size
+
+-- Two copies within one texture meet exactly where some part is in both.
+pub record CopiesMeet : Type 0 where
+  pub shared : (texture : ℕ) (source : TextureInfo) (from : TextureSpot) (target : TextureInfo) (to : TextureSpot) (size : List ℕ) → copies_meet source from target to size ≡ true → (part : Part) × ((copy_has texture source from size part ≡ true) × (copy_has texture target to size part ≡ true))
+  pub only : (texture : ℕ) (source : TextureInfo) (from : TextureSpot) (target : TextureInfo) (to : TextureSpot) (size : List ℕ) (part : Part) → copy_has texture source from size part ≡ true → copy_has texture target to size part ≡ true → copies_meet source from target to size ≡ true
 
 -- the runs, each used in this way
 abbrev pub all_used : Usages → List PartRun → List (PartRun × Usages)

@@ -1,13 +1,12 @@
 //! The subresources of views and of copies, in runs of layers.
 #![tactic(auto)]
 
-ghost use Rattle.std.specs.Prelude.{◌≡◌, ◌++◌, ◌+◌, min, map, [], IfOk, OnOk};
+ghost use Rattle.std.specs.Prelude.{◌≡◌, ◌++◌, ◌+◌, min, [], IfOk, OnOk};
 ghost use Rattle.wg_types.specs.Formats.{row};
-ghost use Rattle.wg_orders.specs.Rows.{numbers};
-ghost use Rattle.wg_orders.specs.Laws.{run_part};
+ghost use Rattle.wg_rows.specs.Rows.{numbers};
 ghost use Rattle.wg_model.specs.Formats.{named_aspects};
-ghost use Rattle.wg_model.specs.Subresources.{level_runs, aspect_runs, view_runs, end_layer, layer_cells, copied_cells, copy_runs};
-ghost use Rattle.wg_subres.specs.Has.{ViewsCover, CopiesCover, ViewsPrinted, CopiesPrinted, CellsPrinted};
+ghost use Rattle.wg_model.specs.Subresources.{level_runs, aspect_runs, view_runs, end_layer, layer_cells, layer_runs, copied_cells, copy_runs};
+ghost use Rattle.wg_subres.specs.Has.{ViewsCover, CopiesCover, CopiedCellsLie, CopiesMeet, ViewsPrinted, CopiesPrinted, CellsPrinted};
 
 use std::alloc::Global;
 use wg_formats::{end_layer, first_layer, layer_count, named_aspects};
@@ -147,7 +146,7 @@ fn layer_parts(
     layers: (u32, u32),
     aspects: &[Aspect],
 ) -> Result<PartRuns, NoMemory>
-    ensures { IfOk result (λ runs. runs ≡ map run_part (layer_cells object mip layers.0 layers.1 aspects.now)) }
+    ensures { IfOk result (λ runs. runs ≡ layer_runs object mip layers.0 layers.1 aspects.now) }
 {
     let mut runs = Items::new(alloc);
     if layers.0 >= layers.1 {
@@ -191,7 +190,7 @@ pub fn cells_of_copy(
 
 /// The subresources of a copy, a run of layers for each aspect that it names (WebGPU, "Texel Copies"). A
 /// copy whose layers pass every number is answered as want of memory; its place is in no texture.
-#[tactic(auto, unfolding(wg_model::specs::Subresources::copied_cells))]
+#[tactic(auto, unfolding(wg_model::specs::Subresources::copy_runs))]
 pub fn of_copy(
     alloc: Global,
     texture: u64,
@@ -213,10 +212,13 @@ pub fn of_copy(
 }
 
 /// The runs of a view cover just the subresources that the view has, and those of a copy just what the
-/// copy has.
+/// copy has, in which the cells lie that it accesses. Two copies within one texture meet exactly where
+/// some subresource is in both.
 pub fn runs_cover()
     ensures views { ViewsCover }
     ensures copies { CopiesCover }
+    ensures cells { CopiedCellsLie }
+    ensures meet { CopiesMeet }
 {}
 
 /// Where all runs of a view are used in one way they are in printed form, and so are the runs of a copy

@@ -1,27 +1,11 @@
 //! What is known of a view, and what one is of which parts are left out.
 ghost use Rattle.std.specs.Prelude.{◌≡◌, ◌-◌};
-ghost use Rattle.wg_model.specs.Commands.{no_texture};
 ghost use Rattle.wg_model.specs.Textures.{layer_count};
 ghost use Rattle.wg_model.specs.Views.{view_info, dim_by, layers_by, view_of};
 
 use wg_formats::layer_count;
-use wg_types::formats::Format;
 use wg_types::handles::ObjRef;
 use wg_types::textures::{AspectWord, TextureDim, TextureInfo, ViewDesc, ViewDim, ViewInfo};
-
-/// Stands for what is known of a texture where an object is none.
-pub fn no_texture() -> TextureInfo
-    ensures { result ≡ no_texture }
-{
-    TextureInfo {
-        size: [0, 0, 0],
-        usage: 0,
-        format: Format::R8Unorm,
-        dim: TextureDim::Two,
-        mips: 0,
-        samples: 0,
-    }
-}
 
 /// The dimension that a view has by its texture.
 fn dim_by(dim: TextureDim, layers: u32) -> ViewDim

@@ -40,97 +40,36 @@ fn run_on(
 fn scripts_have_their_texts(rt: HostRuntime) -> Result<(), Fail> {
     let alloc = rt.alloc();
     let cases = [
-        // empty script
-        ("{\"budget\":0,\"phases\":[]}", "history\ntrace\nend\n", 0),
-        // write then write barrier
-        (
-            "{\"budget\":1000000,\"phases\":[[[{\"do\":\"createBuffer\",\"as\":\"b\",\"size\":16,\"usage\":8},{\"do\":\"writeBuffer\",\"buffer\":\"b\",\"offset\":0,\"size\":8},{\"do\":\"writeBuffer\",\"buffer\":\"b\",\"offset\":4,\"size\":8}]]]}",
-            "history\n0 0 createBuffer made 0 valid\n1 0 writeBuffer op 1\n2 0 writeBuffer op 2\ntrace\nstep 0 op 1 writeBuffer\nuse b 0 copy-dst\nacc write b 0 0 8\nbar b 0 copy-dst copy-dst\nstep 1 op 2 writeBuffer\nuse b 0 copy-dst\nacc write b 0 4 12\nend\n",
-            0,
-        ),
-        // map read beside storage
-        (
-            "{\"budget\":1000000,\"phases\":[[[{\"do\":\"createBuffer\",\"as\":\"b\",\"size\":16,\"usage\":129},{\"do\":\"writeBuffer\",\"buffer\":\"b\",\"offset\":0,\"size\":8}]]]}",
-            "history\n0 0 createBuffer made 0 invalid fault validation 101 uncaptured\n1 0 writeBuffer plain fault validation 12 uncaptured\ntrace\nend\n",
-            0,
-        ),
         // write after destroy
         (
             "{\"budget\":1000000,\"phases\":[[[{\"do\":\"createBuffer\",\"size\":16,\"usage\":8,\"as\":\"b\"},{\"do\":\"writeBuffer\",\"buffer\":\"b\",\"offset\":0,\"size\":16},{\"do\":\"destroy\",\"object\":\"b\"},{\"do\":\"writeBuffer\",\"buffer\":\"b\",\"offset\":0,\"size\":4},{\"do\":\"complete\",\"op\":1}]]]}",
             "history\n0 0 createBuffer made 0 valid\n1 0 writeBuffer op 1\n2 0 destroy plain\n3 0 writeBuffer plain fault validation 203 uncaptured\n4 0 complete plain\ntrace\nstep 0 op 1 writeBuffer\nuse b 0 copy-dst\nacc write b 0 0 16\nfree b 0\nend\n",
             0,
         ),
-        // buffer size limit
+        // texture to buffer with gaps
         (
-            "{\"budget\":1000000000,\"phases\":[[[{\"do\":\"createBuffer\",\"size\":268435456,\"usage\":8,\"as\":\"b\"},{\"do\":\"createBuffer\",\"size\":268435457,\"usage\":8,\"as\":\"d\"}]]]}",
-            "history\n0 0 createBuffer made 0 valid\n1 0 createBuffer made 1 invalid fault validation 103 uncaptured\ntrace\nend\n",
+            "{\"budget\":1000000,\"phases\":[[[{\"do\":\"createTexture\",\"size\":[4,4,1],\"usage\":3,\"format\":\"rgba8unorm\",\"as\":\"t\"},{\"do\":\"createBuffer\",\"size\":1024,\"usage\":8,\"as\":\"b\"},{\"do\":\"createEncoder\",\"as\":\"e\"},{\"do\":\"copyTextureToBuffer\",\"on\":\"e\",\"buffer\":\"b\",\"bytesPerRow\":256,\"texture\":\"t\",\"size\":[4,4,1]},{\"do\":\"finish\",\"on\":\"e\",\"as\":\"c\"},{\"do\":\"submit\",\"buffers\":[\"c\"]}]]]}",
+            "history\n0 0 createTexture made 0 valid\n1 0 createBuffer made 1 valid\n2 0 createEncoder made 2 valid\n3 0 finish made 3 valid\n4 0 submit op 1\ntrace\nbar t 0 color 0 0 1 none clear\nstep 0 op 1 clear\nuse t 0 color 0 0 1 clear\nuse b 1 clear\nacc write t 0 color 0 0 1\nacc write b 1 0 784\nbar t 0 color 0 0 1 clear copy-src\nbar b 1 clear copy-dst\nstep 1 op 1 copyTextureToBuffer\nuse t 0 color 0 0 1 copy-src\nuse b 1 copy-dst\nacc read t 0 color 0 0 1\nacc both b 1 0 784\nend\n",
             0,
         ),
-        // size greatest number
+        // parts of views that are left out
         (
-            "{\"budget\":1000000,\"phases\":[[[{\"do\":\"createBuffer\",\"size\":9007199254740991,\"usage\":8,\"as\":\"b\"}]]]}",
-            "history\n0 0 createBuffer made 0 invalid fault validation 103 uncaptured\ntrace\nend\n",
+            "{\"budget\":1000000,\"phases\":[[[{\"do\":\"createTexture\",\"size\":[4,4,6],\"usage\":5,\"format\":\"rgba8unorm\",\"mips\":3,\"as\":\"t\"},{\"do\":\"createView\",\"texture\":\"t\",\"as\":\"a\"},{\"do\":\"createView\",\"texture\":\"t\",\"dim\":\"cube\",\"baseMip\":2,\"as\":\"c\"},{\"do\":\"createView\",\"texture\":\"t\",\"dim\":\"2d\",\"baseLayer\":5,\"as\":\"l\"},{\"do\":\"createView\",\"texture\":\"t\",\"baseMip\":3,\"as\":\"m\"},{\"do\":\"createView\",\"texture\":\"t\",\"baseLayer\":6,\"as\":\"n\"},{\"do\":\"createTexture\",\"size\":[4,4,1],\"usage\":0,\"format\":\"rgba8unorm\",\"as\":\"u\"},{\"do\":\"createView\",\"texture\":\"u\",\"as\":\"v\"}]]]}",
+            "history\n0 0 createTexture made 0 valid\n1 0 createView made 1 valid\n2 0 createView made 2 valid\n3 0 createView made 3 valid\n4 0 createView made 4 invalid fault validation 121 uncaptured\n5 0 createView made 5 invalid fault validation 122 uncaptured\n6 0 createTexture made 6 invalid fault validation 110 uncaptured\n7 0 createView made 7 invalid fault validation 12 uncaptured\ntrace\nend\n",
             0,
         ),
         // cut off script
         ("{\"budget\":1", "bad script 1\n", 3),
-        // size not whole
-        (
-            "{\"budget\":1000000,\"phases\":[[[{\"do\":\"createBuffer\",\"size\":1.5,\"usage\":8,\"as\":\"b\"}]]]}",
-            "bad script 8 0 0 0\n",
-            3,
-        ),
         // name unknown
         (
             "{\"budget\":1000000,\"phases\":[[[{\"do\":\"writeBuffer\",\"buffer\":\"x\",\"offset\":0,\"size\":4}]]]}",
             "bad script 10 0 0 0\n",
             3,
         ),
-        // size over the greatest number
-        (
-            "{\"budget\":1000000,\"phases\":[[[{\"do\":\"createBuffer\",\"size\":9007199254740992,\"usage\":8,\"as\":\"b\"}]]]}",
-            "bad script 8 0 0 0\n",
-            3,
-        ),
-        // budget missing
-        ("{\"phases\":[]}", "bad script 2\n", 3),
     ];
     for (script, text, number) in cases {
         let (status, written) = run_on(alloc, script.as_bytes(), 4096, Vec::new(alloc), 2000)?;
         assert_eq!(rt; status.number(), number, "{script}");
-        assert_eq!(rt; written.as_slice(), text.as_bytes(), "{script}");
-    }
-    Ok(())
-}
-
-#[test]
-fn textures_have_their_texts(rt: HostRuntime) -> Result<(), Fail> {
-    let alloc = rt.alloc();
-    let cases = [
-        // texture layer limit
-        (
-            "{\"budget\":1000000000,\"phases\":[[[{\"do\":\"createTexture\",\"size\":[1,1,256],\"usage\":4,\"format\":\"r8unorm\",\"as\":\"t\"},{\"do\":\"createTexture\",\"size\":[1,1,257],\"usage\":4,\"format\":\"r8unorm\",\"as\":\"u\"}]]]}",
-            "history\n0 0 createTexture made 0 valid\n1 0 createTexture made 1 invalid fault validation 112 uncaptured\ntrace\nend\n",
-        ),
-        // write part of a texture
-        (
-            "{\"budget\":1000000,\"phases\":[[[{\"do\":\"createTexture\",\"size\":[4,4,1],\"usage\":2,\"format\":\"rgba8unorm\",\"as\":\"t\"},{\"do\":\"writeTexture\",\"texture\":\"t\",\"size\":[2,4,1],\"bytesPerRow\":8,\"dataSize\":32}]]]}",
-            "history\n0 0 createTexture made 0 valid\n1 0 writeTexture op 1\ntrace\nbar t 0 color 0 0 1 none clear\nstep 0 op 1 clear\nuse t 0 color 0 0 1 clear\nacc write t 0 color 0 0 1\nbar t 0 color 0 0 1 clear copy-dst\nstep 1 op 1 writeTexture\nuse t 0 color 0 0 1 copy-dst\nacc both t 0 color 0 0 1\nend\n",
-        ),
-        // texture to buffer with gaps
-        (
-            "{\"budget\":1000000,\"phases\":[[[{\"do\":\"createTexture\",\"size\":[4,4,1],\"usage\":3,\"format\":\"rgba8unorm\",\"as\":\"t\"},{\"do\":\"createBuffer\",\"size\":1024,\"usage\":8,\"as\":\"b\"},{\"do\":\"createEncoder\",\"as\":\"e\"},{\"do\":\"copyTextureToBuffer\",\"on\":\"e\",\"buffer\":\"b\",\"bytesPerRow\":256,\"texture\":\"t\",\"size\":[4,4,1]},{\"do\":\"finish\",\"on\":\"e\",\"as\":\"c\"},{\"do\":\"submit\",\"buffers\":[\"c\"]}]]]}",
-            "history\n0 0 createTexture made 0 valid\n1 0 createBuffer made 1 valid\n2 0 createEncoder made 2 valid\n3 0 finish made 3 valid\n4 0 submit op 1\ntrace\nbar t 0 color 0 0 1 none clear\nstep 0 op 1 clear\nuse t 0 color 0 0 1 clear\nuse b 1 clear\nacc write t 0 color 0 0 1\nacc write b 1 0 784\nbar t 0 color 0 0 1 clear copy-src\nbar b 1 clear copy-dst\nstep 1 op 1 copyTextureToBuffer\nuse t 0 color 0 0 1 copy-src\nuse b 1 copy-dst\nacc read t 0 color 0 0 1\nacc both b 1 0 784\nend\n",
-        ),
-        // parts of views that are left out
-        (
-            "{\"budget\":1000000,\"phases\":[[[{\"do\":\"createTexture\",\"size\":[4,4,6],\"usage\":5,\"format\":\"rgba8unorm\",\"mips\":3,\"as\":\"t\"},{\"do\":\"createView\",\"texture\":\"t\",\"as\":\"a\"},{\"do\":\"createView\",\"texture\":\"t\",\"dim\":\"cube\",\"baseMip\":2,\"as\":\"c\"},{\"do\":\"createView\",\"texture\":\"t\",\"dim\":\"2d\",\"baseLayer\":5,\"as\":\"l\"},{\"do\":\"createView\",\"texture\":\"t\",\"baseMip\":3,\"as\":\"m\"},{\"do\":\"createView\",\"texture\":\"t\",\"baseLayer\":6,\"as\":\"n\"},{\"do\":\"createTexture\",\"size\":[4,4,1],\"usage\":0,\"format\":\"rgba8unorm\",\"as\":\"u\"},{\"do\":\"createView\",\"texture\":\"u\",\"as\":\"v\"}]]]}",
-            "history\n0 0 createTexture made 0 valid\n1 0 createView made 1 valid\n2 0 createView made 2 valid\n3 0 createView made 3 valid\n4 0 createView made 4 invalid fault validation 121 uncaptured\n5 0 createView made 5 invalid fault validation 122 uncaptured\n6 0 createTexture made 6 invalid fault validation 110 uncaptured\n7 0 createView made 7 invalid fault validation 12 uncaptured\ntrace\nend\n",
-        ),
-    ];
-    for (script, text) in cases {
-        let (status, written) = run_on(alloc, script.as_bytes(), 4096, Vec::new(alloc), 2000)?;
-        assert_eq!(rt; status.number(), 0, "{script}");
         assert_eq!(rt; written.as_slice(), text.as_bytes(), "{script}");
     }
     Ok(())

@@ -1,7 +1,9 @@
 -- What a step and a clear add to a draft.
 use Rattle.std.proofs.Common.{◌≡◌, ◌<◌, length, get_or, arith, List, [], ◌∷◌, ◌++◌, map, ap, ap₂, sym, ◌∙◌, subst, append_assoc, append-nil}
 use Rattle.wg_types.specs.declared.steps.StepName.TheVariants.{Clear}
-use Rattle.wg_orders.specs.Steps.{Cell, Cells, Kind, PartRun, Usages, Step, StepPlace}
+use Rattle.wg_rows.specs.Runs.{Cell, Cells, PartRun}
+use Rattle.wg_rows.specs.Uses.{Kind, Usages}
+use Rattle.wg_orders.specs.Steps.{Step, StepPlace}
 use Rattle.wg_orders.specs.Trace.{Item, StepItem, free, steps_of, bars, add_step, add_clear, to_clear, clear_of, add_all, add_group}
 use Rattle.wg_bars.specs.Kept.{with_notes, SameRows}
 use Rattle.wg_bars.specs.Last.{AreSorted, KeepsLast, IsNoted as NotesLast}
@@ -31,14 +33,14 @@ added_same t d f g same h = record {
 }
 
 -- A step with its barriers, and notes of it.
-pub step_added : (t : TrackerValue) (d e : Draft) (s : Step) (found : List Item) (f : List Item → List Item) → ((trace : List Item) → AreSorted (with_notes t.last d.last.items) → KeepsLast (with_notes t.last d.last.items) (steps_of trace) → found ≡ bars trace s) → NotesLast (with_notes t.last d.last.items) s (with_notes t.last e.last.items) → IsAfter (with_notes t.cells d.cells.items) s.accesses (with_notes t.cells e.cells.items) → e.items.items ≡ (d.items.items ++ found) ++ StepItem s ∷ [] → HasAdded t d f → HasAdded t e (λ trace. add_step (f trace) s)
+pub step_added : (t : TrackerValue) (d e : Draft) (s : Step) (found : List Item) (f : List Item → List Item) → ((trace : List Item) → AreSorted (with_notes t.last d.last) → KeepsLast (with_notes t.last d.last) (steps_of trace) → found ≡ bars trace s) → NotesLast (with_notes t.last d.last) s (with_notes t.last e.last) → IsAfter (with_notes t.cells d.cells) s.accesses (with_notes t.cells e.cells) → e.items.items ≡ (d.items.items ++ found) ++ StepItem s ∷ [] → HasAdded t d f → HasAdded t e (λ trace. add_step (f trace) s)
 step_added t d e s found f barred last cells items h = record {
-  sound = record { last = noted_sorted (with_notes t.last d.last.items) (with_notes t.last e.last.items) s h.sound.last last; cells = after_apart (with_notes t.cells d.cells.items) (with_notes t.cells e.cells.items) s.accesses cells h.sound.cells };
+  sound = record { last = noted_sorted (with_notes t.last d.last) (with_notes t.last e.last) s h.sound.last last; cells = after_apart (with_notes t.cells d.cells) (with_notes t.cells e.cells) s.accesses cells h.sound.cells };
   added = λ trace stands.
       ap (λ more. trace ++ more) (items ∙ append_assoc d.items.items found (StepItem s ∷ []))
       ∙ (sym (append_assoc trace d.items.items (found ++ StepItem s ∷ []))
       ∙ ap₂ (λ (before now : List Item). before ++ (now ++ StepItem s ∷ [])) (h.added trace stands) (barred (f trace) h.sound.last (h.stands trace stands).last));
-  stands = λ trace stands. subst (Stands (now_of t e)) (sym (steps_added (f trace) s)) (record { last = last_keeps (with_notes t.last d.last.items) (with_notes t.last e.last.items) s (steps_of (f trace)) h.sound.last last (h.stands trace stands).last; cells = cells_keep (with_notes t.cells d.cells.items) (with_notes t.cells e.cells.items) s (steps_of (f trace)) cells (h.stands trace stands).cells });
+  stands = λ trace stands. subst (Stands (now_of t e)) (sym (steps_added (f trace) s)) (record { last = last_keeps (with_notes t.last d.last) (with_notes t.last e.last) s (steps_of (f trace)) h.sound.last last (h.stands trace stands).last; cells = cells_keep (with_notes t.cells d.cells) (with_notes t.cells e.cells) s (steps_of (f trace)) cells (h.stands trace stands).cells });
 }
 
 -- A clear without cells is no step,
@@ -60,7 +62,7 @@ clear_added t d e place clear rows steps f some is needed h k = added_same t e (
     same trace stands = by_cells trace (to_clear (f trace) steps) (needed (f trace) place h.sound.cells (h.stands trace stands).cells)
 
 -- Before anything is added.
-pub none_yet : (t : TrackerValue) (d : Draft) → d.items.items ≡ [] → d.last.items ≡ [] → d.cells.items ≡ [] → AreSorted t.last → RunsApart t.cells → HasAdded t d (λ trace. trace)
+pub none_yet : (t : TrackerValue) (d : Draft) → d.items.items ≡ [] → d.last ≡ [] → d.cells ≡ [] → AreSorted t.last → RunsApart t.cells → HasAdded t d (λ trace. trace)
 none_yet t d items last cells sorted apart = record {
   sound = record { last = subst (λ n. AreSorted (with_notes t.last n)) (sym last) sorted; cells = subst (λ n. RunsApart (with_notes t.cells n)) (sym cells) apart };
   added = λ trace stands. ap (λ xs. trace ++ xs) items ∙ append-nil trace;

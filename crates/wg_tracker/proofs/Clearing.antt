@@ -1,18 +1,19 @@
 -- The accesses of a clear tell its uses, and what it clears is what steps need.
 use Rattle.std.proofs.Common.{◌≡◌, ℕ, ◌<◌, ◌≤◌, List, [], ◌∷◌, ◌++◌, map, flat_map, Bool, true, false, not, ◌&&◌, ◌||◌, Option, Some, None, refl, ap, ap₂, sym, ◌∙◌, ◌⊎◌, inl, inr, arith, true≢false, nat_le, nat_lt, append-nil}
 use Rattle.std.proofs.lemmas.Bool.{or_cases, or_left, or_right, and_parts, and_from, le-leb, lt-ltb}
-use Rattle.wg_orders.specs.Rows.{Sort, Spot, covers_spot, in_range, list_eq, printed, EachRow, Apart, has_value, Alike, Fits, AllFit, put, put_at, joined, run_before}
-use Rattle.wg_orders.specs.Steps.{Color, aspect_number, Part, Buffer, Subresource, QuerySet, PartRun, BufferPart, LayerParts, QueryPart, Cells, Bytes, Layers, Slices, Queries, Kind, Write, Step, StepPlace, Cell, Byte, Texels, Slice, Query, part_of, part_run, cell_run, cells_in, part_sort, cell_sort, part_spot, cell_spot, part_lo, part_hi, cell_lo, cell_hi, Usages, clear_usage, same_set, same_kind, covers_part, covers, reads, writes, printed_accesses}
+use Rattle.wg_rows.specs.Rows.{Sort, Spot, covers_spot, in_range, list_eq, printed, EachRow, Apart, has_value, Alike, Fits, AllFit, put, put_at, joined, run_before}
+use Rattle.wg_rows.specs.Runs.{Color, aspect_number, Part, Buffer, Subresource, QuerySet, PartRun, BufferPart, LayerParts, QueryPart, Cells, Bytes, Layers, Slices, Queries, Cell, Byte, Texels, Slice, Query, part_of, part_run, cell_run, cells_in, part_sort, cell_sort, part_spot, cell_spot, part_lo, part_hi, cell_lo, cell_hi, covers_part, covers, run_part}
+use Rattle.wg_rows.specs.Uses.{Kind, Write, Usages, clear_usage, same_set, same_kind, printed_accesses}
+use Rattle.wg_orders.specs.Steps.{Step, StepPlace, reads, writes}
 use Rattle.wg_orders.specs.Trace.{Item, is_unset, steps_of, needs, cells_of, to_clear, clear_of}
-use Rattle.wg_orders.specs.Laws.{run_part}
 use Rattle.wg_tracker.specs.Cleared.{uses_of, written}
-use Rattle.wg_orders.proofs.Rows.{any, any_append, Each_value, printed_any, printed_value, list_eq_refl}
-use Rattle.wg_orders.proofs.Runs.{aspect_told, cell_widens, part_widens, cell_self, part_self, single_cell, single_part}
-use Rattle.wg_orders.proofs.Printed.{printed_apart, respects}
-use Rattle.wg_orders.proofs.Told.{accesses_tell, uses_tell, uses_printed}
+use Rattle.wg_rows.proofs.Put.{any, any_append, Each_value, printed_any, printed_value, list_eq_refl}
+use Rattle.wg_rows.proofs.Runs.{aspect_told, cell_widens, part_widens, cell_self, part_self, single_cell, single_part}
+use Rattle.wg_rows.proofs.Printed.{printed_apart, respects}
+use Rattle.wg_rows.proofs.Told.{accesses_tell, uses_tell, uses_printed}
 use Rattle.wg_orders.proofs.Clears.{has_cell, write_rows, clear_rows, each_write}
 use Rattle.wg_orders.proofs.Built.{step_read_among}
-use Rattle.wg_bars.proofs.Parts.{covered, part_at}
+use Rattle.wg_rows.proofs.Sets.{covered, part_at}
 use Rattle.wg_init.proofs.UnsetCells.{write_has, write_fit, filter_has}
 
 -- A run of cells that covers a cell lies in a run of parts that covers its part.

@@ -1,17 +1,19 @@
 -- The cells found that steps need from before them are those of the definition.
 use Rattle.std.proofs.Common.{◌≡◌, ℕ, ◌+◌, ◌-◌, ◌<◌, ◌≤◌, List, [], ◌∷◌, ◌++◌, length, take, get_or, Bool, true, false, not, ◌&&◌, ◌||◌, refl, ap, ap₂, sym, ◌∙◌, if◌then◌else◌, subst, arith, slice_range}
 use Rattle.std.proofs.lemmas.List.{take_more, take_all, take-take, take-append-drop, drop-take}
-use Rattle.wg_orders.specs.Steps.{Cells, Kind, Read, Write, Step, Cell, cell_sort, cell_spot, kind_writes, same_kind, covers, reads, writes, row_writes, row_unsets}
+use Rattle.wg_rows.specs.Runs.{Cells, Cell, cell_sort, cell_spot, covers}
+use Rattle.wg_rows.specs.Uses.{Kind, Read, Write, kind_writes, same_kind, row_writes, row_unsets}
+use Rattle.wg_orders.specs.Steps.{Step, reads, writes}
 use Rattle.wg_orders.specs.Trace.{is_unset, steps_of, needs, to_clear}
-use Rattle.wg_orders.specs.Rows.{Spot, covers_spot, put, has_value}
-use Rattle.wg_orders.specs.Cut.{put_all}
+use Rattle.wg_rows.specs.Rows.{Spot, covers_spot, put, has_value}
+use Rattle.wg_rows.specs.Cut.{put_all}
 use Rattle.wg_init.specs.Rows.{SetRows, set_at, RunsApart}
 use Rattle.wg_init.specs.Effects.{IsAfter}
 use Rattle.wg_init.specs.Unset.{unset_rows}
 use Rattle.wg_tracker.specs.Cleared.{with_kind, writes_of, written, KeepsWritten, AreNeeded}
-use Rattle.wg_orders.proofs.Rows.{Each_value, put_const}
-use Rattle.wg_orders.proofs.Printed.{put_apart}
-use Rattle.wg_orders.proofs.Told.{accesses_tell, accesses_printed}
+use Rattle.wg_rows.proofs.Put.{Each_value, put_const}
+use Rattle.wg_rows.proofs.Printed.{put_apart}
+use Rattle.wg_rows.proofs.Told.{accesses_tell, accesses_printed}
 use Rattle.wg_orders.proofs.Clears.{write_rows}
 use Rattle.wg_init.proofs.Effects.{set_after}
 use Rattle.wg_init.proofs.Notes.{after_apart}

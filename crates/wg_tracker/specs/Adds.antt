@@ -7,7 +7,7 @@ use Rattle.wg_tracker.specs.Stands.{TrackerValue, Stands, IsSound}
 
 -- a tracker with the notes of a draft over it
 abbrev pub now_of : TrackerValue → Draft → TrackerValue
-now_of t d = record { last = with_notes t.last d.last.items; cells = with_notes t.cells d.cells.items }
+now_of t d = record { last = with_notes t.last d.last; cells = with_notes t.cells d.cells }
 
 -- A draft has made of each trace that the tracker stands for what f makes of it, and the tracker with its notes stands
 -- for that.

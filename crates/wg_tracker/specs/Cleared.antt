@@ -1,8 +1,9 @@
 -- Clears, found as rows of cells.
 use Rattle.std.specs.Prelude.{◌≡◌, Bool, false, ◌||◌, List, [], ◌∷◌, map, if◌then◌else◌}
-use Rattle.wg_orders.specs.Steps.{PartRun, Cells, Cell, cell_spot, Kind, Write, kind_writes, Usages, clear_usage, printed_uses, Step, StepPlace, writes}
+use Rattle.wg_rows.specs.Runs.{PartRun, Cells, Cell, cell_spot, run_part}
+use Rattle.wg_rows.specs.Uses.{Kind, Write, kind_writes, Usages, clear_usage, printed_uses}
+use Rattle.wg_orders.specs.Steps.{Step, StepPlace, writes}
 use Rattle.wg_orders.specs.Trace.{Item, steps_of, clear_of, to_clear}
-use Rattle.wg_orders.specs.Laws.{run_part}
 use Rattle.wg_init.specs.Rows.{SetRows, set_at, KeepsSet, RunsApart}
 
 -- the uses of a clear of rows

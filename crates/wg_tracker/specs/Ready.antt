@@ -2,7 +2,7 @@
 use Rattle.std.specs.Prelude.{ℕ, List, ◌++◌}
 use Rattle.wg_orders.specs.Trace.{Item, steps_of}
 use Rattle.wg_bars.specs.Kept.{with_notes, HasRoom}
-use Rattle.wg_bars.specs.Sets.{UseRow}
+use Rattle.wg_rows.specs.Sets.{UseRow}
 use Rattle.wg_init.specs.Rows.{SetRow}
 use Rattle.wg_tracker.specs.Stands.{TrackerValue, Stands, IsSound}
 

@@ -2,8 +2,7 @@
 use Rattle.std.specs.Prelude.{ℕ, ◌≡◌, List, ◌++◌, map}
 use Rattle.wg_orders.specs.Steps.{Step}
 use Rattle.wg_orders.specs.Trace.{Item, Sort, steps_of, free}
-use Rattle.wg_bars.specs.Sets.{LastRows}
-use Rattle.wg_bars.specs.Last.{AreSorted, KeepsLast}
+use Rattle.wg_bars.specs.Last.{LastRows, AreSorted, KeepsLast}
 use Rattle.wg_init.specs.Rows.{SetRows, KeepsSet, RunsApart}
 
 -- The last set of each part, and the cells that are set.

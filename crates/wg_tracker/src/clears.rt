@@ -1,65 +1,34 @@
 //! The cells that steps need from before them, and the uses of their clear.
 ghost use Rattle.std.specs.Prelude.{◌≡◌, ◌++◌, List, [], IfOk};
-ghost use Rattle.wg_orders.specs.Laws.{run_part};
-ghost use Rattle.wg_orders.specs.Steps.{Step, Cells, Kind, Write, Read};
+ghost use Rattle.wg_rows.specs.Runs.{Cells};
+ghost use Rattle.wg_orders.specs.Steps.{Step};
+ghost use Rattle.wg_rows.specs.Uses.{Kind, Write, Read};
 ghost use Rattle.wg_bars.specs.Kept.{with_notes};
 ghost use Rattle.wg_tracker.specs.Cleared.{uses_of, with_kind, writes_of, KeepsWritten, AreNeeded};
 
 use std::alloc::Global;
 use wg_bars::kept::Notes;
-use wg_bars::rows::{put, put_all};
 use wg_entry::NoMemory;
 use wg_init::CellRow;
-use wg_init::cells::writes;
 use wg_init::noting::notes_of;
 use wg_init::unset::unset_rows;
 use wg_num::RunSet;
+use wg_rows::cell_runs::{run_part, writes};
+use wg_rows::rows::{printed, put_all};
 use wg_types::items::Items;
-use wg_types::parts::{Aspect, Cells, Kind, PartRun};
+use wg_types::parts::{Cells, Kind, PartRun};
 use wg_types::steps::Step;
 use wg_types::usages::Usages;
-
-/// The parts that a run of cells lies in.
-fn run_part(run: Cells) -> PartRun
-    ensures { result ≡ run_part run }
-{
-    match run {
-        Cells::Bytes { object, .. } => PartRun::Buffer { object },
-        Cells::Queries { object, .. } => PartRun::Queries { object },
-        Cells::Layers {
-            object,
-            aspect,
-            mip,
-            lo,
-            hi,
-        } => PartRun::Texture {
-            object,
-            aspect,
-            mip,
-            lo,
-            hi,
-        },
-        Cells::Slices { object, mip, .. } => PartRun::Texture {
-            object,
-            aspect: Aspect::Color,
-            mip,
-            lo: 0,
-            hi: 1,
-        },
-    }
-}
 
 /// The uses of a clear of rows, as they are printed.
 pub fn uses_of(alloc: Global, rows: &[(Cells, Kind)]) -> Result<Vec<(PartRun, Usages)>, NoMemory>
     ensures { IfOk result (λ v. v.items ≡ uses_of rows.now) }
 {
-    let mut out = Vec::new(alloc);
-    let mut i = rows.len();
-    while i > 0 {
-        i -= 1;
-        out = put(alloc, out.as_slice(), (run_part(rows[i].0), Usages::CLEAR))?;
+    let mut uses = Vec::with_capacity(alloc, rows.len())?;
+    for row in rows {
+        uses.push((run_part(row.0), Usages::CLEAR))?;
     }
-    Ok(out)
+    printed(alloc, uses.as_slice())
 }
 
 /// Rows as accesses of one kind.
@@ -97,8 +66,8 @@ fn note_writes(
     steps: &[Step],
 ) -> Result<Notes<(CellRow, RunSet)>, NoMemory>
     ensures { IfOk result (λ v. (earlier : List Step) →
-        KeepsWritten (with_notes [] written.items) earlier →
-        KeepsWritten (with_notes [] v.items) (earlier ++ steps.now)) }
+        KeepsWritten (with_notes [] written) earlier →
+        KeepsWritten (with_notes [] v) (earlier ++ steps.now)) }
 {
     let mut written = written;
     for step in steps {
@@ -113,13 +82,13 @@ fn note_writes(
 pub fn needed(
     alloc: Global,
     kept: &[Items<(CellRow, RunSet)>],
-    fresh: &[(u64, Items<(CellRow, RunSet)>)],
+    fresh: &Notes<(CellRow, RunSet)>,
     steps: &[Step],
 ) -> Result<Vec<(Cells, Kind)>, NoMemory>
     ensures { IfOk result (λ v. AreNeeded (with_notes kept.now fresh.now) steps.now v.items) }
 {
     let mut out = Vec::new(alloc);
-    let mut written: Notes<(CellRow, RunSet)> = Vec::new(alloc);
+    let mut written: Notes<(CellRow, RunSet)> = Notes::new(alloc);
     let mut done = 0;
     for (i, step) in steps.iter().enumerate() {
         let unset = unset_rows(alloc, kept, fresh, step.accesses.as_slice())?;
@@ -127,7 +96,7 @@ pub fn needed(
             written = note_writes(alloc, written, &steps[done..i])?;
             done = i;
             let reads = with_kind(alloc, unset.as_slice(), Kind::Read)?;
-            let left = unset_rows(alloc, &[], written.as_slice(), reads.as_slice())?;
+            let left = unset_rows(alloc, &[], &written, reads.as_slice())?;
             out = put_all(alloc, out, left.as_slice())?;
         }
     }

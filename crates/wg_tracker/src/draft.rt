@@ -38,7 +38,7 @@ fn add_step(tracker: &Tracker, draft: Draft, step: Step) -> Result<Draft, NoMemo
         cells,
     } = draft;
     let alloc = *items.allocator();
-    let mut bars = bars_over(alloc, tracker.last_rows(), last.as_slice(), &step)?;
+    let mut bars = bars_over(alloc, tracker.last_rows(), &last, &step)?;
     let last = note_over(alloc, tracker.last_rows(), last, &step)?;
     let cells = notes_of(alloc, tracker.set_rows(), cells, step.accesses.as_slice())?;
     items.append(&mut bars)?;
@@ -79,7 +79,7 @@ fn add_cleared(tracker: &Tracker, draft: Draft, step: Step) -> Result<Draft, NoM
     let rows = unset_rows(
         *draft.items.allocator(),
         tracker.set_rows(),
-        draft.cells.as_slice(),
+        &draft.cells,
         step.accesses.as_slice(),
     )?;
     let cleared = add_clear(tracker, draft, step.place, rows)?;
@@ -112,7 +112,7 @@ fn add_group(tracker: &Tracker, draft: Draft, group: Items<Step>) -> Result<Draf
     let rows = needed(
         *draft.items.allocator(),
         tracker.set_rows(),
-        draft.cells.as_slice(),
+        &draft.cells,
         steps.as_slice(),
     )?;
     let cleared = add_clear(tracker, draft, place, rows)?;

@@ -27,7 +27,7 @@ impl Model for Prepared {
 
     ghost Value = { PreparedValue };
 
-    ghost view = { λ p. record { items = p.items.items; last = p.last.items; last_room = vec_capacity p.last_room; cells = p.cells.items; cells_room = vec_capacity p.cells_room } };
+    ghost view = { λ p. record { items = p.items.items; last = p.last; last_room = vec_capacity p.last_room; cells = p.cells; cells_room = vec_capacity p.cells_room } };
 
     ghost invariant = { λ p. (p.last_room.items ≡ []) × (p.cells_room.items ≡ []) };
 }

@@ -11,7 +11,7 @@ use crate::prepared::Prepared;
 use std::alloc::Global;
 use std::marker::Model;
 use wg_bars::LastUse;
-use wg_bars::kept::room_for;
+use wg_bars::kept::{Notes, room_for};
 use wg_entry::NoMemory;
 use wg_init::{CellRow, CellState};
 use wg_num::RunSet;
@@ -73,12 +73,12 @@ impl Tracker {
         let alloc = *groups.allocator();
         let draft = Draft {
             items: Vec::new(alloc),
-            last: Vec::new(alloc),
-            cells: Vec::new(alloc),
+            last: Notes::new(alloc),
+            cells: Notes::new(alloc),
         };
         let Draft { items, last, cells } = add_groups(self, draft, groups)?;
-        let last_room = room_for(alloc, self.last_rows(), last.as_slice())?;
-        let cells_room = room_for(alloc, self.set_rows(), cells.as_slice())?;
+        let last_room = room_for(alloc, self.last_rows(), &last)?;
+        let cells_room = room_for(alloc, self.set_rows(), &cells)?;
         Ok(Prepared {
             items,
             last,

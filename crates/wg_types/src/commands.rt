@@ -1,9 +1,14 @@
 //! The commands of recorders, and where they stand.
-ghost use Rattle.std.specs.Prelude.{◌≡◌};
-ghost use Rattle.wg_types.specs.Commands.{fits, is_begin, is_end};
+ghost use Rattle.std.specs.Prelude.{◌≡◌, IfOk};
+ghost use Rattle.std.specs.List.{list_any};
+ghost use Rattle.wg_types.specs.Commands.{fits, bracket, is_begin, is_end, named, map_refs, first_of};
 
+use crate::NoMemory;
 use crate::handles::Handle;
+use crate::refs::{self, Ask, Find, Test, Tested};
 use crate::textures::{DataLayout, TextureSpot};
+use crate::wanted::Wanted;
+use std::alloc::Global;
 
 /// What a command stands on: the encoder itself, or the pass with this number. Passes are numbered
 /// from 0 by the commands that begin them.
@@ -23,64 +28,99 @@ pub enum CommandPlace {
     Bundle,
 }
 
-/// One command, with the objects that it names as its caller holds them. Offsets and sizes of buffers
-/// are in bytes, origins and sizes of textures in texels (WebGPU, "Command Encoding"). A copy from
-/// texture to texture copies all aspects.
+/// What a command opens or closes on what it stands on: a pass, or a debug group (WebGPU, "Command
+/// Encoding" and "Debug Markers").
+#[derive(Clone, Copy, PartialEq, Eq, Debug)]
+pub enum Bracket {
+    BeginComputePass,
+    EndPass,
+    PushGroup,
+    PopGroup,
+    Neither,
+}
+
+/// One command, with the objects that it names as `R`: handles, or names of a script. Offsets and sizes
+/// of buffers are in bytes, origins and sizes of textures in texels (WebGPU, "Command Encoding"). A copy
+/// from texture to texture copies all aspects.
 #[derive(Drop)]
-pub enum Command {
+pub enum CommandOf<R> {
     BeginComputePass,
     CopyBufferToBuffer {
-        source: Handle,
+        source: R,
         source_offset: u64,
-        target: Handle,
+        target: R,
         target_offset: u64,
         size: u64,
     },
     CopyBufferToTexture {
-        buffer: Handle,
+        buffer: R,
         layout: DataLayout,
-        texture: Handle,
+        texture: R,
         spot: TextureSpot,
         size: [u32; 3],
     },
     CopyTextureToBuffer {
-        buffer: Handle,
+        buffer: R,
         layout: DataLayout,
-        texture: Handle,
+        texture: R,
         spot: TextureSpot,
         size: [u32; 3],
     },
     CopyTextureToTexture {
-        source: Handle,
+        source: R,
         source_mip: u32,
         source_origin: [u32; 3],
-        target: Handle,
+        target: R,
         target_mip: u32,
         target_origin: [u32; 3],
         size: [u32; 3],
     },
     ClearBuffer {
-        buffer: Handle,
+        buffer: R,
         offset: u64,
-        size: u64,
+        size: Option<u64>,
     },
     PushDebugGroup,
     PopDebugGroup,
     End,
 }
 
-impl Command {
+/// A command as its caller holds its objects.
+pub type Command = CommandOf<Handle>;
+
+impl<R> CommandOf<R> {
     /// Whether the command may stand on a place of this kind.
     pub fn fits(&self, place: CommandPlace) -> bool
         ensures { result ≡ fits self.now place }
     {
         match self {
-            Command::PushDebugGroup => true,
-            Command::PopDebugGroup => true,
-            Command::End => {
+            CommandOf::PushDebugGroup | CommandOf::PopDebugGroup => true,
+            CommandOf::End => {
                 matches!(place, CommandPlace::ComputePass | CommandPlace::RenderPass)
             }
-            _ => matches!(place, CommandPlace::Encoder),
+            CommandOf::BeginComputePass
+            | CommandOf::CopyBufferToBuffer { .. }
+            | CommandOf::CopyBufferToTexture { .. }
+            | CommandOf::CopyTextureToBuffer { .. }
+            | CommandOf::CopyTextureToTexture { .. }
+            | CommandOf::ClearBuffer { .. } => { matches!(place, CommandPlace::Encoder) }
+        }
+    }
+
+    /// What the command opens or closes, if it does.
+    pub fn bracket(&self) -> Bracket
+        ensures { result ≡ bracket self.now }
+    {
+        match self {
+            CommandOf::BeginComputePass => Bracket::BeginComputePass,
+            CommandOf::CopyBufferToBuffer { .. }
+            | CommandOf::CopyBufferToTexture { .. }
+            | CommandOf::CopyTextureToBuffer { .. }
+            | CommandOf::CopyTextureToTexture { .. }
+            | CommandOf::ClearBuffer { .. } => Bracket::Neither,
+            CommandOf::PushDebugGroup => Bracket::PushGroup,
+            CommandOf::PopDebugGroup => Bracket::PopGroup,
+            CommandOf::End => Bracket::EndPass,
         }
     }
 
@@ -88,9 +128,9 @@ impl Command {
     pub fn is_begin(&self) -> bool
         ensures { result ≡ is_begin self.now }
     {
-        match self {
-            Command::BeginComputePass => true,
-            _ => false,
+        match self.bracket() {
+            Bracket::BeginComputePass => true,
+            Bracket::EndPass | Bracket::PushGroup | Bracket::PopGroup | Bracket::Neither => false,
         }
     }
 
@@ -98,9 +138,130 @@ impl Command {
     pub fn is_end(&self) -> bool
         ensures { result ≡ is_end self.now }
     {
+        match self.bracket() {
+            Bracket::EndPass => true,
+            Bracket::BeginComputePass | Bracket::PushGroup | Bracket::PopGroup | Bracket::Neither =>
+                false,
+        }
+    }
+
+    /// What the first object answers, of those that the command names, that has an answer.
+    pub fn first<E: Drop, A: Ask<R, E>>(&self, asked: &A) -> Option<E>
+        ensures { result ≡ first_of (A.asks asked.now) (named self.now) }
+    {
         match self {
-            Command::End => true,
-            _ => false,
+            CommandOf::CopyBufferToBuffer { source, target, .. } => {
+                refs::two(asked, (source, Wanted::Buffer), (target, Wanted::Buffer))
+            }
+            CommandOf::CopyBufferToTexture {
+                buffer,
+                texture,
+                ..
+            } => refs::two(asked, (buffer, Wanted::Buffer), (texture, Wanted::Texture)),
+            CommandOf::CopyTextureToBuffer {
+                buffer,
+                texture,
+                ..
+            } => refs::two(asked, (buffer, Wanted::Buffer), (texture, Wanted::Texture)),
+            CommandOf::CopyTextureToTexture { source, target, .. } => {
+                refs::two(asked, (source, Wanted::Texture), (target, Wanted::Texture))
+            }
+            CommandOf::ClearBuffer { buffer, .. } => asked.ask(buffer, Wanted::Buffer),
+            CommandOf::BeginComputePass
+            | CommandOf::PushDebugGroup
+            | CommandOf::PopDebugGroup
+            | CommandOf::End => None,
+        }
+    }
+
+    /// Whether a test holds of some object that the command names.
+    #[tactic(auto, using(crate::proofs::RefLemmas::any_first))]
+    pub fn any<T: Test<R>>(&self, test: &T) -> bool
+        ensures { result ≡ list_any (T.holds test.now) (named self.now) }
+    {
+        self.first(&Tested { test }).is_some()
+    }
+
+    /// The command with other objects in place of those that it names. Lists inside commands take their
+    /// memory from the allocator.
+    pub fn map<S: Drop, F: Find<R, S>>(
+        &self,
+        alloc: Global,
+        find: &F,
+    ) -> Result<CommandOf<S>, NoMemory>
+        ensures { IfOk result (λ command. command ≡ map_refs (F.finds find.now) self.now) }
+    {
+        let _ = alloc;
+        match self {
+            CommandOf::BeginComputePass => Ok(CommandOf::BeginComputePass),
+            CommandOf::CopyBufferToBuffer {
+                source,
+                source_offset,
+                target,
+                target_offset,
+                size,
+            } => Ok(CommandOf::CopyBufferToBuffer {
+                source: find.find(source)?,
+                source_offset: *source_offset,
+                target: find.find(target)?,
+                target_offset: *target_offset,
+                size: *size,
+            }),
+            CommandOf::CopyBufferToTexture {
+                buffer,
+                layout,
+                texture,
+                spot,
+                size,
+            } => Ok(CommandOf::CopyBufferToTexture {
+                buffer: find.find(buffer)?,
+                layout: *layout,
+                texture: find.find(texture)?,
+                spot: *spot,
+                size: *size,
+            }),
+            CommandOf::CopyTextureToBuffer {
+                buffer,
+                layout,
+                texture,
+                spot,
+                size,
+            } => Ok(CommandOf::CopyTextureToBuffer {
+                buffer: find.find(buffer)?,
+                layout: *layout,
+                texture: find.find(texture)?,
+                spot: *spot,
+                size: *size,
+            }),
+            CommandOf::CopyTextureToTexture {
+                source,
+                source_mip,
+                source_origin,
+                target,
+                target_mip,
+                target_origin,
+                size,
+            } => Ok(CommandOf::CopyTextureToTexture {
+                source: find.find(source)?,
+                source_mip: *source_mip,
+                source_origin: *source_origin,
+                target: find.find(target)?,
+                target_mip: *target_mip,
+                target_origin: *target_origin,
+                size: *size,
+            }),
+            CommandOf::ClearBuffer {
+                buffer,
+                offset,
+                size,
+            } => Ok(CommandOf::ClearBuffer {
+                buffer: find.find(buffer)?,
+                offset: *offset,
+                size: *size,
+            }),
+            CommandOf::PushDebugGroup => Ok(CommandOf::PushDebugGroup),
+            CommandOf::PopDebugGroup => Ok(CommandOf::PopDebugGroup),
+            CommandOf::End => Ok(CommandOf::End),
         }
     }
 }

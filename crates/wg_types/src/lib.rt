@@ -7,11 +7,15 @@ pub mod handles;
 pub mod items;
 pub mod limits;
 pub mod parts;
+pub mod refs;
 pub mod replies;
+pub mod requests;
 pub mod same;
 pub mod steps;
 pub mod textures;
 pub mod usages;
+pub mod wanted;
+pub mod words;
 
 pub use wg_entry::NoMemory;
 

@@ -1,5 +1,5 @@
 use Rattle.std.proofs.Common.{◌≡◌, ◌++◌, drop}
-use Rattle.wg_orders.specs.Rows.{numbers}
+use Rattle.wg_rows.specs.Rows.{numbers}
 use Rattle.wg_model.specs.Subresources.{aspect_runs}
 use Rattle.wg_subres.proofs.aspect_runs.Given as goal
 

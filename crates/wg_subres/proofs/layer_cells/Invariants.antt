@@ -1,5 +1,5 @@
 use Rattle.std.proofs.Common.{◌≡◌, ◌++◌, drop, map}
-use Rattle.wg_orders.specs.Steps.{Layers}
+use Rattle.wg_rows.specs.Runs.{Layers}
 use Rattle.wg_subres.proofs.layer_cells.Given as goal
 
 abbrev pub invariant-loop-aspect : goal.invariant-loop-aspect

@@ -1,4 +1,5 @@
 use Rattle.wg_subres.proofs.Covered.{views_cover, copies_cover}
+use Rattle.wg_subres.proofs.Meeting.{cells_lie, copies_meet_where}
 use Rattle.wg_subres.proofs.runs_cover.Goals as goal
 
 pub returns-clause-views : goal.returns-clause-views
@@ -6,3 +7,9 @@ returns-clause-views c = views_cover
 
 pub returns-clause-copies : goal.returns-clause-copies
 returns-clause-copies c = copies_cover
+
+pub returns-clause-cells : goal.returns-clause-cells
+returns-clause-cells c = cells_lie
+
+pub returns-clause-meet : goal.returns-clause-meet
+returns-clause-meet c = copies_meet_where

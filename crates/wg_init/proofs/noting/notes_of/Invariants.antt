@@ -4,4 +4,4 @@ use Rattle.wg_init.specs.Effects.{rows_after}
 use Rattle.wg_init.proofs.noting.notes_of.Given as goal
 
 abbrev pub invariant-loop-access : goal.invariant-loop-access
-invariant-loop-access l = (object : ℕ) → rows_after object (drop l.access-index l.accesses) (over l.fresh.items object (rows_in l.kept object)) ≡ rows_after object l.accesses (over l.fn.fresh.items object (rows_in l.kept object))
+invariant-loop-access l = (object : ℕ) → rows_after object (drop l.access-index l.accesses) (over l.fresh object (rows_in l.kept object)) ≡ rows_after object l.accesses (over l.fn.fresh object (rows_in l.kept object))

@@ -5,4 +5,4 @@ use Rattle.wg_tracker.specs.Cleared.{KeepsWritten}
 use Rattle.wg_tracker.proofs.clears.note_writes.Given as goal
 
 abbrev pub invariant-loop-step : goal.invariant-loop-step
-invariant-loop-step l = (earlier : List Step) → KeepsWritten (with_notes [] l.fn.written.items) earlier → KeepsWritten (with_notes [] l.written.items) (earlier ++ take l.step-index l.steps)
+invariant-loop-step l = (earlier : List Step) → KeepsWritten (with_notes [] l.fn.written) earlier → KeepsWritten (with_notes [] l.written) (earlier ++ take l.step-index l.steps)

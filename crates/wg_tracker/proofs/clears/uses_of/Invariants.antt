@@ -1,9 +1,7 @@
-use Rattle.std.proofs.Common.{◌≡◌, ◌≤◌, drop, length}
-use Rattle.wg_tracker.specs.Cleared.{uses_of}
+use Rattle.std.proofs.Common.{◌≡◌, ◌++◌, drop, map}
+use Rattle.wg_rows.specs.Runs.{run_part}
+use Rattle.wg_rows.specs.Uses.{clear_usage}
 use Rattle.wg_tracker.proofs.clears.uses_of.Given as goal
 
-abbrev pub invariant-loop-i : goal.invariant-loop-i
-invariant-loop-i l = (l.i ≤ length l.rows) × (l.out.items ≡ uses_of (drop l.i l.rows))
-
-abbrev pub decreases-loop-i : goal.decreases-loop-i
-decreases-loop-i l = l.i
+abbrev pub invariant-loop-row : goal.invariant-loop-row
+invariant-loop-row l = l.uses.items ++ map (λ row. (run_part row.0, clear_usage)) (drop l.row-index l.rows) ≡ map (λ row. (run_part row.0, clear_usage)) l.rows

@@ -2,7 +2,9 @@ use Rattle.std.proofs.Common.{◌≡◌, ◌∙◌, List, [], length, ap, ap₂,
 use Rattle.std.proofs.lemmas.List.{nil_from_length}
 use Rattle.std.specs.Prelude.{vec_len}
 use Rattle.wg_types.specs.declared.steps.StepName.TheVariants.{Clear}
-use Rattle.wg_orders.specs.Steps.{PartRun, Usages, Cells, Kind, Step}
+use Rattle.wg_rows.specs.Runs.{PartRun, Cells}
+use Rattle.wg_rows.specs.Uses.{Usages, Kind}
+use Rattle.wg_orders.specs.Steps.{Step}
 use Rattle.wg_tracker.specs.Cleared.{uses_of}
 use Rattle.wg_tracker.proofs.Adding.{none_added, clear_added}
 use Rattle.wg_tracker.proofs.draft.add_clear.Goals as goal

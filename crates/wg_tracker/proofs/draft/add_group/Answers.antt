@@ -1,4 +1,4 @@
-use Rattle.std.proofs.Common.{◌≡◌, ◌≢◌, ◌∙◌, ◌<◌, [], length, ap₂, sym, refl, subst, subst₂, eqb-true, arith}
+use Rattle.std.proofs.Common.{ap, ◌≡◌, ◌≢◌, ◌∙◌, ◌<◌, [], length, ap₂, sym, refl, subst, subst₂, eqb-true, arith}
 use Rattle.std.proofs.lemmas.Bool.{eqb-false}
 use Rattle.std.proofs.lemmas.List.{nil_from_length}
 use Rattle.std.specs.Prelude.{vec_len}
@@ -16,7 +16,7 @@ returns-then-is_empty c = λ f h.
 
 pub returns : goal.returns
 returns c = λ f h.
-    let needed : AreNeeded (with_notes c.args.tracker.now.cells c.args.draft.cells.items) c.into_vec-steps.result.items c.in_ok-rows.rows.items = subst₂ (λ kept steps. AreNeeded kept steps c.in_ok-rows.rows.items) (ap₂ with_notes c.set_rows.ensures.rows c.as_slice.ensures.value) c.as_slice-2.ensures.value c.in_ok-rows.ensures in
+    let needed : AreNeeded (with_notes c.args.tracker.now.cells c.args.draft.cells) c.into_vec-steps.result.items c.in_ok-rows.rows.items = subst₂ (λ kept steps. AreNeeded kept steps c.in_ok-rows.rows.items) (ap (λ kept. with_notes kept c.args.draft.cells) c.set_rows.ensures.rows) c.as_slice.ensures.value c.in_ok-rows.ensures in
     let added = c.in_ok-added.ensures (λ trace. add_clear (f trace) c.index.result.now.place (to_clear (f trace) c.into_vec-steps.result.items)) (c.in_ok-cleared.ensures f c.into_vec-steps.result.items needed h) in
     let full : vec_len c.into_vec-steps.result ≢ 0 = eqb-false (vec_len c.into_vec-steps.result) 0 (sym c.is_empty.ensures ∙ c.if-is_empty.false) in
     let some : 0 < length c.into_vec-steps.result.items = omega (arith, c.into_vec-steps.result.ok.0) in

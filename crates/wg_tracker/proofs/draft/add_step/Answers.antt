@@ -8,9 +8,9 @@ use Rattle.wg_tracker.proofs.draft.add_step.Goals as goal
 
 pub returns : goal.returns
 returns c = λ f h.
-    let barred : (trace : List Item) → AreSorted (with_notes c.args.tracker.now.last c.args.draft.last.items) → KeepsLast (with_notes c.args.tracker.now.last c.args.draft.last.items) (steps_of trace) → c.in_ok-bars.bars.items ≡ bars trace c.args.step = subst (λ kept. (trace : List Item) → AreSorted kept → KeepsLast kept (steps_of trace) → c.in_ok-bars.bars.items ≡ bars trace c.args.step) (ap₂ with_notes c.last_rows.ensures.rows c.as_slice.ensures.value) c.in_ok-bars.ensures in
-    let last : IsNoted (with_notes c.args.tracker.now.last c.args.draft.last.items) c.args.step (with_notes c.args.tracker.now.last c.in_ok-last.last.items) = subst (λ kept. IsNoted (with_notes kept c.args.draft.last.items) c.args.step (with_notes kept c.in_ok-last.last.items)) c.last_rows-2.ensures.rows c.in_ok-last.ensures in
-    let noted : IsAfter (with_notes c.args.tracker.now.cells c.args.draft.cells.items) c.as_slice-2.result.now (with_notes c.args.tracker.now.cells c.in_ok-cells.cells.items) = subst (λ kept. IsAfter (with_notes kept c.args.draft.cells.items) c.as_slice-2.result.now (with_notes kept c.in_ok-cells.cells.items)) c.set_rows.ensures.rows c.in_ok-cells.ensures.noted in
-    let cells : IsAfter (with_notes c.args.tracker.now.cells c.args.draft.cells.items) c.args.step.accesses (with_notes c.args.tracker.now.cells c.in_ok-cells.cells.items) = subst (λ xs. IsAfter (with_notes c.args.tracker.now.cells c.args.draft.cells.items) xs (with_notes c.args.tracker.now.cells c.in_ok-cells.cells.items)) c.as_slice-2.ensures noted in
+    let barred : (trace : List Item) → AreSorted (with_notes c.args.tracker.now.last c.args.draft.last) → KeepsLast (with_notes c.args.tracker.now.last c.args.draft.last) (steps_of trace) → c.in_ok-bars.bars.items ≡ bars trace c.args.step = subst (λ kept. (trace : List Item) → AreSorted kept → KeepsLast kept (steps_of trace) → c.in_ok-bars.bars.items ≡ bars trace c.args.step) (ap (λ kept. with_notes kept c.args.draft.last) c.last_rows.ensures.rows) c.in_ok-bars.ensures in
+    let last : IsNoted (with_notes c.args.tracker.now.last c.args.draft.last) c.args.step (with_notes c.args.tracker.now.last c.in_ok-last.last) = subst (λ kept. IsNoted (with_notes kept c.args.draft.last) c.args.step (with_notes kept c.in_ok-last.last)) c.last_rows-2.ensures.rows c.in_ok-last.ensures in
+    let noted : IsAfter (with_notes c.args.tracker.now.cells c.args.draft.cells) c.as_slice.result.now (with_notes c.args.tracker.now.cells c.in_ok-cells.cells) = subst (λ kept. IsAfter (with_notes kept c.args.draft.cells) c.as_slice.result.now (with_notes kept c.in_ok-cells.cells)) c.set_rows.ensures.rows c.in_ok-cells.ensures.noted in
+    let cells : IsAfter (with_notes c.args.tracker.now.cells c.args.draft.cells) c.args.step.accesses (with_notes c.args.tracker.now.cells c.in_ok-cells.cells) = subst (λ xs. IsAfter (with_notes c.args.tracker.now.cells c.args.draft.cells) xs (with_notes c.args.tracker.now.cells c.in_ok-cells.cells)) c.as_slice.ensures noted in
     let items : c.push.new.self.items ≡ (c.args.draft.items.items ++ c.in_ok-bars.bars.items) ++ StepItem c.args.step ∷ [] = c.in_ok-push.ensures.items ∙ ap (λ xs. xs ++ StepItem c.args.step ∷ []) c.in_ok-append.ensures.items in
     step_added c.args.tracker.now c.args.draft (record { items = c.push.new.self; last = c.in_ok-last.last; cells = c.in_ok-cells.cells }) c.args.step c.in_ok-bars.bars.items f barred last cells items h

@@ -6,7 +6,7 @@ use Rattle.wg_init.proofs.state.CellState.unset.Goals as goal
 
 pub returns : goal.returns
 returns c = λ trace keeps.
-    let found = c.in_ok-found.ensures in
+    let found = rw c.new.ensures at c.in_ok-found.ensures in
     let cells = c.in_ok-cells.ensures in
     let kept_slice = c.as_slice.ensures.value in
     let access_slice = c.as_slice-2.ensures in

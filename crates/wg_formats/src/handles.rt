@@ -1,0 +1,81 @@
+//! What handles know of their objects, and where copies of whole textures begin.
+ghost use Rattle.std.specs.Prelude.{◌≡◌};
+ghost use Rattle.wg_model.specs.TexelCopies.{whole_spot};
+ghost use Rattle.wg_model.specs.Commands.{buffer_of, buffer_or_none, no_buffer, texture_of, texture_or_none, no_texture, same_object, rest_of, size_or_rest};
+
+use wg_types::formats::Format;
+use wg_types::handles::{BufferInfo, Handle, Info, ObjRef};
+use wg_types::textures::{AspectWord, TextureDim, TextureInfo, TextureSpot};
+
+/// What a handle of a buffer knows of it; nothing has usage or bytes where it is of another kind.
+pub fn buffer_of(buffer: &Handle) -> BufferInfo
+    ensures { result ≡ buffer_of buffer.now }
+{
+    match buffer.info() {
+        Info::Buffer(info) => *info,
+        _ => BufferInfo {
+            size: 0,
+            usage: 0,
+            mapped: false,
+        },
+    }
+}
+
+/// Stands for what is known of a texture where an object is none.
+pub fn no_texture() -> TextureInfo
+    ensures { result ≡ no_texture }
+{
+    TextureInfo {
+        size: [0, 0, 0],
+        usage: 0,
+        format: Format::R8Unorm,
+        dim: TextureDim::Two,
+        mips: 0,
+        samples: 0,
+    }
+}
+
+/// What a handle of a texture knows of it; nothing has usage or texels where it is of another kind.
+pub fn texture_of(texture: &Handle) -> TextureInfo
+    ensures { result ≡ texture_of texture.now }
+{
+    match texture.info() {
+        Info::Texture(info) => *info,
+        _ => no_texture(),
+    }
+}
+
+/// Whether two references are of one object.
+pub fn same_object(a: ObjRef, b: ObjRef) -> bool
+    ensures { result ≡ same_object a b }
+{
+    a.device == b.device && a.number == b.number
+}
+
+/// What remains of a buffer from an offset on, which of an invalid one is nothing.
+fn rest_of(buffer: &Handle, offset: u64) -> u64
+    ensures { result ≡ rest_of buffer.now offset }
+{
+    if !buffer.valid() {
+        return 0;
+    }
+    buffer_of(buffer).size.saturating_sub(offset)
+}
+
+/// A size, or what remains of a buffer where none is given.
+pub fn size_or_rest(buffer: &Handle, offset: u64, size: Option<u64>) -> u64
+    ensures { result ≡ size_or_rest buffer.now offset size }
+{
+    size.unwrap_or(rest_of(buffer, offset))
+}
+
+/// Where a copy from texture to texture begins, which takes all aspects.
+pub fn whole_spot(mip: u32, origin: [u32; 3]) -> TextureSpot
+    ensures { result ≡ whole_spot mip origin }
+{
+    TextureSpot {
+        mip,
+        origin,
+        aspect: AspectWord::All,
+    }
+}

@@ -1,0 +1,191 @@
+-- The tests of infos tell whether they are equal.
+use Rattle.std.proofs.Common.{◌≡◌, ℕ, ◌==◌, Bool, true, false, ◌&&◌, List, refl, sym, ap, ◌∙◌, eqb-true, eq-eqb, if◌then◌else◌, bytes_eq}
+use Rattle.std.specs.Prelude.{Decides}
+use Rattle.std.proofs.lemmas.Bool.Decides.{Decides-and, Decides-like}
+use Rattle.std.proofs.lemmas.Slice.Eq.{bytes_eq-Decides}
+use Rattle.wg_types.specs.Formats.{format_number, same_format}
+use Rattle.wg_types.specs.Textures.{texture_dim_number, view_dim_number, aspect_word_number, same_texture, same_view}
+use Rattle.wg_types.specs.declared.formats.Format.{Format}
+use Rattle.wg_types.specs.declared.formats.Format.TheVariants.{R8Unorm, Rg8Unorm, Rgba8Unorm, Rgba8UnormSrgb, Bgra8Unorm, R32Uint, R32Float, Rgba16Float, Rgba32Float, Depth16Unorm, Depth24Plus, Depth24PlusStencil8, Depth32Float, Stencil8}
+use Rattle.wg_types.specs.declared.textures.TextureDim.{TextureDim}
+use Rattle.wg_types.specs.declared.textures.TextureDim.TheVariants as texture_dim
+use Rattle.wg_types.specs.declared.textures.ViewDim.{ViewDim}
+use Rattle.wg_types.specs.declared.textures.ViewDim.TheVariants as view_dim
+use Rattle.wg_types.specs.declared.textures.AspectWord.{AspectWord}
+use Rattle.wg_types.specs.declared.textures.AspectWord.TheVariants.{All, DepthOnly, StencilOnly}
+use Rattle.wg_types.specs.declared.textures.TextureInfo.{TextureInfo}
+use Rattle.wg_types.specs.declared.textures.ViewInfo.{ViewInfo}
+use Rattle.wg_types.specs.declared.handles.ObjRef.{ObjRef}
+use Rattle.wg_types.specs.declared.handles.BufferInfo.{BufferInfo}
+use Rattle.wg_types.specs.declared.handles.Info.{Info}
+use Rattle.wg_types.specs.declared.handles.Info.TheVariants.{Buffer, Texture, View, Encoder, CommandBuffer}
+use Rattle.wg_history.specs.Infos.{same_bool, same_buffer, same_info, SameInfoIs}
+
+-- Numbers, and words by their numbers.
+numbers_tell : (a b : ℕ) → Decides (a == b) (a ≡ b)
+numbers_tell a b = (eqb-true a b, eq-eqb a b)
+
+words_tell : {X : Type 0} (number : X → ℕ) (back : ℕ → X) → ((x : X) → back (number x) ≡ x) → (a b : X) → Decides (number a == number b) (a ≡ b)
+words_tell number back is a b = (λ e. sym (is a) ∙ (ap back (eqb-true (number a) (number b) e) ∙ is b), λ e. eq-eqb (number a) (number b) (ap number e))
+
+abbrev format_at : ℕ → Format
+format_at n = if n == 0 then R8Unorm else if n == 1 then Rg8Unorm else if n == 2 then Rgba8Unorm else if n == 3 then Rgba8UnormSrgb else if n == 4 then Bgra8Unorm else if n == 5 then R32Uint else if n == 6 then R32Float else if n == 7 then Rgba16Float else if n == 8 then Rgba32Float else if n == 9 then Depth16Unorm else if n == 10 then Depth24Plus else if n == 11 then Depth24PlusStencil8 else if n == 12 then Depth32Float else Stencil8
+
+format_back : (f : Format) → format_at (format_number f) ≡ f
+format_back R8Unorm = refl
+format_back Rg8Unorm = refl
+format_back Rgba8Unorm = refl
+format_back Rgba8UnormSrgb = refl
+format_back Bgra8Unorm = refl
+format_back R32Uint = refl
+format_back R32Float = refl
+format_back Rgba16Float = refl
+format_back Rgba32Float = refl
+format_back Depth16Unorm = refl
+format_back Depth24Plus = refl
+format_back Depth24PlusStencil8 = refl
+format_back Depth32Float = refl
+format_back Stencil8 = refl
+
+formats_tell : (a b : Format) → Decides (same_format a b) (a ≡ b)
+formats_tell a b = words_tell format_number format_at format_back a b
+
+abbrev texture_dim_at : ℕ → TextureDim
+texture_dim_at n = if n == 0 then texture_dim.One else if n == 1 then texture_dim.Two else texture_dim.Three
+
+texture_dim_back : (d : TextureDim) → texture_dim_at (texture_dim_number d) ≡ d
+texture_dim_back texture_dim.One = refl
+texture_dim_back texture_dim.Two = refl
+texture_dim_back texture_dim.Three = refl
+
+abbrev view_dim_at : ℕ → ViewDim
+view_dim_at n = if n == 0 then view_dim.One else if n == 1 then view_dim.Two else if n == 2 then view_dim.TwoArray else if n == 3 then view_dim.Cube else if n == 4 then view_dim.CubeArray else view_dim.Three
+
+view_dim_back : (d : ViewDim) → view_dim_at (view_dim_number d) ≡ d
+view_dim_back view_dim.One = refl
+view_dim_back view_dim.Two = refl
+view_dim_back view_dim.TwoArray = refl
+view_dim_back view_dim.Cube = refl
+view_dim_back view_dim.CubeArray = refl
+view_dim_back view_dim.Three = refl
+
+abbrev aspect_word_at : ℕ → AspectWord
+aspect_word_at n = if n == 0 then All else if n == 1 then DepthOnly else StencilOnly
+
+aspect_word_back : (w : AspectWord) → aspect_word_at (aspect_word_number w) ≡ w
+aspect_word_back All = refl
+aspect_word_back DepthOnly = refl
+aspect_word_back StencilOnly = refl
+
+bools_tell : (a b : Bool) → Decides (same_bool a b) (a ≡ b)
+bools_tell true true = (λ e. refl, λ e. refl)
+bools_tell true false = (λ e. absurd (cc), λ e. absurd (cc))
+bools_tell false true = (λ e. absurd (cc), λ e. absurd (cc))
+bools_tell false false = (λ e. refl, λ e. refl)
+
+-- Buffers.
+abbrev buffer_made : ℕ → ℕ → Bool → BufferInfo
+buffer_made size usage mapped = record { size = size; usage = usage; mapped = mapped }
+
+buffer_like : (a b : BufferInfo) → ((a.size ≡ b.size) × (a.usage ≡ b.usage)) × (a.mapped ≡ b.mapped) → a ≡ b
+buffer_like a b h =
+    ap (λ x. buffer_made x a.usage a.mapped) h.0.0
+    ∙ (ap (λ x. buffer_made b.size x a.mapped) h.0.1
+    ∙ ap (λ x. buffer_made b.size b.usage x) h.1)
+
+pub buffers_tell : (a b : BufferInfo) → Decides (same_buffer a b) (a ≡ b)
+buffers_tell a b =
+    Decides-like (same_buffer a b) (buffer_like a b) (λ e. ((ap (λ x. x.size) e, ap (λ x. x.usage) e), ap (λ x. x.mapped) e))
+    (Decides-and (a.size == b.size && a.usage == b.usage) (same_bool a.mapped b.mapped)
+    (Decides-and (a.size == b.size) (a.usage == b.usage) (numbers_tell a.size b.size) (numbers_tell a.usage b.usage))
+    (bools_tell a.mapped b.mapped))
+
+-- Textures.
+abbrev texture_made : List ℕ → ℕ → Format → TextureDim → ℕ → ℕ → TextureInfo
+texture_made size usage format dim mips samples = record { size = size; usage = usage; format = format; dim = dim; mips = mips; samples = samples }
+
+abbrev TextureParts : TextureInfo → TextureInfo → Type 0
+TextureParts a b = (((((a.size ≡ b.size) × (a.usage ≡ b.usage)) × (a.format ≡ b.format)) × (a.dim ≡ b.dim)) × (a.mips ≡ b.mips)) × (a.samples ≡ b.samples)
+
+texture_like : (a b : TextureInfo) → TextureParts a b → a ≡ b
+texture_like a b h =
+    ap (λ x. texture_made x a.usage a.format a.dim a.mips a.samples) h.0.0.0.0.0
+    ∙ (ap (λ x. texture_made b.size x a.format a.dim a.mips a.samples) h.0.0.0.0.1
+    ∙ (ap (λ x. texture_made b.size b.usage x a.dim a.mips a.samples) h.0.0.0.1
+    ∙ (ap (λ x. texture_made b.size b.usage b.format x a.mips a.samples) h.0.0.1
+    ∙ (ap (λ x. texture_made b.size b.usage b.format b.dim x a.samples) h.0.1
+    ∙ ap (λ x. texture_made b.size b.usage b.format b.dim b.mips x) h.1))))
+
+texture_parts : (a b : TextureInfo) → a ≡ b → TextureParts a b
+texture_parts a b e = (((((ap (λ x. x.size) e, ap (λ x. x.usage) e), ap (λ x. x.format) e), ap (λ x. x.dim) e), ap (λ x. x.mips) e), ap (λ x. x.samples) e)
+
+pub textures_tell : (a b : TextureInfo) → Decides (same_texture a b) (a ≡ b)
+textures_tell a b =
+    Decides-like (same_texture a b) (texture_like a b) (texture_parts a b)
+    (Decides-and _ (a.samples == b.samples)
+    (Decides-and _ (a.mips == b.mips)
+    (Decides-and _ (texture_dim_number a.dim == texture_dim_number b.dim)
+    (Decides-and _ (same_format a.format b.format)
+    (Decides-and (bytes_eq a.size b.size) (a.usage == b.usage) (bytes_eq-Decides a.size b.size) (numbers_tell a.usage b.usage))
+    (formats_tell a.format b.format))
+    (words_tell texture_dim_number texture_dim_at texture_dim_back a.dim b.dim))
+    (numbers_tell a.mips b.mips))
+    (numbers_tell a.samples b.samples))
+
+-- Views.
+abbrev reference_made : ℕ → ℕ → ObjRef
+reference_made device number = record { device = device; number = number }
+
+reference_like : (a b : ObjRef) → (a.device ≡ b.device) × (a.number ≡ b.number) → a ≡ b
+reference_like a b h = ap (λ x. reference_made x a.number) h.0 ∙ ap (λ x. reference_made b.device x) h.1
+
+references_tell : (a b : ObjRef) → Decides (a.device == b.device && a.number == b.number) (a ≡ b)
+references_tell a b =
+    Decides-like (a.device == b.device && a.number == b.number) (reference_like a b) (λ e. (ap (λ x. x.device) e, ap (λ x. x.number) e))
+    (Decides-and (a.device == b.device) (a.number == b.number) (numbers_tell a.device b.device) (numbers_tell a.number b.number))
+
+abbrev view_made : ObjRef → TextureInfo → ViewDim → AspectWord → ℕ → ℕ → ℕ → ℕ → ViewInfo
+view_made texture texture_info dim aspect base_mip mips base_layer layers = record { texture = texture; texture_info = texture_info; dim = dim; aspect = aspect; base_mip = base_mip; mips = mips; base_layer = base_layer; layers = layers }
+
+abbrev ViewParts : ViewInfo → ViewInfo → Type 0
+ViewParts a b = (((((((a.texture ≡ b.texture) × (a.texture_info ≡ b.texture_info)) × (a.dim ≡ b.dim)) × (a.aspect ≡ b.aspect)) × (a.base_mip ≡ b.base_mip)) × (a.mips ≡ b.mips)) × (a.base_layer ≡ b.base_layer)) × (a.layers ≡ b.layers)
+
+view_like : (a b : ViewInfo) → ViewParts a b → a ≡ b
+view_like a b h =
+    ap (λ x. view_made x a.texture_info a.dim a.aspect a.base_mip a.mips a.base_layer a.layers) h.0.0.0.0.0.0.0
+    ∙ (ap (λ x. view_made b.texture x a.dim a.aspect a.base_mip a.mips a.base_layer a.layers) h.0.0.0.0.0.0.1
+    ∙ (ap (λ x. view_made b.texture b.texture_info x a.aspect a.base_mip a.mips a.base_layer a.layers) h.0.0.0.0.0.1
+    ∙ (ap (λ x. view_made b.texture b.texture_info b.dim x a.base_mip a.mips a.base_layer a.layers) h.0.0.0.0.1
+    ∙ (ap (λ x. view_made b.texture b.texture_info b.dim b.aspect x a.mips a.base_layer a.layers) h.0.0.0.1
+    ∙ (ap (λ x. view_made b.texture b.texture_info b.dim b.aspect b.base_mip x a.base_layer a.layers) h.0.0.1
+    ∙ (ap (λ x. view_made b.texture b.texture_info b.dim b.aspect b.base_mip b.mips x a.layers) h.0.1
+    ∙ ap (λ x. view_made b.texture b.texture_info b.dim b.aspect b.base_mip b.mips b.base_layer x) h.1))))))
+
+view_parts : (a b : ViewInfo) → a ≡ b → ViewParts a b
+view_parts a b e = (((((((ap (λ x. x.texture) e, ap (λ x. x.texture_info) e), ap (λ x. x.dim) e), ap (λ x. x.aspect) e), ap (λ x. x.base_mip) e), ap (λ x. x.mips) e), ap (λ x. x.base_layer) e), ap (λ x. x.layers) e)
+
+pub views_tell : (a b : ViewInfo) → Decides (same_view a b) (a ≡ b)
+views_tell a b =
+    Decides-like (same_view a b) (view_like a b) (view_parts a b)
+    (Decides-and _ (a.layers == b.layers)
+    (Decides-and _ (a.base_layer == b.base_layer)
+    (Decides-and _ (a.mips == b.mips)
+    (Decides-and _ (a.base_mip == b.base_mip)
+    (Decides-and _ (aspect_word_number a.aspect == aspect_word_number b.aspect)
+    (Decides-and _ (view_dim_number a.dim == view_dim_number b.dim)
+    (Decides-and (a.texture.device == b.texture.device && a.texture.number == b.texture.number) (same_texture a.texture_info b.texture_info) (references_tell a.texture b.texture) (textures_tell a.texture_info b.texture_info))
+    (words_tell view_dim_number view_dim_at view_dim_back a.dim b.dim))
+    (words_tell aspect_word_number aspect_word_at aspect_word_back a.aspect b.aspect))
+    (numbers_tell a.base_mip b.base_mip))
+    (numbers_tell a.mips b.mips))
+    (numbers_tell a.base_layer b.base_layer))
+    (numbers_tell a.layers b.layers))
+
+-- Infos.
+pub infos_tell : SameInfoIs
+infos_tell (Buffer a) (Buffer b) = let d = buffers_tell a b in (λ e. ap Buffer (d.0 e), λ e. d.1 (cc))
+infos_tell (Texture a) (Texture b) = let d = textures_tell a b in (λ e. ap Texture (d.0 e), λ e. d.1 (cc))
+infos_tell (View a) (View b) = let d = views_tell a b in (λ e. ap View (d.0 e), λ e. d.1 (cc))
+infos_tell Encoder Encoder = (λ e. refl, λ e. refl)
+infos_tell CommandBuffer CommandBuffer = (λ e. refl, λ e. refl)
+infos_tell _ _ = (λ e. absurd (cc), λ e. absurd (cc))

@@ -1,0 +1,198 @@
+-- What a history says of an object it says of one that was made: nothing is said of a number that is not yet given.
+use Rattle.std.proofs.Common.{◌≡◌, ℕ, ◌+◌, ◌<◌, ◌≤◌, List, [], ◌∷◌, ◌++◌, Bool, true, false, not, ◌&&◌, ◌||◌, ◌==◌, max, Option, Some, None, option_and_then, is_some, is_none, unwrap_or, refl, ap, ap₂, sym, ◌∙◌, arith, if◌then◌else◌, true≢false}
+use Rattle.std.specs.Option.{option_map_or}
+use Rattle.std.specs.List.{list_any}
+use Rattle.std.proofs.lemmas.Bool.{and_parts, eqb-true}
+use Rattle.wg_types.specs.Handles.{HandleValue}
+use Rattle.wg_types.specs.declared.handles.Info.{Info}
+use Rattle.wg_types.specs.declared.handles.ObjRef.{ObjRef}
+use Rattle.wg_types.specs.declared.commands.On.{On}
+use Rattle.wg_types.specs.Commands.{Command, named}
+use Rattle.wg_types.specs.declared.wanted.Wanted.{Wanted}
+use Rattle.wg_types.specs.declared.replies.Reply.{Reply}
+use Rattle.wg_model.specs.Rules.{Rule, first_unmet, or_else, AreMet}
+use Rattle.wg_model.specs.Walk.{Verdict}
+use Rattle.wg_model.specs.Recorded.{wants_resource, numbered, resources, uses_resource}
+use Rattle.wg_model.proofs.NamedLemmas.{any_resources}
+use Rattle.wg_model.proofs.Unmet.{all_met}
+use Rattle.wg_encoder.specs.Recorders.{RecordingValue}
+use Rattle.wg_history.specs.Entries.{Setup, Event, Finish, Submit, WriteBuffer, WriteTexture, Destroy, Entry, Past}
+use Rattle.wg_history.specs.Objects.{is_making, count, maker, made_info, info_at, is_own, is_valid, is_made_valid, is_encoder, is_command_buffer, recorded_by, commands_at, resource_at}
+use Rattle.wg_history.specs.Operations.{issued, submit_uses, is_used, op_of, use_by, last_use}
+use Rattle.wg_history.specs.Rules.{destroy_rule, destroys, is_destroyed, ends_encoder, has_finished, consumes, is_consumed, is_genuine, any_forged, encoder_rules, recording_rules, finish_rule, listed_rules, together_rules, submit_list, submit_rule, write_buffer_list, write_buffer_rule, write_texture_list, write_texture_rule}
+use Rattle.wg_history.specs.Answers.{Queued, Plain, reply_to, IsRun}
+use Rattle.wg_history.specs.Releases.{is_due, is_released}
+use Rattle.wg_history.proofs.Released.{maker_below, resource_made, due_some}
+use Rattle.wg_history.proofs.AfterUse.{newest, others, not_true, any_grows}
+
+some_maker : {X : Type 0} (f : Entry → Option X) (test : X → Bool) (o : Option Entry) → option_map_or test (option_and_then f o) false ≡ true → is_some o ≡ true
+some_maker f test None h = absurd (true≢false (sym h))
+some_maker f test (Some entry) h = refl
+
+pub own_below : (setup : Setup) (past : Past) (kind : Info → Bool) (object : ObjRef) → is_own setup past kind object ≡ true → object.number < count past
+own_below setup past kind object own =
+    maker_below past object.number (some_maker (λ entry. made_info past entry.event) kind (maker past object.number) (and_parts (object.device == setup.serial) (option_map_or kind (info_at past object.number) false) own).1)
+
+rule_none : (own : Bool) → is_none (first_unmet ((10, own) ∷ [])) ≡ true → own ≡ true
+rule_none true h = refl
+rule_none false h = absurd (true≢false (sym h))
+
+-- a test that would put an object below its number fails
+fails : (b : Bool) (c n : ℕ) → c ≤ n → (b ≡ true → n < c) → b ≡ false
+fails true c n le below = absurd (let lt = below refl in omega (arith, lt, le))
+fails false c n le below = refl
+
+pub destroys_below : (setup : Setup) (past : Past) (event : Event) (n : ℕ) → destroys setup past event n ≡ true → n < count past
+unfolding destroy_rule
+destroys_below setup past (Destroy object) n h =
+    let both : ((object.number == n) ≡ true) × (is_none (destroy_rule setup past object) ≡ true) = and_parts (object.number == n) (is_none (destroy_rule setup past object)) h in
+    let lt : object.number < count past = own_below setup past _ object (rule_none _ both.1) in
+    let same : object.number ≡ n = eqb-true object.number n both.0 in
+    omega (arith, lt, same)
+destroys_below setup past _ n h = absurd (true≢false (sym h))
+
+older_le : (b : Bool) (c n : ℕ) → (if b then c + 1 else c) ≤ n → c ≤ n
+older_le true c n le = omega (arith, le)
+older_le false c n le = le
+
+either_fails : (a b : Bool) → a ≡ false → b ≡ false → (a || b) ≡ false
+either_fails a b e f = ap₂ ◌||◌ e f
+
+pub destroyed_new : (setup : Setup) (past : Past) (n : ℕ) → count past ≤ n → is_destroyed setup past n ≡ false
+destroyed_new setup [] n le = refl
+destroyed_new setup (entry ∷ older) n le =
+    let before : count older ≤ n = older_le (is_making entry.event) (count older) n le in
+    either_fails (destroys setup older entry.event n) (is_destroyed setup older n) (fails (destroys setup older entry.event n) (count older) n before (destroys_below setup older entry.event n)) (destroyed_new setup older n before)
+
+-- a reference of the kind to this number is to one that was made
+named_below : (setup : Setup) (past : Past) (kind : Info → Bool) (object : ObjRef) (n : ℕ) → (object.number == n && is_own setup past kind object) ≡ true → n < count past
+named_below setup past kind object n h =
+    let both : ((object.number == n) ≡ true) × (is_own setup past kind object ≡ true) = and_parts (object.number == n) (is_own setup past kind object) h in
+    let lt : object.number < count past = own_below setup past kind object both.1 in
+    let same : object.number ≡ n = eqb-true object.number n both.0 in
+    omega (arith, lt, same)
+
+ends_below : (setup : Setup) (past : Past) (event : Event) (n : ℕ) → count past ≤ n → ends_encoder setup past event n ≡ false
+ends_below setup past (Finish encoder recording) n le = fails (encoder.number == n && is_own setup past is_encoder encoder) (count past) n le (named_below setup past is_encoder encoder n)
+ends_below setup past _ n le = refl
+
+pub ended_new : (setup : Setup) (past : Past) (n : ℕ) → count past ≤ n → has_finished setup past n ≡ false
+ended_new setup [] n le = refl
+ended_new setup (entry ∷ older) n le =
+    let before : count older ≤ n = older_le (is_making entry.event) (count older) n le in
+    either_fails (ends_encoder setup older entry.event n) (has_finished setup older n) (ends_below setup older entry.event n before) (ended_new setup older n before)
+
+due_below : (setup : Setup) (past : Past) (n : ℕ) → count past ≤ n → is_due setup past n ≡ false
+due_below setup past n le = fails (is_due setup past n) (count past) n le (λ due. resource_made past n (due_some setup past n due))
+
+pub released_new : (setup : Setup) (past : Past) (n : ℕ) → count past ≤ n → is_released setup past n ≡ false
+released_new setup [] n le = refl
+released_new setup (entry ∷ older) n le =
+    either_fails (is_due setup (entry ∷ older) n) (is_released setup older n) (due_below setup (entry ∷ older) n le) (released_new setup older n (older_le (is_making entry.event) (count older) n le))
+
+listed_below : (setup : Setup) (past : Past) (buffers : List ObjRef) (n : ℕ) → count past ≤ n → list_any (λ buffer. buffer.number == n && is_own setup past is_command_buffer buffer) buffers ≡ false
+listed_below setup past [] n le = refl
+listed_below setup past (buffer ∷ buffers) n le = either_fails (buffer.number == n && is_own setup past is_command_buffer buffer) _
+    (fails (buffer.number == n && is_own setup past is_command_buffer buffer) (count past) n le (named_below setup past is_command_buffer buffer n))
+    (listed_below setup past buffers n le)
+
+consumes_below : (setup : Setup) (past : Past) (event : Event) (n : ℕ) → count past ≤ n → consumes setup past event n ≡ false
+consumes_below setup past (Submit buffers) n le = listed_below setup past buffers n le
+consumes_below setup past _ n le = refl
+
+pub consumed_new : (setup : Setup) (past : Past) (n : ℕ) → count past ≤ n → is_consumed setup past n ≡ false
+consumed_new setup [] n le = refl
+consumed_new setup (entry ∷ older) n le =
+    let before : count older ≤ n = older_le (is_making entry.event) (count older) n le in
+    either_fails (consumes setup older entry.event n) (is_consumed setup older n) (consumes_below setup older entry.event n before) (consumed_new setup older n before)
+
+-- Commands of a valid command buffer name objects that were made before it.
+
+named_resource : (command : Command) (n : ℕ) → list_any (λ r. r == n) (resources command) ≡ true → list_any (λ (object : HandleValue × Wanted). object.0.reference.number == n) (named command) ≡ true
+named_resource command n h =
+    any_grows (λ (object : HandleValue × Wanted). object.0.reference.number == n) (numbered wants_resource (λ r. r == n))
+    (λ object both. (and_parts (wants_resource object.1) (object.0.reference.number == n) both).1)
+    (named command) (sym (any_resources (λ r. r == n) command) ∙ h)
+
+not_genuine : (setup : Setup) (past : Past) (handle : HandleValue) (n : ℕ) → count past ≤ n → (handle.reference.number == n) ≡ true → not (is_genuine setup past handle) ≡ true
+not_genuine setup past handle n le e = ap not (fails (is_genuine setup past handle) (count past) n le (λ h.
+    let lt : handle.reference.number < count past = own_below setup past _ handle.reference (and_parts _ _ (and_parts _ _ h).0).0 in
+    let same : handle.reference.number ≡ n = eqb-true handle.reference.number n e in
+    omega (arith, lt, same)))
+
+used_forged : (setup : Setup) (past : Past) (commands : List (On × Command)) (n : ℕ) → count past ≤ n → uses_resource commands n ≡ true → any_forged setup past commands ≡ true
+used_forged setup past commands n le used =
+    any_grows (λ kept. list_any (λ (object : HandleValue × Wanted). not (is_genuine setup past object.0)) (named kept.1)) (λ kept. list_any (λ r. r == n) (resources kept.1))
+    (λ kept in_command. any_grows (λ (object : HandleValue × Wanted). not (is_genuine setup past object.0)) (λ (object : HandleValue × Wanted). object.0.reference.number == n) (λ object same. not_genuine setup past object.0 n le same) (named kept.1) (named_resource kept.1 n in_command))
+    commands used
+
+neither : (first second : Option ℕ) → is_none (or_else first second) ≡ true → (is_none first ≡ true) × (is_none second ≡ true)
+neither None second h = (refl, h)
+neither (Some rule) second h = absurd (true≢false (sym h))
+
+finished_unused : (setup : Setup) (past : Past) (encoder : ObjRef) (recording : RecordingValue) (n : ℕ) → count past ≤ n → is_none (finish_rule setup past encoder recording) ≡ true → uses_resource recording.commands n ≡ false
+unfolding finish_rule
+finished_unused setup past encoder recording n le e =
+    let last : is_none (first_unmet (recording_rules setup past recording)) ≡ true = (neither (Verdict recording.device recording.commands) (first_unmet (recording_rules setup past recording)) (neither (first_unmet (encoder_rules setup past encoder)) (or_else (Verdict recording.device recording.commands) (first_unmet (recording_rules setup past recording))) e).1).1 in
+    let genuine : any_forged setup past recording.commands ≡ false = not_true (any_forged setup past recording.commands) (all_met (recording_rules setup past recording) last).1.1.0 in
+    by_use (uses_resource recording.commands n) refl
+  where
+    by_use : (b : Bool) → uses_resource recording.commands n ≡ b → b ≡ false
+    by_use true used = absurd (true≢false (sym (used_forged setup past recording.commands n le used) ∙ not_true (any_forged setup past recording.commands) (all_met (recording_rules setup past recording) (neither (Verdict recording.device recording.commands) (first_unmet (recording_rules setup past recording)) (neither (first_unmet (encoder_rules setup past encoder)) (or_else (Verdict recording.device recording.commands) (first_unmet (recording_rules setup past recording))) e).1).1).1.1.0))
+    by_use false used = refl
+
+made_unused : (setup : Setup) (past : Past) (event : Event) (n : ℕ) → count past ≤ n → is_made_valid (reply_to setup past event).answer ≡ true → uses_resource (recorded_by event) n ≡ false
+made_unused setup past (Finish encoder recording) n le valid = finished_unused setup past encoder recording n le valid
+made_unused setup past _ n le valid = refl
+
+valid_unused : (setup : Setup) (past : Past) (k n : ℕ) → IsRun setup past → count past ≤ n → is_valid past k ≡ true → uses_resource (commands_at past k) n ≡ false
+valid_unused setup [] k n run le valid = refl
+valid_unused setup (entry ∷ older) k n run le valid =
+    let before : count older ≤ n = older_le (is_making entry.event) (count older) n le in
+    by_maker (is_making entry.event && count older == k) before (valid_unused setup older k n (others setup entry older run) before) valid
+  where
+    by_maker : (b : Bool) → count older ≤ n → (is_valid older k ≡ true → uses_resource (commands_at older k) n ≡ false) → option_map_or (λ e. is_made_valid e.reply.answer) (if b then Some entry else maker older k) false ≡ true → uses_resource (option_map_or (λ e. recorded_by e.event) (if b then Some entry else maker older k) []) n ≡ false
+    by_maker true before rest is = made_unused setup older entry.event n before (ap (λ (reply : Reply). is_made_valid reply.answer) (sym (newest setup entry older run)) ∙ is)
+    by_maker false before rest is = rest is
+
+-- No operation of a run uses an object that is not yet made.
+
+submit_below : (setup : Setup) (past : Past) (buffers : List ObjRef) (more : List Rule) (n : ℕ) → IsRun setup past → count past ≤ n → AreMet (listed_rules setup past buffers) → submit_uses past buffers n ≡ false
+submit_below setup past [] more n run le met = refl
+submit_below setup past (buffer ∷ buffers) more n run le met = either_fails (uses_resource (commands_at past buffer.number) n) (submit_uses past buffers n) (valid_unused setup past buffer.number n run le met.1.0) (submit_below setup past buffers more n run le met.1.1)
+
+met_before : (rules more : List Rule) → AreMet (rules ++ more) → AreMet rules
+met_before [] more met = tt
+met_before (rule ∷ rules) more met = (met.0, met_before rules more met.1)
+
+no_use : (b : Bool) → ◌≡◌ {A = ℕ} (if b then 0 else 0) 0
+no_use true = refl
+no_use false = refl
+
+uses_below : (setup : Setup) (past : Past) (event : Event) (n : ℕ) → IsRun setup past → count past ≤ n → (if is_used past event n then unwrap_or (op_of (reply_to setup past event).answer) 0 else 0) ≡ 0
+unfolding submit_rule write_buffer_rule write_texture_rule
+uses_below setup past (Submit buffers) n run le = by_rule (is_none (submit_rule setup past buffers)) refl
+  where
+    by_rule : (b : Bool) → is_none (submit_rule setup past buffers) ≡ b → (if submit_uses past buffers n then unwrap_or (op_of (if b then Queued (issued past + 1) else Plain)) 0 else 0) ≡ 0
+    by_rule true met = ap (λ (used : Bool). if used then issued past + 1 else 0) (submit_below setup past buffers [] n run le (met_before (listed_rules setup past buffers) (together_rules setup past buffers) (all_met (submit_list setup past buffers) met)))
+    by_rule false met = no_use (submit_uses past buffers n)
+uses_below setup past (WriteBuffer buffer offset size) n run le = by_rule (is_none (write_buffer_rule setup past buffer offset size)) refl
+  where
+    by_rule : (b : Bool) → is_none (write_buffer_rule setup past buffer offset size) ≡ b → (if buffer.number == n then unwrap_or (op_of (if b then Queued (issued past + 1) else Plain)) 0 else 0) ≡ 0
+    by_rule true met = ap (λ (used : Bool). if used then issued past + 1 else 0) (fails (buffer.number == n) (count past) n le (λ h. let lt : buffer.number < count past = own_below setup past _ buffer (all_met (write_buffer_list setup past buffer offset size) met).0 in let same : buffer.number ≡ n = eqb-true buffer.number n h in omega (arith, lt, same)))
+    by_rule false met = no_use (buffer.number == n)
+uses_below setup past (WriteTexture texture spot layout size data_size) n run le = by_rule (is_none (write_texture_rule setup past texture spot layout size data_size)) refl
+  where
+    by_rule : (b : Bool) → is_none (write_texture_rule setup past texture spot layout size data_size) ≡ b → (if texture.number == n then unwrap_or (op_of (if b then Queued (issued past + 1) else Plain)) 0 else 0) ≡ 0
+    by_rule true met = ap (λ (used : Bool). if used then issued past + 1 else 0) (fails (texture.number == n) (count past) n le (λ h. let lt : texture.number < count past = own_below setup past _ texture (all_met (write_texture_list setup past texture spot layout size data_size) met).0 in let same : texture.number ≡ n = eqb-true texture.number n h in omega (arith, lt, same)))
+    by_rule false met = no_use (texture.number == n)
+uses_below setup past _ n run le = refl
+
+use_below : (setup : Setup) (entry : Entry) (older : Past) (n : ℕ) → IsRun setup (entry ∷ older) → count older ≤ n → use_by older entry n ≡ 0
+use_below setup entry older n run le = ap (λ (reply : Reply). if is_used older entry.event n then unwrap_or (op_of reply.answer) 0 else 0) (newest setup entry older run) ∙ uses_below setup older entry.event n (others setup entry older run) le
+
+pub used_new : (setup : Setup) (past : Past) (n : ℕ) → IsRun setup past → count past ≤ n → last_use past n ≡ 0
+used_new setup [] n run le = refl
+used_new setup (entry ∷ older) n run le =
+    let before : count older ≤ n = older_le (is_making entry.event) (count older) n le in
+    ap₂ max (use_below setup entry older n run before) (used_new setup older n (others setup entry older run) before)

@@ -1,0 +1,5 @@
+use Rattle.wg_history.proofs.InfoLaws.{infos_tell}
+use Rattle.wg_history.proofs.laws.same_infos.Goals as goal
+
+pub returns : goal.returns
+returns _ a b = infos_tell a b

@@ -1,0 +1,4 @@
+pub mod RowsLemmas
+pub mod Picked
+pub mod Tidy
+pub mod Releasing

@@ -1,0 +1,76 @@
+-- What is kept beside rows, so that a release looks only at what may be due.
+use Rattle.std.specs.Prelude.{◌≡◌, ℕ, zero, suc, ◌+◌, ◌<◌, ◌≤◌, Bool, true, not, ◌&&◌, ◌==◌, nat_le, nat_lt, List, [], ◌∷◌, ◌++◌, length, filter, is_some, option_map, option_to_list, if◌then◌else◌}
+use Rattle.std.specs.List.{list_any}
+use Rattle.std.specs.List.Sorted.{IsNonDecreasingBy}
+use Rattle.wg_types.specs.declared.steps.Sort.{Sort}
+use Rattle.wg_life.specs.declared.rows.Row.{Row}
+use Rattle.wg_life.specs.declared.waiting.Wait.{Wait}
+use Rattle.wg_life.specs.Lives.{row_at, with_release, Notes}
+
+-- A resource waits for its release where it is destroyed and was not released.
+abbrev pub waits : Row → Bool
+waits row = is_some row.resource && row.destroyed && not row.released
+
+abbrev pub is_waiting : List Row → ℕ → Bool
+is_waiting rows n = waits (row_at rows n)
+
+-- whether a destroy makes an object wait that did not wait before
+abbrev pub will_wait : Row → Bool
+will_wait row = is_some row.resource && not row.destroyed && not row.released
+
+-- the numbers below m that pass a test, least first
+abbrev pub picked : (ℕ → Bool) → ℕ → List ℕ
+picked test zero = []
+picked test (suc m) = picked test m ++ (if test m then m ∷ [] else [])
+
+-- a number put into its place in a list that rises
+abbrev pub with_number : ℕ → List ℕ → List ℕ
+with_number n [] = n ∷ []
+with_number n (m ∷ ms) = if nat_lt n m then n ∷ m ∷ ms else m ∷ with_number n ms
+
+-- how often a list has a number
+abbrev pub times : ℕ → List ℕ → ℕ
+times n [] = 0
+times n (m ∷ ms) = (if m == n then 1 else 0) + times n ms
+
+-- what is listed may be due where all operations up to this one are complete
+abbrev pub is_early : ℕ → Wait → Bool
+is_early done wait = nat_le wait.last done
+
+abbrev pub early : ℕ → List Wait → ℕ
+early done listed = length (filter (is_early done) listed)
+
+abbrev pub starts_late : ℕ → List Wait → Bool
+starts_late done [] = true
+starts_late done (wait ∷ listed) = not (is_early done wait)
+
+-- a list with one more, in its place
+pub record IsInserted (wait : Wait) (old new : List Wait) : Type 0 where
+  pub in_order : IsNonDecreasingBy (λ (other : Wait). other.last) new
+  pub len : length new ≡ length old + 1
+  pub any : (test : Wait → Bool) → list_any test new ≡ list_any test (wait ∷ old)
+  pub early : (done : ℕ) → early done new ≡ early done (wait ∷ old)
+
+-- what is listed of object n, under an operation that is not after its last use
+abbrev pub stands_for : List Row → ℕ → Wait → Bool
+stands_for rows n wait = wait.number == n && nat_le wait.last (row_at rows n).last
+
+-- All that waits is listed, and no more than that many.
+pub record IsTidy (rows : List Row) (listed : List Wait) : Type 0 where
+  pub in_order : IsNonDecreasingBy (λ (wait : Wait). wait.last) listed
+  pub are_listed : (n : ℕ) → n < length rows → is_waiting rows n ≡ true → list_any (stands_for rows n) listed ≡ true
+  pub fits : length listed ≤ length (picked (is_waiting rows) (length rows))
+
+-- what waited and does no more
+abbrev pub is_taken : List Row → List Row → ℕ → Bool
+is_taken first rows n = is_waiting first n && not (is_waiting rows n)
+
+-- The first rows of a release, and what it made of them so far: some are released, and their numbers are listed in some order.
+pub record IsReleasing (done : ℕ) (first rows : List Row) (listed : List Wait) (due : List ℕ) : Type 0 where
+  pub tidy : IsTidy rows listed
+  pub notes : Notes (λ n. with_release done (row_at rows n).released) first rows
+  pub due_len : length due ≡ length (picked (is_taken first rows) (length first))
+  pub due_are : (n : ℕ) → times n due ≡ times n (picked (is_taken first rows) (length first))
+
+abbrev pub sort_at : List Row → ℕ → List (ℕ × Sort)
+sort_at rows n = option_to_list (option_map (λ (sort : Sort). (n, sort)) (row_at rows n).resource)

@@ -1,0 +1,136 @@
+-- What holds of calls with names holds of them with anything in place of each name, and so with slots.
+use Rattle.std.proofs.Common.{◌≡◌, List, [], ◌∷◌, ◌++◌, map, Option, Some, None, Ok, refl, sym, ap, ap₂, subst, ◌∙◌, arith}
+use Rattle.std.specs.Prelude.{All, Contains, option_map}
+use Rattle.std.specs.List.{flat_map}
+use Rattle.std.specs.Option.{option_to_list}
+use Rattle.std.proofs.lemmas.List.{map-append}
+use Rattle.std.proofs.lemmas.List.Elements.{All-nil, All-cons, All-map, All-weaker, All-contains, Contains-append_left, Contains-append_right, Contains-push}
+use Rattle.wg_types.specs.declared.wanted.Kind.{Kind}
+use Rattle.wg_types.specs.declared.wanted.Wanted.{Wanted}
+use Rattle.wg_types.specs.declared.wanted.Wanted.TheVariants as wanted
+use Rattle.wg_types.specs.Refs.{all_wanted}
+use Rattle.wg_types.specs.Commands.{named, map_refs}
+use Rattle.wg_types.specs.declared.commands.CommandOf.{CommandOf}
+use Rattle.wg_types.specs.Requests.{kind_made, named as asked_of, map_refs as map_asked}
+use Rattle.wg_types.specs.declared.requests.RequestOf.{RequestOf}
+use Rattle.wg_script.specs.CallOf.{Call, map_call}
+use Rattle.wg_script.specs.declared.calls.CallOf.{CallOf}
+use Rattle.wg_script.specs.declared.calls.CallOf.TheVariants.{Record, Ask}
+use Rattle.wg_names.specs.Uses.{uses_of, made_as}
+use Rattle.wg_names.specs.Names.{Names, no_names, slot_in}
+use Rattle.wg_names.specs.Script.{phases_bound, map_lane, map_phase, map_phases}
+use Rattle.wg_names.specs.Bound.{Made, made_by, made_in, IsFound, LaneIsBound, PhasesAreBound, all_made, IsBound, IsBoundFrom}
+use Rattle.wg_names.proofs.BoundLemmas.{Splits, phases_are_bound}
+use Rattle.wg_names.proofs.Keeping.{all_keep}
+
+-- what stands beside a name stays
+abbrev other : {R S K : Type 0} → (R → S) → R × K → S × K
+other f x = (f x.0, x.1)
+
+-- ---- a call
+
+command_named : {R S : Type 0} (f : R → S) (command : CommandOf R) → named (map_refs f command) ≡ map (other f) (named command)
+command_named f command = grind arith
+
+all_named : {R S : Type 0} (f : R → S) (want : Wanted) (xs : List R) → all_wanted want (map f xs) ≡ map (other f) (all_wanted want xs)
+all_named f want [] = refl
+all_named f want (x ∷ xs) = ap (λ rest. (f x, want) ∷ rest) (all_named f want xs)
+
+request_named : {R S : Type 0} (f : R → S) (request : RequestOf R) → asked_of (map_asked f request) ≡ map (other f) (asked_of request)
+request_named f request = grind (arith, all_named)
+
+request_kind : {R S : Type 0} (f : R → S) (request : RequestOf R) → kind_made (map_asked f request) ≡ kind_made request
+request_kind f request = grind arith
+
+uses_mapped : {R S : Type 0} (f : R → S) (call : CallOf R) → uses_of (map_call f call) ≡ map (other f) (uses_of call)
+uses_mapped f (Record on command made) = ap (λ rest. (f on, wanted.Encoder) ∷ rest) (command_named f command)
+uses_mapped f (Ask request made) = request_named f request
+
+as_mapped : {R S : Type 0} (f : R → S) (made : Option R) (kind : Option Kind) → option_to_list (made_as (option_map f made) kind) ≡ map (other f) (option_to_list (made_as made kind))
+as_mapped f None kind = refl
+as_mapped f (Some name) None = refl
+as_mapped f (Some name) (Some kind) = refl
+
+made_mapped : {R S : Type 0} (f : R → S) (call : CallOf R) → made_by (map_call f call) ≡ map (other f) (made_by call)
+made_mapped f (Record on command made) = refl
+made_mapped f (Ask request made) = ap (λ kind. option_to_list (made_as (option_map f made) kind)) (request_kind f request) ∙ as_mapped f made (kind_made request)
+
+-- ---- lists
+
+flat_mapped : {X Y A B : Type 0} (g : X → List A) (h : Y → List B) (m : X → Y) (s : A → B) → ((x : X) → h (m x) ≡ map s (g x)) → (xs : List X) → flat_map h (map m xs) ≡ map s (flat_map g xs)
+flat_mapped g h m s one [] = refl
+flat_mapped g h m s one (x ∷ xs) = ap₂ (λ a b. a ++ b) (one x) (flat_mapped g h m s one xs) ∙ sym (map-append s (g x) (flat_map g xs))
+
+made_in_mapped : {R S : Type 0} (f : R → S) (calls : List (CallOf R)) → made_in (map_lane f calls) ≡ map (other f) (made_in calls)
+made_in_mapped f calls = flat_mapped made_by made_by (map_call f) (other f) (made_mapped f) calls
+
+lanes_mapped : {R S : Type 0} (f : R → S) (lanes : List (List (CallOf R))) → flat_map made_in (map_phase f lanes) ≡ map (other f) (flat_map made_in lanes)
+lanes_mapped f lanes = flat_mapped made_in made_in (map_lane f) (other f) (made_in_mapped f) lanes
+
+phases_mapped : {R S : Type 0} (f : R → S) (phases : List (List (List (CallOf R)))) → flat_map (flat_map made_in) (map_phases f phases) ≡ map (other f) (flat_map (flat_map made_in) phases)
+phases_mapped f phases = flat_mapped (flat_map made_in) (flat_map made_in) (map_phase f) (other f) (lanes_mapped f) phases
+
+firsts_mapped : {R S K : Type 0} (f : R → S) (made : List (R × K)) → map (λ m. m.0) (map (other f) made) ≡ map f (map (λ m. m.0) made)
+firsts_mapped f [] = refl
+firsts_mapped f (m ∷ made) = ap (λ rest. f m.0 ∷ rest) (firsts_mapped f made)
+
+all_made_mapped : {R S : Type 0} (f : R → S) (phases : List (List (List (CallOf R)))) → all_made (map_phases f phases) ≡ map f (all_made phases)
+all_made_mapped f phases = ap (map (λ m. m.0)) (phases_mapped f phases) ∙ firsts_mapped f (flat_map (flat_map made_in) phases)
+
+-- ---- what is used
+
+contained : {X Y : Type 0} (s : X → Y) (xs : List X) → All (λ x. Contains (map s xs) (s x)) xs
+contained s [] = All-nil (λ x. Contains (map s []) (s x))
+contained s (x ∷ xs) = All-cons (λ y. Contains (map s (x ∷ xs)) (s y)) x xs
+    (Contains-append_left (s x ∷ []) (map s xs) (s x) (Contains-push [] (s x)))
+    (All-weaker (λ y. Contains (map s xs) (s y)) (λ y. Contains (map s (x ∷ xs)) (s y)) (λ y there. Contains-append_right (s x ∷ []) (map s xs) (s y) there) xs (contained s xs))
+
+found_mapped : {R S : Type 0} (f : R → S) (made : Made R) (key : R × Wanted) → IsFound made key → IsFound (map (other f) made) (other f key)
+found_mapped f made key found = record {
+  kind = found.kind;
+  stands = All-contains (λ m. Contains (map (other f) made) (other f m)) made (key.0, found.kind) (contained (other f) made) found.stands;
+  fits = found.fits;
+}
+
+uses_found : {R S : Type 0} (f : R → S) (made : Made R) (call : CallOf R) → All (IsFound made) (uses_of call) → All (IsFound (map (other f) made)) (uses_of (map_call f call))
+uses_found {R} {S} f made call all =
+    let P : List (S × Wanted) → Type 0 = λ us. All (IsFound (map (other f) made)) us in
+    subst P (sym (uses_mapped f call))
+    (All-map (IsFound (map (other f) made)) (other f) (uses_of call)
+    (All-weaker (IsFound made) (λ u. IsFound (map (other f) made) (other f u)) (found_mapped f made) (uses_of call) all))
+
+lane_mapped : {R S : Type 0} (f : R → S) (made : Made R) (calls : List (CallOf R)) → LaneIsBound made calls → LaneIsBound (map (other f) made) (map_lane f calls)
+lane_mapped f made [] bound = tt
+lane_mapped {R} {S} f made (call ∷ calls) bound =
+    let P : Made S → Type 0 = λ ms. LaneIsBound ms (map_lane f calls) in
+    let grown : map (other f) (made ++ made_by call) ≡ map (other f) made ++ made_by (map_call f call)
+    = map-append (other f) made (made_by call) ∙ ap (λ ms. map (other f) made ++ ms) (sym (made_mapped f call)) in
+    (uses_found f made call bound.0, subst P grown (lane_mapped f (made ++ made_by call) calls bound.1))
+
+bound_mapped : {R S : Type 0} (f : R → S) (made : Made R) (phases : List (List (List (CallOf R)))) → PhasesAreBound made phases → PhasesAreBound (map (other f) made) (map_phases f phases)
+bound_mapped f made [] bound = tt
+bound_mapped {R} {S} f made (lanes ∷ phases) bound =
+    let P : Made S → Type 0 = λ ms. PhasesAreBound ms (map_phases f phases) in
+    let grown : map (other f) (made ++ flat_map made_in lanes) ≡ map (other f) made ++ flat_map made_in (map_phase f lanes)
+    = map-append (other f) made (flat_map made_in lanes) ∙ ap (λ ms. map (other f) made ++ ms) (sym (lanes_mapped f lanes)) in (
+      All-map (LaneIsBound (map (other f) made)) (map_lane f) lanes
+          (All-weaker (LaneIsBound made) (λ calls. LaneIsBound (map (other f) made) (map_lane f calls)) (lane_mapped f made) lanes bound.0),
+      subst P grown (bound_mapped f (made ++ flat_map made_in lanes) phases bound.1),
+    )
+
+-- ---- the whole script
+
+pub bound_of : (phases : List (List (List Call))) (end : Names) → phases_bound phases ≡ Ok end → IsBound (map_phases (slot_in end) phases)
+bound_of phases end e =
+    let none : Splits 0 0 no_names [] [] = λ name mark is. absurd (cc) in
+    let all = all_keep phases end e in
+    record {
+      used = bound_mapped (slot_in end) [] phases (phases_are_bound 0 no_names [] none phases end e);
+      count = end.made;
+      numbered = all_made_mapped (slot_in end) phases ∙ all.slots;
+    }
+
+pub from_of : (phases : List (List (List Call))) (end : Names) → phases_bound phases ≡ Ok end → IsBoundFrom phases (map_phases (slot_in end) phases)
+from_of phases end e =
+    let all = all_keep phases end e in
+    record { slot = slot_in end; same = refl; formed = all.formed; once = all.once }

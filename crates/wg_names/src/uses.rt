@@ -1,0 +1,99 @@
+//! The names that a call uses, and the name that it makes.
+ghost use Rattle.std.specs.Prelude.{◌≡◌};
+ghost use Rattle.wg_types.specs.Commands.{named};
+ghost use Rattle.wg_types.specs.Requests.{named as asked_of};
+ghost use Rattle.std.specs.Option.{option_map};
+ghost use Rattle.wg_names.specs.Names.{check_use};
+ghost use Rattle.wg_names.specs.Known.{names_in};
+ghost use Rattle.wg_names.specs.Uses.{uses_of, made_of, broken, refused};
+ghost use Rattle.wg_names.specs.Script.{check_uses};
+
+use crate::known::Known;
+use wg_script::{Call, Name};
+use wg_types::commands::CommandOf;
+use wg_types::refs::Ask;
+use wg_types::requests::RequestOf;
+use wg_types::wanted::{Kind, Wanted};
+
+/// The tests of a name that a call of this phase and lane uses.
+#[derive(Drop)]
+struct Use<'a, 'k> {
+    known: &'k Known<'a>,
+    phase: u32,
+    lane: u32,
+}
+
+impl Ask<Name, u8> for Use<'_, '_> {
+    ghost asks = { λ asked name. broken (check_use (names_in asked.known.now) asked.phase asked.lane name) };
+
+    fn ask(&self, object: &Name, wanted: Wanted) -> Option<u8> {
+        match self.known.check_use(self.phase, self.lane, object, wanted) {
+            Ok(()) => None,
+            Err(rule) => Some(rule),
+        }
+    }
+}
+
+/// Refuses a rule that is broken.
+fn refused(found: Option<u8>) -> Result<(), u8>
+    ensures { result ≡ refused found }
+{
+    match found {
+        Some(rule) => Err(rule),
+        None => Ok(()),
+    }
+}
+
+/// Tests the names that a command uses.
+#[tactic(auto, using(crate::proofs::Asking::uses_asked))]
+fn check_command(
+    known: &Known<'_>,
+    phase: u32,
+    lane: u32,
+    command: &CommandOf<Name>,
+) -> Result<(), u8>
+    ensures { result ≡ check_uses (names_in known.now) phase lane (named command.now) }
+{
+    let asked = Use { known, phase, lane };
+    refused(command.first(&asked))
+}
+
+/// Tests the names that a request uses.
+#[tactic(auto, using(crate::proofs::Asking::uses_asked))]
+fn check_request(
+    known: &Known<'_>,
+    phase: u32,
+    lane: u32,
+    request: &RequestOf<Name>,
+) -> Result<(), u8>
+    ensures { result ≡ check_uses (names_in known.now) phase lane (asked_of request.now) }
+{
+    let asked = Use { known, phase, lane };
+    refused(request.first(&asked))
+}
+
+/// Tests the names that a call uses, in the order of its keys.
+pub fn check_uses(known: &Known<'_>, phase: u32, lane: u32, call: &Call) -> Result<(), u8>
+    ensures { result ≡ check_uses (names_in known.now) phase lane (uses_of call.now) }
+{
+    match call {
+        Call::Record { on, command, .. } => {
+            known.check_use(phase, lane, on, Wanted::Encoder)?;
+            check_command(known, phase, lane, command)
+        }
+        Call::Ask { request, .. } => check_request(known, phase, lane, request),
+    }
+}
+
+/// The name that a call makes, and what it stands for.
+pub fn made_of(call: &Call) -> Option<(&Name, Kind)>
+    ensures { option_map (λ m. (m.0.now, m.1)) result ≡ made_of call.now }
+{
+    match call {
+        Call::Record { .. } => None,
+        Call::Ask { request, made } => match (made, request.kind_made()) {
+            (Some(name), Some(kind)) => Some((name, kind)),
+            (Some(_), None) | (None, _) => None,
+        },
+    }
+}

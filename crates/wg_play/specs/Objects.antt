@@ -1,0 +1,110 @@
+-- What the slots of a script stand for on a device, and which event each call of the device is.
+use Rattle.std.specs.Prelude.{ℕ, List, [], map, Option, Some, None, unwrap_or, option_and_then, option_map, slice_get, slice_set, if◌then◌else◌, Bool, true, false}
+use Rattle.std.specs.Option.{option_map_or}
+use Rattle.wg_types.specs.Handles.{HandleValue}
+use Rattle.wg_types.specs.declared.handles.ObjRef.{ObjRef}
+use Rattle.wg_types.specs.declared.handles.Info.{Info}
+use Rattle.wg_types.specs.declared.handles.Info.TheVariants as info
+use Rattle.wg_types.specs.declared.textures.TextureInfo.{TextureInfo}
+use Rattle.wg_types.specs.declared.commands.On.TheVariants.{Encoder}
+use Rattle.wg_types.specs.Commands.{Command}
+use Rattle.wg_types.specs.Refs.{first_of}
+use Rattle.wg_types.specs.Requests.{named}
+use Rattle.wg_types.specs.declared.requests.RequestOf.{RequestOf}
+use Rattle.wg_types.specs.declared.requests.RequestOf.TheVariants.{CreateBuffer, CreateTexture, CreateView, CreateEncoder, Finish, Submit, WriteBuffer, WriteTexture, Destroy, Complete}
+use Rattle.wg_model.specs.Commands.{texture_of, no_texture}
+use Rattle.wg_model.specs.Views.{view_of}
+use Rattle.wg_encoder.specs.Recorders.{RecorderValue, RecordingValue, is_late, recorded, after_take}
+use Rattle.wg_history.specs.Objects.{info_made}
+use Rattle.wg_history.specs.declared.events.Event.{Event}
+use Rattle.wg_history.specs.declared.events.Event.TheVariants as event
+use Rattle.wg_play.specs.declared.objects.Object.{Object}
+
+-- Stands for an object that was not made. Each slot that a script uses was made by an earlier call, so that it is not met.
+abbrev pub unknown : HandleValue
+unknown = record { reference = record { device = 0; number = 0 }; valid = false; info = info.CommandBuffer }
+
+-- The objects that calls have made, by their slots: an object as its caller holds it, and its reference.
+abbrev pub handle_at : List Object → ℕ → HandleValue
+handle_at objects slot = option_map_or (λ object. object.handle) (slice_get objects slot) unknown
+
+abbrev pub reference_at : List Object → ℕ → ObjRef
+reference_at objects slot = (handle_at objects slot).reference
+
+-- the recorder of an encoder
+abbrev pub recorder_at : List Object → ℕ → Option RecorderValue
+recorder_at objects slot = option_and_then (λ object. object.recorder) (slice_get objects slot)
+
+abbrev pub changed : Object → (RecorderValue → RecorderValue) → Object
+changed object change = record object { recorder = option_map change object.recorder }
+
+-- the objects with a change of an encoder's recorder
+abbrev pub with_recorder : List Object → ℕ → (RecorderValue → RecorderValue) → List Object
+with_recorder objects slot change = option_map_or (λ object. slice_set objects slot (changed object change)) (slice_get objects slot) objects
+
+-- a recording call is late where its encoder's recorder says so
+abbrev pub is_late_on : List Object → ℕ → Bool
+is_late_on objects slot = option_map_or (λ recorder. is_late recorder Encoder) (recorder_at objects slot) true
+
+abbrev pub recorded_on : List Object → ℕ → Command → List Object
+recorded_on objects slot command = with_recorder objects slot (λ recorder. recorded recorder Encoder command)
+
+-- what a finish takes from the recorder of its encoder, and the recorder after it
+abbrev pub taken_from : List Object → ℕ → RecordingValue
+taken_from objects slot = option_map_or (λ recorder. record { device = recorder.device; commands = recorder.commands }) (recorder_at objects slot) (record { device = 0; commands = [] })
+
+abbrev pub taken_on : List Object → ℕ → List Object
+taken_on objects slot = with_recorder objects slot (λ recorder. record recorder { commands = []; takes = after_take recorder.takes })
+
+-- what a view's left-out parts are found by: what is known of a valid texture, and of an invalid one nothing
+abbrev pub known_texture : HandleValue → TextureInfo
+known_texture texture = if texture.valid then texture_of texture else no_texture
+
+-- the event that a call of the device is: each slot stands for what the call made that has it
+abbrev pub event_asked : List Object → RequestOf ℕ → Event
+event_asked objects (CreateBuffer known) = event.CreateBuffer known
+event_asked objects (CreateTexture known) = event.CreateTexture known
+event_asked objects (CreateView texture asked) = event.CreateView (reference_at objects texture) (view_of (known_texture (handle_at objects texture)) asked.dim asked.aspect asked.base_mip asked.mips asked.base_layer asked.layers)
+event_asked objects CreateEncoder = event.CreateEncoder
+event_asked objects (Finish on) = event.Finish (reference_at objects on) (taken_from objects on)
+event_asked objects (Submit buffers) = event.Submit (map (reference_at objects) buffers)
+event_asked objects (WriteBuffer buffer offset size) = event.WriteBuffer (reference_at objects buffer) offset size
+event_asked objects (WriteTexture texture spot layout size data_size) = event.WriteTexture (reference_at objects texture) spot layout size data_size
+event_asked objects (Destroy object) = event.Destroy (reference_at objects object)
+event_asked objects (Complete op) = event.Complete op
+
+-- the encoder that a call of the device ends, if it ends one
+abbrev pub ended_by : RequestOf ℕ → Option ℕ
+ended_by (Finish encoder) = Some encoder
+ended_by (CreateBuffer known) = None
+ended_by (CreateTexture known) = None
+ended_by (CreateView texture asked) = None
+ended_by CreateEncoder = None
+ended_by (Submit buffers) = None
+ended_by (WriteBuffer buffer offset size) = None
+ended_by (WriteTexture texture spot layout size data_size) = None
+ended_by (Destroy object) = None
+ended_by (Complete op) = None
+
+-- the objects once such an event has taken what it carries: the commands of the encoder that it ends
+abbrev pub objects_taken : List Object → RequestOf ℕ → List Object
+objects_taken objects request = option_map_or (taken_on objects) (ended_by request) objects
+
+-- what is known of the object that a call of the device names first, if that is a texture
+abbrev pub texture_named : List Object → RequestOf ℕ → TextureInfo
+texture_named objects request = unwrap_or (first_of (λ slot. Some (texture_of (handle_at objects slot.0))) (named request)) no_texture
+
+-- what is known of the object that a call of the device makes, if it makes one
+abbrev pub known_made : List Object → RequestOf ℕ → Option ℕ → Option Info
+known_made objects request made = option_and_then (λ slot. info_made (λ texture. texture_named objects request) (event_asked objects request)) made
+
+abbrev pub recorder_for : ObjRef → Info → Option RecorderValue
+recorder_for encoder info.Encoder = Some (record { device = encoder.device; encoder = Some encoder; commands = []; takes = 0; passes = 0 })
+recorder_for encoder (info.Buffer known) = None
+recorder_for encoder (info.Texture known) = None
+recorder_for encoder (info.View known) = None
+recorder_for encoder info.CommandBuffer = None
+
+-- an object that was made, an encoder with a recorder that has kept nothing
+abbrev pub object_of : ObjRef → Bool → Info → Object
+object_of named valid known = record { handle = record { reference = named; valid = valid; info = known }; recorder = recorder_for named known }

@@ -1,0 +1,11 @@
+pub mod Put
+pub mod Runs
+pub mod Printed
+pub mod Told
+pub mod Cut
+pub mod Values
+pub mod Sets
+pub mod Order
+pub mod Lying
+pub mod Chained
+pub mod SetsPrinted

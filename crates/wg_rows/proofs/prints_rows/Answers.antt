@@ -1,0 +1,7 @@
+use Rattle.wg_rows.proofs.prints_rows.Goals as goal
+use Rattle.wg_rows.proofs.Told.{accesses_tell, uses_tell, changes_tell, prints}
+use Rattle.wg_rows.specs.Runs.{cell_sort, part_sort}
+use Rattle.wg_rows.specs.Uses.{same_kind, same_set, same_change}
+
+pub returns : goal.returns
+returns _ = record { accesses = prints cell_sort same_kind accesses_tell; uses = prints part_sort same_set uses_tell; bars = prints part_sort same_change changes_tell }

@@ -1,0 +1,9 @@
+pub mod Rows
+pub mod Chained
+pub mod Cut
+pub mod Clip
+pub mod Runs
+pub mod Uses
+pub mod Sets
+pub mod Order
+pub mod Laws

@@ -1,0 +1,39 @@
+-- Rows of uses, each a run of parts with the set of usages of its parts, and the sets of a step: one row for the parts
+-- that are used alike, by the union of their uses.
+use Rattle.std.specs.Prelude.{List, [], ◌∷◌, Some, bit_or, if◌then◌else◌, ◌≡◌}
+use Rattle.wg_rows.specs.Rows.{Apart}
+use Rattle.wg_rows.specs.Cut.{cut, inside, gaps, choose, put_all}
+use Rattle.wg_rows.specs.Runs.{PartRun, Part, part_sort, is_full}
+use Rattle.wg_rows.specs.Uses.{Usages, same_set, row_set}
+
+abbrev pub UseRow : Type 0
+UseRow = PartRun × Usages
+
+-- the usages of either set
+abbrev pub both_sets : Usages → Usages → Usages
+both_sets a b = record { 0 = bit_or a.0 b.0 }
+
+-- rows with one more use, which joins the sets of the uses of the same parts
+abbrev pub union_row : UseRow → List UseRow → List UseRow
+union_row r rows = put_all part_sort same_set (gaps part_sort (r ∷ []) rows) (put_all part_sort same_set (choose (λ old. Some (both_sets r.1 old)) (inside part_sort r.0 rows)) (cut part_sort r.0 rows))
+
+-- the same, where the use is of no part at all if its run is empty
+abbrev pub with_use : UseRow → List UseRow → List UseRow
+with_use r rows = if is_full r.0 then union_row r rows else rows
+
+abbrev pub with_uses : List UseRow → List UseRow → List UseRow
+with_uses [] base = base
+with_uses (r ∷ rows) base = with_use r (with_uses rows base)
+
+-- the sets of the parts of uses, in printed form
+abbrev pub sets : List UseRow → List UseRow
+sets [] = []
+sets (r ∷ rows) = if is_full r.0 then union_row r (sets rows) else sets rows
+
+-- The sets of uses are in printed form, and each part has the union of its uses.
+abbrev pub SetsAre : Type 0
+SetsAre = (rows : List UseRow) → Apart part_sort (sets rows) × ((p : Part) → row_set p (sets rows) ≡ row_set p rows)
+
+-- They are told by the sets of the parts alone, so that neither order nor repetition counts.
+abbrev pub SetsTell : Type 0
+SetsTell = (xs ys : List UseRow) → ((p : Part) → row_set p xs ≡ row_set p ys) → sets xs ≡ sets ys

@@ -1,0 +1,59 @@
+use crate::rows::{cut, gaps, inside, overwrite, printed, put};
+use crate::uses::{sets, with_uses};
+use bitflags::Flags;
+use std::test::Fail;
+use wg_types::parts::{Aspect, PartRun};
+use wg_types::usages::Usages;
+
+fn layers(lo: u32, hi: u32) -> PartRun {
+    PartRun::Texture {
+        object: 3,
+        aspect: Aspect::Color,
+        mip: 0,
+        lo,
+        hi,
+    }
+}
+
+#[test]
+fn rows_are_joined_and_cut(rt: HostRuntime) -> Result<(), Fail> {
+    let alloc = rt.alloc();
+    let read = Usages::CONSTANT;
+    let both = read.union(Usages::COPY_SRC);
+    let uses = [
+        (layers(2, 4), read),
+        (layers(0, 2), read),
+        (layers(1, 3), Usages::COPY_SRC),
+    ];
+    let wanted = [
+        (layers(0, 1), read),
+        (layers(1, 3), both),
+        (layers(3, 4), read),
+    ];
+    assert_eq!(rt; sets(alloc, &uses)?.as_slice(), wanted.as_slice());
+    let merged = with_uses(alloc, &uses[..1], &uses[1..])?;
+    assert_eq!(rt; merged.as_slice(), wanted.as_slice());
+    assert_eq!(rt;
+        put(alloc, &uses[..1], uses[1])?.as_slice(),
+        [(layers(0, 4), read)].as_slice()
+    );
+    let apart = [(layers(0, 1), read), (layers(4, 5), both), wanted[2]];
+    assert_eq!(rt;
+        printed(alloc, &apart)?.as_slice(),
+        [apart[0], apart[2], apart[1]].as_slice()
+    );
+    assert_eq!(rt; cut(alloc, &wanted, layers(1, 4))?.as_slice(), &wanted[..1]);
+    assert_eq!(rt;
+        inside(alloc, &wanted, layers(3, 8))?.as_slice(),
+        &wanted[2..]
+    );
+    assert_eq!(rt;
+        gaps(alloc, (layers(0, 6), both), &wanted)?.as_slice(),
+        [(layers(4, 6), both)].as_slice()
+    );
+    assert_eq!(rt;
+        overwrite(alloc, &wanted, (layers(0, 4), both))?.as_slice(),
+        [(layers(0, 4), both)].as_slice()
+    );
+    Ok(())
+}

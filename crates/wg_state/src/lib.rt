@@ -1,0 +1,19 @@
+//! A device's history, with what it says kept beside it in place of walks.
+#![tactic(auto)]
+
+mod book;
+mod infos;
+mod look;
+mod made;
+mod notes;
+mod queues;
+mod state;
+mod uses;
+
+pub use book::Book;
+pub use look::{
+    buffer_at, commands_at, is_genuine, is_own_command_buffer, is_own_encoder, is_own_resource,
+    own_buffer, own_texture, texture_at, texture_or_none_at,
+};
+pub use state::State;
+pub use uses::{Used, uses_of};

@@ -1,0 +1,2 @@
+pub mod RefLemmas
+pub mod WordLemmas

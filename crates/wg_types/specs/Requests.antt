@@ -1,0 +1,48 @@
+-- What calls of a device name and make.
+use Rattle.std.specs.Prelude.{List, [], ◌∷◌, map, Option, Some, None}
+use Rattle.wg_types.specs.Refs.{all_wanted}
+use Rattle.wg_types.specs.declared.wanted.Kind.{Kind}
+use Rattle.wg_types.specs.declared.wanted.Kind.TheVariants as kind
+use Rattle.wg_types.specs.declared.wanted.Wanted.{Wanted}
+use Rattle.wg_types.specs.declared.wanted.Wanted.TheVariants as wanted
+pub use Rattle.wg_types.specs.declared.requests.RequestOf.{RequestOf}
+use Rattle.wg_types.specs.declared.requests.RequestOf.TheVariants.{CreateBuffer, CreateTexture, CreateView, CreateEncoder, Finish, Submit, WriteBuffer, WriteTexture, Destroy, Complete}
+
+-- the kind of the object that a call makes, if it makes one
+abbrev pub kind_made : {R : Type 0} → RequestOf R → Option Kind
+kind_made (CreateBuffer info) = Some kind.Buffer
+kind_made (CreateTexture info) = Some kind.Texture
+kind_made (CreateView texture asked) = Some kind.View
+kind_made CreateEncoder = Some kind.Encoder
+kind_made (Finish encoder) = Some kind.CommandBuffer
+kind_made (Submit buffers) = None
+kind_made (WriteBuffer buffer offset size) = None
+kind_made (WriteTexture texture spot layout size data_size) = None
+kind_made (Destroy object) = None
+kind_made (Complete op) = None
+
+-- the objects that a call names, in the order of its keys, with what is wanted of each
+abbrev pub named : {R : Type 0} → RequestOf R → List (R × Wanted)
+named (CreateBuffer info) = []
+named (CreateTexture info) = []
+named (CreateView texture asked) = (texture, wanted.Texture) ∷ []
+named CreateEncoder = []
+named (Finish encoder) = (encoder, wanted.Encoder) ∷ []
+named (Submit buffers) = all_wanted wanted.CommandBuffer buffers
+named (WriteBuffer buffer offset size) = (buffer, wanted.Buffer) ∷ []
+named (WriteTexture texture spot layout size data_size) = (texture, wanted.Texture) ∷ []
+named (Destroy object) = (object, wanted.Destroyable) ∷ []
+named (Complete op) = []
+
+-- the call with other objects in place of those that it names
+abbrev pub map_refs : {R S : Type 0} → (R → S) → RequestOf R → RequestOf S
+map_refs f (CreateBuffer info) = CreateBuffer info
+map_refs f (CreateTexture info) = CreateTexture info
+map_refs f (CreateView texture asked) = CreateView (f texture) asked
+map_refs f CreateEncoder = CreateEncoder
+map_refs f (Finish encoder) = Finish (f encoder)
+map_refs f (Submit buffers) = Submit (map f buffers)
+map_refs f (WriteBuffer buffer offset size) = WriteBuffer (f buffer) offset size
+map_refs f (WriteTexture texture spot layout size data_size) = WriteTexture (f texture) spot layout size data_size
+map_refs f (Destroy object) = Destroy (f object)
+map_refs f (Complete op) = Complete op

@@ -1,0 +1,143 @@
+//! What callers ask of a device.
+ghost use Rattle.std.specs.Prelude.{◌≡◌, IfOk};
+ghost use Rattle.wg_types.specs.Refs.{first_of};
+ghost use Rattle.wg_types.specs.Requests.{named, kind_made, map_refs};
+
+use crate::NoMemory;
+use crate::handles::BufferInfo;
+use crate::items::Items;
+use crate::refs::{self, Ask, Find};
+use crate::textures::{DataLayout, TextureInfo, TextureSpot, ViewAsked};
+use crate::wanted::{Kind, Wanted};
+use std::alloc::Global;
+
+/// One call of a device, with the objects that it names as `R`.
+#[derive(Drop)]
+pub enum RequestOf<R> {
+    CreateBuffer {
+        info: BufferInfo,
+    },
+    CreateTexture {
+        info: TextureInfo,
+    },
+    CreateView {
+        texture: R,
+        asked: ViewAsked,
+    },
+    CreateEncoder,
+    Finish {
+        encoder: R,
+    },
+    Submit {
+        buffers: Items<R>,
+    },
+    WriteBuffer {
+        buffer: R,
+        offset: u64,
+        size: u64,
+    },
+    WriteTexture {
+        texture: R,
+        spot: TextureSpot,
+        layout: DataLayout,
+        size: [u32; 3],
+        data_size: u64,
+    },
+    Destroy {
+        object: R,
+    },
+    Complete {
+        op: u64,
+    },
+}
+
+impl<R> RequestOf<R> {
+    /// The kind of the object that the call makes, if it makes one.
+    pub fn kind_made(&self) -> Option<Kind>
+        ensures { result ≡ kind_made self.now }
+    {
+        match self {
+            RequestOf::CreateBuffer { .. } => Some(Kind::Buffer),
+            RequestOf::CreateTexture { .. } => Some(Kind::Texture),
+            RequestOf::CreateView { .. } => Some(Kind::View),
+            RequestOf::CreateEncoder => Some(Kind::Encoder),
+            RequestOf::Finish { .. } => Some(Kind::CommandBuffer),
+            RequestOf::Submit { .. }
+            | RequestOf::WriteBuffer { .. }
+            | RequestOf::WriteTexture { .. }
+            | RequestOf::Destroy { .. }
+            | RequestOf::Complete { .. } => None,
+        }
+    }
+
+    /// What the first object answers, of those that the call names, that has an answer.
+    pub fn first<E: Drop, A: Ask<R, E>>(&self, asked: &A) -> Option<E>
+        ensures { result ≡ first_of (A.asks asked.now) (named self.now) }
+    {
+        match self {
+            RequestOf::CreateView { texture, .. } => asked.ask(texture, Wanted::Texture),
+            RequestOf::Finish { encoder } => asked.ask(encoder, Wanted::Encoder),
+            RequestOf::Submit { buffers } => {
+                refs::each(asked, buffers.as_slice(), Wanted::CommandBuffer)
+            }
+            RequestOf::WriteBuffer { buffer, .. } => asked.ask(buffer, Wanted::Buffer),
+            RequestOf::WriteTexture { texture, .. } => asked.ask(texture, Wanted::Texture),
+            RequestOf::Destroy { object } => asked.ask(object, Wanted::Destroyable),
+            RequestOf::CreateBuffer { .. }
+            | RequestOf::CreateTexture { .. }
+            | RequestOf::CreateEncoder
+            | RequestOf::Complete { .. } => None,
+        }
+    }
+
+    /// The call with other objects in place of those that it names.
+    pub fn map<S: Drop, F: Find<R, S>>(
+        &self,
+        alloc: Global,
+        find: &F,
+    ) -> Result<RequestOf<S>, NoMemory>
+        ensures { IfOk result (λ request. request ≡ map_refs (F.finds find.now) self.now) }
+    {
+        match self {
+            RequestOf::CreateBuffer { info } => Ok(RequestOf::CreateBuffer { info: *info }),
+            RequestOf::CreateTexture { info } => Ok(RequestOf::CreateTexture { info: *info }),
+            RequestOf::CreateView { texture, asked } => Ok(RequestOf::CreateView {
+                texture: find.find(texture)?,
+                asked: *asked,
+            }),
+            RequestOf::CreateEncoder => Ok(RequestOf::CreateEncoder),
+            RequestOf::Finish { encoder } => Ok(RequestOf::Finish {
+                encoder: find.find(encoder)?,
+            }),
+            RequestOf::Submit { buffers } => Ok(RequestOf::Submit {
+                buffers: refs::map_items(alloc, find, buffers.as_slice())?,
+            }),
+            RequestOf::WriteBuffer {
+                buffer,
+                offset,
+                size,
+            } => Ok(RequestOf::WriteBuffer {
+                buffer: find.find(buffer)?,
+                offset: *offset,
+                size: *size,
+            }),
+            RequestOf::WriteTexture {
+                texture,
+                spot,
+                layout,
+                size,
+                data_size,
+            } => Ok(RequestOf::WriteTexture {
+                texture: find.find(texture)?,
+                spot: *spot,
+                layout: *layout,
+                size: *size,
+                data_size: *data_size,
+            }),
+            RequestOf::Destroy { object } => Ok(RequestOf::Destroy {
+                object: find.find(object)?,
+            }),
+            RequestOf::Complete { op } => Ok(RequestOf::Complete { op: *op }),
+        }
+    }
+}
