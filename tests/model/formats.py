@@ -1,0 +1,108 @@
+"""Texture formats, and the extents of textures and their mip levels."""
+
+ASPECT_WORDS = ("all", "depth-only", "stencil-only")
+TEXTURE_DIMS = ("1d", "2d", "3d")
+VIEW_DIMS = ("1d", "2d", "2d-array", "cube", "cube-array", "3d")
+
+# The aspects in the order in which they are printed.
+ASPECTS = ("color", "depth", "stencil")
+
+COLOR, DEPTH, STENCIL, BOTH = ("color",), ("depth",), ("stencil",), ("depth", "stencil")
+
+# Of each format: its aspects, whether it can be accessed as storage, and whether a texture of it may have 4 samples.
+FORMATS = {
+    "r8unorm": (COLOR, False, False),
+    "rg8unorm": (COLOR, False, False),
+    "rgba8unorm": (COLOR, True, True),
+    "rgba8unorm-srgb": (COLOR, False, True),
+    "bgra8unorm": (COLOR, False, True),
+    "r32uint": (COLOR, True, False),
+    "r32float": (COLOR, True, False),
+    "rgba16float": (COLOR, True, True),
+    "rgba32float": (COLOR, True, False),
+    "depth16unorm": (DEPTH, False, True),
+    "depth24plus": (DEPTH, False, True),
+    "depth24plus-stencil8": (BOTH, False, True),
+    "depth32float": (DEPTH, False, True),
+    "stencil8": (STENCIL, False, True),
+}
+
+# The bytes of a texel in a copy from a texture, for each format and aspect that can be copied from.
+TEXELS_FROM = {
+    ("r8unorm", "color"): 1,
+    ("rg8unorm", "color"): 2,
+    ("rgba8unorm", "color"): 4,
+    ("rgba8unorm-srgb", "color"): 4,
+    ("bgra8unorm", "color"): 4,
+    ("r32uint", "color"): 4,
+    ("r32float", "color"): 4,
+    ("rgba16float", "color"): 8,
+    ("rgba32float", "color"): 16,
+    ("depth16unorm", "depth"): 2,
+    ("depth24plus-stencil8", "stencil"): 1,
+    ("depth32float", "depth"): 4,
+    ("stencil8", "stencil"): 1,
+}
+
+# The same for copies to a texture: depth32float is copied from the texture only.
+TEXELS_TO = {place: count for place, count in TEXELS_FROM.items() if place[0] != "depth32float"}
+
+
+def aspects_of(format):
+    return FORMATS[format][0]
+
+
+def has_storage_access(format):
+    return FORMATS[format][1]
+
+
+def may_have_four_samples(format):
+    return FORMATS[format][2]
+
+
+def is_color(format):
+    return aspects_of(format) == COLOR
+
+
+def named_aspects(format, named):
+    """The aspects of a format that a word names: all of them, or the depth alone, or the stencil alone."""
+    if named == "all":
+        return aspects_of(format)
+    return tuple(aspect for aspect in aspects_of(format) if aspect == named.removesuffix("-only"))
+
+
+def copied_aspect(format, named):
+    """The one aspect that a copy between a buffer and a texture takes, or None where the word doesn't name one alone."""
+    aspects = named_aspects(format, named)
+    return aspects[0] if len(aspects) == 1 else None
+
+
+def texel_from(format, named):
+    """The bytes of a texel that is copied from a texture, or None where the aspect can't be."""
+    return TEXELS_FROM.get((format, copied_aspect(format, named)))
+
+
+def texel_to(format, named):
+    """The bytes of a texel that is copied to a texture, or None where the aspect can't be."""
+    return TEXELS_TO.get((format, copied_aspect(format, named)))
+
+
+def are_copy_compatible(one, other):
+    """Two formats are equal, or differ in `-srgb` alone."""
+    return one.removesuffix("-srgb") == other.removesuffix("-srgb")
+
+
+def layer_count(texture):
+    """A 2D texture has its depth as layers; others have one layer."""
+    return texture["size"][2] if texture["dim"] == "2d" else 1
+
+
+def extent(texture, mip):
+    """Width, height, and depth or layers of a mip level.
+
+    Each level halves width, height and, of a 3D texture, depth, rounded down, and none falls below 1. Layers stay.
+    """
+    width, height, depth = texture["size"]
+    if texture["dim"] == "3d":
+        return max(width >> mip, 1), max(height >> mip, 1), max(depth >> mip, 1)
+    return max(width >> mip, 1), max(height >> mip, 1), layer_count(texture)

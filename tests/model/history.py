@@ -1,0 +1,99 @@
+"""The calls that were played so far, and what is seen by looking back over them.
+
+All looking back is over two plain lists: the calls that were played, oldest first, and the objects, in the order in which
+they were made.
+"""
+
+from calls import RECORDING, name_keys
+
+
+class Played:
+    """A call that was played: what it says, which objects its names stand for, and how it was answered.
+
+    A command that was recorded in time has no entry in the history and no answer.
+    """
+
+    def __init__(self, call, uses):
+        self.call = call
+        self.do = call["do"]
+        self.uses = uses
+        self.entry = None
+        self.answer = None
+        self.fault = None
+        self.made = None
+        self.op = None
+
+    @property
+    def is_valid(self):
+        """The object that this call made is valid exactly where the call has no fault."""
+        return self.fault is None
+
+
+class History:
+    def __init__(self):
+        self.played = []
+        self.objects = []
+        self.names = {}
+
+    def uses_of(self, call):
+        """The objects that the names of a call stand for, key by key; of a list of names, a list."""
+        uses = {}
+        for key, _ in name_keys(call["do"]):
+            value = call[key]
+            uses[key] = [self.names[name] for name in value] if type(value) is list else self.names[value]
+        return uses
+
+    def entries(self):
+        return [played for played in self.played if played.entry is not None]
+
+    def finishes(self, encoder):
+        """The finishes that named an encoder, accepted or refused."""
+        return [played for played in self.played if played.do == "finish" and played.uses["on"] is encoder]
+
+    def has_finished(self, encoder):
+        return self.finishes(encoder) != []
+
+    def commands_on(self, encoder):
+        """The commands that were recorded on an encoder, in order; a late one was not."""
+        return [played for played in self.played if played.do in RECORDING and played.entry is None and played.uses["on"] is encoder]
+
+    def commands_of(self, command_buffer):
+        """The commands of a command buffer: those of its encoder if it came of the first finish, else none."""
+        encoder = command_buffer.uses["on"]
+        return self.commands_on(encoder) if self.finishes(encoder)[0] is command_buffer else []
+
+    def is_destroyed(self, thing):
+        """Some destroy named the object."""
+        return any(played.do == "destroy" and played.uses["object"] is thing for played in self.played)
+
+    def is_consumed(self, command_buffer):
+        """Some submit listed the command buffer, accepted or refused."""
+        return any(played.do == "submit" and command_buffer in played.uses["buffers"] for played in self.played)
+
+    def issued(self):
+        """How many operations were queued; they are numbered from 1."""
+        return len([played for played in self.played if played.op is not None])
+
+    def completed(self):
+        """The number of the last completion that was not bad, or 0."""
+        numbers = [played.call["op"] for played in self.played if played.do == "complete" and played.answer == "plain"]
+        return numbers[-1] if numbers else 0
+
+    def last_use(self, thing):
+        """The last operation that uses an object, or 0."""
+        return max([played.op for played in self.played if played.op is not None and thing in self.used_by(played)], default=0)
+
+    def used_by(self, played):
+        """What an operation uses: a write its target, also where its size is 0; a submit what its commands name."""
+        if played.do == "submit":
+            return self.resources_of(played.uses["buffers"])
+        return [played.uses["buffer" if played.do == "writeBuffer" else "texture"]]
+
+    def resources_of(self, command_buffers):
+        """The buffers and textures that the commands of some command buffers name, whether or not a step comes of it."""
+        commands = [command for one in command_buffers for command in self.commands_of(one)]
+        return [thing for command in commands for key, thing in command.uses.items() if key != "on"]
+
+    def is_due(self, thing):
+        """A valid buffer or texture is due where it is destroyed and every operation that uses it is complete."""
+        return thing.is_valid and self.is_destroyed(thing) and self.last_use(thing) <= self.completed()

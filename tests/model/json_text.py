@@ -1,0 +1,174 @@
+"""Reading JSON: script rule 1.
+
+Bytes have a reading where they are UTF-8 and one JSON value, with white space around it; where lists and objects are
+nested at most 127 deep; and where no number is too large for a float. Of a repeated key the last value counts.
+
+A number of decimal digits alone, without a sign, is a Python int; any other number is a float. So `type(x) is int` says
+that a value is written as a whole number.
+"""
+
+import re
+
+MOST_NESTED = 127
+SPACE = re.compile(r"[ \t\n\r]*")
+NUMBER = re.compile(r"-?(?:0|[1-9][0-9]*)(?:\.[0-9]+)?(?:[eE][+-]?[0-9]+)?")
+FOUR_DIGITS = re.compile(r"[0-9a-fA-F]{4}")
+ESCAPES = {'"': '"', "\\": "\\", "/": "/", "b": "\b", "f": "\f", "n": "\n", "r": "\r", "t": "\t"}
+WORDS = {"true": True, "false": False, "null": None}
+
+
+class NoJson(Exception):
+    """The bytes have no reading."""
+
+
+class Text:
+    """A text and how far it was read."""
+
+    def __init__(self, text):
+        self.text = text
+        self.at = 0
+
+    def peek(self):
+        """The next character, or nothing at the end."""
+        return self.text[self.at:self.at + 1]
+
+    def skip_space(self):
+        self.at = SPACE.match(self.text, self.at).end()
+
+    def take(self, wanted):
+        """Goes past the text that is wanted here."""
+        if not self.text.startswith(wanted, self.at):
+            raise NoJson(f"{wanted!r} is wanted at {self.at}")
+        self.at += len(wanted)
+
+
+def read(data):
+    """The value that some bytes stand for."""
+    try:
+        text = Text(data.decode("utf-8", "strict"))
+    except UnicodeDecodeError as error:
+        raise NoJson("no UTF-8") from error
+    value = read_value(text, 0)
+    text.skip_space()
+    if text.peek():
+        raise NoJson("more than one value")
+    return value
+
+
+def read_value(text, nested):
+    """A value that stands inside so many lists and objects."""
+    text.skip_space()
+    first = text.peek()
+    if first == "[":
+        return read_list(text, nested + 1)
+    if first == "{":
+        return read_object(text, nested + 1)
+    if first == '"':
+        return read_string(text)
+    for word, value in WORDS.items():
+        if first == word[0]:
+            text.take(word)
+            return value
+    return read_number(text)
+
+
+def open_nested(text, bracket, nested):
+    if nested > MOST_NESTED:
+        raise NoJson("nested too deep")
+    text.take(bracket)
+    text.skip_space()
+
+
+def has_next(text, closing):
+    """Goes past a comma, after which a value must follow, or past the closing bracket."""
+    text.skip_space()
+    if text.peek() == closing:
+        text.take(closing)
+        return False
+    text.take(",")
+    return True
+
+
+def read_list(text, nested):
+    open_nested(text, "[", nested)
+    items = []
+    if text.peek() == "]":
+        text.take("]")
+        return items
+    while True:
+        items.append(read_value(text, nested))
+        if not has_next(text, "]"):
+            return items
+
+
+def read_object(text, nested):
+    open_nested(text, "{", nested)
+    members = {}
+    if text.peek() == "}":
+        text.take("}")
+        return members
+    while True:
+        text.skip_space()
+        key = read_string(text)
+        text.skip_space()
+        text.take(":")
+        members[key] = read_value(text, nested)
+        if not has_next(text, "}"):
+            return members
+
+
+def read_string(text):
+    """A string; characters below the space stand in it only as escapes."""
+    text.take('"')
+    letters = []
+    while True:
+        letter = text.peek()
+        if not letter or letter < " ":
+            raise NoJson("a string without its end, or with a control character")
+        text.at += 1
+        if letter == '"':
+            return "".join(letters)
+        letters.append(read_escape(text) if letter == "\\" else letter)
+
+
+def read_escape(text):
+    """What follows a backslash; an escaped surrogate comes with its other half, or there is no reading."""
+    letter = text.peek()
+    text.at += 1
+    if letter in ESCAPES and letter:
+        return ESCAPES[letter]
+    if letter != "u":
+        raise NoJson("an unknown escape")
+    code = read_code(text)
+    if 0xD800 <= code < 0xDC00:
+        text.take("\\u")
+        low = read_code(text)
+        if not 0xDC00 <= low < 0xE000:
+            raise NoJson("half a surrogate pair")
+        code = 0x10000 + ((code - 0xD800) << 10) + (low - 0xDC00)
+    elif 0xDC00 <= code < 0xE000:
+        raise NoJson("half a surrogate pair")
+    return chr(code)
+
+
+def read_code(text):
+    found = FOUR_DIGITS.match(text.text, text.at)
+    if not found:
+        raise NoJson("four digits are wanted")
+    text.at = found.end()
+    return int(found.group(), 16)
+
+
+def read_number(text):
+    """A number; one of more than 20 digits is past every whole number that counts, and so may be a float."""
+    found = NUMBER.match(text.text, text.at)
+    if not found:
+        raise NoJson("a value is wanted")
+    text.at = found.end()
+    digits = found.group()
+    if digits.isdigit() and len(digits) <= 20:
+        return int(digits)
+    number = float(digits)
+    if number in (float("inf"), float("-inf")):
+        raise NoJson("a number too large for a float")
+    return number

@@ -1,0 +1,33 @@
+"""The second reading of a script: rules 9, 10 and 11.
+
+The calls are gone through in order. Of each call come first the names that it uses, in the order of the table of calls and
+the items of a list one after another, then the name that it gives.
+"""
+
+import re
+
+from calls import MADE, name_keys
+from script import ask
+
+WELL_FORMED = re.compile(r"[A-Za-z0-9_]{1,64}")
+
+
+def bind(calls):
+    """Refuses a script whose names break a rule."""
+    given = []
+    for place, call in calls:
+        for key, kinds in name_keys(call["do"]):
+            used = call[key] if type(call[key]) is list else [call[key]]
+            for name in used:
+                ask_used(place, name, kinds, given)
+        if "as" in call:
+            ask(9, "form", WELL_FORMED.fullmatch(call["as"]) is not None, place)
+            ask(9, "given before", call["as"] not in [name for name, _ in given], place)
+            given.append((call["as"], MADE[call["do"]]))
+
+
+def ask_used(place, name, kinds, given):
+    """Rule 10: an earlier call gave the name. Rule 11: what it stands for is of a kind that the key takes."""
+    found = [kind for known, kind in given if known == name]
+    ask(10, "given", len(found) == 1, place)
+    ask(11, "kind", found[0] in kinds, place)

@@ -1,0 +1,118 @@
+"""The first reading of a script: rules 1 to 8 and 13.
+
+The first refusal that is found is the answer. At the top the rules are tested in the order 1, 13, 2, 3; then the script
+is gone through in order, and of each call 5, 6, 13, 7 and 8 are tested.
+"""
+
+import json_text
+from calls import CALLS, FLAG, NAME, NEEDED, THREE, UNBUILT, WHOLE, WORD32
+from rules import note
+
+MOST_BYTES = 4_194_304
+MOST_PHASES = 1_024
+MOST_LANES = 64
+MOST_CALLS = 65_536
+MOST_ITEMS = 1_024
+GREATEST_WHOLE = 2**53 - 1
+GREATEST_WORD32 = 2**32 - 1
+
+
+class Refused(Exception):
+    """A script breaks a rule at a place: none, or phase, lane and call as far as the rule has them."""
+
+    def __init__(self, rule, place):
+        super().__init__(rule, place)
+        self.rule = rule
+        self.place = place
+
+
+def ask(rule, what, is_met, place=()):
+    """Refuses the script unless the rule is met."""
+    note("script", rule, what, is_met)
+    if not is_met:
+        raise Refused(rule, place)
+
+
+def read(data):
+    """The calls of a script, as pairs of a place and a call whose left out keys have their values."""
+    top = read_json(data)
+    ask(13, "limits", not (type(top) is dict and "limits" in top))
+    ask_one_lane(top)
+    ask(2, "object", type(top) is dict)
+    ask(2, "two keys", set(top) == {"budget", "phases"})
+    ask(2, "budget", is_whole(top["budget"], GREATEST_WHOLE))
+    ask(2, "list of phases", type(top["phases"]) is list)
+    ask(3, "phases", len(top["phases"]) <= MOST_PHASES)
+    return [found for number, phase in enumerate(top["phases"]) for found in read_phase(number, phase)]
+
+
+def read_json(data):
+    try:
+        top = json_text.read(data)
+    except json_text.NoJson:
+        ask(1, "json", False)
+    ask(1, "json", True)
+    return top
+
+
+def ask_one_lane(top):
+    """Rule 13: there is at most one phase, of at most one lane."""
+    phases = top.get("phases") if type(top) is dict else None
+    if type(phases) is list:
+        ask(13, "phases", len(phases) <= 1)
+        ask(13, "lanes", all(len(phase) <= 1 for phase in phases if type(phase) is list))
+
+
+def read_phase(number, phase):
+    ask(4, "list of lanes", type(phase) is list, (number,))
+    ask(4, "lanes", len(phase) <= MOST_LANES, (number,))
+    calls = []
+    for lane_number, lane in enumerate(phase):
+        ask(4, "lane", type(lane) is list, (number, lane_number))
+        for call_number, call in enumerate(lane):
+            place = (number, lane_number, call_number)
+            ask(5, "calls", len(calls) < MOST_CALLS, place)
+            calls.append((place, read_call(place, call)))
+    return calls
+
+
+def read_call(place, call):
+    """A call with all its keys; a key that is left out has the value of the table."""
+    ask(6, "object", type(call) is dict, place)
+    do = call.get("do")
+    ask(6, "word", type(do) is str and (do in CALLS or do in UNBUILT), place)
+    ask(13, "call", do in CALLS, place)
+    ask(13, "mapped", not (do == "createBuffer" and call.get("mapped") is True), place)
+    keys = CALLS[do]
+    ask(7, "unknown key", set(call) <= {"do"} | {key for key, _, _ in keys}, place)
+    ask(7, "missing key", all(key in call for key, _, default in keys if default is NEEDED), place)
+    for key, sort, _ in keys:
+        if key in call:
+            ask_value(place, sort, call[key])
+    return {"do": do} | {key: call.get(key, default) for key, _, default in keys}
+
+
+def ask_value(place, sort, value):
+    """Rule 8: the value is of the sort that its key has."""
+    if sort == WHOLE:
+        ask(8, "whole number", is_whole(value, GREATEST_WHOLE), place)
+    elif sort == WORD32:
+        ask(8, "number of 32 bits", is_whole(value, GREATEST_WORD32), place)
+    elif sort == FLAG:
+        ask(8, "flag", type(value) is bool, place)
+    elif sort == THREE:
+        ask(8, "list", type(value) is list, place)
+        ask(8, "three items", len(value) == 3, place)
+        ask(8, "three numbers", all(is_whole(item, GREATEST_WORD32) for item in value), place)
+    elif sort == NAME or sort[0] == "name":
+        ask(8, "name", type(value) is str, place)
+    elif sort[0] == "names":
+        ask(8, "list", type(value) is list, place)
+        ask(8, "items", len(value) <= MOST_ITEMS, place)
+        ask(8, "names", all(type(item) is str for item in value), place)
+    else:
+        ask(8, "word", type(value) is str and value in sort[1], place)
+
+
+def is_whole(value, greatest):
+    return type(value) is int and value <= greatest

@@ -1,0 +1,139 @@
+"""The steps of an operation, each with what it uses and accesses.
+
+A part is `("b", N)` or `("t", N, aspect, mip, layer)`. A cell is such a subresource, or a run of the bytes of a buffer,
+`("b", N, low, high)`. Aspects are kept by their place in the printed order, so that parts and cells are printed sorted.
+"""
+
+import copies
+import formats
+import recording
+
+# Usages in printed order, as far as steps of today use them.
+USAGES = ("copy-src", "copy-dst", "clear")
+
+
+class Step:
+    """A step of an operation: its uses by part, and its accesses, pairs of a cell and `read`, `write` or `both`."""
+
+    def __init__(self, op, name, touches):
+        self.op = op
+        self.name = name
+        self.uses = {}
+        self.accesses = []
+        for cell, usage, kind in touches:
+            self.uses.setdefault(part_of(cell), set()).add(usage)
+            self.accesses.append((cell, kind))
+
+    def reads(self):
+        return [cell for cell, kind in self.accesses if kind in ("read", "both")]
+
+    def writes(self):
+        return [cell for cell, kind in self.accesses if kind in ("write", "both")]
+
+
+def part_of(cell):
+    """A byte lies in its buffer, and a subresource is a part itself."""
+    return cell[:2] if cell[0] == "b" else cell
+
+
+def groups_of(history, played):
+    """The steps of an operation, a group for each command buffer of a submit, or for a write."""
+    if played.do == "submit":
+        return [command_steps(history.commands_of(one), played.op) for one in played.uses["buffers"]]
+    return [write_steps(played)]
+
+
+def command_steps(commands, op):
+    """The steps of recorded commands; a copy or clear of size 0 makes none, nor does a debug group."""
+    return [Step(op, command.do, touches) for command in commands if (touches := touches_of(command))]
+
+
+def write_steps(played):
+    """The step of a queue write; one of size 0 makes none."""
+    touches = write_touches(played) if played.do == "writeBuffer" else to_texture(played, "texture", played.call)
+    return [Step(played.op, played.do, touches)] if touches else []
+
+
+def write_touches(played):
+    return in_buffer(played.uses["buffer"], played.call["offset"], played.call["size"], "copy-dst", "write")
+
+
+def touches_of(command):
+    """What the step of a command touches: cells, each with the usage of its part and the kind of its access."""
+    call, uses = command.call, command.uses
+    if command.do == "clearBuffer":
+        return in_buffer(uses["buffer"], call["offset"], recording.clear_size(command), "copy-dst", "write")
+    if command.do == "copyBufferToBuffer":
+        source = in_buffer(uses["source"], call["sourceOffset"], call["size"], "copy-src", "read")
+        return source + in_buffer(uses["target"], call["targetOffset"], call["size"], "copy-dst", "write")
+    if command.do == "copyBufferToTexture":
+        return buffer_to_texture(command)
+    if command.do == "copyTextureToBuffer":
+        return texture_to_buffer(command)
+    if command.do == "copyTextureToTexture":
+        return texture_to_texture(command)
+    return []
+
+
+def in_buffer(buffer, offset, size, usage, kind):
+    """A range of a buffer; an empty one is nothing."""
+    return [(("b", buffer.made, offset, offset + size), usage, kind)] if size > 0 else []
+
+
+def in_texture(texture, cells, usage, kind):
+    """Subresources of a texture, given as triples of aspect, mip level and layer."""
+    return [(("t", texture.made, formats.ASPECTS.index(aspect), mip, layer), usage, kind) for aspect, mip, layer in cells]
+
+
+def one_aspect(call, texture):
+    return [formats.copied_aspect(texture["format"], call["aspect"])]
+
+
+def from_texture(texture, aspects, mip, origin, size):
+    """What a copy is from is used as copy-src and read."""
+    return in_texture(texture, copies.subresources(texture.call, aspects, mip, origin, size), "copy-src", "read")
+
+
+def filled(texture, aspects, mip, origin, size):
+    """What a copy is to is used as copy-dst and written; read too where the copy leaves some of it as it was."""
+    kind = "write" if copies.covers_all(texture.call, mip, size) else "both"
+    return in_texture(texture, copies.subresources(texture.call, aspects, mip, origin, size), "copy-dst", kind)
+
+
+def to_texture(played, key, call):
+    """A copy of bytes to the one aspect of a texture."""
+    if copies.has_no_texel(call["size"]):
+        return []
+    texture = played.uses[key]
+    return filled(texture, one_aspect(call, texture.call), call["mip"], call["origin"], call["size"])
+
+
+def buffer_to_texture(command):
+    """The bytes that the layout takes are read."""
+    call, buffer, texture = command.call, command.uses["buffer"], command.uses["texture"]
+    touches = to_texture(command, "texture", call)
+    if not touches:
+        return []
+    length = copies.bytes_of(call, formats.texel_to(texture.call["format"], call["aspect"]))
+    return in_buffer(buffer, call["offset"], length, "copy-src", "read") + touches
+
+
+def texture_to_buffer(command):
+    """The bytes that the layout takes are written; read too where the texels leave gaps in them."""
+    call, buffer, texture = command.call, command.uses["buffer"], command.uses["texture"]
+    if copies.has_no_texel(call["size"]):
+        return []
+    texel = formats.texel_from(texture.call["format"], call["aspect"])
+    kind = "both" if copies.has_gaps(call, texel) else "write"
+    source = from_texture(texture, one_aspect(call, texture.call), call["mip"], call["origin"], call["size"])
+    return source + in_buffer(buffer, call["offset"], copies.bytes_of(call, texel), "copy-dst", kind)
+
+
+def texture_to_texture(command):
+    """All aspects are copied."""
+    call, source, target = command.call, command.uses["source"], command.uses["target"]
+    if copies.has_no_texel(call["size"]):
+        return []
+    aspects = copies.aspects_of(source.call)
+    read = from_texture(source, aspects, call["sourceMip"], call["sourceOrigin"], call["size"])
+    return read + filled(target, aspects, call["targetMip"], call["targetOrigin"], call["size"])

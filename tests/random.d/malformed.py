@@ -1,0 +1,257 @@
+"""Scripts that break a rule of scripts: good ones with one or two changes to calls, names, the top, or the text itself."""
+
+import worlds
+from json_forms import Pairs, Raw, text_of
+
+WORD_LIMIT, WHOLE_LIMIT = 2**32 - 1, 2**53 - 1
+UNBUILT = """
+createSampler createBindGroupLayout createPipelineLayout createBindGroup createComputePipeline createRenderPipeline createQuerySet
+createBundleEncoder beginComputePass beginRenderPass end finishBundle mapAsync unmap workDone drop pushErrorScope popErrorScope lose
+resolveQuerySet setPipeline setBindGroup setVertexBuffer setIndexBuffer dispatch dispatchIndirect beginOcclusionQuery endOcclusionQuery
+executeBundles draw drawIndexed drawIndirect drawIndexedIndirect createCanvas configureCanvas currentTexture present
+""".split()
+UNKNOWN = ["", "createbuffer", "CreateBuffer", "createBuffer ", "getBindGroupLayout", "setViewport", "copy", "createBuffer\0", "é"]
+NAME_KEYS = {"buffer", "texture", "source", "target", "on", "object"}
+NUMBERS = [
+    "0", "1", "-1", "-0", "1.0", "1.5", "1e3", "1E3", "1e-3", "0e400", "0.0e999999", "4294967295", "4294967296", "9007199254740991",
+    "9007199254740992", "18446744073709551615", "18446744073709551616", "18446744073709551617", "99999999999999999999", "-9007199254740992",
+    "-9223372036854775808", "-9223372036854775809", "123456789012345678901234567890", "1" + "0" * 308, "1e308", "-1e308", "1e-400",
+    "1" + "0" * 30 + "e-29",
+]
+NO_NUMBERS = [
+    "1e309", "-1e309", "1e400", "1" + "0" * 309, "01", "00", "-", "+1", ".5", "1.", "1.e3", "1e", "1e+", "0x10", "NaN", "Infinity", "-Infinity",
+    "1_000", "1e99999999999999999999", "١", "-01", "--1",
+]
+VALUES = [None, True, False, "", "x", "all", [], [0], [0, 0, 0], {}, {"a": 1}, 0, 1, WORD_LIMIT, WORD_LIMIT + 1, WHOLE_LIMIT, WHOLE_LIMIT + 1, 2**64, -1, 1.5]
+BAD_NAMES = ["", "a" * 65, "a-b", "a b", "é", "a.b", "a\n", "\0", "ａ", "a" * 64 + "é", "_" * 65, "a\ud83d\ude00"[:1] + "😀"]
+GOOD_NAMES = ["a" * 64, "_", "0", "9" * 64, "Z_z9", "do", "as"]
+
+
+def malformed(random):
+    """The bytes of a script with one or two faults, the first of which is what the answer tells."""
+    calls = worlds.mixed(random, random.choice([3, 12, 30]))
+    top = {"budget": random.choice([0, 1, 1000000, WHOLE_LIMIT]), "phases": [[calls]]}
+    for _ in range(random.choice([1, 1, 1, 2, 2, 3])):
+        top = random.choices([of_call, of_names, of_top, same], [10, 6, 3, 1])[0](random, top, calls)
+    text = text_of(top, random)
+    if random.random() < 0.15:
+        text = of_text(random, text)
+    data = text.encode("utf-8", "surrogatepass")
+    return of_bytes(random, data) if random.random() < 0.05 else data
+
+
+def same(random, top, calls):
+    return top
+
+
+def any_call(random, calls):
+    """The place of a call that is still an object."""
+    places = [at for at, call in enumerate(calls) if isinstance(call, dict)]
+    return random.choice(places) if places else None
+
+
+def of_call(random, top, calls):
+    """One call, or one value of it, is spoiled."""
+    at = any_call(random, calls)
+    if at is not None:
+        call = dict(calls[at])
+        calls[at] = call
+        changed = random.choices(CALL_CHANGES, CALL_WEIGHTS)[0](random, call)
+        if changed is not None:
+            calls[at] = changed
+    return top
+
+
+def any_key(random, call):
+    return random.choice(list(call))
+
+
+def other_value(random, call):
+    call[any_key(random, call)] = random.choice(VALUES)
+
+
+def other_number(random, call):
+    numbers = [key for key, value in call.items() if isinstance(value, int)]
+    if numbers:
+        call[random.choice(numbers)] = Raw(random.choice(NUMBERS))
+
+
+def border_number(random, call):
+    numbers = [key for key, value in call.items() if isinstance(value, int)]
+    if numbers:
+        call[random.choice(numbers)] = random.choice([WORD_LIMIT, WORD_LIMIT + 1, WHOLE_LIMIT, WHOLE_LIMIT + 1])
+
+
+def other_item(random, call):
+    lists = [key for key, value in call.items() if isinstance(value, list) and value]
+    if lists:
+        key = random.choice(lists)
+        items = list(call[key])
+        change = random.randrange(4)
+        if change == 0:
+            items.append(items[0])
+        elif change == 1:
+            items.pop()
+        else:
+            items[random.randrange(len(items))] = random.choice(VALUES + [Raw(text) for text in NUMBERS])
+        call[key] = items
+
+
+def long_list(random, call):
+    for key in ("buffers", "size"):
+        if key in call:
+            call[key] = ["x"] * random.choice([1024, 1025]) if key == "buffers" else [1] * 1025
+
+
+def key_gone(random, call):
+    del call[any_key(random, call)]
+
+
+def key_more(random, call):
+    call[random.choice(["x", "", "DO", "label", "mapped", "size", "usage", "as", "queries", "depthSlice", "limits"])] = random.choice(VALUES)
+
+
+def other_word(random, call):
+    words = [key for key in ("format", "dim", "aspect") if key in call]
+    if words:
+        call[random.choice(words)] = random.choice(["", "2D", "all", "cube", "2d", "3d-array", "rgba8", "rgba8unorm-SRGB", "depth-only", "color", None])
+
+
+def unbuilt(random, call):
+    return {"do": random.choice(UNBUILT)} | ({} if random.random() < 0.5 else {"queries": None, "as": 5})
+
+
+def unknown(random, call):
+    call["do"] = random.choice(UNKNOWN + [None, 5, [], {}, True])
+
+
+def mapped(random, call):
+    made = {"do": "createBuffer", "size": 4, "usage": 8, "as": "m", "mapped": random.choice([True, True, 1, "true", None, False])}
+    return made | random.choice([{}, {"x": 1}, {"size": None}, {"usage": -1}, {"do": "createView"}])
+
+
+def no_object(random, call):
+    return random.choice([None, 5, "createBuffer", [], [call], True, 1.5])
+
+
+def repeated(random, call):
+    """A repeated key: its last value counts."""
+    pairs = list(call.items())
+    key, value = random.choice(pairs)
+    pairs.insert(random.randint(0, len(pairs)), (key, random.choice([value, random.choice(VALUES)])))
+    return Pairs(pairs)
+
+
+CALL_CHANGES = [
+    other_value, other_number, border_number, other_item, long_list, key_gone, key_more, other_word, unbuilt, unknown, mapped, no_object,
+    repeated,
+]
+CALL_WEIGHTS = [4, 4, 3, 4, 2, 4, 3, 3, 2, 3, 3, 2, 3]
+
+
+def of_names(random, top, calls):
+    """A name is malformed, given twice, unknown, of a wrong kind, or used before it is given."""
+    at = any_call(random, calls)
+    if at is None:
+        return top
+    call = dict(calls[at])
+    names = [other["as"] for other in calls if isinstance(other, dict) and isinstance(other.get("as"), str)] or ["x"]
+    used = [key for key in call if key in NAME_KEYS]
+    change = random.randrange(5)
+    if change == 0 and "as" in call:
+        call["as"] = random.choice(BAD_NAMES + GOOD_NAMES)
+    elif change == 1 and "as" in call:
+        call["as"] = random.choice(names)
+    elif change == 2 and used:
+        call[random.choice(used)] = random.choice(names)
+    elif change == 3 and used:
+        call[random.choice(used)] = random.choice(["unknown", "", "é", "a" * 65, names[0].upper(), names[0] + " "])
+    elif call.get("buffers"):
+        call["buffers"] = call["buffers"] + [random.choice(names + ["unknown"])]
+    else:
+        other = random.randrange(len(calls))
+        calls[at], calls[other] = calls[other], calls[at]
+        return top
+    calls[at] = call
+    return top
+
+
+def of_top(random, top, calls):
+    """The top, the phases or the lanes are not as they should be."""
+    top = dict(top) if isinstance(top, dict) else {"budget": 1, "phases": []}
+    change = random.randrange(10)
+    if change == 0:
+        top["budget"] = random.choice([*VALUES, Raw(random.choice(NUMBERS))])
+    elif change == 1:
+        top.pop(random.choice(["budget", "phases"]), None)
+    elif change == 2:
+        top[random.choice(["limits", "Limits", "x", "budget ", ""])] = random.choice([None, {}, {"maxBindGroups": 3}])
+    elif change == 3:
+        top["phases"] = random.choice([*VALUES, [1, 2], [[calls], [calls]], [[calls], 5], [[]] * 1025])
+    elif change == 4:
+        top["phases"] = [random.choice([*VALUES, [calls, calls], [1, 2], [[]] * 64, [[]] * 65, [calls, None]])]
+    elif change == 5:
+        top["phases"] = [[random.choice([*VALUES, {"calls": calls}, "lane"])]]
+    elif change == 6:
+        return random.choice([*VALUES, [top], "script", [[calls]]])
+    elif change == 7:
+        return {"phases": top.get("phases"), "limits": None}
+    elif change == 8:
+        return {"phases": [[calls], [calls]]} if random.random() < 0.5 else {"phases": [1, 2], "x": 1}
+    return top
+
+
+def of_text(random, text):
+    """The text is no JSON any more, or just still is."""
+    at = random.randrange(len(text) + 1)
+    change = random.randrange(12)
+    if change == 0:
+        return text[:at]
+    if change == 1:
+        return text + random.choice([",", "]", "x", "{}", "null", "//", "\0", "\ufeff", "\u00a0", " \n\t\r", "\f", "\v"])
+    if change == 2:
+        return random.choice(["\ufeff", "\u00a0", "\f", " \r\n\t", "// c\n", "/**/"]) + text
+    if change == 3:
+        return text[:at] + random.choice([",", ":", "{", "]", '"', "\\", "'", "\x01", "\x1f", "\x7f", "\n", "é", "\u2028", "0", "-", "e"]) + text[at:]
+    if change == 4:
+        return text[:max(at - 1, 0)] + text[at:]
+    if change == 5:
+        return text.replace("]", ",]", 1) if random.random() < 0.5 else text.replace("}", ",}", 1)
+    if change == 6:
+        return in_budget(random.choice(NO_NUMBERS + NUMBERS), text)
+    if change == 7:
+        return in_budget(nested(random), text)
+    if change == 8:
+        return in_budget(random.choice(STRINGS), text)
+    if change == 9:
+        return text.replace('"do"', random.choice(['"d\\u006f"', '"\\u0064o"', "'do'", "do", '"d\\o"', '"d\\x6f"', '"\\ud864o"']), 1)
+    return in_budget(random.choice(["True", "nul", "nulll", "tru", "false", "None", "undefined", "[1,,2]", "[,1]", "{1:2}", "{\"a\"}", "{\"a\":}"]), text)
+
+
+STRINGS = [
+    '"\\ud83d\\ude00"', '"\\ud83d"', '"\\ude00"', '"\\ud83dx"', '"\\ud83d\\u0041"', '"\\ude00\\ud83d"', '"\\u12"', '"\\u12g4"', '"\\uFFFF"', '"\\u0000"',
+    '"\\a"', '"\\/\\b\\f\\n\\r\\t\\"\\\\"', '"\t"', '"\n"', '"\x00"', '"\x7f"', '"unclosed', '"\\"', '"\\U0041"', '"\\u 123"', '"\\u+123"', "'x'",
+]
+
+
+def in_budget(value, text):
+    """Puts a text in place of all else: the top is an object whose budget it is, or the value alone."""
+    return value if len(value) % 5 == 0 else '{"budget":' + value + ',"phases":[]}'
+
+
+def nested(random):
+    """So many lists and objects, about as deep as they may be; the budget stands one deep."""
+    depth = random.choice([125, 126, 126, 127, 127, 128, 129])
+    if random.random() < 0.5:
+        return "[" * depth + "]" * depth
+    return '{"a":' * (depth - 1) + "{}" + "}" * (depth - 1)
+
+
+def of_bytes(random, data):
+    """Bytes that are no UTF-8, or just still are."""
+    pieces = [
+        b"\xff", b"\xc3", b"\xc0\x80", b"\xed\xa0\x80", b"\xf4\x90\x80\x80", b"\xe2\x82", b"\xc3\xa9", b"\xf0\x9f\x98\x80", b"\x80",
+        b"\xef\xbb\xbf", b"\x00", b"\xf0\x80\x80\x80", b"\xfe",
+    ]
+    at = random.choice([0, len(data), data.find(b'"') + 1, random.randrange(len(data) + 1)])
+    return data[:at] + random.choice(pieces) + data[at:]

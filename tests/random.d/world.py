@@ -1,0 +1,118 @@
+"""What a script that is being made has so far: its calls, and its objects as the maker takes them to be."""
+
+from resources import BUFFER_FAULTS, TEXTURE_FAULTS, VIEW_FAULTS, good_buffer, good_texture, good_view
+
+LETTERS = "abcdefghijklmnopqrstuvwxyzABCDEFGHIJKLMNOPQRSTUVWXYZ0123456789_"
+
+
+class Thing:
+    """An object under a name, with the call that makes it."""
+
+    def __init__(self, name, call, good):
+        self.name = name
+        self.call = call
+        self.good = good
+        self.destroyed = False
+        self.finished = False
+        self.submitted = False
+        self.groups = 0
+        self.commands = 0
+
+
+class World:
+    def __init__(self, random, fault=0.05):
+        self.random = random
+        self.fault = fault
+        self.calls = []
+        self.names = 0
+        self.issued = 0
+        self.buffers = []
+        self.textures = []
+        self.encoders = []
+        self.command_buffers = []
+
+    def has_fault(self):
+        return self.random.random() < self.fault
+
+    def new_name(self, letter):
+        self.names += 1
+        name = f"{letter}{self.names}"
+        if self.random.random() < 0.01:
+            name += "_" + "".join(self.random.choice(LETTERS) for _ in range(63 - len(name)))
+        return name
+
+    def add(self, call):
+        self.calls.append(call)
+        return call
+
+    def spoil(self, faults, *what):
+        """Leaves one rule unmet, or at times two, so that their order shows."""
+        for fault in self.random.sample(faults, self.random.choice([1, 1, 1, 2])):
+            fault(self.random, *what)
+
+    def make(self, letter, call, good):
+        thing = Thing(self.new_name(letter), call, good)
+        self.add(call | {"as": thing.name})
+        return thing
+
+    def buffer(self, good=True, **wanted):
+        """Makes a buffer, with some values as they are wanted."""
+        call = good_buffer(self.random) | wanted
+        if not good:
+            self.spoil(BUFFER_FAULTS, call)
+        thing = self.make("b", call, good)
+        self.buffers.append(thing)
+        return thing
+
+    def texture(self, good=True, **wanted):
+        """Makes a texture; keys that have their usual value are sometimes left out."""
+        call = good_texture(self.random, **wanted)
+        if not good:
+            self.spoil(TEXTURE_FAULTS, call)
+        usual = {"dim": "2d", "mips": 1, "samples": 1}
+        told = {key: value for key, value in call.items() if usual.get(key) != value or self.random.random() < 0.5}
+        thing = self.make("t", told, good)
+        thing.call = call
+        self.textures.append(thing)
+        return thing
+
+    def view(self, texture, good=True):
+        call = good_view(self.random, texture.call) if texture.good else {"do": "createView"}
+        if not good and texture.good:
+            self.spoil(VIEW_FAULTS, call, texture.call)
+        self.make("v", call | {"texture": texture.name}, good)
+
+    def encoder(self):
+        thing = self.make("e", {"do": "createEncoder"}, True)
+        self.encoders.append(thing)
+        return thing
+
+    def finish(self, encoder):
+        """Ends an encoder, closing its debug groups first, as a rule."""
+        while encoder.groups > 0 and not self.has_fault():
+            self.add({"do": "popDebugGroup", "on": encoder.name})
+            encoder.groups -= 1
+        thing = self.make("c", {"do": "finish", "on": encoder.name}, not encoder.finished and encoder.good and encoder.groups == 0)
+        encoder.finished = True
+        self.command_buffers.append(thing)
+        return thing
+
+    def submit(self, command_buffers):
+        self.add({"do": "submit", "buffers": [thing.name for thing in command_buffers]})
+        for thing in command_buffers:
+            thing.submitted = True
+        self.issued += 1
+
+    def destroy(self, thing):
+        self.add({"do": "destroy", "object": thing.name})
+        thing.destroyed = True
+
+    def complete(self, number):
+        self.add({"do": "complete", "op": number})
+
+    def some(self, things):
+        """One of some objects: a good one that is not destroyed, as a rule, or None."""
+        usable = [thing for thing in things if thing.good and not thing.destroyed]
+        if usable and self.random.random() > 0.03:
+            return self.random.choice(usable[-6:])
+        return self.random.choice(things) if things else None
