@@ -1,0 +1,82 @@
+"""The table of a script's calls: which keys each has, what it makes, and whether it records."""
+
+import json
+import pathlib
+
+TABLE = json.loads((pathlib.Path(__file__).parent / "calls.json").read_text(encoding="utf-8"))
+CALLS = TABLE["calls"]
+KINDS = TABLE["kinds"]
+WORDS = TABLE["words"]
+LATER = {word for words in TABLE["later"].values() for word in words}
+BEGINS = set(TABLE["passes"]["begin"])
+END = TABLE["passes"]["end"]
+
+
+class Key:
+    """What the value of a key has to be: `sort` with its `detail`, and whether the key may be left out."""
+
+    def __init__(self, text):
+        words = text.split()
+        self.may_be_left_out = words[-1] == "?"
+        words = words[:-1] if self.may_be_left_out else words
+        self.sort = "new" if words[0] == "new" else words[0]
+        self.detail = " ".join(words[1:])
+
+    def kinds(self):
+        """The kinds of object that a name under this key may stand for."""
+        return self.detail.split("|") if self.sort in ("name", "names") else []
+
+    def expected(self):
+        """What is expected, in words."""
+        if self.sort == "number":
+            return f"a whole number from 0 to {2 ** int(self.detail) - 1}, in decimal digits alone"
+        if self.sort == "three":
+            return f"a list of exactly three whole numbers from 0 to {2 ** 32 - 1}"
+        if self.sort == "boolean":
+            return "true or false"
+        if self.sort == "word":
+            return "one of " + ", ".join(f'"{word}"' for word in WORDS[self.detail])
+        if self.sort == "name":
+            return f"the name of {either(self.kinds())}"
+        if self.sort == "names":
+            return f"a list of at most 1024 names, each of {either(self.kinds())}"
+        if self.sort == "new":
+            return "a new name, of 1 to 64 letters, digits and _"
+        return "a value"
+
+
+def either(kinds):
+    return " or ".join(KINDS.get(kind, kind) for kind in kinds)
+
+
+def keys_of(word):
+    """The keys of a call in the order of the table, or None of a call that is not in it."""
+    if word not in CALLS:
+        return None
+    return {name: Key(text) for name, text in CALLS[word]["keys"].items()}
+
+
+def is_known(word):
+    return word in CALLS or word in LATER
+
+
+def makes(word):
+    return CALLS.get(word, {}).get("makes") or ("pass" if word in BEGINS else None)
+
+
+def records(word):
+    return CALLS.get(word, {}).get("records", False) or word in TABLE["later"]["recorded"]
+
+
+def ends_encoder(word):
+    return CALLS.get(word, {}).get("ends") == "encoder"
+
+
+def groups(word):
+    """How many debug groups the call opens, less how many it closes."""
+    return CALLS.get(word, {}).get("groups", 0)
+
+
+def step_of(word):
+    """The name of the step that the call makes, if it may make one."""
+    return CALLS.get(word, {}).get("step")

@@ -1,0 +1,152 @@
+"""Finds the command that a finish's fault is about, by asking the program about shorter recordings of the encoder.
+
+A command makes no fault when it is recorded: the first rule that is unmet stays with the encoder, and the finish tells
+it. So the script is cut behind the finish, and of the encoder's recording its first commands alone are kept. The first
+number of commands with which the finish has the fault of the whole recording ends with the command that brought it.
+Calls that make nothing that the recording names are left out, as long as what is named is as valid as it was.
+"""
+
+import calls
+from report import NotReport, Report
+
+# The rules of a finish itself, in the order of its tests, that are about what is still open.
+OPEN = {182, 183}
+# The rules of a finish that need no command: on the encoder itself.
+OF_ENCODER = {180}
+
+
+class Found:
+    """The command with its number among the encoder's, counted from 1, and how it was found."""
+
+    def __init__(self, call, number, total, asked, said):
+        self.call = call
+        self.number = number
+        self.total = total
+        self.asked = asked
+        self.said = said
+
+
+class Cuts:
+    """The shorter recordings of one encoder, in one script, up to its finish."""
+
+    def __init__(self, beside, finish, program):
+        self.beside = beside
+        self.script = script = beside.script
+        self.finish = finish
+        self.program = program
+        self.encoder = script.places[finish.value.member("on").what]
+        self.commands = self.encoder.commands
+        self.asked = {}
+        self.needed = self.makers()
+        if not self.is_as_valid():
+            self.needed = None
+
+    def makers(self):
+        """The calls that make what the encoder's commands name, and what those name in turn."""
+        found, waiting = {self.encoder.call, *self.commands, self.finish}, [self.encoder.call, *self.commands]
+        while waiting:
+            for _, name in waiting.pop().names():
+                maker = self.script.made.get(name.what)
+                if maker is not None and maker not in found:
+                    found.add(maker)
+                    waiting.append(maker)
+        return found
+
+    def is_as_valid(self):
+        """Whether the script of these calls alone makes objects as valid as the whole script does."""
+        status, out = self.program.ask(self.cut(len(self.commands), False).encode("utf-8"))
+        if status != 0:
+            return False
+        made = [entry.answer[2] for entry in Report(out.decode("utf-8")).entries if entry.object() is not None]
+        kept = [call for call in self.script.calls if call in self.needed and self.beside.entry_of.get(call)]
+        return made == [self.beside.entry_of[call].answer[2] for call in kept]
+
+    def rule(self, kept, is_closed):
+        """The rule that the finish has with the first `kept` commands alone; with `is_closed`, what they leave open is closed first."""
+        case = (kept, is_closed and bool(self.closers(kept)))
+        if case not in self.asked:
+            status, out = self.program.ask(self.cut(kept, is_closed).encode("utf-8"))
+            self.asked[case] = self.fault(out.decode("utf-8")) if status == 0 else "refused"
+        return self.asked[case]
+
+    def fault(self, out):
+        try:
+            last = Report(out).entries[-1]
+        except (NotReport, IndexError):
+            return "refused"
+        return last.fault[1] if last.fault else None
+
+    def cut(self, kept, is_closed):
+        """The script up to the finish, without the later commands of its encoder."""
+        gone = set(self.commands[kept:])
+        phase, lane, number = self.finish.place
+        phases = []
+        for at, lanes in enumerate(self.script.phases[: phase + 1]):
+            texts = []
+            for place, values in enumerate(lanes.what):
+                own = self.script.lanes[at, place]
+                if at == phase:
+                    own = [call for call in own[: number + 1] if call not in gone] if place == lane else []
+                texts.append([self.script.text.of(call.value) for call in own if self.needed is None or call in self.needed])
+            phases.append(texts)
+        if is_closed:
+            phases[-1][lane][-1:-1] = self.closers(kept)
+        head = [f'"{key.what}":{self.script.text.of(value)}' for key, value in self.script.top.what if key.what != "phases"]
+        joined = ",".join("[" + ",".join("[" + ",\n".join(each) + "]" for each in lanes) + "]" for lanes in phases)
+        return "{" + ",".join([*head, f'"phases":[{joined}]']) + "}"
+
+    def closers(self, kept):
+        """Calls that close the debug groups and the pass that the first commands leave open."""
+        depth, begun, open_pass = {}, {}, None
+        for call in self.commands[:kept]:
+            on = call.value.member("on").what
+            if call.word in calls.BEGINS:
+                begun[call.gives] = True
+                open_pass = open_pass or call.gives
+            elif call.word == calls.END and on == open_pass:
+                open_pass = None
+            elif on == open_pass or (on == self.encoder.name and open_pass is None):
+                depth[on] = max(0, depth.get(on, 0) + calls.groups(call.word))
+        closing = [f'{{"do":"popDebugGroup","on":"{open_pass}"}}'] * depth.get(open_pass, 0)
+        closing += [f'{{"do":"{calls.END}","on":"{open_pass}"}}'] * bool(open_pass)
+        return closing + [f'{{"do":"popDebugGroup","on":"{self.encoder.name}"}}'] * depth.get(self.encoder.name, 0)
+
+
+def find(beside, finish, rule, program):
+    """The command that a finish's fault is about, or None where none is to be found."""
+    place = beside.script.places.get(finish.value.member("on").what)
+    if place is None or place.finish is not finish or not place.commands or rule in OF_ENCODER:
+        return None
+    cuts = Cuts(beside, finish, program)
+    if cuts.rule(len(cuts.commands), rule not in OPEN) != rule:
+        return None
+    found = opener(cuts, rule) if rule in OPEN else first(cuts, rule)
+    if found is None:
+        return None
+    return Found(cuts.commands[found - 1], found, len(cuts.commands), len(cuts.asked), said_of(rule))
+
+
+def first(cuts, rule):
+    """The least number of commands with which the finish has the rule. Once it has it, more commands do not take it away."""
+    low, high = 0, len(cuts.commands)
+    if cuts.rule(0, True) == rule:
+        return None
+    while high - low > 1:
+        middle = (low + high) // 2
+        if cuts.rule(middle, True) == rule:
+            high = middle
+        else:
+            low = middle
+    return high
+
+
+def opener(cuts, rule):
+    """The last command from which on no shorter recording closes what it opens."""
+    number = len(cuts.commands)
+    while number > 0 and cuts.rule(number - 1, False) == rule:
+        number -= 1
+    return number or None
+
+
+def said_of(rule):
+    return "opens what is still open" if rule in OPEN else "invalidated the encoder"

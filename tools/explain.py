@@ -1,0 +1,199 @@
+"""`wgsim explain`: what the program says of a script, beside the script."""
+
+import calls
+import culprit
+import refusal
+import rules
+import script as scripts
+from beside import Beside, DoNotMatch
+from ends import REFUSED, SILENT, End
+from places import NotJson
+from report import NotReport, Release, Report, count, summary
+
+ANSWERS = {"plain": "done", "bad": "bad: what is complete already, or was never queued, was said to be complete", "promise": "a promise"}
+ACCESSES = {
+    "read": "reads",
+    "write": "writes",
+    "both": "reads and writes",
+    "drop": "leaves unset",
+    "readdrop": "reads, and leaves unset,",
+}
+
+
+class Explained:
+    """The lines that explain one script, and the status with which the program ended."""
+
+    def __init__(self, text, program, data):
+        self.text = text
+        self.program = program
+        self.lines = []
+        self.status, out = program.ask(data)
+        if self.status in SILENT:
+            raise End(self.status, f"{text.name}: {SILENT[self.status]}")
+        said = out.decode("utf-8", "replace")
+        self.say(f"{text.name}: the answer of {program.said}")
+        if self.status == REFUSED:
+            self.lines += refusal.explained(text, said)
+            return
+        self.beside = set_beside(text, said, self.say)
+        self.say(summary(self.beside.report))
+        self.faults()
+        self.history()
+        self.trace()
+
+    def say(self, *lines):
+        self.lines += lines
+
+    def faults(self):
+        """The calls that were wrong, each with the rule that it breaks and why."""
+        wrong = [entry for entry in self.beside.report.entries if entry.fault]
+        for entry in wrong:
+            call = self.beside.call_of.get(entry.number)
+            self.say("", f"FAULT at entry {entry.number}: " + (self.beside.script.where(call) if call else entry.word))
+            if call is not None:
+                self.say(f"    {self.beside.script.said(call)}")
+            self.fault(entry, call)
+        if not wrong:
+            self.say("", "NO FAULT: every call was taken")
+
+    def history(self):
+        self.say("", "HISTORY: what the device answered, with the line and column of each call", "")
+        is_several = len({entry.lane for entry in self.beside.report.entries}) > 1
+        for entry in self.beside.report.entries:
+            call = self.beside.call_of.get(entry.number)
+            lane = f"lane {entry.lane}  " if is_several else ""
+            self.say(f"{entry.number:4}  {self.place(call)}{lane}{self.beside.script.said(call) if call else entry.word}")
+            why = f", by rule {entry.fault[1]}" if entry.fault else ""
+            self.say(f"      {self.answer(entry)}{why}")
+            for promise, how in entry.settled:
+                self.say(f"      settles the promise of entry {promise}: {how}")
+
+    def place(self, call):
+        """The line and column of a call."""
+        return "{}:{}  ".format(*self.text.place(call.value.start)) if call is not None else ""
+
+    def answer(self, entry):
+        number = entry.object()
+        if number is not None:
+            name = self.beside.names.get(number)
+            made = f"makes {name}, object {number}" if name else f"makes object {number}"
+            return f"{made}, {entry.answer[2]}"
+        if entry.operation() is not None:
+            return f"queued as operation {entry.operation()}"
+        if entry.fault and entry.answer[0] == "plain":
+            return "refused" if entry.word != "late" else "late: what it is recorded on has ended"
+        return ANSWERS.get(entry.answer[0], " ".join(entry.answer))
+
+    def fault(self, entry, call):
+        kind, number, caught = entry.fault
+        uncaught = "uncaptured" if caught == "uncaptured" else f"caught by error {caught}"
+        self.say(f"    breaks rule {number} ({kind} error, {uncaught})")
+        found = None
+        if call is not None and calls.ends_encoder(call.word):
+            found = culprit.find(self.beside, call, number, self.program)
+        self.sentence(number, found.call.word if found and number not in culprit.OPEN else entry.word)
+        if found:
+            self.command(found)
+        elif call is not None:
+            self.reasons(entry, call, number)
+
+    def sentence(self, number, word):
+        for rule in rules.of(number, word)[:1]:
+            self.say(f"    rule {number} asks of {rule.label}: {rule.asks}", f"    {rules.section(rule)}")
+
+    def command(self, found):
+        script = self.beside.script
+        self.say(f"    the command that {found.said} is number {found.number} of {found.total}: {script.where(found.call)}")
+        self.say(f"        {script.said(found.call)}")
+        self.say(f"    (found by asking the program about {count(found.asked, 'recording')} of the encoder, cut short at different commands)")
+        for key, name in found.call.names():
+            self.invalid(name.what)
+
+    def reasons(self, entry, call, number):
+        """What the report itself tells of why a rule is broken."""
+        if entry.word == "late":
+            self.ended(call)
+        if number == 12:
+            for _, name in call.names():
+                self.invalid(name.what)
+        if number in (180, 190, 192, 193, 203, 210):
+            self.earlier(call, number)
+
+    def invalid(self, name):
+        maker = self.beside.object_of(name)
+        if maker is not None and not maker.is_valid():
+            call = self.beside.call_of[maker.number]
+            why = f", by rule {maker.fault[1]}" if maker.fault else ""
+            self.say(f"    {name} is invalid since it was made: entry {maker.number}{why}, {self.beside.script.where(call)}")
+
+    def ended(self, call):
+        place = self.beside.script.places.get(scripts.string_of(call.value, "on"))
+        while place is not None and place.finish is None and place.encoder is not None:
+            place = place.encoder
+        if place is not None and place.finish is not None:
+            self.say(f"    {place.name} was finished at {self.beside.script.where(place.finish)}")
+
+    def earlier(self, call, number):
+        """The earlier calls that name what this one names and that the rule is about."""
+        words = {180: ("finish",), 190: ("submit",)}.get(number, ("destroy",))
+        names = self.reached(call)
+        for other in self.beside.script.calls:
+            if other is call:
+                return
+            for _, name in other.names():
+                if other.word in words and name.what in names:
+                    self.say(f"    {name.what}: {other.word} at {self.beside.script.where(other)}")
+
+    def reached(self, call):
+        """The names that a call uses, and those that the commands of the command buffers among them use."""
+        script, names = self.beside.script, {name.what for _, name in call.names()}
+        for name in list(names):
+            maker = script.made.get(name)
+            if maker is not None and calls.ends_encoder(maker.word) and maker.word != call.word:
+                place = script.places.get(scripts.string_of(maker.value, "on"))
+                names |= {each.what for command in (place.commands if place else []) for _, each in command.names()}
+        return names
+
+    def trace(self):
+        self.say("", "TRACE: what a driver has to do, in this order")
+        if not self.beside.report.items:
+            self.say("", "         nothing: no accepted work touches memory")
+        for item in self.beside.report.items:
+            if isinstance(item, Release):
+                self.say("", f"release  the memory of {self.beside.named(item.sort, item.object)}")
+                continue
+            self.say("")
+            for part, before, after in item.barriers:
+                self.say(f"barrier  {self.beside.part(part)}: {before} -> {after}")
+            self.say(self.step(item))
+            self.say(*[f"         uses {self.beside.part(part)} as {usages}" for part, usages in item.uses])
+            self.say(*[f"         {ACCESSES.get(kind, kind)} {self.beside.part(cells)}" for kind, cells in item.accesses])
+
+    def step(self, step):
+        where = f"on the host, at entry {step.at}" if step.is_host else f"operation {step.at}"
+        call = self.beside.command_of.get(step.number)
+        what = "clear of fresh memory" if step.name == "clear" else step.name
+        return f"step {step.number:<3} {what}, {where}" + (f", of the call at {self.place(call).strip()}" if call else "")
+
+
+def set_beside(text, said, say):
+    """The report that the program gave, beside the script; alone where the two cannot be brought together."""
+    try:
+        report = Report(said)
+    except NotReport as error:
+        raise End(9, f"the program's answer is no report: {error}") from None
+    try:
+        script = scripts.read(text)
+        if script is not None:
+            return Beside(report, script)
+        why = "the text has no phases and lanes"
+    except (NotJson, DoNotMatch) as error:
+        why = str(error)
+    say(f"(the entries are shown without their calls, since this tool cannot match them: {why})", "")
+    return Beside(report)
+
+
+def explain(text, data, program):
+    """The explanation of a script, and the program's status."""
+    explained = Explained(text, program, data)
+    return "\n".join(explained.lines) + "\n", explained.status

@@ -1,0 +1,275 @@
+"""Finds what a refused script's line `bad script RULE ..` means in its text: the line and column, the key or name, and what was expected.
+
+The program tells the rule and the call. What of the call breaks the rule is found here, by the table of calls, and is no
+part of what is proved; where nothing is found the call alone is shown.
+"""
+
+import difflib
+import re
+
+import calls
+import rules
+import script as scripts
+from places import NotJson
+
+NAME = re.compile(r"[A-Za-z0-9_]{1,64}")
+PARTS = ("phase", "lane", "call")
+LIMITS = {"budget": "a whole number from 0 to 9007199254740991, in decimal digits alone", "phases": "a list of phases"}
+
+
+class Refusal:
+    """A refusal: its rule, the offset of its place in the text, what stands there, and what was expected."""
+
+    def __init__(self, rule, place):
+        self.rule = rule
+        self.place = place
+        self.offset = None
+        self.found = None
+        self.expected = None
+        self.more = []
+
+    def at(self, offset, found, expected, *more):
+        self.offset, self.found, self.expected, self.more = offset, found, expected, [each for each in more if each]
+        return self
+
+
+def find(text, line):
+    """The refusal that a line of the program tells of, in the script's text."""
+    words = line.split()
+    refusal = Refusal(int(words[2]), tuple(map(int, words[3:])))
+    try:
+        top = text.read()
+    except NotJson as error:
+        if refusal.rule == 1:
+            refusal.at(error.offset, None, error.why)
+        return refusal
+    if refusal.rule != 1:
+        {0: at_top, 1: at_phase, 2: at_lane, 3: at_call}[len(refusal.place)](refusal, text, top)
+    return refusal
+
+
+def reached(top, place):
+    """The value at a place of a script: of the phase, the lane or the call."""
+    value = top.member("phases")
+    for number in place:
+        value = value.what[number]
+    return value
+
+
+def at_top(refusal, text, top):
+    if top.kind != "object":
+        return refusal.at(top.start, kind_of(top), "an object with exactly the keys budget and phases")
+    if refusal.rule == 13:
+        return not_built_at_top(refusal, top)
+    if refusal.rule == 3:
+        return refusal.at(top.member("phases").start, f"{len(top.member('phases').what)} phases", "at most 1024 phases")
+    for name, expected in LIMITS.items():
+        if top.member(name) is None:
+            return refusal.at(top.start, f"no key {name}", f"the key {name}: {expected}")
+    for key, _ in top.what:
+        if key.what not in LIMITS:
+            return refusal.at(key.start, f"the key {quoted(key.what)}", "exactly the keys budget and phases", near(key.what, LIMITS))
+    budget, phases = top.member("budget"), top.member("phases")
+    if not is_whole(budget, 53):
+        return refusal.at(budget.start, f"{text.of(budget)[:60]} under budget", LIMITS["budget"])
+    return refusal.at(phases.start, f"{kind_of(phases)} under phases", LIMITS["phases"])
+
+
+def not_built_at_top(refusal, top):
+    if top.key("limits") is not None:
+        return refusal.at(top.key("limits").start, "the key limits", "no such key: it is not built yet")
+    phases = top.member("phases")
+    if phases is not None and phases.kind == "list":
+        if len(phases.what) > 1:
+            return refusal.at(phases.what[1].start, f"{len(phases.what)} phases", "at most one phase: more are not built yet")
+        for phase in phases.what:
+            if phase.kind == "list" and len(phase.what) > 1:
+                return refusal.at(phase.what[1].start, f"{len(phase.what)} lanes", "at most one lane: more are not built yet")
+    return refusal.at(top.start, None, "nothing that is not built yet")
+
+
+def at_phase(refusal, text, top):
+    phase = reached(top, refusal.place)
+    found = f"{len(phase.what)} lanes" if phase.kind == "list" else kind_of(phase)
+    return refusal.at(phase.start, found, "a phase: a list of at most 64 lanes")
+
+
+def at_lane(refusal, text, top):
+    lane = reached(top, refusal.place)
+    return refusal.at(lane.start, kind_of(lane), "a lane: a list of calls")
+
+
+def at_call(refusal, text, top):
+    call = reached(top, refusal.place)
+    refusal.at(call.start, None, None)
+    if refusal.rule == 5:
+        return refusal.at(call.start, "the 65537th call", "at most 65536 calls in a script")
+    if call.kind != "object":
+        return refusal.at(call.start, kind_of(call), "a call: an object with the key do")
+    if refusal.rule == 6:
+        return unknown_call(refusal, text, call)
+    finders = {7: keys_of_call, 8: values_of_call, 9: given_name, 10: used_names, 11: used_names, 12: used_names, 13: not_built}
+    finder = finders.get(refusal.rule)
+    return finder(refusal, text, call, top) if finder else refusal
+
+
+def unknown_call(refusal, text, call):
+    do = call.member("do")
+    known = sorted([*calls.CALLS, *calls.LATER])
+    if do is None:
+        return refusal.at(call.start, "no key do", "the key do, with the word of a call")
+    if do.kind != "string":
+        return refusal.at(do.start, f"{kind_of(do)} under do", "the word of a call, as a string")
+    return refusal.at(do.start, f"the word {quoted(do.what)}", "the word of a call", near(do.what, known))
+
+
+def not_built(refusal, text, call, top):
+    do = call.member("do")
+    if do is not None and do.what in calls.LATER:
+        return refusal.at(do.start, f"the call {do.what}", "a call that is built: this one is not built yet")
+    if call.key("mapped") is not None:
+        return refusal.at(call.member("mapped").start, "mapped true", "false: buffers that are mapped at their creation are not built yet")
+    return refusal
+
+
+def keys_of_call(refusal, text, call, top):
+    word = call.member("do").what
+    keys = calls.keys_of(word)
+    if keys is None:
+        return refusal
+    has = "has the keys " + ", ".join(name + (" (may be left out)" if key.may_be_left_out else "") for name, key in keys.items())
+    for key, _ in call.what:
+        if key.what != "do" and key.what not in keys:
+            return refusal.at(key.start, f"the key {quoted(key.what)}", f"no such key: {word} {has}", near(key.what, keys))
+    for name, key in keys.items():
+        if call.member(name) is None and not key.may_be_left_out:
+            return refusal.at(call.start, f"no key {name}", f"the key {name}: {key.expected()}")
+    return refusal
+
+
+def values_of_call(refusal, text, call, top):
+    for name, key in (calls.keys_of(call.member("do").what) or {}).items():
+        value = call.member(name)
+        wrong = wrong_in(value, key) if value is not None else None
+        if wrong is not None:
+            found = shown(text.of(wrong))
+            if wrong is value and value.kind == "list":
+                found = f"a list of {len(value.what)}"
+            hint = near(wrong.what, calls.WORDS[key.detail]) if key.sort == "word" and wrong.kind == "string" else None
+            return refusal.at(wrong.start, f"{found} under {name}", key.expected(), hint)
+    return refusal
+
+
+def wrong_in(value, key):
+    """The value, or the item of it, that is not what the key's values have to be, or None."""
+    if key.sort == "number":
+        return None if is_whole(value, int(key.detail)) else value
+    if key.sort == "three":
+        if value.kind != "list" or len(value.what) != 3:
+            return value
+        return next((item for item in value.what if not is_whole(item, 32)), None)
+    if key.sort == "boolean":
+        return None if value.kind in ("true", "false") else value
+    if key.sort == "word":
+        return None if value.kind == "string" and value.what in calls.WORDS[key.detail] else value
+    if key.sort == "names":
+        if value.kind != "list" or len(value.what) > 1024:
+            return value
+        return next((item for item in value.what if item.kind != "string"), None)
+    return None if value.kind == "string" else value
+
+
+def is_whole(value, bits):
+    return value.kind == "number" and value.what.isdigit() and int(value.what) < 2**bits
+
+
+def given_name(refusal, text, call, top):
+    name = call.member("as")
+    if not NAME.fullmatch(name.what):
+        return refusal.at(name.start, f"the name {quoted(name.what)}", "1 to 64 letters, digits and _, of ASCII")
+    first = scripts.Script(text, top).made.get(name.what)
+    where = f"it was given before, at {text.where(first.value.start)}: {shown(text.of(first.value))}" if first else None
+    return refusal.at(name.start, f"the name {name.what}", "a name that no earlier call gave", where)
+
+
+def used_names(refusal, text, call, top):
+    """The first name of the call that is unknown, of a wrong kind or of another lane's encoder, by the rule."""
+    script = scripts.Script(text, top)
+    user = next(each for each in script.calls if each.place == refusal.place)
+    keys = calls.keys_of(user.word) or {}
+    for key, value in user.names():
+        maker = script.made.get(value.what)
+        is_visible = maker is not None and sees(user, maker)
+        kinds = keys[key].kinds()
+        if refusal.rule == 10 and not is_visible:
+            wanted = f"the name of {calls.either(kinds)} that an earlier call gave"
+            return refusal.at(value.start, f"the name {quoted(value.what)} under {key}", wanted, unseen(script, user, value.what, maker))
+        if refusal.rule == 11 and is_visible and calls.makes(maker.word) not in kinds:
+            is_one = f"{value.what} is {calls.either([calls.makes(maker.word)])}, made at {script.where(maker)}: {script.said(maker)}"
+            return refusal.at(value.start, f"the name {value.what} under {key}", f"the name of {calls.either(kinds)}", is_one)
+        if refusal.rule == 12 and is_visible and key == "on" and maker.place[:2] != user.place[:2]:
+            made = f"{value.what} was made at {script.where(maker)}"
+            return refusal.at(value.start, f"the name {value.what} under on", "an encoder or a pass that this lane opened in this phase", made)
+    return refusal
+
+
+def sees(user, maker):
+    """Whether a call sees the name that another gives: in its own lane the earlier ones, and all of earlier phases."""
+    same = user.place[:2] == maker.place[:2]
+    return maker.place[0] < user.place[0] or (same and maker.place[2] < user.place[2])
+
+
+def unseen(script, user, name, maker):
+    """Why a name is not visible at a call."""
+    if maker is user:
+        return f"{name} is the name that this very call gives"
+    if maker is not None:
+        is_later = maker.place[:2] == user.place[:2] or maker.place[0] > user.place[0]
+        how = "only later" if is_later else "in another lane of the same phase, whose names are not visible here"
+        return f"{name} is given {how}, at {script.where(maker)}: {script.said(maker)}"
+    return near(name, [call.gives for call in script.calls if call.gives and sees(user, call)])
+
+
+def near(word, words):
+    """The nearest of some words, as a hint, or None."""
+    found = difflib.get_close_matches(str(word), list(words), 1, 0.7)
+    return f"the nearest is {quoted(found[0])}" if found else None
+
+
+def kind_of(value):
+    return {"object": "an object", "list": "a list", "string": "a string", "number": "a number"}.get(value.kind, value.kind)
+
+
+def quoted(word):
+    return '"' + scripts.shown(word, 80) + '"'
+
+
+def shown(text):
+    return scripts.shown(text, 120)
+
+
+def explained(text, line):
+    """The lines that explain a refusal."""
+    refusal = find(text, line)
+    said = rules.script_rules(refusal.rule)
+    where = ", ".join(f"{part} {number}" for part, number in zip(PARTS, refusal.place))
+    lines = [f"The script is refused: {line.strip()}" + (f" ({where})" if where else "")]
+    lines += [f"  script rule {refusal.rule} refuses: {each}" for each in said]
+    if refusal.offset is None:
+        return lines + ["  what of it breaks the rule was not found: the program tells no more than the line above"]
+    lines += ["", f"{text.where(refusal.offset)}"]
+    if refusal.found:
+        lines.append(f"  found:    {refusal.found}")
+    if refusal.expected:
+        lines.append(f"  expected: {refusal.expected}")
+    lines += [f"  {each}" for each in refusal.more]
+    return lines + pointed(text, refusal.offset)
+
+
+def pointed(text, offset):
+    """The line of the text at an offset, cut to what can be read, with a mark below the place."""
+    line, column = text.place(offset)
+    whole = text.text.split("\n")[line - 1].expandtabs(1).rstrip("\r")
+    first = max(0, column - 60)
+    piece = whole[first : first + 100]
+    return ["", f"  {'..' if first else ''}{piece}{'..' if first + 100 < len(whole) else ''}", "  " + " " * (column - 1 - first + 2 * bool(first)) + "^"]

@@ -1,0 +1,110 @@
+"""The table of rules, docs/rules.json: what a rule asks, and the page docs/rules.md, which is made from it.
+
+`python3 tools/rules.py --write` makes the page anew; with no word it prints what the page has to be.
+"""
+
+import json
+import pathlib
+import sys
+import textwrap
+
+DOCS = pathlib.Path(__file__).resolve().parent.parent / "docs"
+TABLE = json.loads((DOCS / "rules.json").read_text(encoding="utf-8"))
+ABOVE = "as above"
+
+
+class Rule:
+    """A rule as one call tests it."""
+
+    def __init__(self, call, row):
+        self.call = call["call"]
+        self.label = call.get("label", self.call)
+        self.numbers = row["rules"]
+        self.asks = row["asks"]
+        self.sections = row.get("section", call["section"])
+        self.see = row.get("see", [])
+
+
+RULES = [Rule(call, row) for part in TABLE["parts"] if "calls" in part for call in part["calls"] for row in call["rules"]]
+
+
+def of(number, call=None):
+    """The rules of a number, those of a call alone if it has one; each with its whole sentence."""
+    found = [rule for rule in RULES if number in rule.numbers]
+    whole = next((rule for rule in found if not rule.asks.startswith(ABOVE)), None)
+    for rule in found:
+        if rule.asks.startswith(ABOVE) and whole is not None:
+            rule.asks = whole.asks + rule.asks[len(ABOVE) :]
+            rule.sections, rule.see = whole.sections, whole.see
+    own = [rule for rule in found if rule.call == call] or [rule for rule in found if rule.call == "*" and call]
+    return own or found
+
+
+def section(rule):
+    return "WebGPU, " + ", ".join(f'"{each}"' for each in rule.sections)
+
+
+def notes(titles):
+    """The paragraphs of those titles."""
+    return [part for part in TABLE["parts"] if part.get("title") in titles]
+
+
+def script_rules(number):
+    """What a rule of scripts refuses."""
+    return [row["refuses"] for row in TABLE["scripts"] if row["rule"] == number]
+
+
+def page():
+    """The text of docs/rules.md."""
+    lines = ["# Rule numbers"]
+    for part in TABLE["parts"]:
+        lines.append("")
+        if "text" in part:
+            title = f"**{part['title']}.** " if "title" in part else ""
+            lines.append(title + part["text"])
+            continue
+        lines += ["| " + " | ".join(part["head"]) + " |", "|---" * len(part["head"]) + "|"]
+        for call in part["calls"]:
+            label = call.get("label", call["call"])
+            for row in call["rules"]:
+                cells = [label, ", ".join(map(str, row["rules"])), row["asks"]]
+                lines.append("|" + "|".join(f" {cell} " if cell else " " for cell in cells) + "|")
+                label = ""
+    return "\n".join(lines) + "\n"
+
+
+def shown(number):
+    """What `wgsim rules N` prints, or None where no rule has that number."""
+    found = of(number)
+    scripts = script_rules(number)
+    lines, told = [], set()
+    for rule in found:
+        lines.append(f"Rule {number}, {rule.label}: {rule.asks}")
+        lines.append(f"  {section(rule)}")
+        told.update(rule.see)
+    for note in notes(told):
+        lines += ["", f"{note['title']}.", *textwrap.wrap(note["text"], 100, initial_indent="  ", subsequent_indent="  ")]
+    if scripts:
+        lines += [""] * bool(lines) + [f"Script rule {number}, which `bad script {number}` tells of, refuses:"]
+        lines += [f"  {each}" for each in scripts]
+    return "\n".join(lines) + "\n" if lines else None
+
+
+def all_shown():
+    """What `wgsim rules` prints: every rule, call by call, in the order in which they are tested."""
+    lines, label = [], None
+    for rule in RULES:
+        if rule.label != label:
+            label = rule.label
+            lines += [""] * bool(lines) + [f"{label} ({section(rule)})"]
+        lines.append(f"  {', '.join(map(str, rule.numbers)) or '-':>13}  {rule.asks}")
+    lines += ["", "Scripts (`bad script N`)"]
+    lines += [f"  {row['rule']:>13}  {row['refuses']}" for row in TABLE["scripts"]]
+    return "\n".join(lines) + "\n"
+
+
+if __name__ == "__main__":
+    if sys.argv[1:] == ["--write"]:
+        (DOCS / "rules.md").write_text(page(), encoding="utf-8")
+    else:
+        sys.stdout.write(page())

@@ -1,0 +1,141 @@
+"""A script as its writer sees it: each call with its place, its text and its names, and what is recorded on each encoder."""
+
+import calls
+
+
+class Call:
+    """A call of a script. `place` is its phase, lane and number in the lane."""
+
+    def __init__(self, value, place):
+        self.value = value
+        self.place = place
+        self.word = string_of(value, "do") or "?"
+        self.gives = string_of(value, "as")
+        self.is_late = False
+
+    def names(self):
+        """The names that the call uses, in the order of its table's keys: pairs of key and name."""
+        found = []
+        for key, wanted in (calls.keys_of(self.word) or {}).items():
+            value = self.value.member(key)
+            if value is None:
+                continue
+            if wanted.sort == "name" and value.kind == "string":
+                found.append((key, value))
+            if wanted.sort == "names" and value.kind == "list":
+                found += [(key, item) for item in value.what if item.kind == "string"]
+        return found
+
+    def number(self, key, otherwise=None):
+        value = self.value.member(key)
+        return int(value.what) if value is not None and value.kind == "number" and value.what.isdigit() else otherwise
+
+    def is_empty(self):
+        """Whether the call names a size that has nothing in it, as far as its text tells."""
+        size = self.value.member("size")
+        if size is None:
+            return False
+        if size.kind == "list":
+            return any(item.what == "0" for item in size.what)
+        return size.what == "0"
+
+
+def string_of(value, key):
+    if value.kind != "object":
+        return None
+    member = value.member(key)
+    return member.what if member is not None and member.kind == "string" else None
+
+
+class Place:
+    """An encoder or a pass, on which calls record. A pass has the encoder that it was begun on."""
+
+    def __init__(self, call, encoder=None):
+        self.call = call
+        self.encoder = encoder
+        self.name = call.gives
+        self.has_ended = False
+        self.is_dead = False
+        self.finish = None
+        self.open_pass = None
+        self.depth = 0
+        self.commands = []
+
+
+class Script:
+    """A script's calls, in the order of its text."""
+
+    def __init__(self, text, top):
+        self.text = text
+        self.top = top
+        self.lanes = {}
+        self.made = {}
+        self.phases = top.member("phases").what
+        for phase, lanes in enumerate(self.phases):
+            for lane, values in enumerate(lanes.what):
+                self.lanes[phase, lane] = [Call(value, (phase, lane, n)) for n, value in enumerate(values.what)]
+        self.calls = [call for lane in self.lanes.values() for call in lane]
+        for call in self.calls:
+            if call.gives is not None:
+                self.made.setdefault(call.gives, call)
+        self.places = {}
+        for call in self.calls:
+            self.record(call)
+
+    def record(self, call):
+        """Notes what a call does to the encoders and passes, as far as the order of the calls alone decides it."""
+        on = string_of(call.value, "on")
+        place = self.places.get(on)
+        if calls.makes(call.word) == "encoder":
+            self.places[call.gives] = Place(call)
+        elif place is not None and calls.ends_encoder(call.word):
+            place.finish = place.finish or call
+            place.has_ended = True
+        elif place is not None and calls.records(call.word):
+            self.command(call, place)
+
+    def command(self, call, place):
+        encoder = place.encoder or place
+        call.is_late = place.has_ended or encoder.has_ended
+        begun = Place(call, encoder) if call.word in calls.BEGINS else None
+        if begun:
+            self.places[call.gives] = begun
+            begun.has_ended = call.is_late
+        if call.is_late:
+            return
+        encoder.commands.append(call)
+        if begun:
+            begun.is_dead = encoder.open_pass is not None
+            encoder.open_pass = encoder.open_pass or begun
+        elif call.word == calls.END and place is encoder.open_pass:
+            place.has_ended = True
+            encoder.open_pass = None
+        elif not (place is encoder and encoder.open_pass):
+            place.depth = max(0, place.depth + calls.groups(call.word))
+
+    def where(self, call):
+        return self.text.where(call.value.start)
+
+    def line(self, call):
+        return self.text.place(call.value.start)[0]
+
+    def said(self, call, most=160):
+        """The text of a call in one line."""
+        return shown(self.text.of(call.value), most)
+
+
+def shown(text, most=160):
+    """A text in one line, cut off where it is long."""
+    line = " ".join(text.split())
+    return line if len(line) <= most else line[: most - 2] + ".."
+
+
+def read(text):
+    """The script of a text that the program has played, or None where the text has no such form."""
+    top = text.read()
+    if top.kind != "object" or top.member("phases") is None or top.member("phases").kind != "list":
+        return None
+    for lanes in top.member("phases").what:
+        if lanes.kind != "list" or any(lane.kind != "list" for lane in lanes.what):
+            return None
+    return Script(text, top)
