@@ -20,7 +20,7 @@ PROGRAM = CRATE / "out/wgsim"
 STAMP = CRATE / "out/wgsim.sources"
 # What a check of one crate takes at most, in kB.
 MEMORY = 2_000_000
-FROM_NOTHING = "8 minutes on four processors (13 processor minutes)"
+FROM_NOTHING = "17 minutes on four processors (32 processor minutes)"
 SHORTEST, ITS_REPORT = b'{"budget":0,"phases":[]}', b"history\ntrace\nend\n"
 NEEDS_RT = "the toolchain `rt` is needed to {}, and is not on the PATH; README.md says which one"
 

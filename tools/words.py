@@ -24,7 +24,7 @@ usage: wgsim run [FILE]       plays a script and writes the program's report, by
 
 FILE is a script; with no FILE, or -, it is standard input. With --unproved before the command the program is
 compiled without its proofs, in about a minute, and kept. Without it, the program is proved and built where its
-sources are new: 8 minutes on four processors from nothing. Both need the toolchain `rt`.
+sources are new: 17 minutes on four processors from nothing. Both need the toolchain `rt`.
 
 exit status: 0 the report was written, or the two reports are the same
              1 diff: the two reports differ
