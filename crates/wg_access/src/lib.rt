@@ -1,4 +1,4 @@
-//! The steps of queue writes and of recorded commands, with uses and accesses as they are printed.
+//! The steps of queue writes, host accesses and recorded commands, with uses and accesses as they are printed.
 #![tactic(auto)]
 
 mod touches;
@@ -7,7 +7,7 @@ mod touching;
 ghost use Rattle.std.specs.Prelude.{◌≡◌, ℕ, Some, Option, option_to_list, slice_get, IfOk, IfSome};
 ghost use Rattle.wg_orders.specs.Steps.{Step};
 ghost use Rattle.wg_model.specs.Walk.{PassSoFar};
-ghost use Rattle.wg_model.specs.Recorded.{StepsOf, encoder_steps, steps_at, write_step, touching};
+ghost use Rattle.wg_model.specs.Recorded.{StepsOf, encoder_steps, steps_at, write_step, host_usage, host_kind, host_name, host_touches, host_step, touching};
 ghost use Rattle.wg_model.specs.StepLaws.{IsOwnStep};
 ghost use Rattle.wg_access.specs.Ranges.{IsInRange};
 
@@ -21,7 +21,10 @@ use wg_formats::{has_no_texel, size_or_rest, texture_of, whole_spot};
 use wg_types::NoMemory;
 use wg_types::commands::{Command, On};
 use wg_types::items::Items;
+use wg_types::mappings::{MapMode, Mapping};
+use wg_types::parts::{Cells, Kind};
 use wg_types::steps::{QueueWrite, Step, StepName, StepPlace, Steps};
+use wg_types::usages::Usages;
 
 /// The step that touches these, of which there is one.
 fn one_step(
@@ -219,6 +222,83 @@ pub fn write_step(
     ensures declared { IfOk result (λ step. IfSome step (λ s. IsOwnStep s)) }
 {
     let step = queued_step(alloc, write, place)?;
+    Ok(step)
+}
+
+/// How the host uses the bytes of a mapping.
+fn host_usage(mode: MapMode) -> Usages
+    ensures { result ≡ host_usage mode }
+{
+    match mode {
+        MapMode::Read => Usages::HOST_READ,
+        MapMode::Write => Usages::HOST_WRITE,
+    }
+}
+
+/// How the host accesses the bytes of a mapping. One for writing shows what the buffer had, and gives
+/// it back whole.
+fn host_kind(mode: MapMode) -> Kind
+    ensures { result ≡ host_kind mode }
+{
+    match mode {
+        MapMode::Read => Kind::Read,
+        MapMode::Write => Kind::Both,
+    }
+}
+
+/// What the host's access to the bytes of a mapping is called.
+fn host_name(mode: MapMode) -> StepName
+    ensures { result ≡ host_name mode }
+{
+    match mode {
+        MapMode::Read => StepName::HostRead,
+        MapMode::Write => StepName::HostWrite,
+    }
+}
+
+/// What the host's access to the bytes of a mapping touches.
+fn host_touches(alloc: Global, buffer: u64, mapping: &Mapping) -> Result<Touches, NoMemory>
+    ensures { IfOk result (λ touches. touches ≡ host_touches buffer mapping.now) }
+{
+    let cells = Cells::Bytes {
+        object: buffer,
+        lo: mapping.lo,
+        hi: mapping.hi,
+    };
+    let mut touches = Items::new(alloc);
+    touches.push((cells, (host_usage(mapping.mode), host_kind(mapping.mode))))?;
+    Ok(touches)
+}
+
+/// The step of the host's access to the bytes of a mapping, if there are any.
+fn accessed_step(
+    alloc: Global,
+    buffer: u64,
+    mapping: &Mapping,
+    place: StepPlace,
+) -> Result<Option<Step>, NoMemory>
+    ensures { IfOk result (λ step. step ≡ host_step place buffer mapping.now) }
+{
+    if mapping.lo == mapping.hi {
+        return Ok(None);
+    }
+    let touches = host_touches(alloc, buffer, mapping)?;
+    one_step(alloc, place, host_name(mapping.mode), touches)
+}
+
+/// The step of the host's access to the bytes of a mapping at this place, or none where it has no bytes
+/// (WebGPU, "Buffer Mapping").
+#[tactic(auto, using(wg_model::proofs::StepLaws::host_is_declared))]
+pub fn host_step(
+    alloc: Global,
+    buffer: u64,
+    mapping: &Mapping,
+    place: StepPlace,
+) -> Result<Option<Step>, NoMemory>
+    ensures step { IfOk result (λ step. step ≡ host_step place buffer mapping.now) }
+    ensures declared { IfOk result (λ step. IfSome step (λ s. IsOwnStep s)) }
+{
+    let step = accessed_step(alloc, buffer, mapping, place)?;
     Ok(step)
 }
 

@@ -11,7 +11,7 @@ ghost use Rattle.wg_model.specs.TexelCopies.{buffer_to_texture_rules, texture_to
 
 pub use buffers::check_write_buffer;
 pub use texels::check_write_texture;
-pub use wg_formats::{buffer_of, same_object, size_or_rest, texture_of, whole_spot};
+use wg_formats::{buffer_of, same_object, size_or_rest, texture_of, whole_spot};
 use wg_types::commands::Command;
 
 /// The first unmet rule of a command (WebGPU, "Copy Commands" and "Clear Commands"), but for those on

@@ -2,3 +2,4 @@ pub mod Planning
 pub mod Tracing
 pub mod Submitting
 pub mod Distinct
+pub mod Hosting

@@ -1,27 +1,32 @@
 //! The first unmet rule of each event.
-ghost use Rattle.std.specs.Prelude.{◌≡◌, ◌==◌, ◌&&◌, ◌+◌, ◌^◌, ◌<◌, reverse, Some, IsNone, IfOk};
+ghost use Rattle.std.specs.Prelude.{◌≡◌, ◌==◌, ◌&&◌, ◌+◌, ◌^◌, ◌<◌, reverse, [], Some, IsNone, IfOk, IfSome};
 ghost use Rattle.std.specs.List.{list_any};
 ghost use Rattle.wg_model.specs.Rules.{first_unmet};
-ghost use Rattle.wg_core.specs.Plans.{use_rules};
+ghost use Rattle.wg_core.specs.Plans.{use_rules, IsMapInRange};
 ghost use Rattle.wg_state.specs.Uses.{uses_of, is_sort, is_used_as};
 ghost use Rattle.wg_history.specs.Objects.{is_own, is_command_buffer};
-ghost use Rattle.wg_history.specs.Rules.{create_view_rule, write_buffer_rule, write_texture_rule, destroy_rule, destroys, is_destroyed, finish_rule, ends_encoder, has_finished, consumes, is_consumed, are_distinct, listed_rules, submit_rule};
+ghost use Rattle.wg_model.specs.Commands.{no_texture};
+ghost use Rattle.wg_access.specs.Ranges.{IsInRange};
+ghost use Rattle.wg_history.specs.Entries.{effects_of, submitted, written};
+ghost use Rattle.wg_history.specs.Rules.{is_busy, map_async_rule, unmap_rule, first_rule, create_view_rule, write_buffer_rule, write_texture_rule, destroy_rule, destroys, is_destroyed, finish_rule, ends_encoder, has_finished, consumes, is_consumed, are_distinct, listed_rules, submit_rule};
 
 use crate::uses;
 use std::alloc::Global;
 use std::collections::BTreeSet;
+use wg_buffers::{check_create as check_buffer, check_map};
 use wg_copy::{check_write_buffer, check_write_texture};
 use wg_encoder::Recording;
 use wg_history::NoMemory;
+use wg_history::events::Event;
 use wg_state::{State, Used};
-use wg_textures::check_view;
+use wg_textures::{check_create as check_texture, check_view};
 use wg_types::handles::ObjRef;
 use wg_types::steps::Sort;
 use wg_types::textures::{DataLayout, TextureSpot, ViewDesc};
 
 /// The first unmet rule of a createView (WebGPU, "Texture View Creation").
 #[tactic(auto, unfolding(wg_history::specs::Rules::create_view_rule))]
-pub fn create_view(state: &State, texture: ObjRef, desc: &ViewDesc) -> Option<u16>
+fn create_view(state: &State, texture: ObjRef, desc: &ViewDesc) -> Option<u16>
     ensures { result ≡ create_view_rule state.now.setup (reverse state.now.history) texture desc.now }
 {
     let Some(info) = wg_state::own_texture(state.setup(), state.book(), texture) else {
@@ -35,7 +40,7 @@ pub fn create_view(state: &State, texture: ObjRef, desc: &ViewDesc) -> Option<u1
 
 /// The first unmet rule of a destroy (WebGPU, "Buffer Destruction" and "Texture Destruction").
 #[tactic(auto, unfolding(wg_history::specs::Rules::destroy_rule))]
-pub fn destroy(state: &State, object: ObjRef) -> Option<u16>
+fn destroy(state: &State, object: ObjRef) -> Option<u16>
     ensures { result ≡ destroy_rule state.now.setup (reverse state.now.history) object }
 {
     if !wg_state::is_own_resource(state.setup(), state.book(), object) {
@@ -46,7 +51,7 @@ pub fn destroy(state: &State, object: ObjRef) -> Option<u16>
 
 /// The first unmet rule of a write (WebGPU, "writeBuffer").
 #[tactic(auto, unfolding(wg_history::specs::Rules::write_buffer_rule))]
-pub fn write_buffer(state: &State, buffer: ObjRef, offset: u64, size: u64) -> Option<u16>
+fn write_buffer(state: &State, buffer: ObjRef, offset: u64, size: u64) -> Option<u16>
     ensures rule { result ≡ write_buffer_rule state.now.setup (reverse state.now.history) buffer offset size }
     ensures fits { IsNone result → offset + size < 2 ^ 64 }
 {
@@ -59,15 +64,47 @@ pub fn write_buffer(state: &State, buffer: ObjRef, offset: u64, size: u64) -> Op
     if let Some(rule) = check_write_buffer(&info, offset, size) {
         return Some(rule);
     }
-    if state.is_destroyed(buffer.number) {
+    if state.is_busy(buffer.number) {
         return Some(203);
+    }
+    None
+}
+
+/// The first unmet rule of a map (WebGPU, "mapAsync").
+#[tactic(auto, unfolding(wg_history::specs::Rules::map_async_rule))]
+fn map_async(state: &State, buffer: ObjRef, mode: u32, offset: u64, size: u64) -> Option<u16>
+    ensures rule { result ≡ map_async_rule state.now.setup (reverse state.now.history) buffer mode offset size }
+    ensures fits { IsNone result → offset + size < 2 ^ 64 }
+{
+    let Some(info) = wg_state::own_buffer(state.setup(), state.book(), buffer) else {
+        return Some(10);
+    };
+    if !state.book().is_valid(buffer.number) {
+        return Some(12);
+    }
+    if let Some(rule) = check_map(&info, mode, offset, size) {
+        return Some(rule);
+    }
+    if state.is_busy(buffer.number) {
+        return Some(225);
+    }
+    None
+}
+
+/// The first unmet rule of an unmap (WebGPU, "unmap").
+#[tactic(auto, unfolding(wg_history::specs::Rules::unmap_rule))]
+fn unmap(state: &State, buffer: ObjRef) -> Option<u16>
+    ensures { result ≡ unmap_rule state.now.setup (reverse state.now.history) buffer }
+{
+    if wg_state::own_buffer(state.setup(), state.book(), buffer).is_none() {
+        return Some(10);
     }
     None
 }
 
 /// The first unmet rule of a write of texels (WebGPU, "writeTexture").
 #[tactic(auto, unfolding(wg_history::specs::Rules::write_texture_rule))]
-pub fn write_texture(
+fn write_texture(
     state: &State,
     texture: ObjRef,
     spot: &TextureSpot,
@@ -94,7 +131,7 @@ pub fn write_texture(
 
 /// The first unmet rule of a finish (WebGPU, "finish").
 #[tactic(auto, unfolding(wg_history::specs::Rules::finish_rule))]
-pub fn finish(state: &State, encoder: ObjRef, recording: &Recording) -> Option<u16>
+fn finish(state: &State, encoder: ObjRef, recording: &Recording) -> Option<u16>
     ensures { result ≡ finish_rule state.now.setup (reverse state.now.history) encoder recording.now }
 {
     if !wg_state::is_own_encoder(state.setup(), state.book(), encoder) {
@@ -161,12 +198,24 @@ fn is_sort(a: Sort, b: Sort) -> bool
     }
 }
 
-/// Whether a resource of a sort is used and destroyed.
-fn any_destroyed(state: &State, uses: &[Used], sort: Sort) -> bool
-    ensures { result ≡ list_any (is_used_as sort (is_destroyed state.now.setup (reverse state.now.history))) uses.now }
+/// Whether a buffer is used that is mapped, pending or destroyed.
+fn any_busy(state: &State, uses: &[Used]) -> bool
+    ensures { result ≡ list_any (is_used_as Sort.Buffer (is_busy state.now.setup (reverse state.now.history))) uses.now }
 {
     for used in uses {
-        if is_sort(sort, used.sort) && state.is_destroyed(used.number) {
+        if is_sort(Sort::Buffer, used.sort) && state.is_busy(used.number) {
+            return true;
+        }
+    }
+    false
+}
+
+/// Whether a texture is used that is destroyed.
+fn any_destroyed(state: &State, uses: &[Used]) -> bool
+    ensures { result ≡ list_any (is_used_as Sort.Texture (is_destroyed state.now.setup (reverse state.now.history))) uses.now }
+{
+    for used in uses {
+        if is_sort(Sort::Texture, used.sort) && state.is_destroyed(used.number) {
             return true;
         }
     }
@@ -188,19 +237,20 @@ fn check_listed(state: &State, buffers: &[ObjRef]) -> Option<u16>
     None
 }
 
-/// The first unmet rule of a submit, and what its command buffers use.
+/// The first unmet rule of an event, and what its command buffers use, if it submits some.
 #[derive(Drop)]
-pub struct Submitted {
+pub struct Ruled {
     pub rule: Option<u16>,
     pub uses: Vec<Used>,
 }
 
-/// A submit that is refused by a rule before it is known what it uses.
-fn refused(alloc: Global, rule: u16) -> Submitted
-    ensures { result.rule ≡ Some rule }
+/// An event of which no command buffer counts: it has none, or was refused before what they use was known.
+fn without_uses(alloc: Global, rule: Option<u16>) -> Ruled
+    ensures rule { result.rule ≡ rule }
+    ensures uses { result.uses.items ≡ [] }
 {
-    Submitted {
-        rule: Some(rule),
+    Ruled {
+        rule,
         uses: Vec::new(alloc),
     }
 }
@@ -209,10 +259,10 @@ fn refused(alloc: Global, rule: u16) -> Submitted
 fn check_uses(state: &State, uses: &[Used]) -> Option<u16>
     ensures { result ≡ first_unmet (use_rules state.now.setup (reverse state.now.history) uses.now) }
 {
-    if any_destroyed(state, uses, Sort::Buffer) {
+    if any_busy(state, uses) {
         return Some(192);
     }
-    if any_destroyed(state, uses, Sort::Texture) {
+    if any_destroyed(state, uses) {
         return Some(193);
     }
     None
@@ -220,20 +270,66 @@ fn check_uses(state: &State, uses: &[Used]) -> Option<u16>
 
 /// The first unmet rule of a submit (WebGPU, "submit"), with what its command buffers use.
 #[tactic(auto, unfolding(wg_history::specs::Rules::submit_rule), using(wg_model::proofs::Unmet::first_unmet_joined, crate::proofs::Submitting::submit_found))]
-pub fn submit(alloc: Global, state: &State, buffers: &[ObjRef]) -> Result<Submitted, NoMemory>
-    ensures rule { IfOk result (λ submitted. submitted.rule ≡ submit_rule state.now.setup (reverse state.now.history) buffers.now) }
-    ensures uses { IfOk result (λ submitted. IsNone submitted.rule → submitted.uses.items ≡ uses_of (reverse state.now.history) buffers.now) }
+fn submit(alloc: Global, state: &State, buffers: &[ObjRef]) -> Result<Ruled, NoMemory>
+    ensures rule { IfOk result (λ ruled. ruled.rule ≡ submit_rule state.now.setup (reverse state.now.history) buffers.now) }
+    ensures uses { IfOk result (λ ruled. IsNone ruled.rule → ruled.uses.items ≡ uses_of (reverse state.now.history) buffers.now) }
 {
     if let Some(rule) = check_listed(state, buffers) {
-        return Ok(refused(alloc, rule));
+        return Ok(without_uses(alloc, Some(rule)));
     }
     if any_consumed(state, buffers) {
-        return Ok(refused(alloc, 190));
+        return Ok(without_uses(alloc, Some(190)));
     }
     if !are_distinct(alloc, buffers)? {
-        return Ok(refused(alloc, 191));
+        return Ok(without_uses(alloc, Some(191)));
     }
     let uses = wg_state::uses_of(alloc, state.book(), buffers)?;
     let rule = check_uses(state, uses.as_slice());
-    Ok(Submitted { rule, uses })
+    Ok(Ruled { rule, uses })
+}
+
+/// The first unmet rule of an event, which one that meets all its rules has not. A recording call that
+/// came after the end of its encoder or pass always has rule 14.
+#[tactic(auto, unfolding(wg_history::specs::Rules::create_buffer_rule, wg_history::specs::Rules::create_texture_rule))]
+pub fn first_rule(alloc: Global, state: &State, event: &Event) -> Result<Ruled, NoMemory>
+    ensures rule { IfOk result (λ ruled. ruled.rule ≡ first_rule state.now.setup (reverse state.now.history) event.now) }
+    ensures uses { IfOk result (λ ruled. IsNone ruled.rule → ruled.uses.items ≡ uses_of (reverse state.now.history) (submitted event.now)) }
+    ensures range { IfOk result (λ ruled. IsNone ruled.rule → IfSome (written (λ _. no_texture) event.now) IsInRange) }
+    ensures map_range { IfOk result (λ ruled. IsNone ruled.rule → IsMapInRange (effects_of event.now).form) }
+{
+    let rule = match event {
+        Event::CreateBuffer { info } => check_buffer(info, &state.setup().limits),
+        Event::CreateTexture { info } => check_texture(info, &state.setup().limits),
+        Event::CreateView { texture, desc } => create_view(state, *texture, desc),
+        Event::Finish { encoder, recording } => finish(state, *encoder, recording),
+        Event::Late { .. } => Some(14),
+        Event::Submit { buffers } => return submit(alloc, state, buffers.as_slice()),
+        Event::WriteBuffer {
+            buffer,
+            offset,
+            size,
+        } => write_buffer(state, *buffer, *offset, *size),
+        Event::WriteTexture {
+            texture,
+            spot,
+            layout,
+            size,
+            data_size,
+        } => write_texture(state, *texture, spot, layout, *size, *data_size),
+        Event::Destroy { object } => destroy(state, *object),
+        Event::MapAsync {
+            buffer,
+            mode,
+            offset,
+            size,
+        } => map_async(state, *buffer, *mode, *offset, *size),
+        Event::Unmap { buffer } => unmap(state, *buffer),
+        Event::CreateEncoder
+        | Event::Complete { .. }
+        | Event::PushErrorScope { .. }
+        | Event::PopErrorScope
+        | Event::Lose
+        | Event::WorkDone => None,
+    };
+    Ok(without_uses(alloc, rule))
 }

@@ -1,11 +1,12 @@
-//! What handles know of their objects, and where copies of whole textures begin.
+//! What handles know of their objects, what is known of a view, and where copies of whole textures begin.
 ghost use Rattle.std.specs.Prelude.{◌≡◌};
 ghost use Rattle.wg_model.specs.TexelCopies.{whole_spot};
 ghost use Rattle.wg_model.specs.Commands.{buffer_of, buffer_or_none, no_buffer, texture_of, texture_or_none, no_texture, same_object, rest_of, size_or_rest};
+ghost use Rattle.wg_model.specs.Views.{view_info};
 
 use wg_types::formats::Format;
 use wg_types::handles::{BufferInfo, Handle, Info, ObjRef};
-use wg_types::textures::{AspectWord, TextureDim, TextureInfo, TextureSpot};
+use wg_types::textures::{AspectWord, TextureDim, TextureInfo, TextureSpot, ViewDesc, ViewInfo};
 
 /// What a handle of a buffer knows of it; nothing has usage or bytes where it is of another kind.
 pub fn buffer_of(buffer: &Handle) -> BufferInfo
@@ -42,6 +43,22 @@ pub fn texture_of(texture: &Handle) -> TextureInfo
     match texture.info() {
         Info::Texture(info) => *info,
         _ => no_texture(),
+    }
+}
+
+/// What is known of a view of a texture.
+pub fn view_info(info: TextureInfo, texture: ObjRef, desc: &ViewDesc) -> ViewInfo
+    ensures { result ≡ view_info info texture desc.now }
+{
+    ViewInfo {
+        texture,
+        texture_info: info,
+        dim: desc.dim,
+        aspect: desc.aspect,
+        base_mip: desc.base_mip,
+        mips: desc.mips,
+        base_layer: desc.base_layer,
+        layers: desc.layers,
     }
 }
 

@@ -1,4 +1,5 @@
-//! Texture formats, extents of mip levels, the layout of texels in bytes, and what handles know of buffers and textures.
+//! Texture formats, extents of mip levels, the layout of texels in bytes, what handles know of buffers and textures, and
+//! what is known of a view.
 #![tactic(auto)]
 
 mod aspects;
@@ -10,7 +11,9 @@ pub use aspects::{copy_compatible, has_named, is_color, named_aspects, texel_fro
 pub use extents::{
     covers_all, end_layer, extent, first_layer, has_no_texel, layer_count, spot_fits,
 };
-pub use handles::{buffer_of, no_texture, same_object, size_or_rest, texture_of, whole_spot};
+pub use handles::{
+    buffer_of, no_texture, same_object, size_or_rest, texture_of, view_info, whole_spot,
+};
 pub use layout::{bytes_fit, required};
 
 #[cfg(test)]

@@ -12,20 +12,16 @@ use Rattle.wg_types.specs.Commands.{Command}
 use Rattle.wg_types.specs.declared.textures.TextureSpot.{TextureSpot}
 use Rattle.wg_types.specs.declared.textures.DataLayout.{DataLayout}
 use Rattle.wg_model.specs.Recorded.{buffers_of, textures_of, resources, any_named, any_resource, uses_resource}
+use Rattle.wg_history.specs.Loss.{is_lost}
+use Rattle.wg_model.proofs.Sparing.{or_first}
+use Rattle.wg_history.proofs.Runs.{newest, others}
 use Rattle.wg_history.specs.Entries.{Setup, Event, Submit, WriteBuffer, WriteTexture, Complete, Reply, Entry, Past}
 use Rattle.wg_history.specs.Objects.{ObjRef, resource_at, commands_at}
 use Rattle.wg_history.specs.Operations.{issued, completion, completed, submit_uses, is_used, op_of, use_by, last_use}
-use Rattle.wg_history.specs.Rules.{listed_rules, any_destroyed, together_rules, submit_list, submit_rule, write_buffer_list, write_buffer_rule, write_texture_list, write_texture_rule, destroys, is_destroyed}
+use Rattle.wg_history.specs.Rules.{listed_rules, any_used, is_busy, together_rules, submit_list, submit_rule, write_buffer_list, write_buffer_rule, write_texture_list, write_texture_rule, destroys, is_destroyed}
 use Rattle.wg_history.specs.Answers.{Queued, Plain, BadCompletion, reply_to, IsRun}
 use Rattle.wg_history.specs.Releases.{is_due, is_released}
 use Rattle.wg_history.specs.ReleaseLaws.{FreedAfterUse}
-
--- What a run has of its newest entry, and of those before it.
-pub newest : (setup : Setup) (entry : Entry) (older : Past) → IsRun setup (entry ∷ older) → entry.reply ≡ reply_to setup older entry.event
-newest setup entry older run = cc (run)
-
-pub others : (setup : Setup) (entry : Entry) (older : Past) → IsRun setup (entry ∷ older) → IsRun setup older
-others setup entry older run = cc (run)
 
 -- No completion takes back what is complete.
 completes_more : (setup : Setup) (past : Past) (event : Event) → completed past ≤ unwrap_or (completion event (reply_to setup past event).answer) (completed past)
@@ -47,7 +43,7 @@ not_true false h = refl
 pub write_stands : (setup : Setup) (past : Past) (buffer : ObjRef) (offset size : ℕ) → is_none (write_buffer_rule setup past buffer offset size) ≡ true → is_destroyed setup past buffer.number ≡ false
 unfolding write_buffer_rule
 write_stands setup past buffer offset size e =
-    not_true (is_destroyed setup past buffer.number) (all_met (write_buffer_list setup past buffer offset size) e).1.1.1.1.1.0
+    or_first (is_destroyed setup past buffer.number) _ (not_true (is_busy setup past buffer.number) (all_met (write_buffer_list setup past buffer offset size) e).1.1.1.1.1.0)
 
 pub write_texture_stands : (setup : Setup) (past : Past) (texture : ObjRef) (spot : TextureSpot) (layout : DataLayout) (size : List ℕ) (data_size : ℕ) → is_none (write_texture_rule setup past texture spot layout size data_size) ≡ true → is_destroyed setup past texture.number ≡ false
 unfolding write_texture_rule
@@ -63,7 +59,7 @@ any_grows p q grows (x ∷ xs) e = by_cases (or_cases (q x) (list_any q xs) e) (
     by_cases (inr later) rest = or_right (p x) (list_any p xs) (rest later)
 
 -- Command buffers that use a destroyed object use some destroyed object.
-used_destroyed : (setup : Setup) (past : Past) (buffers : List ObjRef) (n : ℕ) → is_destroyed setup past n ≡ true → submit_uses past buffers n ≡ true → any_destroyed resources setup past buffers ≡ true
+used_destroyed : (setup : Setup) (past : Past) (buffers : List ObjRef) (n : ℕ) → is_destroyed setup past n ≡ true → submit_uses past buffers n ≡ true → any_used resources (is_destroyed setup past) past buffers ≡ true
 used_destroyed setup past buffers n destroyed used =
     any_grows (λ buffer. any_resource (is_destroyed setup past) (commands_at past buffer.number)) (λ buffer. uses_resource (commands_at past buffer.number) n)
     (λ buffer in_buffer. any_grows (λ kept. list_any (is_destroyed setup past) (resources kept.1)) (λ kept. list_any (λ r. r == n) (resources kept.1))
@@ -86,10 +82,24 @@ any_either p q r is (x ∷ xs) = ap₂ ◌||◌ (is x) (any_either p q r is xs) 
 any_resource_is : (test : ℕ → Bool) (commands : List (On × Command)) → any_resource test commands ≡ any_named buffers_of test commands || any_named textures_of test commands
 any_resource_is test commands = any_either (λ kept. list_any test (buffers_of kept.1)) (λ kept. list_any test (textures_of kept.1)) (λ kept. list_any test (resources kept.1)) (λ kept. list_any-append test (buffers_of kept.1) (textures_of kept.1)) commands
 
-any_destroyed_is : (setup : Setup) (past : Past) (buffers : List ObjRef) → any_destroyed resources setup past buffers ≡ any_destroyed buffers_of setup past buffers || any_destroyed textures_of setup past buffers
+any_destroyed_is : (setup : Setup) (past : Past) (buffers : List ObjRef) → any_used resources (is_destroyed setup past) past buffers ≡ any_used buffers_of (is_destroyed setup past) past buffers || any_used textures_of (is_destroyed setup past) past buffers
 any_destroyed_is setup past buffers =
     any_either (λ buffer. any_named buffers_of (is_destroyed setup past) (commands_at past buffer.number)) (λ buffer. any_named textures_of (is_destroyed setup past) (commands_at past buffer.number)) (λ buffer. any_resource (is_destroyed setup past) (commands_at past buffer.number))
     (λ buffer. any_resource_is (is_destroyed setup past) (commands_at past buffer.number)) buffers
+
+-- Where no buffer is busy, none is destroyed.
+buffers_stand : (setup : Setup) (past : Past) (buffers : List ObjRef) → any_used buffers_of (is_busy setup past) past buffers ≡ false → any_used buffers_of (is_destroyed setup past) past buffers ≡ false
+buffers_stand setup past buffers none = by_use (any_used buffers_of (is_destroyed setup past) past buffers) refl
+  where
+    grows : any_used buffers_of (is_destroyed setup past) past buffers ≡ true → any_used buffers_of (is_busy setup past) past buffers ≡ true
+    grows = any_grows (λ buffer. any_named buffers_of (is_busy setup past) (commands_at past buffer.number)) (λ buffer. any_named buffers_of (is_destroyed setup past) (commands_at past buffer.number))
+        (λ buffer in_buffer. any_grows (λ kept. list_any (is_busy setup past) (buffers_of kept.1)) (λ kept. list_any (is_destroyed setup past) (buffers_of kept.1))
+        (λ kept in_command. any_grows (is_busy setup past) (is_destroyed setup past) (λ r h. or_left (is_destroyed setup past r) _ h) (buffers_of kept.1) in_command)
+        (commands_at past buffer.number) in_buffer) buffers
+
+    by_use : (b : Bool) → any_used buffers_of (is_destroyed setup past) past buffers ≡ b → b ≡ false
+    by_use true used = absurd (true≢false (sym (grows used) ∙ none))
+    by_use false used = refl
 
 met_after : (rules more : List Rule) → AreMet (rules ++ more) → AreMet more
 met_after [] more met = met
@@ -100,10 +110,10 @@ pub submit_stands : (setup : Setup) (past : Past) (buffers : List ObjRef) (n : �
 unfolding submit_rule
 submit_stands setup past buffers n e destroyed =
     let met : AreMet (together_rules setup past buffers) = met_after (listed_rules setup past buffers) (together_rules setup past buffers) (all_met (submit_list setup past buffers) e) in
-    let spared : any_destroyed resources setup past buffers ≡ false = any_destroyed_is setup past buffers ∙ ap₂ ◌||◌ (not_true (any_destroyed buffers_of setup past buffers) met.1.1.0) (not_true (any_destroyed textures_of setup past buffers) met.1.1.1.0) in
+    let spared : any_used resources (is_destroyed setup past) past buffers ≡ false = any_destroyed_is setup past buffers ∙ ap₂ ◌||◌ (buffers_stand setup past buffers (not_true (any_used buffers_of (is_busy setup past) past buffers) met.1.1.0)) (not_true (any_used textures_of (is_destroyed setup past) past buffers) met.1.1.1.0) in
     by_use (submit_uses past buffers n) refl spared
   where
-    by_use : (b : Bool) → submit_uses past buffers n ≡ b → any_destroyed resources setup past buffers ≡ false → b ≡ false
+    by_use : (b : Bool) → submit_uses past buffers n ≡ b → any_used resources (is_destroyed setup past) past buffers ≡ false → b ≡ false
     by_use true used spared = absurd (true≢false (sym (used_destroyed setup past buffers n destroyed used) ∙ spared))
     by_use false used spared = refl
 
@@ -111,31 +121,34 @@ submit_stands setup past buffers n e destroyed =
 uses_none : (setup : Setup) (past : Past) (event : Event) (n : ℕ) → is_destroyed setup past n ≡ true → (if is_used past event n then unwrap_or (op_of (reply_to setup past event).answer) 0 else 0) ≡ 0
 uses_none setup past (WriteBuffer buffer offset size) n destroyed = by_same (buffer.number == n) refl
   where
-    by_rule : (b : Bool) → is_none (write_buffer_rule setup past buffer offset size) ≡ b → buffer.number ≡ n → unwrap_or (op_of (if b then Queued (issued past + 1) else Plain)) 0 ≡ 0
-    by_rule true e same = absurd (true≢false (sym destroyed ∙ (ap (is_destroyed setup past) (sym same) ∙ write_stands setup past buffer offset size e)))
-    by_rule false e same = refl
+    by_rule : (lost b : Bool) → is_none (write_buffer_rule setup past buffer offset size) ≡ b → buffer.number ≡ n → unwrap_or (op_of (if not lost && b then Queued (issued past + 1) else Plain)) 0 ≡ 0
+    by_rule false true e same = absurd (true≢false (sym destroyed ∙ (ap (is_destroyed setup past) (sym same) ∙ write_stands setup past buffer offset size e)))
+    by_rule true b e same = refl
+    by_rule false false e same = refl
 
     by_same : (b : Bool) → (buffer.number == n) ≡ b → (if b then unwrap_or (op_of (reply_to setup past (WriteBuffer buffer offset size)).answer) 0 else 0) ≡ 0
-    by_same true e = by_rule (is_none (write_buffer_rule setup past buffer offset size)) refl (eqb-true buffer.number n e)
+    by_same true e = by_rule (is_lost past) (is_none (write_buffer_rule setup past buffer offset size)) refl (eqb-true buffer.number n e)
     by_same false e = refl
 uses_none setup past (WriteTexture texture spot layout size data_size) n destroyed = by_same (texture.number == n) refl
   where
-    by_rule : (b : Bool) → is_none (write_texture_rule setup past texture spot layout size data_size) ≡ b → texture.number ≡ n → unwrap_or (op_of (if b then Queued (issued past + 1) else Plain)) 0 ≡ 0
-    by_rule true e same = absurd (true≢false (sym destroyed ∙ (ap (is_destroyed setup past) (sym same) ∙ write_texture_stands setup past texture spot layout size data_size e)))
-    by_rule false e same = refl
+    by_rule : (lost b : Bool) → is_none (write_texture_rule setup past texture spot layout size data_size) ≡ b → texture.number ≡ n → unwrap_or (op_of (if not lost && b then Queued (issued past + 1) else Plain)) 0 ≡ 0
+    by_rule false true e same = absurd (true≢false (sym destroyed ∙ (ap (is_destroyed setup past) (sym same) ∙ write_texture_stands setup past texture spot layout size data_size e)))
+    by_rule true b e same = refl
+    by_rule false false e same = refl
 
     by_same : (b : Bool) → (texture.number == n) ≡ b → (if b then unwrap_or (op_of (reply_to setup past (WriteTexture texture spot layout size data_size)).answer) 0 else 0) ≡ 0
-    by_same true e = by_rule (is_none (write_texture_rule setup past texture spot layout size data_size)) refl (eqb-true texture.number n e)
+    by_same true e = by_rule (is_lost past) (is_none (write_texture_rule setup past texture spot layout size data_size)) refl (eqb-true texture.number n e)
     by_same false e = refl
-uses_none setup past (Submit buffers) n destroyed = by_rule (is_none (submit_rule setup past buffers)) refl
+uses_none setup past (Submit buffers) n destroyed = by_rule (is_lost past) (is_none (submit_rule setup past buffers)) refl
   where
     either : (b : Bool) → ◌≡◌ {A = ℕ} (if b then 0 else 0) 0
     either true = refl
     either false = refl
 
-    by_rule : (b : Bool) → is_none (submit_rule setup past buffers) ≡ b → (if submit_uses past buffers n then unwrap_or (op_of (if b then Queued (issued past + 1) else Plain)) 0 else 0) ≡ 0
-    by_rule true met = ap (λ (used : Bool). if used then issued past + 1 else 0) (submit_stands setup past buffers n met destroyed)
-    by_rule false met = either (submit_uses past buffers n)
+    by_rule : (lost b : Bool) → is_none (submit_rule setup past buffers) ≡ b → (if submit_uses past buffers n then unwrap_or (op_of (if not lost && b then Queued (issued past + 1) else Plain)) 0 else 0) ≡ 0
+    by_rule false true met = ap (λ (used : Bool). if used then issued past + 1 else 0) (submit_stands setup past buffers n met destroyed)
+    by_rule true b met = either (submit_uses past buffers n)
+    by_rule false false met = either (submit_uses past buffers n)
 uses_none setup past _ n destroyed = refl
 
 unused_then : (setup : Setup) (entry : Entry) (older : Past) (n : ℕ) → IsRun setup (entry ∷ older) → is_destroyed setup older n ≡ true → use_by older entry n ≡ 0

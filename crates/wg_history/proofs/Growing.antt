@@ -1,10 +1,10 @@
 -- The trace of a beginning of a history is the beginning of its trace.
-use Rattle.std.proofs.Common.{◌≡◌, ℕ, List, [], ◌∷◌, ◌++◌, map, reverse, refl, ap, sym, ◌∙◌, subst, append-nil}
+use Rattle.std.proofs.Common.{List, [], ◌∷◌, ◌++◌, map, reverse, refl, ap, sym, ◌∙◌, subst, append-nil}
 use Rattle.std.proofs.lemmas.List.{append_assoc, reverse-append}
 use Rattle.wg_orders.specs.Steps.{Step, StepPlace}
 use Rattle.wg_rows.specs.Runs.{Cell}
 use Rattle.wg_orders.specs.Trace.{Item, StepItem, bars, add_step, clear_of, add_clear, to_clear, add_cleared, add_all, add_group, add_groups, free}
-use Rattle.wg_history.specs.Entries.{Setup, Entry, Past}
+use Rattle.wg_history.specs.Entries.{Setup, Past}
 use Rattle.wg_history.specs.Steps.{groups_of}
 use Rattle.wg_history.specs.Releases.{freed}
 use Rattle.wg_history.specs.Traces.{Trace, trace_after}
@@ -48,9 +48,9 @@ by_past : (setup : Setup) (new past : Past) → Grows (trace_after setup past) (
 by_past setup [] past = same (trace_after setup past)
 by_past setup (entry ∷ new) past =
     let older : List Item = trace_after setup (new ++ past) in
-    let worked : List Item = add_groups older (groups_of (new ++ past) entry.reply.answer entry.event) in
+    let worked : List Item = add_groups older (groups_of setup (new ++ past) entry) in
     then (trace_after setup past) older (trace_after setup (entry ∷ (new ++ past))) (by_past setup new past)
-    (then older worked (trace_after setup (entry ∷ (new ++ past))) (by_groups older (groups_of (new ++ past) entry.reply.answer entry.event)) (record { rest = map free (freed setup (entry ∷ (new ++ past))); grown = refl }))
+    (then older worked (trace_after setup (entry ∷ (new ++ past))) (by_groups older (groups_of setup (new ++ past) entry)) (record { rest = map free (freed setup (entry ∷ (new ++ past))); grown = refl }))
 
 pub releases_so_far : ReleasesSoFar
 releases_so_far setup before later n = record {

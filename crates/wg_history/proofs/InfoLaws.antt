@@ -17,9 +17,8 @@ use Rattle.wg_types.specs.declared.textures.TextureInfo.{TextureInfo}
 use Rattle.wg_types.specs.declared.textures.ViewInfo.{ViewInfo}
 use Rattle.wg_types.specs.declared.handles.ObjRef.{ObjRef}
 use Rattle.wg_types.specs.declared.handles.BufferInfo.{BufferInfo}
-use Rattle.wg_types.specs.declared.handles.Info.{Info}
 use Rattle.wg_types.specs.declared.handles.Info.TheVariants.{Buffer, Texture, View, Encoder, CommandBuffer}
-use Rattle.wg_history.specs.Infos.{same_bool, same_buffer, same_info, SameInfoIs}
+use Rattle.wg_history.specs.Infos.{same_bool, same_buffer, SameInfoIs}
 
 -- Numbers, and words by their numbers.
 numbers_tell : (a b : ℕ) → Decides (a == b) (a ≡ b)

@@ -16,14 +16,16 @@ use Rattle.wg_model.specs.Recorded.{wants_resource, numbered, resources, uses_re
 use Rattle.wg_model.proofs.NamedLemmas.{any_resources}
 use Rattle.wg_model.proofs.Unmet.{all_met}
 use Rattle.wg_encoder.specs.Recorders.{RecordingValue}
-use Rattle.wg_history.specs.Entries.{Setup, Event, Finish, Submit, WriteBuffer, WriteTexture, Destroy, Entry, Past}
-use Rattle.wg_history.specs.Objects.{is_making, count, maker, made_info, info_at, is_own, is_valid, is_made_valid, is_encoder, is_command_buffer, recorded_by, commands_at, resource_at}
+use Rattle.wg_history.specs.Loss.{is_lost}
+use Rattle.wg_history.specs.Entries.{recorded_by, Setup, Event, Finish, Submit, WriteBuffer, WriteTexture, Destroy, Entry, Past}
+use Rattle.wg_history.specs.Objects.{is_making, count, maker, made_info, info_at, is_own, is_valid, is_made_valid, is_encoder, is_command_buffer, commands_at}
 use Rattle.wg_history.specs.Operations.{issued, submit_uses, is_used, op_of, use_by, last_use}
 use Rattle.wg_history.specs.Rules.{destroy_rule, destroys, is_destroyed, ends_encoder, has_finished, consumes, is_consumed, is_genuine, any_forged, encoder_rules, recording_rules, finish_rule, listed_rules, together_rules, submit_list, submit_rule, write_buffer_list, write_buffer_rule, write_texture_list, write_texture_rule}
 use Rattle.wg_history.specs.Answers.{Queued, Plain, reply_to, IsRun}
 use Rattle.wg_history.specs.Releases.{is_due, is_released}
 use Rattle.wg_history.proofs.Released.{maker_below, resource_made, due_some}
-use Rattle.wg_history.proofs.AfterUse.{newest, others, not_true, any_grows}
+use Rattle.wg_history.proofs.AfterUse.{not_true, any_grows}
+use Rattle.wg_history.proofs.Runs.{newest, others}
 
 some_maker : {X : Type 0} (f : Entry → Option X) (test : X → Bool) (o : Option Entry) → option_map_or test (option_and_then f o) false ≡ true → is_some o ≡ true
 some_maker f test None h = absurd (true≢false (sym h))
@@ -142,7 +144,7 @@ finished_unused setup past encoder recording n le e =
     by_use false used = refl
 
 made_unused : (setup : Setup) (past : Past) (event : Event) (n : ℕ) → count past ≤ n → is_made_valid (reply_to setup past event).answer ≡ true → uses_resource (recorded_by event) n ≡ false
-made_unused setup past (Finish encoder recording) n le valid = finished_unused setup past encoder recording n le valid
+made_unused setup past (Finish encoder recording) n le valid = finished_unused setup past encoder recording n le (and_parts (not (is_lost past)) (is_none (finish_rule setup past encoder recording)) valid).1
 made_unused setup past _ n le valid = refl
 
 valid_unused : (setup : Setup) (past : Past) (k n : ℕ) → IsRun setup past → count past ≤ n → is_valid past k ≡ true → uses_resource (commands_at past k) n ≡ false
@@ -171,21 +173,24 @@ no_use false = refl
 
 uses_below : (setup : Setup) (past : Past) (event : Event) (n : ℕ) → IsRun setup past → count past ≤ n → (if is_used past event n then unwrap_or (op_of (reply_to setup past event).answer) 0 else 0) ≡ 0
 unfolding submit_rule write_buffer_rule write_texture_rule
-uses_below setup past (Submit buffers) n run le = by_rule (is_none (submit_rule setup past buffers)) refl
+uses_below setup past (Submit buffers) n run le = by_rule (is_lost past) (is_none (submit_rule setup past buffers)) refl
   where
-    by_rule : (b : Bool) → is_none (submit_rule setup past buffers) ≡ b → (if submit_uses past buffers n then unwrap_or (op_of (if b then Queued (issued past + 1) else Plain)) 0 else 0) ≡ 0
-    by_rule true met = ap (λ (used : Bool). if used then issued past + 1 else 0) (submit_below setup past buffers [] n run le (met_before (listed_rules setup past buffers) (together_rules setup past buffers) (all_met (submit_list setup past buffers) met)))
-    by_rule false met = no_use (submit_uses past buffers n)
-uses_below setup past (WriteBuffer buffer offset size) n run le = by_rule (is_none (write_buffer_rule setup past buffer offset size)) refl
+    by_rule : (lost b : Bool) → is_none (submit_rule setup past buffers) ≡ b → (if submit_uses past buffers n then unwrap_or (op_of (if not lost && b then Queued (issued past + 1) else Plain)) 0 else 0) ≡ 0
+    by_rule false true met = ap (λ (used : Bool). if used then issued past + 1 else 0) (submit_below setup past buffers [] n run le (met_before (listed_rules setup past buffers) (together_rules setup past buffers) (all_met (submit_list setup past buffers) met)))
+    by_rule true b met = no_use (submit_uses past buffers n)
+    by_rule false false met = no_use (submit_uses past buffers n)
+uses_below setup past (WriteBuffer buffer offset size) n run le = by_rule (is_lost past) (is_none (write_buffer_rule setup past buffer offset size)) refl
   where
-    by_rule : (b : Bool) → is_none (write_buffer_rule setup past buffer offset size) ≡ b → (if buffer.number == n then unwrap_or (op_of (if b then Queued (issued past + 1) else Plain)) 0 else 0) ≡ 0
-    by_rule true met = ap (λ (used : Bool). if used then issued past + 1 else 0) (fails (buffer.number == n) (count past) n le (λ h. let lt : buffer.number < count past = own_below setup past _ buffer (all_met (write_buffer_list setup past buffer offset size) met).0 in let same : buffer.number ≡ n = eqb-true buffer.number n h in omega (arith, lt, same)))
-    by_rule false met = no_use (buffer.number == n)
-uses_below setup past (WriteTexture texture spot layout size data_size) n run le = by_rule (is_none (write_texture_rule setup past texture spot layout size data_size)) refl
+    by_rule : (lost b : Bool) → is_none (write_buffer_rule setup past buffer offset size) ≡ b → (if buffer.number == n then unwrap_or (op_of (if not lost && b then Queued (issued past + 1) else Plain)) 0 else 0) ≡ 0
+    by_rule false true met = ap (λ (used : Bool). if used then issued past + 1 else 0) (fails (buffer.number == n) (count past) n le (λ h. let lt : buffer.number < count past = own_below setup past _ buffer (all_met (write_buffer_list setup past buffer offset size) met).0 in let same : buffer.number ≡ n = eqb-true buffer.number n h in omega (arith, lt, same)))
+    by_rule true b met = no_use (buffer.number == n)
+    by_rule false false met = no_use (buffer.number == n)
+uses_below setup past (WriteTexture texture spot layout size data_size) n run le = by_rule (is_lost past) (is_none (write_texture_rule setup past texture spot layout size data_size)) refl
   where
-    by_rule : (b : Bool) → is_none (write_texture_rule setup past texture spot layout size data_size) ≡ b → (if texture.number == n then unwrap_or (op_of (if b then Queued (issued past + 1) else Plain)) 0 else 0) ≡ 0
-    by_rule true met = ap (λ (used : Bool). if used then issued past + 1 else 0) (fails (texture.number == n) (count past) n le (λ h. let lt : texture.number < count past = own_below setup past _ texture (all_met (write_texture_list setup past texture spot layout size data_size) met).0 in let same : texture.number ≡ n = eqb-true texture.number n h in omega (arith, lt, same)))
-    by_rule false met = no_use (texture.number == n)
+    by_rule : (lost b : Bool) → is_none (write_texture_rule setup past texture spot layout size data_size) ≡ b → (if texture.number == n then unwrap_or (op_of (if not lost && b then Queued (issued past + 1) else Plain)) 0 else 0) ≡ 0
+    by_rule false true met = ap (λ (used : Bool). if used then issued past + 1 else 0) (fails (texture.number == n) (count past) n le (λ h. let lt : texture.number < count past = own_below setup past _ texture (all_met (write_texture_list setup past texture spot layout size data_size) met).0 in let same : texture.number ≡ n = eqb-true texture.number n h in omega (arith, lt, same)))
+    by_rule true b met = no_use (texture.number == n)
+    by_rule false false met = no_use (texture.number == n)
 uses_below setup past _ n run le = refl
 
 use_below : (setup : Setup) (entry : Entry) (older : Past) (n : ℕ) → IsRun setup (entry ∷ older) → count older ≤ n → use_by older entry n ≡ 0

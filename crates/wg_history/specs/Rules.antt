@@ -1,5 +1,5 @@
 -- The first unmet rule of an event.
-use Rattle.std.specs.Prelude.{ℕ, Bool, true, false, not, ◌&&◌, ◌||◌, ◌==◌, List, [], ◌∷◌, ◌++◌, reverse, Option, Some, None, is_none, unwrap_or}
+use Rattle.std.specs.Prelude.{ℕ, Bool, true, false, not, ◌&&◌, ◌||◌, ◌==◌, List, [], ◌∷◌, ◌++◌, reverse, Option, Some, None, is_none, is_some, unwrap_or, if◌then◌else◌}
 use Rattle.std.specs.List.{list_any}
 use Rattle.std.specs.Option.{option_map_or}
 use Rattle.wg_types.specs.Handles.{HandleValue}
@@ -10,16 +10,25 @@ use Rattle.wg_types.specs.declared.textures.DataLayout.{DataLayout}
 use Rattle.wg_types.specs.declared.commands.On.{On}
 use Rattle.wg_types.specs.Commands.{Command}
 use Rattle.wg_model.specs.Rules.{Rule, first_unmet, or_else}
-use Rattle.wg_model.specs.Buffers.{create_buffer_rules, write_buffer_rules}
+use Rattle.wg_model.specs.Buffers.{create_buffer_rules, write_buffer_rules, map_rules}
 use Rattle.wg_model.specs.Textures.{create_texture_rules, create_view_rules}
 use Rattle.wg_model.specs.TexelCopies.{write_texture_rules}
-use Rattle.wg_model.specs.Commands.{named, no_buffer}
+use Rattle.wg_model.specs.Commands.{named, no_buffer, no_texture}
 use Rattle.wg_model.specs.Scopes.{first_clash}
 use Rattle.wg_model.specs.Walk.{Verdict, ScopesOf, open_pass, encoder_depth}
 use Rattle.wg_model.specs.Recorded.{buffers_of, textures_of, any_named}
 use Rattle.wg_encoder.specs.Recorders.{RecordingValue}
-use Rattle.wg_history.specs.Entries.{Setup, Event, CreateBuffer, CreateTexture, CreateView, CreateEncoder, Finish, Late, Submit, WriteBuffer, WriteTexture, Destroy, Complete, Past}
-use Rattle.wg_history.specs.Objects.{BufferInfo, ObjRef, is_own, is_valid, info_at, is_buffer, is_texture, is_encoder, is_command_buffer, has_memory, buffer_at, texture_or_none_at, commands_at}
+use Rattle.wg_history.specs.Entries.{Setup, Event, CreateBuffer, CreateTexture, CreateView, CreateEncoder, Finish, Late, Submit, WriteBuffer, WriteTexture, Destroy, Complete, PushErrorScope, PopErrorScope, Lose, WorkDone, MapAsync, Unmap, effects_of, submitted, Entry, Past}
+use Rattle.wg_history.specs.Objects.{BufferInfo, ObjRef, is_making, count, info_made, is_made_valid, is_own, is_valid, info_at, is_buffer, is_texture, is_encoder, is_command_buffer, has_memory, buffer_at, texture_or_none_at, commands_at}
+use Rattle.wg_types.specs.declared.handles.Info.{Info}
+use Rattle.wg_types.specs.declared.handles.Info.TheVariants.{Buffer}
+use Rattle.wg_types.specs.declared.mappings.Mapping.{Mapping}
+use Rattle.wg_types.specs.declared.mappings.MapMode.TheVariants.{Write as WriteMode}
+use Rattle.wg_types.specs.declared.replies.Answer.{Answer}
+use Rattle.wg_types.specs.declared.replies.Settlement.{Settlement}
+use Rattle.wg_types.specs.declared.replies.How.{How}
+use Rattle.wg_types.specs.declared.replies.How.TheVariants.{Mapped, Done, Aborted, Rejected, Null, Error}
+use Rattle.wg_history.specs.Loss.{Awaited, mapping, work, Wait, promised, awaiting, is_pending}
 use Rattle.wg_history.specs.Infos.{same_kind, same_info, same_bool}
 
 -- createBuffer
@@ -46,31 +55,91 @@ destroy_rule setup past object = first_unmet ((10, is_own setup past has_memory 
 
 -- whether an event that comes after a past destroys object n
 abbrev pub destroys : Setup → Past → Event → ℕ → Bool
-destroys setup past (Destroy object) n = object.number == n && is_none (destroy_rule setup past object)
-destroys setup past (CreateBuffer info) n = false
-destroys setup past (CreateTexture info) n = false
-destroys setup past (CreateView texture desc) n = false
-destroys setup past CreateEncoder n = false
-destroys setup past (Finish encoder recording) n = false
-destroys setup past (Late encoder) n = false
-destroys setup past (Submit buffers) n = false
-destroys setup past (WriteBuffer buffer offset size) n = false
-destroys setup past (WriteTexture texture spot layout size data_size) n = false
-destroys setup past (Complete op) n = false
+destroys setup past event n = option_map_or (λ object. object.number == n && is_none (destroy_rule setup past object)) (effects_of event).destroyed false
 
 -- whether object n is destroyed: some destroy of it met its rules at its place
 abbrev pub is_destroyed : Setup → Past → ℕ → Bool
 is_destroyed setup [] n = false
 is_destroyed setup (entry ∷ older) n = destroys setup older entry.event n || is_destroyed setup older n
 
+-- unmap (WebGPU, "unmap"): 10 the buffer is one of this device, valid or not
+unfoldable pub unmap_rule : Setup → Past → ObjRef → Option ℕ
+unmap_rule setup past buffer = first_unmet ((10, is_own setup past is_buffer buffer) ∷ [])
+
+-- whether an event that comes after a past unmaps buffer n, as its unmap does that meets its rules, and its destroy
+abbrev pub unmaps : Setup → Past → Event → ℕ → Bool
+unmaps setup past event n = option_map_or (λ buffer. buffer.number == n && is_none (unmap_rule setup past buffer)) (effects_of event).unmapped (destroys setup past event n)
+
+-- a valid creation that is mapped: for writing, the whole range
+abbrev pub mapped_with : Answer → Option Info → Option Mapping
+mapped_with answer (Some (Buffer info)) = if info.mapped && is_made_valid answer then Some (record { mode = WriteMode; lo = 0; hi = info.size }) else None
+mapped_with answer _ = None
+
+abbrev pub mapped_made : Entry → Option Mapping
+mapped_made entry = mapped_with entry.reply.answer (info_made (λ _. no_texture) entry.event)
+
+abbrev pub is_mapped_how : How → Bool
+is_mapped_how Mapped = true
+is_mapped_how Done = false
+is_mapped_how Aborted = false
+is_mapped_how Rejected = false
+is_mapped_how Null = false
+is_mapped_how (Error kind rule) = false
+
+-- whether settlements say that a promise is kept by mapping
+abbrev pub settles_mapped : List Settlement → ℕ → Bool
+settles_mapped settled promise = list_any (λ (s : Settlement). s.promise == promise && is_mapped_how s.how) settled
+
+-- the mapping of buffer n that a promise is for, if settlements keep it
+abbrev pub mapped_in : List Settlement → ℕ → ℕ → Awaited → Option Mapping
+mapped_in settled n promise (mapping buffer last m) = if buffer == n && settles_mapped settled promise then Some m else None
+mapped_in settled n promise (work ops) = None
+
+abbrev pub or_before : Option Mapping → Option Mapping → Option Mapping
+or_before (Some m) before = Some m
+or_before None before = before
+
+-- the mapping of buffer n that settlements of these promises make: that of the last
+abbrev pub mapped_now : List Settlement → List Wait → ℕ → Option Mapping
+mapped_now settled [] n = None
+mapped_now settled (wait ∷ waits) n = or_before (mapped_now settled waits n) (mapped_in settled n wait.promise wait.awaited)
+
+-- what waits before an entry or is promised by it
+abbrev pub waits_of : Entry → Past → List Wait
+waits_of entry older = awaiting older ++ promised older (effects_of entry.event).form
+
+-- How buffer n is mapped, if it is: what the last entry left that made it so or that unmapped it.
+abbrev pub mapped_at : Setup → Past → ℕ → Option Mapping
+mapped_at setup [] n = None
+mapped_at setup (entry ∷ older) n =
+    if is_making entry.event && count older == n then mapped_made entry
+    else if unmaps setup older entry.event n then None
+    else or_before (mapped_now entry.reply.settled (waits_of entry older) n) (mapped_at setup older n)
+
+-- whether buffer n is destroyed, or mapped, or a map of it is pending
+abbrev pub is_busy : Setup → Past → ℕ → Bool
+is_busy setup past n = is_destroyed setup past n || (is_some (mapped_at setup past n) || is_pending past n)
+
+-- The rules of mapAsync: 10 the buffer is one of this device, 12 it is valid, then the rules by what it is and what is asked,
+-- and 225 it is not mapped, pending or destroyed
+abbrev pub map_async_list : Setup → Past → ObjRef → ℕ → ℕ → ℕ → List Rule
+map_async_list setup past buffer mode offset size =
+    (10, is_own setup past is_buffer buffer)
+    ∷ ((12, is_valid past buffer.number)
+    ∷ (map_rules (unwrap_or (buffer_at past buffer.number) no_buffer) mode offset size
+    ++ (225, not (is_busy setup past buffer.number)) ∷ []))
+
+unfoldable pub map_async_rule : Setup → Past → ObjRef → ℕ → ℕ → ℕ → Option ℕ
+map_async_rule setup past buffer mode offset size = first_unmet (map_async_list setup past buffer mode offset size)
+
 -- The rules of writeBuffer: 10 the target is a buffer of this device, 12 it is valid, then the rules by its size and usage, and 203
--- it is not destroyed
+-- it is not mapped, pending or destroyed
 abbrev pub write_buffer_list : Setup → Past → ObjRef → ℕ → ℕ → List Rule
 write_buffer_list setup past buffer offset size =
     (10, is_own setup past is_buffer buffer)
     ∷ ((12, is_valid past buffer.number)
     ∷ (write_buffer_rules (unwrap_or (buffer_at past buffer.number) no_buffer) offset size
-    ++ (203, not (is_destroyed setup past buffer.number)) ∷ []))
+    ++ (203, not (is_busy setup past buffer.number)) ∷ []))
 
 unfoldable pub write_buffer_rule : Setup → Past → ObjRef → ℕ → ℕ → Option ℕ
 write_buffer_rule setup past buffer offset size = first_unmet (write_buffer_list setup past buffer offset size)
@@ -102,17 +171,7 @@ any_forged setup past commands = list_any (λ kept. list_any (λ object. not (is
 -- whether an event that comes after a past ends the encoder n: a finish of it does, whether or not it is accepted. A finish
 -- that names a number which no encoder of this device has ends nothing, also if one gets that number later.
 abbrev pub ends_encoder : Setup → Past → Event → ℕ → Bool
-ends_encoder setup past (Finish encoder recording) n = encoder.number == n && is_own setup past is_encoder encoder
-ends_encoder setup past (CreateBuffer info) n = false
-ends_encoder setup past (CreateTexture info) n = false
-ends_encoder setup past (CreateView texture desc) n = false
-ends_encoder setup past CreateEncoder n = false
-ends_encoder setup past (Late encoder) n = false
-ends_encoder setup past (Submit buffers) n = false
-ends_encoder setup past (WriteBuffer buffer offset size) n = false
-ends_encoder setup past (WriteTexture texture spot layout size data_size) n = false
-ends_encoder setup past (Destroy object) n = false
-ends_encoder setup past (Complete op) n = false
+ends_encoder setup past event n = option_map_or (λ encoder. encoder.number == n && is_own setup past is_encoder encoder) (effects_of event).ended false
 
 abbrev pub has_finished : Setup → Past → ℕ → Bool
 has_finished setup [] n = false
@@ -145,17 +204,7 @@ finish_rule setup past encoder recording =
 -- whether an event that comes after a past consumes the command buffer n: a submit that lists it does, whether or not it is
 -- accepted
 abbrev pub consumes : Setup → Past → Event → ℕ → Bool
-consumes setup past (Submit buffers) n = list_any (λ buffer. buffer.number == n && is_own setup past is_command_buffer buffer) buffers
-consumes setup past (CreateBuffer info) n = false
-consumes setup past (CreateTexture info) n = false
-consumes setup past (CreateView texture desc) n = false
-consumes setup past CreateEncoder n = false
-consumes setup past (Finish encoder recording) n = false
-consumes setup past (Late encoder) n = false
-consumes setup past (WriteBuffer buffer offset size) n = false
-consumes setup past (WriteTexture texture spot layout size data_size) n = false
-consumes setup past (Destroy object) n = false
-consumes setup past (Complete op) n = false
+consumes setup past event n = list_any (λ buffer. buffer.number == n && is_own setup past is_command_buffer buffer) (submitted event)
 
 abbrev pub is_consumed : Setup → Past → ℕ → Bool
 is_consumed setup [] n = false
@@ -174,18 +223,18 @@ listed_rules setup past (buffer ∷ buffers) =
     ∷ ((12, is_valid past buffer.number)
     ∷ listed_rules setup past buffers)
 
--- whether one of the objects that the commands of these command buffers name is destroyed
-abbrev pub any_destroyed : (Command → List ℕ) → Setup → Past → List ObjRef → Bool
-any_destroyed names setup past buffers = list_any (λ buffer. any_named names (is_destroyed setup past) (commands_at past buffer.number)) buffers
+-- whether one of the objects that the commands of these command buffers name passes the test
+abbrev pub any_used : (Command → List ℕ) → (ℕ → Bool) → Past → List ObjRef → Bool
+any_used names test past buffers = list_any (λ buffer. any_named names test (commands_at past buffer.number)) buffers
 
--- and those on all of them: 190 none was consumed; 191 none is named twice; 192 no buffer that they use is destroyed; 193 no
--- texture that they use is.
+-- and those on all of them: 190 none was consumed; 191 none is named twice; 192 no buffer that they use is mapped, pending or
+-- destroyed; 193 no texture that they use is destroyed.
 abbrev pub together_rules : Setup → Past → List ObjRef → List Rule
 together_rules setup past buffers =
     (190, not (list_any (λ buffer. is_consumed setup past buffer.number) buffers))
     ∷ ((191, are_distinct buffers)
-    ∷ ((192, not (any_destroyed buffers_of setup past buffers))
-    ∷ ((193, not (any_destroyed textures_of setup past buffers))
+    ∷ ((192, not (any_used buffers_of (is_busy setup past) past buffers))
+    ∷ ((193, not (any_used textures_of (is_destroyed setup past) past buffers))
     ∷ [])))
 
 -- submit
@@ -209,3 +258,9 @@ first_rule setup past (WriteBuffer buffer offset size) = write_buffer_rule setup
 first_rule setup past (WriteTexture texture spot layout size data_size) = write_texture_rule setup past texture spot layout size data_size
 first_rule setup past (Destroy object) = destroy_rule setup past object
 first_rule setup past (Complete op) = None
+first_rule setup past (PushErrorScope filter) = None
+first_rule setup past PopErrorScope = None
+first_rule setup past Lose = None
+first_rule setup past WorkDone = None
+first_rule setup past (MapAsync buffer mode offset size) = map_async_rule setup past buffer mode offset size
+first_rule setup past (Unmap buffer) = unmap_rule setup past buffer

@@ -8,6 +8,7 @@ use Rattle.wg_types.specs.declared.commands.On.{On}
 use Rattle.wg_types.specs.declared.commands.On.TheVariants.{Encoder, Pass}
 use Rattle.wg_types.specs.Commands.{Command}
 use Rattle.wg_types.specs.declared.commands.CommandOf.TheVariants.{CopyBufferToBuffer, CopyBufferToTexture, CopyTextureToBuffer, CopyTextureToTexture, ClearBuffer}
+use Rattle.wg_types.specs.declared.mappings.Mapping.{Mapping}
 use Rattle.wg_types.specs.declared.textures.TextureInfo.{TextureInfo}
 use Rattle.wg_types.specs.declared.textures.TextureSpot.{TextureSpot}
 use Rattle.wg_rows.specs.Runs.{Part, object_of}
@@ -19,7 +20,7 @@ use Rattle.wg_model.specs.TexelCopies.{whole_spot}
 use Rattle.wg_model.specs.Commands.{texture_of}
 use Rattle.wg_model.specs.Walk.{PassSoFar, open_pass}
 use Rattle.wg_model.specs.Commands.{size_or_rest}
-use Rattle.wg_model.specs.Recorded.{Touch, touching, target_kind, copied_to, copied_from, range_touches, buffer_to_buffer_touches, buffer_to_texture_touches, texture_to_buffer_touches, texture_to_texture_touches, write_buffer_step, write_texture_step, unless, encoder_steps, steps_at, recorded_steps, resources, uses_resource}
+use Rattle.wg_model.specs.Recorded.{Touch, touching, target_kind, copied_to, copied_from, range_touches, buffer_to_buffer_touches, buffer_to_texture_touches, texture_to_buffer_touches, texture_to_texture_touches, write_buffer_step, write_texture_step, host_name, host_touches, unless, encoder_steps, steps_at, recorded_steps, resources, uses_resource}
 use Rattle.wg_model.specs.StepLaws.{RecordedSpare}
 use Rattle.wg_model.proofs.StepLaws.{pass_none}
 use Rattle.wg_model.proofs.Touching.{AreAway, touching_spares, copied_others, read_away, written_away, joined_away}
@@ -30,6 +31,9 @@ Spares n s = (p : Part) → object_of p ≡ n → set_of s p ≡ None
 
 pub write_spares : (place : StepPlace) (object offset size n : ℕ) → object == n ≡ false → Spares n (write_buffer_step place object offset size)
 write_spares place object offset size n other = touching_spares place name.WriteBuffer (range_touches object offset size) n (other, tt)
+
+pub host_spares : (place : StepPlace) (buffer : ℕ) (m : Mapping) (n : ℕ) → buffer == n ≡ false → Spares n (touching place (host_name m.mode) (host_touches buffer m))
+host_spares place buffer m n other = touching_spares place (host_name m.mode) (host_touches buffer m) n (other, tt)
 
 copied_to_away : (n object : ℕ) (info : TextureInfo) (spot : TextureSpot) (size : List ℕ) → object == n ≡ false → AreAway n (copied_to object info spot size)
 copied_to_away n object info spot size other = written_away n (target_kind info spot size) (copied_cells object info spot size) (copied_others n object info spot size other)

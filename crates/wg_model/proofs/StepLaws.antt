@@ -6,6 +6,9 @@ use Rattle.wg_types.specs.declared.commands.On.{On}
 use Rattle.wg_types.specs.declared.commands.On.TheVariants.{Encoder, Pass}
 use Rattle.wg_types.specs.Commands.{Command}
 use Rattle.wg_types.specs.declared.commands.CommandOf.TheVariants.{CopyBufferToBuffer, CopyBufferToTexture, CopyTextureToBuffer, CopyTextureToTexture, ClearBuffer}
+use Rattle.wg_types.specs.declared.mappings.Mapping.{Mapping}
+use Rattle.wg_types.specs.declared.mappings.MapMode.{MapMode}
+use Rattle.wg_types.specs.declared.mappings.MapMode.TheVariants.{Read as ReadMode, Write as WriteMode}
 use Rattle.wg_types.specs.declared.textures.TextureInfo.{TextureInfo}
 use Rattle.wg_types.specs.declared.textures.TextureSpot.{TextureSpot}
 use Rattle.wg_types.specs.declared.textures.DataLayout.{DataLayout}
@@ -18,7 +21,7 @@ use Rattle.wg_model.specs.TexelCopies.{whole_spot}
 use Rattle.wg_model.specs.Commands.{texture_of}
 use Rattle.wg_model.specs.Walk.{PassSoFar, open_pass}
 use Rattle.wg_model.specs.Commands.{size_or_rest}
-use Rattle.wg_model.specs.Recorded.{Touch, touching, read_cells, written_cells, bytes_at, target_kind, copied_to, copied_from, layout_bytes, range_touches, buffer_to_buffer_touches, buffer_to_texture_touches, texture_to_buffer_touches, texture_to_texture_touches, write_buffer_step, write_texture_step, unless, encoder_steps, steps_within, steps_at, recorded_steps}
+use Rattle.wg_model.specs.Recorded.{Touch, touching, read_cells, written_cells, bytes_at, target_kind, copied_to, copied_from, layout_bytes, range_touches, buffer_to_buffer_touches, buffer_to_texture_touches, texture_to_buffer_touches, texture_to_texture_touches, write_buffer_step, write_texture_step, host_name, host_touches, host_step, unless, encoder_steps, steps_within, steps_at, recorded_steps}
 use Rattle.wg_model.specs.StepLaws.{IsOwnStep, WritesAreDeclared, RecordedAreDeclared}
 use Rattle.wg_model.proofs.Touching.{AreProper, touching_own, read_proper, written_proper, joined_proper}
 
@@ -64,6 +67,17 @@ by_size false step s own e = subst (λ (x : Step). IsOwnStep x) (cc) own
 pub writes_are_declared : WritesAreDeclared
 writes_are_declared place (BufferWrite buffer offset size) s e = by_size (size == 0) (write_buffer_step place buffer.number offset size) s (write_own place buffer.number offset size) e
 writes_are_declared place (TextureWrite texture info spot layout size) s e = by_size (has_no_texel size) (write_texture_step place texture.number info spot size) s (write_texture_own place texture.number info spot size) e
+
+host_proper : (buffer lo hi : ℕ) (mode : MapMode) → AreProper (host_touches buffer (record { mode = mode; lo = lo; hi = hi }))
+host_proper buffer lo hi ReadMode = (λ e. absurd (cc), tt)
+host_proper buffer lo hi WriteMode = (λ e. refl, tt)
+
+host_own_name : (mode : MapMode) (place : StepPlace) (touches : List Touch) → AreProper touches → IsOwnStep (touching place (host_name mode) touches)
+host_own_name ReadMode place touches proper = touching_own place name.HostRead touches refl proper
+host_own_name WriteMode place touches proper = touching_own place name.HostWrite touches refl proper
+
+pub host_is_declared : (place : StepPlace) (buffer : ℕ) (m : Mapping) (s : Step) → host_step place buffer m ≡ Some s → IsOwnStep s
+host_is_declared place buffer m s e = by_size (m.lo == m.hi) (touching place (host_name m.mode) (host_touches buffer m)) s (host_own_name m.mode place (host_touches buffer m) (host_proper buffer m.lo m.hi m.mode)) e
 
 -- A step of a list of one step is that step.
 pub no_step : (s : Step) (k : ℕ) → ◌≡◌ {A = Option Step} (slice_get [] k) (Some s) → ⊥

@@ -1,8 +1,8 @@
 -- Each scope has its verdict: the first of the parts, in order, whose set of all uses has usages that may not stand together.
-use Rattle.std.proofs.Common.{◌≡◌, ℕ, ◌+◌, ◌<◌, ◌≤◌, max, List, [], ◌∷◌, ◌++◌, Bool, true, false, ◌||◌, ◌&&◌, ◌==◌, Option, Some, None, refl, ap, ap₂, sym, ◌∙◌, ◌⊎◌, inl, inr, arith, if◌then◌else◌, true≢false, bit_and, bit_or, eqb-true, eq-eqb, subst, nat_lt, length}
+use Rattle.std.proofs.Common.{◌≡◌, ℕ, ◌<◌, ◌≤◌, List, [], ◌∷◌, ◌++◌, Bool, true, false, ◌||◌, ◌&&◌, ◌==◌, Option, Some, None, refl, ap, ap₂, sym, ◌∙◌, ◌⊎◌, inl, inr, arith, if◌then◌else◌, true≢false, bit_and, bit_or, eqb-true, eq-eqb, subst, nat_lt, length}
 use Rattle.std.proofs.lemmas.Nat.Bits.{same_from_bits, bit_at_and, bit_at_or}
 use Rattle.std.specs.Int.{bit_at}
-use Rattle.wg_rows.specs.Rows.{list_before, list_eq, Apart, After, EachRow, Spot, covers_spot}
+use Rattle.wg_rows.specs.Rows.{list_before, Apart, After, EachRow, covers_spot}
 use Rattle.wg_rows.specs.Cut.{value_at}
 use Rattle.wg_rows.specs.Runs.{Part, PartRun, BufferPart, LayerParts, QueryPart, Buffer, Subresource, QuerySet, part_sort, part_spot, part_line, part_lo, part_hi, aspect_number, covers_part}
 use Rattle.wg_rows.specs.Uses.{Usages, row_set, with_usage}
@@ -12,7 +12,7 @@ use Rattle.wg_rows.proofs.Sets.{covered, sets_row, sets_apart, apart_set}
 use Rattle.std.proofs.lemmas.Bool.{or_cases}
 use Rattle.std.proofs.lemmas.Bool.Decides.{nat_tests}
 use Rattle.std.proofs.lemmas.Option.{same_Some}
-use Rattle.wg_model.specs.Scopes.{Use, is_within, agree, Among, ClashAt, Compatible, part_key, IsVerdict, may_stand, first_part, clash_in, clash, VerdictIs}
+use Rattle.wg_model.specs.Scopes.{Use, is_within, agree, Among, ClashAt, part_key, IsVerdict, may_stand, first_part, clash_in, clash, VerdictIs}
 
 -- Usages among these, bit by bit.
 within_bits : (m : ℕ) (a : Usages) → is_within m a ≡ true → (i : ℕ) → bit_at a.0 i ≤ bit_at m i

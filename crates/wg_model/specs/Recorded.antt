@@ -13,6 +13,9 @@ use Rattle.wg_types.specs.Commands.{Command, named}
 use Rattle.wg_types.specs.declared.wanted.Wanted.{Wanted}
 use Rattle.wg_types.specs.declared.wanted.Wanted.TheVariants as wanted
 use Rattle.wg_types.specs.declared.commands.CommandOf.TheVariants.{BeginComputePass, CopyBufferToBuffer, CopyBufferToTexture, CopyTextureToBuffer, CopyTextureToTexture, ClearBuffer, PushDebugGroup, PopDebugGroup, End}
+use Rattle.wg_types.specs.declared.mappings.Mapping.{Mapping}
+use Rattle.wg_types.specs.declared.mappings.MapMode.{MapMode}
+use Rattle.wg_types.specs.declared.mappings.MapMode.TheVariants.{Read as ReadMode, Write as WriteMode}
 use Rattle.wg_types.specs.declared.textures.TextureInfo.{TextureInfo}
 use Rattle.wg_types.specs.declared.textures.TextureSpot.{TextureSpot}
 use Rattle.wg_types.specs.declared.textures.DataLayout.{DataLayout}
@@ -122,6 +125,28 @@ write_texture_step place object info spot size = touching place name.WriteTextur
 abbrev pub write_step : StepPlace → QueueWrite → Option Step
 write_step place (BufferWrite buffer offset size) = if size == 0 then None else Some (write_buffer_step place buffer.number offset size)
 write_step place (TextureWrite texture info spot layout size) = if has_no_texel size then None else Some (write_texture_step place texture.number info spot size)
+
+-- Host accesses (WebGPU, "Buffer Mapping"): what a map for reading gives the caller is read; what is mapped for writing goes
+-- back whole, with what the caller left as it was.
+
+abbrev pub host_usage : MapMode → Usages
+host_usage ReadMode = record { 0 = 1024 }
+host_usage WriteMode = record { 0 = 2048 }
+
+abbrev pub host_kind : MapMode → Kind
+host_kind ReadMode = Read
+host_kind WriteMode = Both
+
+abbrev pub host_name : MapMode → StepName
+host_name ReadMode = name.HostRead
+host_name WriteMode = name.HostWrite
+
+abbrev pub host_touches : ℕ → Mapping → List Touch
+host_touches buffer m = (Bytes buffer m.lo m.hi, (host_usage m.mode, host_kind m.mode)) ∷ []
+
+-- the step of a host access to the range of a mapping; an empty range is no step
+abbrev pub host_step : StepPlace → ℕ → Mapping → Option Step
+host_step place buffer m = if m.lo == m.hi then None else Some (touching place (host_name m.mode) (host_touches buffer m))
 
 abbrev pub unless : Bool → Step → List Step
 unless nothing step = if nothing then [] else step ∷ []

@@ -14,4 +14,3 @@ pub mod Steps
 pub mod Declared
 pub mod Agreeing
 pub mod Unused
-pub mod Sets

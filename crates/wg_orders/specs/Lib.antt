@@ -1,5 +1,4 @@
 pub mod Steps
-pub mod Sets
 pub mod Trace
 pub mod Orders
 pub mod Laws

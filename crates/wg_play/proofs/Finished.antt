@@ -16,7 +16,7 @@ use Rattle.wg_types.specs.Wanted.{admits}
 use Rattle.wg_types.specs.Commands.{named, map_refs}
 use Rattle.wg_types.specs.Requests.{kind_made, named as asked_of}
 use Rattle.wg_types.specs.declared.requests.RequestOf.{RequestOf}
-use Rattle.wg_types.specs.declared.requests.RequestOf.TheVariants.{CreateBuffer, CreateTexture, CreateView, CreateEncoder, Finish, Submit, WriteBuffer, WriteTexture, Destroy, Complete}
+use Rattle.wg_types.specs.declared.requests.RequestOf.TheVariants.{CreateBuffer, CreateTexture, CreateView, CreateEncoder, Finish, Submit, WriteBuffer, WriteTexture, Destroy, Complete, PushErrorScope, PopErrorScope, Lose, WorkDone, MapAsync, Unmap}
 use Rattle.wg_encoder.specs.Recorders.{RecorderValue, after_take, is_late}
 use Rattle.wg_types.specs.declared.commands.On.TheVariants.{Encoder}
 use Rattle.wg_history.specs.declared.events.Setup.{Setup}
@@ -94,6 +94,12 @@ request_unborn made n (WriteBuffer buffer offset size) below all = refl
 request_unborn made n (WriteTexture texture spot layout size data_size) below all = refl
 request_unborn made n (Destroy object) below all = refl
 request_unborn made n (Complete op) below all = refl
+request_unborn made n (PushErrorScope filter) below all = refl
+request_unborn made n PopErrorScope below all = refl
+request_unborn made n Lose below all = refl
+request_unborn made n WorkDone below all = refl
+request_unborn made n (MapAsync buffer mode offset size) below all = refl
+request_unborn made n (Unmap buffer) below all = refl
 
 call_unborn : (made : Slots) (n : ℕ) (call : BoundCall) → All (λ m. m.0 < n) made → All (IsFound made) (uses_of call) → finishes n call ≡ false
 call_unborn made n (Record on command made_slot) below all = refl
@@ -150,6 +156,12 @@ request_length setup state (WriteBuffer buffer offset size) slot = omega arith
 request_length setup state (WriteTexture texture spot layout size data_size) slot = omega arith
 request_length setup state (Destroy object) slot = omega arith
 request_length setup state (Complete op) slot = omega arith
+request_length setup state (PushErrorScope filter) slot = omega arith
+request_length setup state PopErrorScope slot = omega arith
+request_length setup state Lose slot = omega arith
+request_length setup state WorkDone slot = omega arith
+request_length setup state (MapAsync buffer mode offset size) slot = omega arith
+request_length setup state (Unmap buffer) slot = omega arith
 
 taken_length : (objects : List Object) (found : Option ℕ) → length (option_map_or (taken_on objects) found objects) ≡ length objects
 taken_length objects None = refl
@@ -184,6 +196,12 @@ encoder_new setup state (WriteBuffer buffer offset size) slot e = absurd (cc)
 encoder_new setup state (WriteTexture texture spot layout size data_size) slot e = absurd (cc)
 encoder_new setup state (Destroy object) slot e = absurd (cc)
 encoder_new setup state (Complete op) slot e = absurd (cc)
+encoder_new setup state (PushErrorScope filter) slot e = absurd (cc)
+encoder_new setup state PopErrorScope slot e = absurd (cc)
+encoder_new setup state Lose slot e = absurd (cc)
+encoder_new setup state WorkDone slot e = absurd (cc)
+encoder_new setup state (MapAsync buffer mode offset size) slot e = absurd (cc)
+encoder_new setup state (Unmap buffer) slot e = absurd (cc)
 
 as_encoder : (slot on : ℕ) (found : Option Kind) → made_as (Some slot) found ≡ Some (on, kind.Encoder) → found ≡ Some kind.Encoder
 as_encoder slot on None e = absurd (cc)

@@ -11,8 +11,8 @@ use Rattle.wg_types.specs.Commands.{Command}
 use Rattle.wg_types.specs.Refs.{first_of}
 use Rattle.wg_types.specs.Requests.{named}
 use Rattle.wg_types.specs.declared.requests.RequestOf.{RequestOf}
-use Rattle.wg_types.specs.declared.requests.RequestOf.TheVariants.{CreateBuffer, CreateTexture, CreateView, CreateEncoder, Finish, Submit, WriteBuffer, WriteTexture, Destroy, Complete}
-use Rattle.wg_model.specs.Commands.{texture_of, no_texture}
+use Rattle.wg_types.specs.declared.requests.RequestOf.TheVariants.{CreateBuffer, CreateTexture, CreateView, CreateEncoder, Finish, Submit, WriteBuffer, WriteTexture, Destroy, Complete, PushErrorScope, PopErrorScope, Lose, WorkDone, MapAsync, Unmap}
+use Rattle.wg_model.specs.Commands.{texture_of, no_texture, size_or_rest}
 use Rattle.wg_model.specs.Views.{view_of}
 use Rattle.wg_encoder.specs.Recorders.{RecorderValue, RecordingValue, is_late, recorded, after_take}
 use Rattle.wg_history.specs.Objects.{info_made}
@@ -60,6 +60,10 @@ taken_on objects slot = with_recorder objects slot (λ recorder. record recorder
 abbrev pub known_texture : HandleValue → TextureInfo
 known_texture texture = if texture.valid then texture_of texture else no_texture
 
+-- a size in a buffer, or what remains of it from the offset on where none is given, which of an invalid one is nothing
+abbrev pub size_at : List Object → ℕ → ℕ → Option ℕ → ℕ
+size_at objects buffer offset size = size_or_rest (handle_at objects buffer) offset size
+
 -- the event that a call of the device is: each slot stands for what the call made that has it
 abbrev pub event_asked : List Object → RequestOf ℕ → Event
 event_asked objects (CreateBuffer known) = event.CreateBuffer known
@@ -72,6 +76,12 @@ event_asked objects (WriteBuffer buffer offset size) = event.WriteBuffer (refere
 event_asked objects (WriteTexture texture spot layout size data_size) = event.WriteTexture (reference_at objects texture) spot layout size data_size
 event_asked objects (Destroy object) = event.Destroy (reference_at objects object)
 event_asked objects (Complete op) = event.Complete op
+event_asked objects (PushErrorScope filter) = event.PushErrorScope filter
+event_asked objects PopErrorScope = event.PopErrorScope
+event_asked objects Lose = event.Lose
+event_asked objects WorkDone = event.WorkDone
+event_asked objects (MapAsync buffer mode offset size) = event.MapAsync (reference_at objects buffer) mode offset (size_at objects buffer offset size)
+event_asked objects (Unmap buffer) = event.Unmap (reference_at objects buffer)
 
 -- the encoder that a call of the device ends, if it ends one
 abbrev pub ended_by : RequestOf ℕ → Option ℕ
@@ -85,6 +95,12 @@ ended_by (WriteBuffer buffer offset size) = None
 ended_by (WriteTexture texture spot layout size data_size) = None
 ended_by (Destroy object) = None
 ended_by (Complete op) = None
+ended_by (PushErrorScope filter) = None
+ended_by PopErrorScope = None
+ended_by Lose = None
+ended_by WorkDone = None
+ended_by (MapAsync buffer mode offset size) = None
+ended_by (Unmap buffer) = None
 
 -- the objects once such an event has taken what it carries: the commands of the encoder that it ends
 abbrev pub objects_taken : List Object → RequestOf ℕ → List Object

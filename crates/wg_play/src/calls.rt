@@ -1,15 +1,18 @@
 //! Which command or event each call of a script is.
-ghost use Rattle.std.specs.Prelude.{◌≡◌, Some, IfOk, OnOk};
+ghost use Rattle.std.specs.Prelude.{◌≡◌, Some, IfOk, OnOk, OnErr};
 ghost use Rattle.wg_types.specs.Commands.{map_refs};
 ghost use Rattle.wg_model.specs.Commands.{texture_of};
 ghost use Rattle.wg_model.specs.Views.{view_of};
 ghost use Rattle.wg_play.specs.Objects.{handle_at, reference_at, known_texture, event_asked, objects_taken, texture_named, known_made};
 
-use crate::objects::{Object, handle_at, known_texture_at, reference_at, take_on, texture_at};
+use crate::objects::{
+    Object, handle_at, known_texture_at, reference_at, size_at, take_on, texture_at,
+};
 use std::alloc::Global;
 use wg_entry::NoMemory;
+use wg_formats::no_texture;
 use wg_history::events::Event;
-use wg_textures::{Asked, no_texture, view_of};
+use wg_textures::{Asked, view_of};
 use wg_types::commands::{Command, CommandOf};
 use wg_types::handles::{Handle, Info, ObjRef};
 use wg_types::refs::{self, Ask, Find};
@@ -95,6 +98,7 @@ pub fn event_asked(
 ) -> Result<Event, NoMemory>
     ensures event { IfOk result (λ event. event ≡ event_asked objects.old.items request.now) }
     ensures taken { OnOk result (objects.new.items ≡ objects_taken objects.old.items request.now) }
+    ensures unchanged { OnErr result (objects.new.items ≡ objects.old.items) }
 {
     match request {
         RequestOf::CreateBuffer { info } => Ok(Event::CreateBuffer { info: *info }),
@@ -138,6 +142,24 @@ pub fn event_asked(
             object: reference_at(objects, *object),
         }),
         RequestOf::Complete { op } => Ok(Event::Complete { op: *op }),
+        RequestOf::PushErrorScope { filter } => Ok(Event::PushErrorScope { filter: *filter }),
+        RequestOf::PopErrorScope => Ok(Event::PopErrorScope),
+        RequestOf::Lose => Ok(Event::Lose),
+        RequestOf::WorkDone => Ok(Event::WorkDone),
+        RequestOf::MapAsync {
+            buffer,
+            mode,
+            offset,
+            size,
+        } => Ok(Event::MapAsync {
+            buffer: reference_at(objects, *buffer),
+            mode: *mode,
+            offset: *offset,
+            size: size_at(objects, *buffer, *offset, *size),
+        }),
+        RequestOf::Unmap { buffer } => Ok(Event::Unmap {
+            buffer: reference_at(objects, *buffer),
+        }),
     }
 }
 

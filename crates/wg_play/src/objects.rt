@@ -1,18 +1,17 @@
 //! The objects that the calls of a script have made, by their slots.
-ghost use Rattle.std.specs.Prelude.{◌≡◌, true, [], option_map, slice_get, IfOk, OnOk};
+ghost use Rattle.std.specs.Prelude.{◌≡◌, true, [], option_map, slice_get, IfOk, OnOk, OnErr};
 ghost use Rattle.std.specs.Arc.{arc_value};
 ghost use Rattle.std.specs.Option.{option_map_or};
 ghost use Rattle.wg_types.specs.declared.commands.On.TheVariants.{Encoder};
 ghost use Rattle.wg_model.specs.Commands.{texture_of};
 ghost use Rattle.wg_encoder.specs.Recorders.{is_late, noted, recorded, after_take};
-ghost use Rattle.wg_play.specs.Objects.{handle_at, reference_at, known_texture, changed, is_late_on, recorded_on, taken_from, taken_on, recorder_for, object_of};
+ghost use Rattle.wg_play.specs.Objects.{handle_at, reference_at, known_texture, size_at, changed, is_late_on, recorded_on, taken_from, taken_on, recorder_for, object_of};
 
 use std::alloc::Global;
 use std::sync::Arc;
-use wg_copy::texture_of;
 use wg_encoder::{Noted, Recorder, Recording};
 use wg_entry::NoMemory;
-use wg_textures::no_texture;
+use wg_formats::{no_texture, size_or_rest, texture_of};
 use wg_types::commands::{Command, On};
 use wg_types::handles::{Handle, Info, ObjRef};
 use wg_types::textures::TextureInfo;
@@ -50,6 +49,16 @@ pub fn reference_at(objects: &[Object], slot: u32) -> ObjRef
     }
 }
 
+/// A size in the buffer of a slot, or what remains of it from the offset on where none is given.
+pub fn size_at(objects: &[Object], slot: u32, offset: u64, size: Option<u64>) -> u64
+    ensures { result ≡ size_at objects.now slot offset size }
+{
+    match objects.get(slot as usize) {
+        Some(object) => size_or_rest(&object.handle, offset, size),
+        None => size.unwrap_or(0),
+    }
+}
+
 /// What is known of the texture of a slot.
 pub fn texture_at(objects: &[Object], slot: u32) -> TextureInfo
     ensures { result ≡ texture_of (handle_at objects.now slot) }
@@ -74,6 +83,7 @@ pub fn known_texture_at(objects: &[Object], slot: u32) -> TextureInfo
 fn record_in(object: &mut Object, command: Command) -> Result<Noted, NoMemory>
     ensures noted { IfOk result (λ answer. answer ≡ noted (option_map_or (λ recorder. is_late recorder Encoder) object.old.recorder true)) }
     ensures after { OnOk result (object.new ≡ changed object.old (λ recorder. recorded recorder Encoder command)) }
+    ensures unchanged { OnErr result (object.new ≡ object.old) }
 {
     let Some(recorder) = &mut object.recorder else {
         return Ok(Noted::Late);
@@ -85,6 +95,7 @@ fn record_in(object: &mut Object, command: Command) -> Result<Noted, NoMemory>
 pub fn record_on(objects: &mut Vec<Object>, slot: u32, command: Command) -> Result<Noted, NoMemory>
     ensures noted { IfOk result (λ answer. answer ≡ noted (is_late_on objects.old.items slot)) }
     ensures after { OnOk result (objects.new.items ≡ recorded_on objects.old.items slot command) }
+    ensures unchanged { OnErr result (objects.new.items ≡ objects.old.items) }
 {
     let index = slot as usize;
     if index >= objects.len() {

@@ -1,36 +1,65 @@
-//! The operations of a queue, by their numbers.
+//! The operations of a queue, by their numbers, and the promises that wait for them.
 #![tactic(auto)]
 
-ghost use Rattle.std.specs.Prelude.{◌≡◌, ◌+◌, ◌-◌, ◌<◌, ◌^◌, not, true, false};
-ghost use Rattle.wg_queue.specs.Operations.{QueueValue, is_bad};
+ghost use Rattle.std.specs.Prelude.{◌≡◌, ◌+◌, ◌-◌, ◌<◌, ◌≤◌, ◌^◌, ◌∷◌, ◌++◌, [], not, true, false, IsOk, OnOk, OnErr, IfOk, if◌then◌else◌, vec_len, vec_capacity};
+ghost use Rattle.wg_model.specs.Promises.{promises, due_promises, still_waiting};
+ghost use Rattle.wg_queue.specs.Operations.{QueueValue, is_bad, is_idle};
 
+use std::alloc::Global;
 use std::marker::Model;
+use wg_types::NoMemory;
+use wg_types::replies::Waiting;
 
-/// The operations of a queue (WebGPU, "Queues"), which are numbered from 1. Contracts see how many were
-/// issued, and up to which all are complete.
+/// The operations of a queue (WebGPU, "Queues"), which are numbered from 1, and the promises that wait
+/// for them. Contracts see how many were issued, up to which all are complete, and the promises that
+/// are not settled, in the order in which they were made.
 #[derive(Drop)]
 pub struct Queue {
+    lost: bool,
     issued: u64,
     completed: u64,
+    waiting: Vec<Waiting>,
 }
 
 impl Model for Queue {
+    ghost use Rattle.std.specs.Prelude.{◌-◌, vec_len, vec_capacity};
     ghost use Rattle.wg_queue.specs.Operations.{QueueValue};
 
     ghost Value = { QueueValue };
 
-    ghost view = { λ q. record { issued = q.issued; completed = q.completed } };
+    ghost view = { λ q. record { lost = q.lost; issued = q.issued; completed = q.completed; waiting = q.waiting.items; spare = vec_capacity q.waiting - vec_len q.waiting } };
+}
+
+/// Keeps the promises that wait for an operation after this one.
+fn keep_later(waiting: &mut Vec<Waiting>, n: u64)
+    ensures items { waiting.new.items ≡ still_waiting n waiting.old.items }
+    ensures room { vec_capacity waiting.old - vec_len waiting.old ≤ vec_capacity waiting.new - vec_len waiting.new }
+{
+    waiting.retain(|w| w.last > n);
 }
 
 impl Queue {
-    /// No operation yet.
-    pub fn new() -> Queue
-        ensures { result ≡ record { issued = 0; completed = 0 } }
+    /// No operation yet, and not lost.
+    pub fn new(alloc: Global) -> Queue
+        ensures { result ≡ record { lost = false; issued = 0; completed = 0; waiting = []; spare = 0 } }
     {
         Queue {
+            lost: false,
             issued: 0,
             completed: 0,
+            waiting: Vec::new(alloc),
         }
+    }
+
+    /// Makes room for so many promises.
+    pub fn reserve(&mut self, n: u64) -> Result<(), NoMemory>
+        ensures kept { self.new ≡ record self.old { spare = self.new.spare } }
+        ensures spare { self.old.spare ≤ self.new.spare }
+        ensures room { OnOk result (n ≤ self.new.spare) }
+        ensures succeeds { n ≤ self.old.spare → IsOk result }
+    {
+        self.waiting.reserve(n as usize)?;
+        Ok(())
     }
 
     /// The next operation's number.
@@ -50,16 +79,19 @@ impl Queue {
         n <= self.completed || n > self.issued
     }
 
-    /// Notes that all operations up to a number are complete, and answers false for a bad one.
+    /// Notes that all operations up to a number are complete, and answers false for a bad one. The
+    /// promises that waited for no later one wait no more.
     pub fn complete(&mut self, n: u64) -> bool
         ensures answer { result ≡ not (is_bad self.old n) }
         ensures bad { result ≡ false → self.new ≡ self.old }
-        ensures after { result ≡ true → self.new ≡ record self.old { completed = n } }
+        ensures after { result ≡ true → self.new ≡ record self.old { completed = n; waiting = still_waiting n self.old.waiting; spare = self.new.spare } }
+        ensures room { self.old.spare ≤ self.new.spare }
     {
         if self.is_bad(n) {
             return false;
         }
         self.completed = n;
+        keep_later(&mut self.waiting, n);
         true
     }
 
@@ -76,4 +108,80 @@ impl Queue {
     {
         self.completed
     }
+
+    /// Whether a promise made now would have no operation to wait for.
+    pub fn is_idle(&self) -> bool
+        ensures { result ≡ is_idle self.now }
+    {
+        self.lost || self.issued == self.completed
+    }
+
+    /// Notes a promise that waits for the operations issued so far (WebGPU, "onSubmittedWorkDone"), and
+    /// answers true where it settles at once.
+    pub fn work_done(&mut self, promise: u64) -> Result<bool, NoMemory>
+        ensures answer { IfOk result (λ at_once. at_once ≡ is_idle self.old) }
+        ensures waiting { IfOk result (λ at_once. self.new.waiting ≡ (if at_once then self.old.waiting else self.old.waiting ++ (record { promise = promise; last = self.old.issued }) ∷ [])) }
+        ensures kept { self.new ≡ record self.old { waiting = self.new.waiting; spare = self.new.spare } }
+        ensures same { IfOk result (λ at_once. at_once ≡ true → self.new ≡ self.old) }
+        ensures unchanged { OnErr result (self.new ≡ self.old) }
+        ensures succeeds { 0 < self.old.spare → IsOk result }
+        ensures room { OnOk result (self.old.spare ≤ self.new.spare + 1) }
+    {
+        if self.is_idle() {
+            return Ok(true);
+        }
+        self.waiting.reserve(1)?;
+        self.waiting.push_reserved(Waiting {
+            promise,
+            last: self.issued,
+        });
+        Ok(false)
+    }
+
+    /// The promises that would settle if all operations up to this one were complete, in the order in
+    /// which they were made.
+    pub fn due(&self, completed: u64) -> Result<Vec<u64>, NoMemory>
+        ensures { IfOk result (λ list. list.items ≡ due_promises completed self.now.waiting) }
+    {
+        let alloc = *self.waiting.allocator();
+        let list = self
+            .waiting
+            .iter()
+            .filter(|w| w.last <= completed)
+            .map(|w| w.promise)
+            .collect::<Vec<u64>>(alloc)?;
+        Ok(list)
+    }
+
+    /// The promises that are not settled, each with the operation that it waits for.
+    pub fn waits(&self) -> &[Waiting]
+        ensures { result.now ≡ self.now.waiting }
+    {
+        self.waiting.as_slice()
+    }
+
+    /// The promises that are not settled, in the order in which they were made.
+    pub fn waiting(&self) -> Result<Vec<u64>, NoMemory>
+        ensures { IfOk result (λ list. list.items ≡ promises self.now.waiting) }
+    {
+        let alloc = *self.waiting.allocator();
+        let list = self
+            .waiting
+            .iter()
+            .map(|w| w.promise)
+            .collect::<Vec<u64>>(alloc)?;
+        Ok(list)
+    }
+
+    /// The device is lost: no promise waits any more.
+    pub fn lose(&mut self)
+        ensures after { self.new ≡ record self.old { lost = true; waiting = []; spare = self.new.spare } }
+        ensures room { self.old.spare ≤ self.new.spare }
+    {
+        self.lost = true;
+        self.waiting.clear();
+    }
 }
+
+#[cfg(test)]
+mod tests;

@@ -17,14 +17,6 @@ both_sets a b = record { 0 = bit_or a.0 b.0 }
 abbrev pub union_row : UseRow → List UseRow → List UseRow
 union_row r rows = put_all part_sort same_set (gaps part_sort (r ∷ []) rows) (put_all part_sort same_set (choose (λ old. Some (both_sets r.1 old)) (inside part_sort r.0 rows)) (cut part_sort r.0 rows))
 
--- the same, where the use is of no part at all if its run is empty
-abbrev pub with_use : UseRow → List UseRow → List UseRow
-with_use r rows = if is_full r.0 then union_row r rows else rows
-
-abbrev pub with_uses : List UseRow → List UseRow → List UseRow
-with_uses [] base = base
-with_uses (r ∷ rows) base = with_use r (with_uses rows base)
-
 -- the sets of the parts of uses, in printed form
 abbrev pub sets : List UseRow → List UseRow
 sets [] = []

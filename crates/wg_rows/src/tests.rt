@@ -1,5 +1,5 @@
 use crate::rows::{cut, gaps, inside, overwrite, printed, put};
-use crate::uses::{sets, with_uses};
+use crate::uses::sets;
 use bitflags::Flags;
 use std::test::Fail;
 use wg_types::parts::{Aspect, PartRun};
@@ -31,8 +31,6 @@ fn rows_are_joined_and_cut(rt: HostRuntime) -> Result<(), Fail> {
         (layers(3, 4), read),
     ];
     assert_eq!(rt; sets(alloc, &uses)?.as_slice(), wanted.as_slice());
-    let merged = with_uses(alloc, &uses[..1], &uses[1..])?;
-    assert_eq!(rt; merged.as_slice(), wanted.as_slice());
     assert_eq!(rt;
         put(alloc, &uses[..1], uses[1])?.as_slice(),
         [(layers(0, 4), read)].as_slice()

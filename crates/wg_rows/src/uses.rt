@@ -2,7 +2,7 @@
 ghost use Rattle.std.specs.Prelude.{◌≡◌, IfOk, Some};
 ghost use Rattle.wg_rows.specs.Cut.{choose};
 ghost use Rattle.wg_rows.specs.Order.{is_after, is_first, are_apart};
-ghost use Rattle.wg_rows.specs.Sets.{both_sets, union_row, with_use, with_uses, sets};
+ghost use Rattle.wg_rows.specs.Sets.{both_sets, union_row, sets};
 
 use crate::part_runs::{line_before, part_hi, part_lo, same_line};
 use crate::rows::{cut, gaps, inside, printed, put_all};
@@ -41,40 +41,6 @@ fn union_row(
     let more = put_all(alloc, rest, joined.as_slice())?;
     let left = gaps(alloc, row, rows)?;
     put_all(alloc, more, left.as_slice())
-}
-
-/// The same, where the use is of no part at all if its run is empty.
-pub fn with_use(
-    alloc: Global,
-    rows: &[(PartRun, Usages)],
-    row: (PartRun, Usages),
-) -> Result<Vec<(PartRun, Usages)>, NoMemory>
-    ensures { IfOk result (λ v. v.items ≡ with_use row rows.now) }
-{
-    if part_lo(row.0) < part_hi(row.0) {
-        return union_row(alloc, rows, row);
-    }
-    let mut out = Vec::with_capacity(alloc, rows.len())?;
-    out.extend_from_slice(rows)?;
-    Ok(out)
-}
-
-/// Rows with more uses, the first of which comes last.
-pub fn with_uses(
-    alloc: Global,
-    rows: &[(PartRun, Usages)],
-    more: &[(PartRun, Usages)],
-) -> Result<Vec<(PartRun, Usages)>, NoMemory>
-    ensures { IfOk result (λ v. v.items ≡ with_uses more.now rows.now) }
-{
-    let mut out = Vec::with_capacity(alloc, rows.len())?;
-    out.extend_from_slice(rows)?;
-    let mut i = more.len();
-    while i > 0 {
-        i -= 1;
-        out = with_use(alloc, out.as_slice(), more[i])?;
-    }
-    Ok(out)
 }
 
 /// Whether a row stands behind another, and cannot be joined with it.

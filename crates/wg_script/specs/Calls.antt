@@ -1,12 +1,12 @@
 -- Which call an object is, or the first script rule that it breaks: for each call that is built, its
 -- keys, and what each holds, in the order in which they are read. Calls on textures have definitions
 -- of their own.
-use Rattle.std.specs.Prelude.{ℕ, List, false, codes, Option, Some, None, option_and_then, Result, Err}
+use Rattle.std.specs.Prelude.{ℕ, List, [], ◌∷◌, false, codes, Option, Some, None, option_and_then, Result, Err}
 use Rattle.serde_json.specs.Data.{Data}
 use Rattle.serde_json.specs.Find.{get, as_str}
-use Rattle.wg_script.specs.Giving.{◌>>=◌}
-use Rattle.wg_script.specs.Values.{whole_at, whole_or, whole_if, most_whole, most_short, flag_or, name_at, check_not_true}
+use Rattle.wg_script.specs.Values.{whole_at, whole_or, whole_if, most_whole, most_short, flag_or, name_at}
 use Rattle.wg_script.specs.Lists.{names_at}
+use Rattle.wg_script.specs.Words.{word_at}
 use Rattle.wg_script.specs.Readers.{Reader, gives, need, may, ◌▹◌, read_by}
 use Rattle.wg_script.specs.TextureCalls.{create_texture_of, create_view_of, write_texture_of, copy_buffer_to_texture_of, copy_texture_to_buffer_of, copy_texture_to_texture_of}
 use Rattle.wg_types.specs.Words.{word_of}
@@ -15,10 +15,13 @@ use Rattle.wg_types.specs.declared.words.Word.TheVariants as word
 use Rattle.wg_script.specs.CallOf.{Call}
 use Rattle.wg_types.specs.declared.commands.CommandOf.{CommandOf}
 use Rattle.wg_types.specs.declared.commands.CommandOf.TheVariants.{CopyBufferToBuffer, ClearBuffer, PushDebugGroup, PopDebugGroup}
-use Rattle.wg_types.specs.declared.requests.RequestOf.TheVariants.{CreateBuffer, CreateEncoder, Finish, Submit, WriteBuffer, Destroy, Complete}
+use Rattle.wg_types.specs.declared.replies.Filter.{Filter}
+use Rattle.wg_types.specs.declared.replies.Filter.TheVariants as filter
+use Rattle.wg_types.specs.declared.requests.RequestOf.{RequestOf}
+use Rattle.wg_types.specs.declared.requests.RequestOf.TheVariants.{CreateBuffer, CreateEncoder, Finish, Submit, WriteBuffer, Destroy, Complete, PushErrorScope, PopErrorScope, Lose, WorkDone, MapAsync, Unmap}
 use Rattle.wg_script.specs.Calling.{recording, asking, making}
 
--- createBuffer: a buffer that is mapped at its creation is not built yet
+-- createBuffer
 abbrev pub create_buffer_keys : Reader Call
 create_buffer_keys = gives (λ size usage mapped made. making (CreateBuffer (record { size = size; usage = usage; mapped = mapped })) made)
     ▹ need (codes "size") (whole_at most_whole)
@@ -27,7 +30,7 @@ create_buffer_keys = gives (λ size usage mapped made. making (CreateBuffer (rec
     ▹ need (codes "as") name_at
 
 unfoldable pub create_buffer_of : Data → Result Call ℕ
-create_buffer_of d = check_not_true (get (codes "mapped") d) >>= λ built. read_by create_buffer_keys d
+create_buffer_of d = read_by create_buffer_keys d
 
 -- createEncoder
 unfoldable pub create_encoder_of : Data → Result Call ℕ
@@ -63,6 +66,48 @@ destroy_of d = read_by (gives (λ dead. asking (Destroy dead)) ▹ need (codes "
 -- complete
 unfoldable pub complete_of : Data → Result Call ℕ
 complete_of d = read_by (gives (λ op. asking (Complete op)) ▹ need (codes "op") (whole_at most_whole)) d
+
+-- the words of which faults an error scope catches (WebGPU, "GPUErrorFilter")
+abbrev pub filter_words : List (List ℕ × Filter)
+filter_words = (codes "validation", filter.Validation) ∷ (codes "out-of-memory", filter.OutOfMemory) ∷ (codes "internal", filter.Internal) ∷ []
+
+-- pushErrorScope
+abbrev pub push_error_scope_keys : Reader Call
+push_error_scope_keys = gives (λ filter. asking (PushErrorScope filter)) ▹ need (codes "filter") (word_at filter_words)
+
+unfoldable pub push_error_scope_of : Data → Result Call ℕ
+push_error_scope_of d = read_by push_error_scope_keys d
+
+-- what is asked with no key but that of its word
+abbrev pub keyless_of : RequestOf (List ℕ) → Data → Result Call ℕ
+keyless_of request d = read_by (gives (asking request)) d
+
+-- popErrorScope
+unfoldable pub pop_error_scope_of : Data → Result Call ℕ
+pop_error_scope_of d = keyless_of PopErrorScope d
+
+-- workDone
+unfoldable pub work_done_of : Data → Result Call ℕ
+work_done_of d = keyless_of WorkDone d
+
+-- lose
+unfoldable pub lose_of : Data → Result Call ℕ
+lose_of d = keyless_of Lose d
+
+-- mapAsync: no size stands for what remains of the buffer from the offset on
+abbrev pub map_async_keys : Reader Call
+map_async_keys = gives (λ buffer mode offset size. asking (MapAsync buffer mode offset size))
+    ▹ need (codes "buffer") name_at
+    ▹ need (codes "mode") (whole_at most_short)
+    ▹ may (codes "offset") (whole_or most_whole 0)
+    ▹ may (codes "size") (whole_if most_whole)
+
+unfoldable pub map_async_of : Data → Result Call ℕ
+map_async_of d = read_by map_async_keys d
+
+-- unmap
+unfoldable pub unmap_of : Data → Result Call ℕ
+unmap_of d = read_by (gives (λ buffer. asking (Unmap buffer)) ▹ need (codes "buffer") name_at) d
 
 -- ---- calls that are recorded
 
@@ -116,6 +161,12 @@ call_as word.WriteBuffer d = write_buffer_of d
 call_as word.WriteTexture d = write_texture_of d
 call_as word.Destroy d = destroy_of d
 call_as word.Complete d = complete_of d
+call_as word.PushErrorScope d = push_error_scope_of d
+call_as word.PopErrorScope d = pop_error_scope_of d
+call_as word.WorkDone d = work_done_of d
+call_as word.Lose d = lose_of d
+call_as word.MapAsync d = map_async_of d
+call_as word.Unmap d = unmap_of d
 call_as word.CopyBufferToBuffer d = copy_buffer_to_buffer_of d
 call_as word.CopyBufferToTexture d = copy_buffer_to_texture_of d
 call_as word.CopyTextureToBuffer d = copy_texture_to_buffer_of d
@@ -135,13 +186,7 @@ call_as word.BeginComputePass d = Err 13
 call_as word.BeginRenderPass d = Err 13
 call_as word.End d = Err 13
 call_as word.FinishBundle d = Err 13
-call_as word.MapAsync d = Err 13
-call_as word.Unmap d = Err 13
-call_as word.WorkDone d = Err 13
 call_as word.Drop d = Err 13
-call_as word.PushErrorScope d = Err 13
-call_as word.PopErrorScope d = Err 13
-call_as word.Lose d = Err 13
 call_as word.ResolveQuerySet d = Err 13
 call_as word.SetPipeline d = Err 13
 call_as word.SetBindGroup d = Err 13

@@ -3,7 +3,7 @@
 ghost use Rattle.std.specs.Prelude.{◌≡◌};
 ghost use Rattle.serde_json.specs.View.{view};
 ghost use Rattle.wg_script.specs.Giving.{Gives};
-ghost use Rattle.wg_script.specs.Calls.{call_of, call_as, create_buffer_of, create_encoder_of, finish_of, submit_of, write_buffer_of, destroy_of, complete_of, copy_buffer_to_buffer_of, clear_buffer_of, bare_of, push_debug_group_of, pop_debug_group_of};
+ghost use Rattle.wg_script.specs.Calls.{call_of, call_as, create_buffer_of, create_encoder_of, finish_of, submit_of, write_buffer_of, destroy_of, complete_of, push_error_scope_of, keyless_of, pop_error_scope_of, work_done_of, lose_of, map_async_of, unmap_of, copy_buffer_to_buffer_of, clear_buffer_of, bare_of, push_debug_group_of, pop_debug_group_of};
 
 use crate::calling::{asking, making, recording};
 use crate::calls::Call;
@@ -14,21 +14,29 @@ use crate::texture_calls::{
     create_view, write_texture,
 };
 use crate::values::{
-    MOST_WHOLE, Refusal, check_keys, check_not_true, flag_or, name_at, reading, short_at, whole_at,
-    whole_if, whole_or,
+    MOST_WHOLE, Refusal, check_keys, flag_or, name_at, reading, short_at, whole_at, whole_if,
+    whole_or,
 };
+use crate::words::word_at;
 use serde_json::Value;
 use std::alloc::Global;
 use wg_types::commands::CommandOf;
 use wg_types::handles::BufferInfo;
+use wg_types::replies::Filter;
 use wg_types::requests::RequestOf;
 use wg_types::words::Word;
+
+/// Which faults an error scope catches, by its word (WebGPU, "GPUErrorFilter").
+const FILTERS: [(&str, Filter); 3] = [
+    ("validation", Filter::Validation),
+    ("out-of-memory", Filter::OutOfMemory),
+    ("internal", Filter::Internal),
+];
 
 #[tactic(auto, unfolding(crate::specs::Calls::create_buffer_of))]
 fn create_buffer(alloc: Global, call: &Value) -> Result<Call, Refusal>
     ensures { Gives result (create_buffer_of (view call.now)) }
 {
-    check_not_true(call, "mapped")?;
     reading!(call:
         need size = whole_at("size", MOST_WHOLE);
         need usage = short_at("usage");
@@ -92,6 +100,64 @@ fn complete(call: &Value) -> Result<Call, Refusal>
     reading!(call:
         need op = whole_at("op", MOST_WHOLE);
         => asking(RequestOf::Complete { op }))
+}
+
+#[tactic(auto, unfolding(crate::specs::Calls::push_error_scope_of))]
+fn push_error_scope(call: &Value) -> Result<Call, Refusal>
+    ensures { Gives result (push_error_scope_of (view call.now)) }
+{
+    reading!(call:
+        need filter = word_at("filter", &FILTERS);
+        => asking(RequestOf::PushErrorScope { filter }))
+}
+
+/// Reads a call of the device with no key but that of its word.
+fn keyless(call: &Value, request: RequestOf<Name>) -> Result<Call, Refusal>
+    ensures { Gives result (keyless_of request (view call.now)) }
+{
+    reading!(call: => asking(request))
+}
+
+#[tactic(auto, unfolding(crate::specs::Calls::pop_error_scope_of))]
+fn pop_error_scope(call: &Value) -> Result<Call, Refusal>
+    ensures { Gives result (pop_error_scope_of (view call.now)) }
+{
+    keyless(call, RequestOf::PopErrorScope)
+}
+
+#[tactic(auto, unfolding(crate::specs::Calls::work_done_of))]
+fn work_done(call: &Value) -> Result<Call, Refusal>
+    ensures { Gives result (work_done_of (view call.now)) }
+{
+    keyless(call, RequestOf::WorkDone)
+}
+
+#[tactic(auto, unfolding(crate::specs::Calls::lose_of))]
+fn lose(call: &Value) -> Result<Call, Refusal>
+    ensures { Gives result (lose_of (view call.now)) }
+{
+    keyless(call, RequestOf::Lose)
+}
+
+#[tactic(auto, unfolding(crate::specs::Calls::map_async_of))]
+fn map_async(alloc: Global, call: &Value) -> Result<Call, Refusal>
+    ensures { Gives result (map_async_of (view call.now)) }
+{
+    reading!(call:
+        need buffer = name_at(alloc, "buffer");
+        need mode = short_at("mode");
+        may offset = whole_or("offset", MOST_WHOLE, 0);
+        may size = whole_if("size", MOST_WHOLE);
+        => asking(RequestOf::MapAsync { buffer, mode, offset, size }))
+}
+
+#[tactic(auto, unfolding(crate::specs::Calls::unmap_of))]
+fn unmap(alloc: Global, call: &Value) -> Result<Call, Refusal>
+    ensures { Gives result (unmap_of (view call.now)) }
+{
+    reading!(call:
+        need buffer = name_at(alloc, "buffer");
+        => asking(RequestOf::Unmap { buffer }))
 }
 
 #[tactic(auto, unfolding(crate::specs::Calls::copy_buffer_to_buffer_of))]
@@ -158,6 +224,12 @@ fn call_as(alloc: Global, word: Word, call: &Value) -> Result<Call, Refusal>
         Word::WriteTexture => write_texture(alloc, call),
         Word::Destroy => destroy(alloc, call),
         Word::Complete => complete(call),
+        Word::PushErrorScope => push_error_scope(call),
+        Word::PopErrorScope => pop_error_scope(call),
+        Word::WorkDone => work_done(call),
+        Word::Lose => lose(call),
+        Word::MapAsync => map_async(alloc, call),
+        Word::Unmap => unmap(alloc, call),
         Word::CopyBufferToBuffer => copy_buffer_to_buffer(alloc, call),
         Word::CopyBufferToTexture => copy_buffer_to_texture(alloc, call),
         Word::CopyTextureToBuffer => copy_texture_to_buffer(alloc, call),
@@ -177,13 +249,7 @@ fn call_as(alloc: Global, word: Word, call: &Value) -> Result<Call, Refusal>
         | Word::BeginRenderPass
         | Word::End
         | Word::FinishBundle
-        | Word::MapAsync
-        | Word::Unmap
-        | Word::WorkDone
         | Word::Drop
-        | Word::PushErrorScope
-        | Word::PopErrorScope
-        | Word::Lose
         | Word::ResolveQuerySet
         | Word::SetPipeline
         | Word::SetBindGroup

@@ -1,21 +1,17 @@
 -- What is kept beside a history, after one more entry.
-use Rattle.std.proofs.Common.{◌≡◌, ℕ, ◌+◌, ◌<◌, ◌≤◌, List, [], ◌∷◌, ◌++◌, length, reverse, Bool, true, false, not, ◌&&◌, ◌||◌, ◌==◌, nat_le, nat_lt, max, Option, Some, None, is_some, is_none, unwrap_or, option_and_then, option_map, option_to_list, zero, suc, inl, inr, refl, ap, ap₂, sym, ◌∙◌, arith, if◌then◌else◌, true≢false, subst}
+use Rattle.std.proofs.Common.{◌≡◌, ℕ, ◌+◌, ◌<◌, ◌≤◌, List, [], ◌∷◌, ◌++◌, length, reverse, Bool, true, false, not, ◌&&◌, ◌==◌, nat_le, Option, Some, None, is_some, unwrap_or, option_and_then, option_map, option_to_list, zero, suc, inl, inr, refl, ap, ap₂, sym, ◌∙◌, arith, if◌then◌else◌, subst}
 use Rattle.std.specs.Option.{option_map_or}
 use Rattle.std.specs.List.{list_any}
 use Rattle.std.proofs.Math.Nat.{zero-max}
 use Rattle.std.proofs.lemmas.Bool.{cases_lt, eq-eqb}
-use Rattle.std.proofs.lemmas.Bool.Decides.{nat_tests}
 use Rattle.std.proofs.lemmas.List.{length-reverse, length_push, get_or_append_left, get_or_push, get_or_past}
 use Rattle.wg_types.specs.declared.steps.Sort.{Sort}
 use Rattle.wg_types.specs.declared.replies.Answer.{Answer}
-use Rattle.wg_types.specs.declared.replies.Answer.TheVariants.{Queued, Plain, BadCompletion}
-use Rattle.wg_types.specs.declared.replies.Reply.{Reply}
+use Rattle.wg_types.specs.declared.replies.Answer.TheVariants.{Queued}
 use Rattle.wg_history.specs.declared.events.Setup.{Setup}
-use Rattle.wg_history.specs.declared.events.Event.{Event}
-use Rattle.wg_history.specs.declared.events.Event.TheVariants.{Complete}
 use Rattle.wg_history.specs.Entries.{Entry, Past}
 use Rattle.wg_history.specs.Objects.{is_making, count, maker, is_made_valid, sort_made, resource_at}
-use Rattle.wg_history.specs.Operations.{is_queued, op_of, issued, accepted, completion, completed, is_used, use_by, last_use}
+use Rattle.wg_history.specs.Operations.{is_queued, op_of, issued, completed, is_used, use_by, last_use}
 use Rattle.wg_history.specs.Rules.{is_destroyed, has_finished, is_consumed}
 use Rattle.wg_history.specs.Answers.{reply_to, IsRun}
 use Rattle.wg_history.specs.Releases.{is_due, is_released, freed_at, freed_below, freed}
@@ -23,10 +19,18 @@ use Rattle.wg_history.proofs.UnusedAfter.{maker_stays}
 use Rattle.wg_history.proofs.Unborn.{destroyed_new, ended_new, consumed_new, used_new, released_new}
 use Rattle.wg_life.specs.declared.rows.Row.{Row}
 use Rattle.wg_life.specs.Lives.{new_row, no_row, row_at, with_last, with_use, with_release, Notes, released_at, below, releases}
-use Rattle.wg_queue.specs.Operations.{QueueValue, is_bad}
+use Rattle.wg_queue.specs.Operations.{QueueValue}
+use Rattle.wg_errors.specs.Errors.{ErrorsValue}
 use Rattle.wg_state.specs.declared.uses.Used.{Used}
 use Rattle.wg_state.specs.Rows.{row_of, AreRowsOf, noted, resource_made, grown, AreUsed}
-use Rattle.wg_state.specs.States.{IsKept, issued_by, completed_by, done_by}
+use Rattle.wg_state.specs.States.{IsQueueOf, IsKept, queue_after, errors_after}
+use Rattle.wg_state.proofs.QueueLemmas.{queue_next}
+use Rattle.std.specs.FinMap as table
+use Rattle.std.specs.Ordering.{nat_cmp}
+use Rattle.wg_maps.specs.Mappings.{MapsValue}
+use Rattle.wg_state.specs.Mapped.{maps_after}
+use Rattle.wg_state.proofs.MapLemmas.{maps_next}
+use Rattle.wg_state.proofs.ErrorLemmas.{errors_next}
 use Rattle.wg_state.proofs.Places.{count_small}
 
 -- uses
@@ -131,86 +135,46 @@ rows_free setup entry older rows done done_is are =
     ∙ (below_each (released_at rows done) (freed_at setup (entry ∷ older)) (count (entry ∷ older)) (λ n lt. released_each setup entry older rows done n done_is (are.each n lt))
     ∙ releases_below setup (entry ∷ older) (count (entry ∷ older)))
 
--- the queue's numbers
-
-issued_next : (entry : Entry) (older : Past) (queue : QueueValue) → queue.issued ≡ issued older → (issued_by entry.reply.answer queue).issued ≡ issued (entry ∷ older)
-issued_next entry older queue e = by_test (is_queued entry.reply.answer)
-  where
-    by_test : (b : Bool) → (if b then record queue { issued = queue.issued + 1 } else queue).issued ≡ (if b then issued older + 1 else issued older)
-    by_test true = ap (λ k. k + 1) e
-    by_test false = e
-
-issued_keeps : (answer : Answer) (queue : QueueValue) → (issued_by answer queue).completed ≡ queue.completed
-issued_keeps answer queue = by_test (is_queued answer)
-  where
-    by_test : (b : Bool) → (if b then record queue { issued = queue.issued + 1 } else queue).completed ≡ queue.completed
-    by_test true = refl
-    by_test false = refl
-
-done_keeps : (event : Event) (queue : QueueValue) → (done_by event queue).issued ≡ queue.issued
-done_keeps (Complete op) queue = by_test (is_bad queue op)
-  where
-    by_test : (b : Bool) → (if b then queue else record queue { completed = op }).issued ≡ queue.issued
-    by_test true = refl
-    by_test false = refl
-done_keeps _ queue = refl
-
-accepts : (queue : QueueValue) (done ops op : ℕ) → queue.completed ≡ done → queue.issued ≡ ops → (completed_by op queue).completed ≡ unwrap_or (accepted op (if nat_lt done op && nat_le op ops then Plain else BadCompletion)) done
-accepts queue done ops op e f = by_test (is_bad queue op) (nat_lt done op && nat_le op ops) tests
-  where
-    bools : (a b c d : Bool) → a ≡ not c → b ≡ not d → (a || b) ≡ not (c && d)
-    bools a b true true e f = ap₂ ◌||◌ e f
-    bools a b true false e f = ap₂ ◌||◌ e f
-    bools a b false true e f = ap₂ ◌||◌ e f
-    bools a b false false e f = ap₂ ◌||◌ e f
-
-    at_most : (m k : ℕ) → nat_le m k ≡ not (nat_lt k m)
-    at_most m k = grind (arith, nat_tests)
-
-    above : (m k : ℕ) → nat_lt k m ≡ not (nat_le m k)
-    above m k = grind (arith, nat_tests)
-
-    tests : is_bad queue op ≡ not (nat_lt done op && nat_le op ops)
-    tests = bools (nat_le op queue.completed) (nat_lt queue.issued op) (nat_lt done op) (nat_le op ops) (ap (nat_le op) e ∙ at_most op done) (ap (λ k. nat_lt k op) f ∙ above op ops)
-
-    by_test : (bad good : Bool) → bad ≡ not good → (if bad then queue else record queue { completed = op }).completed ≡ unwrap_or (accepted op (if good then Plain else BadCompletion)) done
-    by_test true true h = absurd (true≢false h)
-    by_test true false h = e
-    by_test false true h = refl
-    by_test false false h = absurd (true≢false (sym h))
-
-done_at : (setup : Setup) (past : Past) (event : Event) (queue : QueueValue) → queue.completed ≡ completed past → queue.issued ≡ issued past → (done_by event queue).completed ≡ unwrap_or (completion event (reply_to setup past event).answer) (completed past)
-done_at setup past (Complete op) queue e f = accepts queue (completed past) (issued past) op e f
-done_at setup past _ queue e f = e
-
-done_next : (setup : Setup) (entry : Entry) (older : Past) (queue : QueueValue) → entry.reply ≡ reply_to setup older entry.event → queue.completed ≡ completed older → queue.issued ≡ issued older → (done_by entry.event queue).completed ≡ completed (entry ∷ older)
-done_next setup entry older queue answers e f = done_at setup older entry.event queue e f ∙ sym (ap (λ (reply : Reply). unwrap_or (completion entry.event reply.answer) (completed older)) answers)
-
 run_next : (setup : Setup) (entry : Entry) (older : Past) → IsRun setup older → entry.reply ≡ reply_to setup older entry.event → IsRun setup (entry ∷ older)
 run_next setup entry older run same = cc (same, run)
 
 -- All that is kept, after one more entry.
-pub record IsNext (setup : Setup) (entry : Entry) (older : Past) (noted new : List Row) (queue : QueueValue) : Type 0 where
-  pub kept : IsKept setup (entry ∷ older) new queue
+pub record IsNext (setup : Setup) (entry : Entry) (older : Past) (noted new : List Row) (queue : QueueValue) (errors : ErrorsValue) (maps : MapsValue) : Type 0 where
+  pub kept : IsKept setup (entry ∷ older) new queue errors maps
   pub freed_is : releases noted queue.completed ≡ freed setup (entry ∷ older)
 
-pub kept_next : (setup : Setup) (entry : Entry) (older : Past) (rows more marked new : List Row) (old queue : QueueValue) → IsRun setup older → entry.reply ≡ reply_to setup older entry.event → IsKept setup older rows old
-    → more ≡ grown entry rows → Notes (noted setup older entry) more marked → queue ≡ issued_by entry.reply.answer (done_by entry.event old) → Notes (λ n. with_release queue.completed true) marked new
-    → IsNext setup entry older marked new queue
-kept_next setup entry older rows more marked new old queue run answers kept more_is notes queue_is releasing =
-    let ended : queue.completed ≡ completed (entry ∷ older) = ap (λ (q : QueueValue). q.completed) queue_is ∙ (issued_keeps entry.reply.answer (done_by entry.event old) ∙ done_next setup entry older old answers kept.completed_is kept.issued_is) in
+pub kept_next : (setup : Setup) (entry : Entry) (older : Past) (number : ℕ) (rows more marked new : List Row) (old queue : QueueValue) (before errors : ErrorsValue) (mapped maps : MapsValue)
+    → IsRun setup older → entry.reply ≡ reply_to setup older entry.event → IsKept setup older rows old before mapped
+    → more ≡ grown entry rows → Notes (noted setup older entry) more marked
+    → number ≡ length older → queue ≡ record (queue_after number entry old) { spare = queue.spare } → errors ≡ record (errors_after entry before) { spare = errors.spare }
+    → maps ≡ record (maps_after setup older entry mapped) { spare = maps.spare }
+    → Notes (λ n. with_release queue.completed true) marked new
+    → IsNext setup entry older marked new queue errors maps
+kept_next setup entry older number rows more marked new old queue before errors mapped maps run answers kept more_is notes at queue_is errors_are maps_are releasing =
+    let next : IsQueueOf (entry ∷ older) queue = queue_next setup entry older number old queue run answers kept.queue_is at queue_is in
     let are : AreNoted setup entry older marked = rows_noted setup entry older (grown entry rows) marked (rows_grown setup entry older rows run kept.rows_are) (subst (λ (rows : List Row). Notes (noted setup older entry) rows marked) more_is notes) in
     record {
       kept = record {
-        rows_are = rows_released setup entry older marked new queue.completed ended are releasing;
-        issued_is = ap (λ (q : QueueValue). q.issued) queue_is ∙ issued_next entry older (done_by entry.event old) (done_keeps entry.event old ∙ kept.issued_is);
-        completed_is = ended;
+        rows_are = rows_released setup entry older marked new queue.completed next.completed_is are releasing;
+        queue_is = next;
+        errors_are = errors_next setup entry older before errors answers kept.errors_are errors_are;
+        maps_are = maps_next setup entry older mapped maps run answers kept.maps_are maps_are;
       };
-      freed_is = rows_free setup entry older marked queue.completed ended are;
+      freed_is = rows_free setup entry older marked queue.completed next.completed_is are;
     }
 
-pub kept_none : (setup : Setup) → IsKept setup [] [] (record { issued = 0; completed = 0 })
-kept_none setup = record { rows_are = record { len = refl; each = λ n lt. absurd (omega (arith, lt)) }; issued_is = refl; completed_is = refl }
+none_kept : (setup : Setup) → IsKept setup [] [] (record { lost = false; issued = 0; completed = 0; waiting = []; spare = 0 }) (record { lost = false; scopes = []; spare = 0 }) (record { pending = []; mapped = table.empty; spare = 0 })
+none_kept setup = record {
+  rows_are = record { len = refl; each = λ n lt. absurd (omega (arith, lt)) };
+  queue_is = record { issued_is = refl; completed_is = refl; lost_is = refl; waiting_is = refl };
+  errors_are = record { lost_is = refl; scopes_are = refl };
+  maps_are = record { pending_are = refl; mapped_are = λ n. table.get-empty nat_cmp n };
+}
+
+pub kept_none : (setup : Setup) (entries : List Entry) (rows : List Row) (queue : QueueValue) (errors : ErrorsValue) (maps : MapsValue) → entries ≡ [] → rows ≡ []
+    → queue ≡ record { lost = false; issued = 0; completed = 0; waiting = []; spare = 0 } → errors ≡ record { lost = false; scopes = []; spare = 0 } → maps ≡ record { pending = []; mapped = table.empty; spare = 0 }
+    → IsKept setup (reverse entries) rows queue errors maps
+kept_none setup entries rows queue errors maps e r q x m = rw e (rw r (rw q (rw x (rw m (none_kept setup)))))
 
 -- reading what is kept
 

@@ -1,3 +1,9 @@
 pub mod Places
+pub mod MadeLemmas
+pub mod LeftLemmas
+pub mod QueueLemmas
+pub mod ErrorLemmas
+pub mod MapLemmas
 pub mod KeptLemmas
 pub mod UsesLemmas
+pub mod SettleLemmas

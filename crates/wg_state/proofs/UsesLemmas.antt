@@ -4,8 +4,7 @@ use Rattle.std.specs.List.{list_any, flat_map}
 use Rattle.std.proofs.lemmas.List.Folds.{list_any-append}
 use Rattle.wg_types.specs.Handles.{HandleValue}
 use Rattle.wg_types.specs.declared.handles.ObjRef.{ObjRef}
-use Rattle.wg_types.specs.declared.commands.On.{On}
-use Rattle.wg_types.specs.Commands.{Command, named}
+use Rattle.wg_types.specs.Commands.{named}
 use Rattle.wg_types.specs.declared.wanted.Wanted.{Wanted}
 use Rattle.wg_types.specs.declared.wanted.Wanted.TheVariants as wanted
 use Rattle.wg_types.specs.declared.steps.Sort.{Sort}
@@ -13,13 +12,12 @@ use Rattle.wg_types.specs.declared.steps.Sort.TheVariants.{Buffer, Texture}
 use Rattle.wg_types.specs.declared.replies.Answer.{Answer}
 use Rattle.wg_model.specs.Recorded.{wants_buffer, wants_texture, wants_resource, numbers_of, numbered, buffers_of, textures_of, resources, uses_resource, any_named}
 use Rattle.wg_model.proofs.NamedLemmas.{any_resources}
-use Rattle.wg_history.specs.declared.events.Setup.{Setup}
 use Rattle.wg_history.specs.declared.events.Event.{Event}
 use Rattle.wg_history.specs.declared.events.Event.TheVariants.{Submit}
 use Rattle.wg_history.specs.Entries.{Past}
 use Rattle.wg_history.specs.Objects.{commands_at}
 use Rattle.wg_history.specs.Operations.{is_queued, is_used, submit_uses}
-use Rattle.wg_history.specs.Rules.{is_destroyed, any_destroyed}
+use Rattle.wg_history.specs.Rules.{any_used}
 use Rattle.wg_state.specs.declared.uses.Used.{Used}
 use Rattle.wg_state.specs.Rows.{AreUsed}
 use Rattle.wg_state.specs.Uses.{sort_wanted, uses_in, uses_within, uses_of, is_used_as}
@@ -59,16 +57,16 @@ resources_in m [] = refl
 resources_in m (object ∷ objects) = one_resource m object.1 object.0.reference.number (uses_in objects) (list_any (numbered wants_resource (λ r. r == m)) objects) (resources_in m objects)
 
 -- What rules 192 and 193 ask, over the list of uses.
-pub destroyed_buffers : (setup : Setup) (past : Past) (buffers : List ObjRef) → list_any (is_used_as Buffer (is_destroyed setup past)) (uses_of past buffers) ≡ any_destroyed buffers_of setup past buffers
-destroyed_buffers setup past buffers =
-    any_flat (is_used_as Buffer (is_destroyed setup past)) (λ buffer. uses_within (commands_at past buffer.number)) (λ buffer. any_named buffers_of (is_destroyed setup past) (commands_at past buffer.number))
-    (λ buffer. any_flat (is_used_as Buffer (is_destroyed setup past)) (λ kept. uses_in (named kept.1)) (λ kept. list_any (is_destroyed setup past) (buffers_of kept.1)) (λ kept. buffers_in (is_destroyed setup past) (named kept.1)) (commands_at past buffer.number))
+pub used_buffers : (test : ℕ → Bool) (past : Past) (buffers : List ObjRef) → list_any (is_used_as Buffer test) (uses_of past buffers) ≡ any_used buffers_of test past buffers
+used_buffers test past buffers =
+    any_flat (is_used_as Buffer test) (λ buffer. uses_within (commands_at past buffer.number)) (λ buffer. any_named buffers_of test (commands_at past buffer.number))
+    (λ buffer. any_flat (is_used_as Buffer test) (λ kept. uses_in (named kept.1)) (λ kept. list_any test (buffers_of kept.1)) (λ kept. buffers_in test (named kept.1)) (commands_at past buffer.number))
     buffers
 
-pub destroyed_textures : (setup : Setup) (past : Past) (buffers : List ObjRef) → list_any (is_used_as Texture (is_destroyed setup past)) (uses_of past buffers) ≡ any_destroyed textures_of setup past buffers
-destroyed_textures setup past buffers =
-    any_flat (is_used_as Texture (is_destroyed setup past)) (λ buffer. uses_within (commands_at past buffer.number)) (λ buffer. any_named textures_of (is_destroyed setup past) (commands_at past buffer.number))
-    (λ buffer. any_flat (is_used_as Texture (is_destroyed setup past)) (λ kept. uses_in (named kept.1)) (λ kept. list_any (is_destroyed setup past) (textures_of kept.1)) (λ kept. textures_in (is_destroyed setup past) (named kept.1)) (commands_at past buffer.number))
+pub used_textures : (test : ℕ → Bool) (past : Past) (buffers : List ObjRef) → list_any (is_used_as Texture test) (uses_of past buffers) ≡ any_used textures_of test past buffers
+used_textures test past buffers =
+    any_flat (is_used_as Texture test) (λ buffer. uses_within (commands_at past buffer.number)) (λ buffer. any_named textures_of test (commands_at past buffer.number))
+    (λ buffer. any_flat (is_used_as Texture test) (λ kept. uses_in (named kept.1)) (λ kept. list_any test (textures_of kept.1)) (λ kept. textures_in test (named kept.1)) (commands_at past buffer.number))
     buffers
 
 submit_used : (past : Past) (buffers : List ObjRef) (n : ℕ) → list_any (λ (used : Used). used.number == n) (uses_of past buffers) ≡ submit_uses past buffers n

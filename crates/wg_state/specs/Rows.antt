@@ -1,13 +1,11 @@
 -- What is noted of each object, as a history says it.
-use Rattle.std.specs.Prelude.{◌≡◌, ℕ, ◌<◌, Bool, true, false, ◌==◌, List, [], ◌∷◌, ◌++◌, length, Option, Some, None, is_none, if◌then◌else◌}
+use Rattle.std.specs.Prelude.{◌≡◌, ℕ, ◌<◌, Bool, true, false, ◌==◌, List, [], ◌∷◌, ◌++◌, length, Option, Some, None, is_none, option_and_then, if◌then◌else◌}
 use Rattle.std.specs.List.{list_any}
-use Rattle.wg_types.specs.declared.handles.ObjRef.{ObjRef}
 use Rattle.wg_types.specs.declared.replies.Answer.{Answer}
 use Rattle.wg_types.specs.declared.steps.Sort.{Sort}
 use Rattle.wg_history.specs.declared.events.Setup.{Setup}
 use Rattle.wg_history.specs.declared.events.Event.{Event}
-use Rattle.wg_history.specs.declared.events.Event.TheVariants.{CreateBuffer, CreateTexture, CreateView, CreateEncoder, Finish, Late, Submit, WriteBuffer, WriteTexture, Destroy, Complete}
-use Rattle.wg_history.specs.Entries.{Entry, Past}
+use Rattle.wg_history.specs.Entries.{effects_of, Entry, Past}
 use Rattle.wg_history.specs.Objects.{count, is_making, is_made_valid, is_own, is_encoder, sort_made, resource_at}
 use Rattle.wg_history.specs.Operations.{is_queued, is_used, use_by, last_use}
 use Rattle.wg_history.specs.Rules.{destroy_rule, destroys, is_destroyed, ends_encoder, has_finished, consumes, is_consumed}
@@ -48,40 +46,9 @@ is_at None n = false
 is_at (Some number) n = number == n
 
 abbrev pub destroyed_by : Setup → Past → Event → Option ℕ
-destroyed_by setup past (CreateBuffer info) = None
-destroyed_by setup past (CreateTexture info) = None
-destroyed_by setup past (CreateView texture desc) = None
-destroyed_by setup past CreateEncoder = None
-destroyed_by setup past (Finish encoder recording) = None
-destroyed_by setup past (Late encoder) = None
-destroyed_by setup past (Submit buffers) = None
-destroyed_by setup past (WriteBuffer buffer offset size) = None
-destroyed_by setup past (WriteTexture texture spot layout size data_size) = None
-destroyed_by setup past (Destroy object) = if is_none (destroy_rule setup past object) then Some object.number else None
-destroyed_by setup past (Complete op) = None
+destroyed_by setup past event =
+    option_and_then (λ object. if is_none (destroy_rule setup past object) then Some object.number else None) (effects_of event).destroyed
 
 abbrev pub ended_by : Setup → Past → Event → Option ℕ
-ended_by setup past (CreateBuffer info) = None
-ended_by setup past (CreateTexture info) = None
-ended_by setup past (CreateView texture desc) = None
-ended_by setup past CreateEncoder = None
-ended_by setup past (Finish encoder recording) = if is_own setup past is_encoder encoder then Some encoder.number else None
-ended_by setup past (Late encoder) = None
-ended_by setup past (Submit buffers) = None
-ended_by setup past (WriteBuffer buffer offset size) = None
-ended_by setup past (WriteTexture texture spot layout size data_size) = None
-ended_by setup past (Destroy object) = None
-ended_by setup past (Complete op) = None
-
-abbrev pub submitted : Event → List ObjRef
-submitted (CreateBuffer info) = []
-submitted (CreateTexture info) = []
-submitted (CreateView texture desc) = []
-submitted CreateEncoder = []
-submitted (Finish encoder recording) = []
-submitted (Late encoder) = []
-submitted (Submit buffers) = buffers
-submitted (WriteBuffer buffer offset size) = []
-submitted (WriteTexture texture spot layout size data_size) = []
-submitted (Destroy object) = []
-submitted (Complete op) = []
+ended_by setup past event =
+    option_and_then (λ encoder. if is_own setup past is_encoder encoder then Some encoder.number else None) (effects_of event).ended

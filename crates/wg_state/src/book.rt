@@ -91,11 +91,6 @@ impl Book {
         self.entries.as_slice()
     }
 
-    /// The allocator of its memory.
-    pub fn allocator(&self) -> Global {
-        *self.entries.allocator()
-    }
-
     /// How many objects were made.
     pub fn count(&self) -> u64
         ensures value { result ≡ count (reverse self.now.entries) }

@@ -8,8 +8,8 @@ ghost use Rattle.wg_history.specs.Objects.{made_info};
 
 use crate::book::Book;
 use crate::look;
+use wg_formats::view_info;
 use wg_history::events::Event;
-use wg_textures::view_info;
 use wg_types::handles::{BufferInfo, Info};
 use wg_types::same::Same;
 use wg_types::textures::{TextureInfo, ViewInfo};
@@ -63,6 +63,12 @@ pub fn is_info_of(book: &Book, info: &Info, event: &Event, whole: bool) -> bool
         | Event::WriteBuffer { .. }
         | Event::WriteTexture { .. }
         | Event::Destroy { .. }
-        | Event::Complete { .. } => false,
+        | Event::Complete { .. }
+        | Event::PushErrorScope { .. }
+        | Event::PopErrorScope
+        | Event::Lose
+        | Event::WorkDone
+        | Event::MapAsync { .. }
+        | Event::Unmap { .. } => false,
     }
 }

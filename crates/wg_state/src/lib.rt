@@ -5,8 +5,11 @@ mod book;
 mod infos;
 mod look;
 mod made;
+mod mappings;
 mod notes;
 mod queues;
+mod scopes;
+mod settlements;
 mod state;
 mod uses;
 
@@ -15,5 +18,6 @@ pub use look::{
     buffer_at, commands_at, is_genuine, is_own_command_buffer, is_own_encoder, is_own_resource,
     own_buffer, own_texture, texture_at, texture_or_none_at,
 };
+pub use notes::op_of;
 pub use state::State;
 pub use uses::{Used, uses_of};

@@ -8,8 +8,8 @@ ghost use Rattle.wg_history.specs.Rules.{is_genuine};
 use crate::book::Book;
 use crate::infos::is_info_of;
 use crate::made;
+use wg_formats::no_texture;
 use wg_history::events::Setup;
-use wg_textures::no_texture;
 use wg_types::commands::{Command, On};
 use wg_types::handles::{BufferInfo, Handle, ObjRef};
 use wg_types::textures::TextureInfo;
@@ -107,7 +107,7 @@ pub fn commands_at(book: &Book, number: u64) -> &[(On, Command)]
     ensures { result.now ≡ commands_at (reverse book.now.entries) number }
 {
     match book.maker(number) {
-        Some(entry) => made::recorded_by(&entry.event),
+        Some(entry) => entry.event.recorded(),
         None => &[],
     }
 }

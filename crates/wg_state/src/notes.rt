@@ -5,7 +5,7 @@ ghost use Rattle.wg_history.specs.Objects.{is_own, is_command_buffer};
 ghost use Rattle.wg_history.specs.Operations.{op_of, is_used, use_by};
 ghost use Rattle.wg_history.specs.Rules.{destroys, ends_encoder, consumes};
 ghost use Rattle.wg_life.specs.Lives.{with_destroyed, with_ended, with_consumed, with_last, with_use, Notes};
-ghost use Rattle.wg_state.specs.Rows.{noted, is_at, AreUsed, resource_made, grown, destroyed_by, ended_by, submitted};
+ghost use Rattle.wg_state.specs.Rows.{noted, is_at, AreUsed, resource_made, grown, destroyed_by, ended_by};
 
 use crate::book::Book;
 use crate::uses::Used;
@@ -40,74 +40,29 @@ pub fn grow(entry: &Entry, life: &mut Life)
 
 /// The object that an event destroys, if it does.
 #[tactic(auto, unfolding(wg_history::specs::Rules::destroy_rule))]
-fn destroyed_by(setup: Setup, book: &Book, event: &Event) -> Option<u64>
+pub fn destroyed_by(setup: Setup, book: &Book, event: &Event) -> Option<u64>
     ensures { result ≡ destroyed_by setup (reverse book.now.entries) event.now }
 {
-    match event {
-        Event::Destroy { object } => {
-            if !look::is_own_resource(setup, book, *object) {
-                return None;
-            }
-            Some(object.number)
-        }
-        Event::CreateBuffer { .. }
-        | Event::CreateTexture { .. }
-        | Event::CreateView { .. }
-        | Event::CreateEncoder
-        | Event::Finish { .. }
-        | Event::Late { .. }
-        | Event::Submit { .. }
-        | Event::WriteBuffer { .. }
-        | Event::WriteTexture { .. }
-        | Event::Complete { .. } => None,
+    let object = event.effects().destroyed?;
+    if !look::is_own_resource(setup, book, object) {
+        return None;
     }
+    Some(object.number)
 }
 
 /// The encoder that an event ends, if it does.
 fn ended_by(setup: Setup, book: &Book, event: &Event) -> Option<u64>
     ensures { result ≡ ended_by setup (reverse book.now.entries) event.now }
 {
-    match event {
-        Event::Finish { encoder, .. } => {
-            if !look::is_own_encoder(setup, book, *encoder) {
-                return None;
-            }
-            Some(encoder.number)
-        }
-        Event::CreateBuffer { .. }
-        | Event::CreateTexture { .. }
-        | Event::CreateView { .. }
-        | Event::CreateEncoder
-        | Event::Late { .. }
-        | Event::Submit { .. }
-        | Event::WriteBuffer { .. }
-        | Event::WriteTexture { .. }
-        | Event::Destroy { .. }
-        | Event::Complete { .. } => None,
+    let encoder = event.effects().ended?;
+    if !look::is_own_encoder(setup, book, encoder) {
+        return None;
     }
-}
-
-/// The command buffers that an event submits.
-fn submitted(event: &Event) -> &[ObjRef]
-    ensures { result.now ≡ submitted event.now }
-{
-    match event {
-        Event::Submit { buffers } => buffers.as_slice(),
-        Event::CreateBuffer { .. }
-        | Event::CreateTexture { .. }
-        | Event::CreateView { .. }
-        | Event::CreateEncoder
-        | Event::Finish { .. }
-        | Event::Late { .. }
-        | Event::WriteBuffer { .. }
-        | Event::WriteTexture { .. }
-        | Event::Destroy { .. }
-        | Event::Complete { .. } => &[],
-    }
+    Some(encoder.number)
 }
 
 /// The operation that an answer issued.
-fn op_of(answer: Answer) -> Option<u64>
+pub fn op_of(answer: Answer) -> Option<u64>
     ensures { result ≡ op_of answer }
 {
     match answer {
@@ -198,6 +153,6 @@ pub fn note_entry(setup: Setup, book: &Book, entry: &Entry, uses: &[Used], life:
 {
     note_destroyed(setup, book, &entry.event, life);
     note_ended(setup, book, &entry.event, life);
-    note_consumed(setup, book, submitted(&entry.event), life);
+    note_consumed(setup, book, entry.event.submitted(), life);
     note_uses(book, entry, uses, life);
 }

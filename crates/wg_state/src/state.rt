@@ -1,23 +1,33 @@
 //! A history with all that is kept beside it.
-ghost use Rattle.std.specs.Prelude.{◌≡◌, ◌+◌, ◌-◌, ◌^◌, ◌<◌, ◌≤◌, ◌∷◌, ◌++◌, [], map, length, reverse, vec_len, vec_capacity, OnOk};
+ghost use Rattle.std.specs.Prelude.{◌≡◌, ◌+◌, ◌-◌, ◌^◌, ◌<◌, ◌≤◌, ◌∷◌, ◌++◌, [], map, filter, nat_le, is_some, not, length, reverse, vec_len, vec_capacity, OnOk, IfOk, Some, None, ◌||◌, ◌==◌, if◌then◌else◌};
 ghost use Rattle.wg_orders.specs.Trace.{free};
 ghost use Rattle.wg_history.specs.Operations.{issued, completed, last_use};
-ghost use Rattle.wg_history.specs.Rules.{has_finished, is_consumed, is_destroyed};
-ghost use Rattle.wg_history.specs.Answers.{Run, reply_to};
+ghost use Rattle.wg_model.specs.ErrorScopes.{deliver, pop_how};
+ghost use Rattle.wg_history.specs.Loss.{is_lost, scopes_of, awaiting, is_map_of, is_pending};
+ghost use Rattle.wg_history.specs.Rules.{has_finished, is_consumed, is_destroyed, is_busy, mapped_at};
+ghost use Rattle.wg_history.specs.Answers.{Run, reply_to, settle_all, kept_how, ended_how, is_kept};
 ghost use Rattle.wg_history.specs.Releases.{freed};
 ghost use Rattle.wg_state.specs.Rows.{AreUsed};
 ghost use Rattle.wg_state.specs.States.{IsKept};
+ghost use Rattle.wg_state.specs.Waits.{map_waits};
 
 use crate::book::Book;
+use crate::mappings::{is_held, note_maps};
 use crate::notes::{grow, note_entry};
 use crate::queues::note_queue;
+use crate::scopes::note_errors;
+use crate::settlements;
 use crate::uses::Used;
 use std::alloc::Global;
 use std::marker::Model;
+use wg_errors::Errors;
 use wg_history::NoMemory;
 use wg_history::events::{Entry, Setup};
 use wg_life::Life;
+use wg_maps::Maps;
 use wg_queue::Queue;
+use wg_types::mappings::{Mapping, PendingMap};
+use wg_types::replies::{Caught, FaultKind, How, Settlements};
 use wg_types::steps::Item;
 
 /// What is kept beside a history.
@@ -25,6 +35,8 @@ use wg_types::steps::Item;
 struct Kept {
     life: Life,
     queue: Queue,
+    errors: Errors,
+    maps: Maps,
 }
 
 /// Notes an entry that comes after a history in what is kept beside that, and adds its releases to a
@@ -40,17 +52,25 @@ fn note(
     requires run { Run setup book.now.entries }
     requires answers { entry.now.reply ≡ reply_to setup (reverse book.now.entries) entry.now.event }
     requires used { AreUsed (reverse book.now.entries) entry.now.reply.answer entry.now.event uses.now }
-    requires kept { IsKept setup (reverse book.now.entries) kept.old.life.rows kept.old.queue }
+    requires kept { IsKept setup (reverse book.now.entries) kept.old.life.rows kept.old.queue kept.old.errors kept.old.maps }
     requires small { length book.now.entries + 1 < 2 ^ 64 }
     requires place { 0 < kept.old.life.spare }
+    requires queue_place { 0 < kept.old.queue.spare }
+    requires errors_place { 0 < kept.old.errors.spare }
+    requires maps_place { 0 < kept.old.maps.spare }
     requires room { vec_len trace.old + (length book.now.entries + 1) ≤ vec_capacity trace.old }
-    ensures kept { IsKept setup (entry.now ∷ reverse book.now.entries) kept.new.life.rows kept.new.queue }
+    ensures kept { IsKept setup (entry.now ∷ reverse book.now.entries) kept.new.life.rows kept.new.queue kept.new.errors kept.new.maps }
     ensures trace { trace.new.items ≡ trace.old.items ++ map free (freed setup (entry.now ∷ reverse book.now.entries)) }
     ensures spare { kept.old.life.spare ≤ kept.new.life.spare + 1 }
+    ensures queue_spare { kept.old.queue.spare ≤ kept.new.queue.spare + 1 }
+    ensures errors_spare { kept.old.errors.spare ≤ kept.new.errors.spare + 1 }
+    ensures maps_spare { kept.old.maps.spare ≤ kept.new.maps.spare + 1 }
 {
+    note_maps(setup, book, &kept.life, entry, &mut kept.maps);
     grow(entry, &mut kept.life);
     note_entry(setup, book, entry, uses, &mut kept.life);
-    note_queue(entry, &mut kept.queue);
+    note_queue(book.entries().len() as u64, entry, &mut kept.queue);
+    note_errors(entry, &mut kept.errors);
     kept.life.release(kept.queue.completed(), trace);
 }
 
@@ -74,9 +94,12 @@ impl Model for State {
     ghost view = { λ s. record { setup = s.setup; history = s.book.entries; run = s.run; spare = s.spare } };
 
     ghost invariant = { λ s. record {
-      kept : IsKept s.setup (reverse s.book.entries) s.kept.life.rows s.kept.queue;
+      kept : IsKept s.setup (reverse s.book.entries) s.kept.life.rows s.kept.queue s.kept.errors s.kept.maps;
       book_fits : s.spare ≤ s.book.spare;
       life_fits : s.spare ≤ s.kept.life.spare;
+      queue_fits : s.spare ≤ s.kept.queue.spare;
+      errors_fit : s.spare ≤ s.kept.errors.spare;
+      maps_fit : s.spare ≤ s.kept.maps.spare;
     } };
 }
 
@@ -92,7 +115,9 @@ impl State {
             book: Book::new(alloc),
             kept: Kept {
                 life: Life::new(alloc),
-                queue: Queue::new(),
+                queue: Queue::new(alloc),
+                errors: Errors::new(alloc),
+                maps: Maps::new(alloc),
             },
             spare: 0,
         }
@@ -103,11 +128,6 @@ impl State {
         ensures { result ≡ self.now.setup }
     {
         self.setup
-    }
-
-    /// The allocator of its memory.
-    pub fn allocator(&self) -> Global {
-        self.book.allocator()
     }
 
     /// The entries, oldest first.
@@ -139,6 +159,83 @@ impl State {
         ensures { result ≡ completed (reverse self.now.history) }
     {
         self.kept.queue.completed()
+    }
+
+    /// Whether the device is lost.
+    pub fn is_lost(&self) -> bool
+        ensures { result ≡ is_lost (reverse self.now.history) }
+    {
+        self.kept.errors.is_lost()
+    }
+
+    /// Where a fault of a kind goes, or nothing where the device is lost (WebGPU, "Error Scopes").
+    pub fn catches(&self, kind: FaultKind) -> Option<Caught>
+        ensures { result ≡ (if is_lost (reverse self.now.history) then None else Some (deliver (scopes_of (reverse self.now.history)) kind)) }
+    {
+        self.kept.errors.catches(kind)
+    }
+
+    /// How a pop of the innermost scope settles (WebGPU, "popErrorScope").
+    pub fn top(&self) -> How
+        ensures { result ≡ pop_how (is_lost (reverse self.now.history)) (scopes_of (reverse self.now.history)) }
+    {
+        self.kept.errors.top()
+    }
+
+    /// Whether a promise that all work is done settles at once (WebGPU, "onSubmittedWorkDone").
+    pub fn is_idle(&self) -> bool
+        ensures { result ≡ (is_lost (reverse self.now.history) || issued (reverse self.now.history) == completed (reverse self.now.history)) }
+    {
+        self.kept.queue.is_idle()
+    }
+
+    /// What settles once all operations up to this one are complete, in the order of the promises.
+    pub fn kept(&self, alloc: Global, op: u64) -> Result<Settlements, NoMemory>
+        ensures { IfOk result (λ settled. settled ≡ settle_all kept_how (filter (is_kept op) (awaiting (reverse self.now.history)))) }
+    {
+        settlements::kept(alloc, op, self.kept.queue.waits(), self.kept.maps.waits())
+    }
+
+    /// What the loss of the device settles, in the order of the promises.
+    pub fn ended(&self, alloc: Global) -> Result<Settlements, NoMemory>
+        ensures { IfOk result (λ settled. settled ≡ settle_all ended_how (awaiting (reverse self.now.history))) }
+    {
+        settlements::ended(alloc, self.kept.queue.waits(), self.kept.maps.waits())
+    }
+
+    /// What the end of a buffer's mapping settles.
+    pub fn aborted(&self, alloc: Global, buffer: u64) -> Result<Settlements, NoMemory>
+        ensures { IfOk result (λ settled. settled ≡ settle_all ended_how (filter (is_map_of buffer) (awaiting (reverse self.now.history)))) }
+    {
+        settlements::aborted(alloc, buffer, self.kept.maps.waits())
+    }
+
+    /// The maps that settle once all operations up to this one are complete, in the order of their promises.
+    pub fn kept_maps(&self, alloc: Global, op: u64) -> Result<Vec<PendingMap>, NoMemory>
+        ensures { IfOk result (λ list. list.items ≡ filter (λ w. nat_le w.last op) (map_waits (awaiting (reverse self.now.history)))) }
+    {
+        settlements::kept_maps(alloc, op, self.kept.maps.waits())
+    }
+
+    /// How the buffer is mapped, if it is.
+    pub fn mapping(&self, buffer: u64) -> Option<Mapping>
+        ensures { result ≡ mapped_at self.now.setup (reverse self.now.history) buffer }
+    {
+        self.kept.maps.mapping(buffer)
+    }
+
+    /// Whether the buffer is mapped, or a map of it is pending.
+    fn is_held(&self, buffer: u64) -> bool
+        ensures { result ≡ (is_some (mapped_at self.now.setup (reverse self.now.history) buffer) || is_pending (reverse self.now.history) buffer) }
+    {
+        is_held(self.kept.maps.state(buffer))
+    }
+
+    /// Whether the buffer is destroyed, or mapped, or a map of it is pending.
+    pub fn is_busy(&self, buffer: u64) -> bool
+        ensures { result ≡ is_busy self.now.setup (reverse self.now.history) buffer }
+    {
+        self.is_destroyed(buffer) || self.is_held(buffer)
     }
 
     /// Whether the object is destroyed.
@@ -177,6 +274,9 @@ impl State {
         ensures small { OnOk result (length self.new.history + 1 < 2 ^ 64) }
     {
         self.kept.life.reserve()?;
+        self.kept.queue.reserve(1)?;
+        self.kept.errors.reserve(1)?;
+        self.kept.maps.reserve(1)?;
         self.book.reserve()?;
         self.spare = 1;
         Ok(())

@@ -1,12 +1,12 @@
 -- The runs of views and of copies cover what these have.
-use Rattle.std.proofs.Common.{◌≡◌, ℕ, zero, suc, ◌+◌, ◌-◌, ◌==◌, min, nat_lt, Bool, true, false, ◌&&◌, ◌||◌, List, [], ◌∷◌, ◌++◌, map, flat_map, refl, sym, ap, ap₂, ◌∙◌, if◌then◌else◌, arith}
+use Rattle.std.proofs.Common.{◌≡◌, ℕ, zero, suc, ◌+◌, ◌-◌, ◌==◌, min, nat_lt, Bool, true, false, ◌&&◌, ◌||◌, List, [], ◌∷◌, map, refl, sym, ap, ap₂, ◌∙◌, if◌then◌else◌, arith}
 use Rattle.std.specs.List.{list_any}
 use Rattle.std.proofs.lemmas.Bool.Decides.{nat_tests}
 use Rattle.std.proofs.lemmas.List.Folds.{list_any-append}
 use Rattle.std.proofs.lemmas.List.Concat.{flat_map-cons}
 use Rattle.wg_rows.specs.Rows.{in_range, count_up, numbers}
 use Rattle.wg_types.specs.Formats.{row}
-use Rattle.wg_rows.specs.Runs.{Aspect, aspect_number, Part, Buffer, Subresource, QuerySet, PartRun, LayerParts, covers_part}
+use Rattle.wg_rows.specs.Runs.{Aspect, aspect_number, Buffer, Subresource, QuerySet, PartRun, LayerParts, covers_part}
 use Rattle.wg_model.specs.Formats.{named_aspects}
 use Rattle.wg_model.specs.Textures.{layer_count}
 use Rattle.wg_model.specs.Subresources.{level_runs, aspect_runs, view_runs, first_layer, end_layer, copy_runs}

@@ -1,6 +1,6 @@
 -- The numbers of a range, one after another.
 use Rattle.std.proofs.Common.{◌≡◌, ℕ, suc, ◌+◌, ◌-◌, ◌<◌, ◌≤◌, List, [], ◌∷◌, ◌++◌, refl, sym, ap, ◌∙◌, append_assoc, add-one, arith}
-use Rattle.wg_rows.specs.Rows.{count_up, numbers}
+use Rattle.wg_rows.specs.Rows.{numbers}
 use Rattle.wg_rows.specs.Runs.{Aspect, PartRun, LayerParts}
 use Rattle.wg_model.specs.Subresources.{level_runs}
 

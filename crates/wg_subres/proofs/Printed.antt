@@ -1,5 +1,5 @@
 -- The runs of views and of copies are in printed form, used in one way.
-use Rattle.std.proofs.Common.{◌≡◌, ℕ, zero, suc, ◌+◌, ◌-◌, ◌<◌, ◌==◌, min, nat_lt, Bool, true, false, ◌&&◌, ◌||◌, List, [], ◌∷◌, ◌++◌, map, flat_map, refl, sym, ap, ap₂, subst, ◌∙◌, inl, if◌then◌else◌, arith, lit<}
+use Rattle.std.proofs.Common.{◌≡◌, ℕ, zero, suc, ◌+◌, ◌-◌, ◌<◌, ◌==◌, min, nat_lt, Bool, true, false, ◌&&◌, ◌||◌, List, [], ◌∷◌, ◌++◌, map, refl, sym, ap, ap₂, subst, ◌∙◌, inl, if◌then◌else◌, arith, lit<}
 use Rattle.std.proofs.lemmas.Bool.{lt-ltb, ltb-true}
 use Rattle.std.proofs.lemmas.Bool.Decides.{nat_tests}
 use Rattle.std.proofs.lemmas.List.{map-append}
@@ -12,7 +12,7 @@ use Rattle.wg_types.specs.declared.textures.TextureInfo.{TextureInfo}
 use Rattle.wg_types.specs.declared.textures.TextureSpot.{TextureSpot}
 use Rattle.wg_types.specs.declared.textures.ViewInfo.{ViewInfo}
 use Rattle.wg_types.specs.Formats.{row}
-use Rattle.wg_rows.specs.Rows.{list_before, count_up, numbers, Sort, EachRow, After, Apart}
+use Rattle.wg_rows.specs.Rows.{list_before, count_up, numbers, EachRow, After, Apart}
 use Rattle.wg_rows.specs.Runs.{Aspect, aspect_number, PartRun, LayerParts, part_sort, Cells, Layers, cell_sort}
 use Rattle.wg_rows.specs.Uses.{Usages, same_set, printed_uses, Kind, same_kind, printed_accesses}
 use Rattle.wg_rows.proofs.Cut.{each_append, apart_append}

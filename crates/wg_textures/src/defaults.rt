@@ -1,11 +1,10 @@
-//! What is known of a view, and what one is of which parts are left out.
+//! What a view is of which parts are left out.
 ghost use Rattle.std.specs.Prelude.{◌≡◌, ◌-◌};
 ghost use Rattle.wg_model.specs.Textures.{layer_count};
-ghost use Rattle.wg_model.specs.Views.{view_info, dim_by, layers_by, view_of};
+ghost use Rattle.wg_model.specs.Views.{dim_by, layers_by, view_of};
 
 use wg_formats::layer_count;
-use wg_types::handles::ObjRef;
-use wg_types::textures::{AspectWord, TextureDim, TextureInfo, ViewDesc, ViewDim, ViewInfo};
+use wg_types::textures::{AspectWord, TextureDim, TextureInfo, ViewDesc, ViewDim};
 
 /// The dimension that a view has by its texture.
 fn dim_by(dim: TextureDim, layers: u32) -> ViewDim
@@ -65,21 +64,5 @@ pub fn view_of(info: &TextureInfo, asked: Asked) -> ViewDesc
         layers: asked
             .layers
             .unwrap_or(layers_by(dim, all.saturating_sub(asked.base_layer))),
-    }
-}
-
-/// What is known of a view of a texture.
-pub fn view_info(info: TextureInfo, texture: ObjRef, desc: &ViewDesc) -> ViewInfo
-    ensures { result ≡ view_info info texture desc.now }
-{
-    ViewInfo {
-        texture,
-        texture_info: info,
-        dim: desc.dim,
-        aspect: desc.aspect,
-        base_mip: desc.base_mip,
-        mips: desc.mips,
-        base_layer: desc.base_layer,
-        layers: desc.layers,
     }
 }

@@ -6,7 +6,7 @@ use Rattle.wg_types.specs.declared.wanted.Kind.TheVariants as kind
 use Rattle.wg_types.specs.declared.wanted.Wanted.{Wanted}
 use Rattle.wg_types.specs.declared.wanted.Wanted.TheVariants as wanted
 pub use Rattle.wg_types.specs.declared.requests.RequestOf.{RequestOf}
-use Rattle.wg_types.specs.declared.requests.RequestOf.TheVariants.{CreateBuffer, CreateTexture, CreateView, CreateEncoder, Finish, Submit, WriteBuffer, WriteTexture, Destroy, Complete}
+use Rattle.wg_types.specs.declared.requests.RequestOf.TheVariants.{CreateBuffer, CreateTexture, CreateView, CreateEncoder, Finish, Submit, WriteBuffer, WriteTexture, Destroy, Complete, PushErrorScope, PopErrorScope, Lose, WorkDone, MapAsync, Unmap}
 
 -- the kind of the object that a call makes, if it makes one
 abbrev pub kind_made : {R : Type 0} → RequestOf R → Option Kind
@@ -20,6 +20,12 @@ kind_made (WriteBuffer buffer offset size) = None
 kind_made (WriteTexture texture spot layout size data_size) = None
 kind_made (Destroy object) = None
 kind_made (Complete op) = None
+kind_made (PushErrorScope filter) = None
+kind_made PopErrorScope = None
+kind_made Lose = None
+kind_made WorkDone = None
+kind_made (MapAsync buffer mode offset size) = None
+kind_made (Unmap buffer) = None
 
 -- the objects that a call names, in the order of its keys, with what is wanted of each
 abbrev pub named : {R : Type 0} → RequestOf R → List (R × Wanted)
@@ -33,6 +39,12 @@ named (WriteBuffer buffer offset size) = (buffer, wanted.Buffer) ∷ []
 named (WriteTexture texture spot layout size data_size) = (texture, wanted.Texture) ∷ []
 named (Destroy object) = (object, wanted.Destroyable) ∷ []
 named (Complete op) = []
+named (PushErrorScope filter) = []
+named PopErrorScope = []
+named Lose = []
+named WorkDone = []
+named (MapAsync buffer mode offset size) = (buffer, wanted.Buffer) ∷ []
+named (Unmap buffer) = (buffer, wanted.Buffer) ∷ []
 
 -- the call with other objects in place of those that it names
 abbrev pub map_refs : {R S : Type 0} → (R → S) → RequestOf R → RequestOf S
@@ -46,3 +58,9 @@ map_refs f (WriteBuffer buffer offset size) = WriteBuffer (f buffer) offset size
 map_refs f (WriteTexture texture spot layout size data_size) = WriteTexture (f texture) spot layout size data_size
 map_refs f (Destroy object) = Destroy (f object)
 map_refs f (Complete op) = Complete op
+map_refs f (PushErrorScope filter) = PushErrorScope filter
+map_refs f PopErrorScope = PopErrorScope
+map_refs f Lose = Lose
+map_refs f WorkDone = WorkDone
+map_refs f (MapAsync buffer mode offset size) = MapAsync (f buffer) mode offset size
+map_refs f (Unmap buffer) = Unmap (f buffer)

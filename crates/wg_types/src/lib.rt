@@ -6,6 +6,7 @@ pub mod formats;
 pub mod handles;
 pub mod items;
 pub mod limits;
+pub mod mappings;
 pub mod parts;
 pub mod refs;
 pub mod replies;

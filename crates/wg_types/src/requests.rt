@@ -7,6 +7,7 @@ use crate::NoMemory;
 use crate::handles::BufferInfo;
 use crate::items::Items;
 use crate::refs::{self, Ask, Find};
+use crate::replies::Filter;
 use crate::textures::{DataLayout, TextureInfo, TextureSpot, ViewAsked};
 use crate::wanted::{Kind, Wanted};
 use std::alloc::Global;
@@ -49,6 +50,21 @@ pub enum RequestOf<R> {
     Complete {
         op: u64,
     },
+    PushErrorScope {
+        filter: Filter,
+    },
+    PopErrorScope,
+    Lose,
+    WorkDone,
+    MapAsync {
+        buffer: R,
+        mode: u32,
+        offset: u64,
+        size: Option<u64>,
+    },
+    Unmap {
+        buffer: R,
+    },
 }
 
 impl<R> RequestOf<R> {
@@ -66,7 +82,13 @@ impl<R> RequestOf<R> {
             | RequestOf::WriteBuffer { .. }
             | RequestOf::WriteTexture { .. }
             | RequestOf::Destroy { .. }
-            | RequestOf::Complete { .. } => None,
+            | RequestOf::Complete { .. }
+            | RequestOf::PushErrorScope { .. }
+            | RequestOf::PopErrorScope
+            | RequestOf::Lose
+            | RequestOf::WorkDone
+            | RequestOf::MapAsync { .. }
+            | RequestOf::Unmap { .. } => None,
         }
     }
 
@@ -80,13 +102,19 @@ impl<R> RequestOf<R> {
             RequestOf::Submit { buffers } => {
                 refs::each(asked, buffers.as_slice(), Wanted::CommandBuffer)
             }
-            RequestOf::WriteBuffer { buffer, .. } => asked.ask(buffer, Wanted::Buffer),
+            RequestOf::WriteBuffer { buffer, .. }
+            | RequestOf::MapAsync { buffer, .. }
+            | RequestOf::Unmap { buffer } => asked.ask(buffer, Wanted::Buffer),
             RequestOf::WriteTexture { texture, .. } => asked.ask(texture, Wanted::Texture),
             RequestOf::Destroy { object } => asked.ask(object, Wanted::Destroyable),
             RequestOf::CreateBuffer { .. }
             | RequestOf::CreateTexture { .. }
             | RequestOf::CreateEncoder
-            | RequestOf::Complete { .. } => None,
+            | RequestOf::Complete { .. }
+            | RequestOf::PushErrorScope { .. }
+            | RequestOf::PopErrorScope
+            | RequestOf::Lose
+            | RequestOf::WorkDone => None,
         }
     }
 
@@ -138,6 +166,26 @@ impl<R> RequestOf<R> {
                 object: find.find(object)?,
             }),
             RequestOf::Complete { op } => Ok(RequestOf::Complete { op: *op }),
+            RequestOf::PushErrorScope { filter } => {
+                Ok(RequestOf::PushErrorScope { filter: *filter })
+            }
+            RequestOf::PopErrorScope => Ok(RequestOf::PopErrorScope),
+            RequestOf::Lose => Ok(RequestOf::Lose),
+            RequestOf::WorkDone => Ok(RequestOf::WorkDone),
+            RequestOf::MapAsync {
+                buffer,
+                mode,
+                offset,
+                size,
+            } => Ok(RequestOf::MapAsync {
+                buffer: find.find(buffer)?,
+                mode: *mode,
+                offset: *offset,
+                size: *size,
+            }),
+            RequestOf::Unmap { buffer } => Ok(RequestOf::Unmap {
+                buffer: find.find(buffer)?,
+            }),
         }
     }
 }

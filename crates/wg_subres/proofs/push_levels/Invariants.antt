@@ -1,4 +1,4 @@
-use Rattle.std.proofs.Common.{◌≡◌, ℕ, ◌++◌, ◌-◌}
+use Rattle.std.proofs.Common.{◌≡◌, ◌++◌, ◌-◌}
 use Rattle.wg_rows.specs.Rows.{numbers}
 use Rattle.wg_model.specs.Subresources.{level_runs}
 use Rattle.wg_subres.proofs.push_levels.Given as goal

@@ -1,5 +1,4 @@
 use Rattle.std.specs.Bool.{one_answer}
-use Rattle.wg_types.specs.Textures.{same_texture, same_view}
 use Rattle.wg_history.specs.Infos.{same_buffer}
 use Rattle.wg_history.proofs.InfoLaws.{buffers_tell}
 use Rattle.wg_state.proofs.infos.same_buffer.Goals as goal

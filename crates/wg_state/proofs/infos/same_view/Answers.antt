@@ -1,6 +1,5 @@
 use Rattle.std.specs.Bool.{one_answer}
-use Rattle.wg_types.specs.Textures.{same_texture, same_view}
-use Rattle.wg_history.specs.Infos.{same_buffer}
+use Rattle.wg_types.specs.Textures.{same_view}
 use Rattle.wg_history.proofs.InfoLaws.{views_tell}
 use Rattle.wg_state.proofs.infos.same_view.Goals as goal
 

@@ -1,0 +1,11 @@
+-- What a device keeps of its error scopes.
+use Rattle.std.specs.Prelude.{ℕ, Bool, List}
+use Rattle.wg_types.specs.declared.replies.Scope.{Scope}
+
+pub record ErrorsValue : Type 0 where
+  -- whether the device is lost
+  pub lost : Bool
+  -- the stack, outermost first
+  pub scopes : List Scope
+  -- for how many more scopes there is room
+  pub spare : ℕ

@@ -1,0 +1,4 @@
+pub mod PendingLemmas
+pub mod KeptLemmas
+pub mod TableLemmas
+pub mod StateLemmas

@@ -1,0 +1,281 @@
+//! How the buffers of a device are mapped.
+ghost use Rattle.std.specs.Prelude.{◌≡◌, ℕ, ◌+◌, ◌<◌, ◌≤◌, ◌==◌, [], if◌then◌else◌, IsOk, OnOk, OnErr, IfOk, Option, count_by, map};
+ghost use Rattle.std.specs.FinMap as table;
+ghost use Rattle.std.specs.List.Sorted.{IsNonDecreasing, IsNonDecreasingBy};
+ghost use Rattle.wg_types.specs.declared.mappings.MapDone.{MapDone};
+ghost use Rattle.wg_maps.specs.Mappings.{MapsValue, is_pending, is_buffer_due, state_of, left_of, without, with_map, done_of, is_due, due_maps, still_pending, with_due, promises};
+
+use crate::mapped::MappedBuffers;
+use crate::waits::{Waits, is_due};
+use std::alloc::Global;
+use std::marker::Model;
+use wg_types::NoMemory;
+use wg_types::mappings::{MapDone, MapMode, MapState, Mapping, PendingMap, Unmapped};
+
+/// How the buffers of a device are mapped. Contracts see the maps that are pending, in the order of their
+/// promises, and the buffers that are mapped.
+#[derive(Drop)]
+pub struct Maps {
+    alloc: Global,
+    waits: Waits,
+    mapped: MappedBuffers,
+    spare: usize,
+}
+
+impl Model for Maps {
+    ghost use Rattle.std.specs.Prelude.{◌+◌, ◌≤◌, length};
+    ghost use Rattle.wg_types.specs.contracts.mappings.PendingMap as pending_map;
+    ghost use Rattle.wg_types.specs.contracts.mappings.Mapping as mapping;
+    ghost use Rattle.wg_maps.specs.Mappings.{MapsValue, maps_code, IsApart};
+
+    ghost Value = { MapsValue };
+
+    ghost coded = { maps_code pending_map.the_row.coded mapping.the_row.coded };
+
+    ghost view = { λ m. record { pending = m.waits.pending; mapped = m.mapped.buffers; spare = m.spare } };
+
+    ghost invariant = { λ m. record {
+      apart : IsApart m.waits.pending m.mapped.buffers;
+      waits_fit : m.spare ≤ m.waits.spare;
+      mapped_fit : length m.waits.pending + m.spare ≤ m.mapped.spare;
+    } };
+}
+
+/// Maps the buffers of the maps that are due.
+fn map_due(pending: &[PendingMap], mapped: &mut MappedBuffers, completed: u64)
+    requires room { count_by (is_due completed) pending.now ≤ mapped.old.spare }
+    ensures mapped { mapped.new.buffers ≡ with_due completed pending.now mapped.old.buffers }
+    ensures room { mapped.old.spare ≤ mapped.new.spare + count_by (is_due completed) pending.now }
+{
+    for wait in pending {
+        if is_due(wait, completed) {
+            mapped.insert(wait.buffer, wait.mapping);
+        }
+    }
+}
+
+/// A map as it is settled.
+fn done(wait: &PendingMap) -> MapDone
+    ensures { result ≡ done_of wait.now }
+{
+    MapDone {
+        buffer: wait.buffer,
+        promise: wait.promise,
+        mode: wait.mapping.mode,
+        lo: wait.mapping.lo,
+        hi: wait.mapping.hi,
+    }
+}
+
+/// The maps of a list that are due, as they are settled.
+fn list_due(alloc: Global, pending: &[PendingMap], completed: u64) -> Result<Vec<MapDone>, NoMemory>
+    ensures { IfOk result (λ list. list.items ≡ due_maps completed pending.now) }
+{
+    let list = pending
+        .iter()
+        .filter(|wait| is_due(wait, completed))
+        .map(|wait| done(wait))
+        .collect::<Vec<MapDone>>(alloc)?;
+    Ok(list)
+}
+
+impl Maps {
+    /// Every buffer is unmapped.
+    pub fn new(alloc: Global) -> Maps
+        ensures { result ≡ record { pending = []; mapped = table.empty; spare = 0 } }
+    {
+        Maps {
+            alloc,
+            waits: Waits::new(alloc),
+            mapped: MappedBuffers::new(alloc),
+            spare: 0,
+        }
+    }
+
+    /// Makes room for so many maps.
+    pub fn reserve(&mut self, n: u64) -> Result<(), NoMemory>
+        ensures kept { self.new ≡ record self.old { spare = self.new.spare } }
+        ensures unchanged { OnErr result (self.new ≡ self.old) }
+        ensures spare { self.old.spare ≤ self.new.spare }
+        ensures room { OnOk result (n ≤ self.new.spare) }
+        ensures succeeds { n ≤ self.old.spare → IsOk result }
+    {
+        let n = n as usize;
+        if n <= self.spare {
+            return Ok(());
+        }
+        self.waits.reserve(n)?;
+        let Some(more) = self.waits.pending().len().checked_add(n) else {
+            return Err(NoMemory);
+        };
+        self.mapped.reserve(more)?;
+        self.spare = n;
+        Ok(())
+    }
+
+    /// Makes an unmapped buffer pending (WebGPU, "mapAsync"): the bytes from `lo` to below `hi` are mapped
+    /// once the operations up to `last` are complete.
+    #[tactic(auto, using(crate::proofs::StateLemmas::state_pending, crate::proofs::StateLemmas::apart_pending))]
+    pub fn map(
+        &mut self,
+        buffer: u64,
+        promise: u64,
+        mode: MapMode,
+        lo: u64,
+        hi: u64,
+        last: u64,
+    ) -> Result<(), NoMemory>
+        requires { state_of self.old buffer ≡ MapState.Unmapped }
+        ensures pending { OnOk result (self.new.pending ≡ with_map self.old.pending
+            (record { promise = promise; buffer = buffer; last = last; mapping = record { mode = mode; lo = lo; hi = hi } })) }
+        ensures states { OnOk result ((n : ℕ) → state_of self.new n ≡ (if buffer == n then MapState.Pending else state_of self.old n)) }
+        ensures kept { self.new ≡ record self.old { pending = self.new.pending; spare = self.new.spare } }
+        ensures unchanged { OnErr result (self.new ≡ self.old) }
+        ensures succeeds { 0 < self.old.spare → IsOk result }
+        ensures room { OnOk result (self.old.spare ≤ self.new.spare + 1) }
+    {
+        self.reserve(1)?;
+        self.waits.add(PendingMap {
+            promise,
+            buffer,
+            last,
+            mapping: Mapping { mode, lo, hi },
+        });
+        self.spare -= 1;
+        Ok(())
+    }
+
+    /// Makes a buffer mapped in this way at once, however it stood.
+    #[tactic(auto, using(crate::proofs::StateLemmas::state_mapped, crate::proofs::StateLemmas::apart_mapped))]
+    pub fn start(&mut self, buffer: u64, mapping: Mapping) -> Result<(), NoMemory>
+        ensures pending { OnOk result (self.new.pending ≡ without self.old.pending buffer) }
+        ensures mapped { OnOk result (self.new.mapped ≡ table.insert self.old.mapped buffer mapping) }
+        ensures states { OnOk result ((n : ℕ) → state_of self.new n ≡ (if buffer == n then MapState.Mapped else state_of self.old n)) }
+        ensures unchanged { OnErr result (self.new ≡ self.old) }
+        ensures succeeds { 0 < self.old.spare → IsOk result }
+        ensures room { OnOk result (self.old.spare ≤ self.new.spare + 1) }
+    {
+        self.reserve(1)?;
+        self.waits.remove(buffer);
+        self.mapped.insert(buffer, mapping);
+        self.spare -= 1;
+        Ok(())
+    }
+
+    /// Makes a buffer mapped for writing, whole, as one that is mapped at its creation is (WebGPU,
+    /// "createBuffer").
+    pub fn start_mapped(&mut self, buffer: u64, size: u64) -> Result<(), NoMemory>
+        ensures pending { OnOk result (self.new.pending ≡ without self.old.pending buffer) }
+        ensures mapped { OnOk result (self.new.mapped ≡ table.insert self.old.mapped buffer (record { mode = MapMode.Write; lo = 0; hi = size })) }
+        ensures states { OnOk result ((n : ℕ) → state_of self.new n ≡ (if buffer == n then MapState.Mapped else state_of self.old n)) }
+        ensures unchanged { OnErr result (self.new ≡ self.old) }
+        ensures succeeds { 0 < self.old.spare → IsOk result }
+        ensures room { OnOk result (self.old.spare ≤ self.new.spare + 1) }
+    {
+        let mapping = Mapping {
+            mode: MapMode::Write,
+            lo: 0,
+            hi: size,
+        };
+        self.start(buffer, mapping)
+    }
+
+    /// What `unmap` would answer.
+    pub fn look(&self, buffer: u64) -> Unmapped
+        ensures { result ≡ left_of self.now buffer }
+    {
+        if let Some(promise) = self.waits.promise(buffer) {
+            return Unmapped::Aborted(promise);
+        }
+        let Some(mapping) = self.mapped.get(buffer) else {
+            return Unmapped::Nothing;
+        };
+        match mapping.mode {
+            MapMode::Read => Unmapped::Read,
+            MapMode::Write => Unmapped::Written(mapping.lo, mapping.hi),
+        }
+    }
+
+    /// Makes a buffer unmapped, and answers what it was (WebGPU, "unmap").
+    #[tactic(auto, using(crate::proofs::StateLemmas::state_unmapped, crate::proofs::StateLemmas::apart_unmapped))]
+    pub fn unmap(&mut self, buffer: u64) -> Unmapped
+        ensures answer { result ≡ left_of self.old buffer }
+        ensures after { self.new ≡ record self.old { pending = without self.old.pending buffer; mapped = table.remove self.old.mapped buffer } }
+        ensures states { (n : ℕ) → state_of self.new n ≡ (if buffer == n then MapState.Unmapped else state_of self.old n) }
+    {
+        let answer = self.look(buffer);
+        self.waits.remove(buffer);
+        self.mapped.remove(buffer);
+        answer
+    }
+
+    /// How a buffer stands.
+    pub fn state(&self, buffer: u64) -> MapState
+        ensures { result ≡ state_of self.now buffer }
+    {
+        if self.waits.promise(buffer).is_some() {
+            return MapState::Pending;
+        }
+        if self.mapped.get(buffer).is_some() {
+            return MapState::Mapped;
+        }
+        MapState::Unmapped
+    }
+
+    /// How a buffer is mapped, if it is.
+    pub fn mapping(&self, buffer: u64) -> Option<Mapping>
+        ensures { result ≡ table.get self.now.mapped buffer }
+    {
+        self.mapped.get(buffer)
+    }
+
+    /// The maps that are pending, in the order of their promises.
+    pub fn waits(&self) -> &[PendingMap]
+        ensures { result.now ≡ self.now.pending }
+    {
+        self.waits.pending()
+    }
+
+    /// The maps that are due once the operations up to this one are complete, in the order of their
+    /// promises.
+    #[tactic(auto, using(crate::proofs::PendingLemmas::due_in_order))]
+    pub fn due(&self, completed: u64) -> Result<Vec<MapDone>, NoMemory>
+        ensures due { IfOk result (λ list. list.items ≡ due_maps completed self.now.pending) }
+        ensures in_order { IfOk result (λ list. IsNonDecreasingBy (λ (done : MapDone). done.promise) list.items) }
+    {
+        list_due(self.alloc, self.waits.pending(), completed)
+    }
+
+    /// Maps the buffers of the maps that are due once the operations up to this one are complete.
+    #[tactic(auto, using(crate::proofs::StateLemmas::state_settled, crate::proofs::StateLemmas::apart_settled))]
+    pub fn settle(&mut self, completed: u64)
+        ensures after { self.new ≡ record self.old { pending = still_pending completed self.old.pending; mapped = with_due completed self.old.pending self.old.mapped } }
+        ensures states { (n : ℕ) → state_of self.new n ≡ (if is_buffer_due completed n self.old.pending then MapState.Mapped else state_of self.old n) }
+    {
+        map_due(self.waits.pending(), &mut self.mapped, completed);
+        self.waits.settle(completed);
+    }
+
+    /// The promises of all maps that are pending, in their order.
+    pub fn pending(&self) -> Result<Vec<u64>, NoMemory>
+        ensures promises { IfOk result (λ list. list.items ≡ promises self.now.pending) }
+        ensures in_order { IfOk result (λ list. IsNonDecreasing list.items) }
+    {
+        let list = self
+            .waits
+            .pending()
+            .iter()
+            .map(|wait| wait.promise)
+            .collect::<Vec<u64>>(self.alloc)?;
+        Ok(list)
+    }
+
+    /// Makes the pending buffers unmapped, and no other.
+    #[tactic(auto, using(crate::proofs::StateLemmas::state_aborted))]
+    pub fn abort_all(&mut self)
+        ensures after { self.new ≡ record self.old { pending = [] } }
+        ensures states { (n : ℕ) → state_of self.new n ≡ (if is_pending self.old.pending n then MapState.Unmapped else state_of self.old n) }
+    {
+        self.waits.clear();
+    }
+}

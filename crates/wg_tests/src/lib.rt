@@ -1,0 +1,5 @@
+//! Tests of other crates, so that those are not proved a second time with tests of their own.
+#![tactic(auto)]
+
+#[cfg(test)]
+mod tests;
