@@ -25,13 +25,12 @@ def create_rules(call):
     yield 104, "mapped size", not call["mapped"] or call["size"] % 4 == 0
 
 
-def write_rules(call, buffer, is_destroyed):
-    """The rules of writeBuffer, after those that the buffer is of this device and valid."""
+def write_rules(call, buffer):
+    """The rules of writeBuffer on its range, after those that the buffer is of this device and valid."""
     yield 200, "COPY_DST", buffer["usage"] & COPY_DST != 0
     yield 201, "offset", call["offset"] % 4 == 0
     yield 201, "size", call["size"] % 4 == 0
     yield 202, "range", fits(buffer, call["offset"], call["size"])
-    yield 203, "destroyed", not is_destroyed
 
 
 def copy_rules(call, source, target):

@@ -5,6 +5,7 @@ uses stand in the order in which script rules 10 and 11 look at them.
 """
 
 from formats import ASPECT_WORDS, FORMATS, TEXTURE_DIMS, VIEW_DIMS
+from scopes import FILTERS
 
 NEEDED = object()
 
@@ -49,8 +50,14 @@ CALLS = {
     "submit": [("buffers", COMMAND_BUFFERS, NEEDED)],
     "writeBuffer": [("buffer", BUFFER, NEEDED), ("offset", WHOLE, NEEDED), ("size", WHOLE, NEEDED)],
     "writeTexture": SPOT + LAYOUT + [("dataSize", WHOLE, NEEDED)],
+    "mapAsync": [("buffer", BUFFER, NEEDED), ("mode", WORD32, NEEDED), ("offset", WHOLE, 0), ("size", WHOLE, None)],
+    "unmap": [("buffer", BUFFER, NEEDED)],
     "destroy": [("object", RESOURCE, NEEDED)],
     "complete": [("op", WHOLE, NEEDED)],
+    "workDone": [],
+    "pushErrorScope": [("filter", word(FILTERS), NEEDED)],
+    "popErrorScope": [],
+    "lose": [],
     "copyBufferToBuffer": [
         ON, ("source", BUFFER, NEEDED), ("sourceOffset", WHOLE, NEEDED), ("target", BUFFER, NEEDED), ("targetOffset", WHOLE, NEEDED),
         ("size", WHOLE, NEEDED),
@@ -69,9 +76,9 @@ CALLS = {
 # The calls that are known and not built yet.
 UNBUILT = set("""
     createSampler createBindGroupLayout createPipelineLayout createBindGroup createComputePipeline createRenderPipeline createQuerySet
-    createBundleEncoder beginComputePass beginRenderPass end finishBundle mapAsync unmap workDone drop pushErrorScope popErrorScope lose
-    resolveQuerySet setPipeline setBindGroup setVertexBuffer setIndexBuffer dispatch dispatchIndirect beginOcclusionQuery endOcclusionQuery
-    executeBundles draw drawIndexed drawIndirect drawIndexedIndirect createCanvas configureCanvas currentTexture present
+    createBundleEncoder beginComputePass beginRenderPass end finishBundle drop resolveQuerySet setPipeline setBindGroup
+    setVertexBuffer setIndexBuffer dispatch dispatchIndirect beginOcclusionQuery endOcclusionQuery executeBundles draw drawIndexed
+    drawIndirect drawIndexedIndirect createCanvas configureCanvas currentTexture present
 """.split())
 
 # The calls that record a command on an encoder.
@@ -79,6 +86,13 @@ RECORDING = {
     "copyBufferToBuffer", "copyBufferToTexture", "copyTextureToBuffer", "copyTextureToTexture", "clearBuffer", "pushDebugGroup",
     "popDebugGroup",
 }
+
+# The calls that queue an operation.
+QUEUED = {"submit", "writeBuffer", "writeTexture"}
+
+# The calls that make a promise, and those of them whose promise may wait.
+PROMISING = {"mapAsync", "workDone", "popErrorScope"}
+WAITING = {"mapAsync", "workDone"}
 
 # What a call makes.
 MADE = {

@@ -4,7 +4,7 @@ All looking back is over two plain lists: the calls that were played, oldest fir
 they were made.
 """
 
-from calls import RECORDING, name_keys
+from calls import RECORDING, WAITING, name_keys
 
 
 class Played:
@@ -17,16 +17,21 @@ class Played:
         self.call = call
         self.do = call["do"]
         self.uses = uses
+        self.on_lost = False
         self.entry = None
         self.answer = None
         self.fault = None
+        self.catcher = None
+        self.settled = []
         self.made = None
         self.op = None
+        self.awaited = None
+        self.ended = None
 
     @property
     def is_valid(self):
-        """The object that this call made is valid exactly where the call has no fault."""
-        return self.fault is None
+        """The object that this call made is valid exactly where the call has no fault and came before the device was lost."""
+        return self.fault is None and not self.on_lost
 
 
 class History:
@@ -46,8 +51,12 @@ class History:
     def entries(self):
         return [played for played in self.played if played.entry is not None]
 
+    def is_lost(self):
+        """The device is lost from its first loss on."""
+        return any(played.do == "lose" for played in self.played)
+
     def finishes(self, encoder):
-        """The finishes that named an encoder, accepted or refused."""
+        """The finishes that named an encoder, accepted, refused or on a lost device."""
         return [played for played in self.played if played.do == "finish" and played.uses["on"] is encoder]
 
     def has_finished(self, encoder):
@@ -63,11 +72,11 @@ class History:
         return self.commands_on(encoder) if self.finishes(encoder)[0] is command_buffer else []
 
     def is_destroyed(self, thing):
-        """Some destroy named the object."""
+        """Some destroy named the object, be it on a lost device."""
         return any(played.do == "destroy" and played.uses["object"] is thing for played in self.played)
 
     def is_consumed(self, command_buffer):
-        """Some submit listed the command buffer, accepted or refused."""
+        """Some submit listed the command buffer, accepted, refused or on a lost device."""
         return any(played.do == "submit" and command_buffer in played.uses["buffers"] for played in self.played)
 
     def issued(self):
@@ -78,6 +87,11 @@ class History:
         """The number of the last completion that was not bad, or 0."""
         numbers = [played.call["op"] for played in self.played if played.do == "complete" and played.answer == "plain"]
         return numbers[-1] if numbers else 0
+
+    def waiting(self):
+        """The promises of workDones and mapAsyncs that no entry has settled, in their order."""
+        settled = {promise for played in self.played for promise, _ in played.settled}
+        return [played for played in self.played if played.do in WAITING and played not in settled]
 
     def last_use(self, thing):
         """The last operation that uses an object, or 0."""

@@ -2,13 +2,19 @@
 
 import buffers
 import copies
+import maps
+import promises
 import recording
+import scopes
 import textures
-from calls import MADE, RECORDING
+from calls import MADE, PROMISING, QUEUED, RECORDING
 from history import History, Played
 from rules import first_unmet, note
 
 LATE_RULE = 14
+
+# The kind of the faults that all rules of today make.
+KIND = "validation"
 
 
 def play(calls):
@@ -27,18 +33,29 @@ def answer_call(history, call):
         history.played.append(played)
         return
     played.entry = len(history.entries())
-    if played.do in RECORDING:
-        note("late", LATE_RULE, "in time", False)
-        played.fault = LATE_RULE
-        played.answer = "plain"
-    else:
-        played.fault = first_unmet(played.do, rules_of(history, played))
-        played.answer = answer_of(history, played)
+    played.on_lost = history.is_lost()
+    played.fault = fault_of(history, played)
+    played.catcher = scopes.catcher_of(history, played.fault)
+    played.answer = answer_of(history, played)
+    played.settled = promises.settled_by(history, played)
     history.played.append(played)
 
 
+def fault_of(history, played):
+    """The kind and the rule of the fault of an event, or None. On a lost device there is none, and no rule is tested."""
+    if played.on_lost:
+        return None
+    word = "late" if played.do in RECORDING else played.do
+    rule = first_unmet(word, rules_of(history, played))
+    return None if rule is None else (KIND, rule)
+
+
 def answer_of(history, played):
-    """The answer to an event whose fault is known; an object or an operation gets its number."""
+    """The answer to an event whose fault is known; an object or an operation gets its number.
+
+    A workDone waits for all operations that were queued before it, a mapAsync for those that use its buffer. An unmap ends the
+    mapping of its buffer, if there is one.
+    """
     if played.do in MADE:
         played.made = len(history.objects)
         history.objects.append(played)
@@ -46,10 +63,18 @@ def answer_of(history, played):
         return f"made {played.made} {'valid' if played.is_valid else 'invalid'}"
     if played.do == "complete":
         return answer_of_complete(history, played.call["op"])
-    if played.do == "destroy" or played.fault is not None:
-        return "plain"
-    played.op = history.issued() + 1
-    return f"op {played.op}"
+    if played.do == "workDone":
+        played.awaited = history.issued()
+    if played.do == "mapAsync":
+        played.awaited = history.last_use(played.uses["buffer"])
+    if played.do == "unmap":
+        played.ended = maps.mapping_of(history, played.uses["buffer"])
+    if played.do in PROMISING:
+        return "promise"
+    if played.do in QUEUED and played.fault is None and not played.on_lost:
+        played.op = history.issued() + 1
+        return f"op {played.op}"
+    return "plain"
 
 
 def answer_of_complete(history, op):
@@ -61,8 +86,10 @@ def answer_of_complete(history, op):
 
 
 def rules_of(history, played):
-    """The rules of an event that is no late command."""
+    """The rules of an event."""
     call, uses = played.call, played.uses
+    if played.do in RECORDING:
+        return iter([(LATE_RULE, "in time", False)])
     if played.do == "createBuffer":
         return buffers.create_rules(call)
     if played.do == "createTexture":
@@ -70,9 +97,14 @@ def rules_of(history, played):
     if played.do == "createView":
         return view_rules(played)
     if played.do == "writeBuffer":
-        return write_rules(history, uses["buffer"], buffers.write_rules, call)
+        return target_rules(uses["buffer"], write_buffer_rules(history, call, uses["buffer"]))
     if played.do == "writeTexture":
-        return write_rules(history, uses["texture"], copies.write_texture_rules, call)
+        texture = uses["texture"]
+        return target_rules(texture, copies.write_texture_rules(call, texture.call, history.is_destroyed(texture)))
+    if played.do == "mapAsync":
+        return target_rules(uses["buffer"], maps.map_rules(history, call, uses["buffer"]))
+    if played.do == "unmap":
+        return iter([(10, "buffer", True)])
     if played.do == "finish":
         return finish_rules(history, uses["on"])
     if played.do == "submit":
@@ -89,10 +121,16 @@ def view_rules(played):
     yield from textures.view_rules(textures.view_of(played.call, texture.call, texture.is_valid), texture.call)
 
 
-def write_rules(history, target, own_rules, call):
+def target_rules(target, own_rules):
+    """The rules of a write or a map: those of what it is to, then its own."""
     yield 10, "target", True
     yield 12, "target", target.is_valid
-    yield from own_rules(call, target.call, history.is_destroyed(target))
+    yield from own_rules
+
+
+def write_buffer_rules(history, call, buffer):
+    yield from buffers.write_rules(call, buffer.call)
+    yield from maps.idle_rules(history, 203, buffer)
 
 
 def finish_rules(history, encoder):
@@ -120,6 +158,13 @@ def submit_rules(history, command_buffers):
         yield 12, "command buffer", command_buffer.is_valid
     yield 190, "consumed", not any(history.is_consumed(one) for one in command_buffers)
     yield 191, "named twice", len(set(command_buffers)) == len(command_buffers)
-    destroyed = [thing.do for thing in history.resources_of(command_buffers) if history.is_destroyed(thing)]
-    yield 192, "destroyed buffer", "createBuffer" not in destroyed
-    yield 193, "destroyed texture", "createTexture" not in destroyed
+    resources = history.resources_of(command_buffers)
+    yield from used_rules(history, {thing for thing in resources if thing.do == "createBuffer"})
+    yield 193, "destroyed texture", not any(history.is_destroyed(thing) for thing in resources if thing.do == "createTexture")
+
+
+def used_rules(history, used):
+    """Rule 192: no buffer that a command names is pending, mapped or destroyed."""
+    yield 192, "pending buffer", not any(maps.is_pending(history, buffer) for buffer in used)
+    yield 192, "mapped buffer", not any(maps.mapping_of(history, buffer) for buffer in used)
+    yield 192, "destroyed buffer", not any(history.is_destroyed(buffer) for buffer in used)

@@ -22,9 +22,16 @@ def refusal(refused):
 
 
 def entry_line(played):
+    """Number, lane, word and answer of an entry, then its fault, if there is one, and then each promise that it settled."""
     word = "late" if played.do in RECORDING else played.do
     line = f"{played.entry} 0 {word} {played.answer}"
-    return line if played.fault is None else f"{line} fault validation {played.fault} uncaptured"
+    if played.fault is not None:
+        line += f" fault {played.fault[0]} {played.fault[1]} {catcher_text(played.catcher)}"
+    return line + "".join(f" settle {promise.entry} {how}" for promise, how in played.settled)
+
+
+def catcher_text(place):
+    return "uncaptured" if place is None else f"scope {place}"
 
 
 def trace_lines(items):
@@ -44,7 +51,7 @@ def trace_lines(items):
 def step_lines(number, step):
     uses = joined([(place_of(part), set_text(usages)) for part, usages in step.uses.items()])
     accesses = joined([(place_of(cell), kind) for cell, kind in step.accesses])
-    lines = [f"step {number} op {step.op} {step.name}"]
+    lines = [f"step {number} {step.at} {step.name}"]
     lines += [f"use {part_text(place)} {usages}" for place, usages in uses]
     return lines + [f"acc {kind} {cell_text(place)}" for place, kind in accesses]
 

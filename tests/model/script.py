@@ -82,7 +82,6 @@ def read_call(place, call):
     do = call.get("do")
     ask(6, "word", type(do) is str and (do in CALLS or do in UNBUILT), place)
     ask(13, "call", do in CALLS, place)
-    ask(13, "mapped", not (do == "createBuffer" and call.get("mapped") is True), place)
     keys = CALLS[do]
     ask(7, "unknown key", set(call) <= {"do"} | {key for key, _, _ in keys}, place)
     ask(7, "missing key", all(key in call for key, _, default in keys if default is NEEDED), place)

@@ -1,4 +1,4 @@
-"""The steps of an operation, each with what it uses and accesses.
+"""The steps of an entry, those of its operation or of the host, each with what it uses and accesses.
 
 A part is `("b", N)` or `("t", N, aspect, mip, layer)`. A cell is such a subresource, or a run of the bytes of a buffer,
 `("b", N, low, high)`. Aspects are kept by their place in the printed order, so that parts and cells are printed sorted.
@@ -7,16 +7,17 @@ A part is `("b", N)` or `("t", N, aspect, mip, layer)`. A cell is such a subreso
 import copies
 import formats
 import recording
+from maps import host_accesses
 
 # Usages in printed order, as far as steps of today use them.
-USAGES = ("copy-src", "copy-dst", "clear")
+USAGES = ("copy-src", "copy-dst", "host-read", "host-write", "clear")
 
 
 class Step:
-    """A step of an operation: its uses by part, and its accesses, pairs of a cell and `read`, `write` or `both`."""
+    """A step: where it happens, its uses by part, and its accesses, pairs of a cell and `read`, `write` or `both`."""
 
-    def __init__(self, op, name, touches):
-        self.op = op
+    def __init__(self, at, name, touches):
+        self.at = at
         self.name = name
         self.uses = {}
         self.accesses = []
@@ -37,21 +38,34 @@ def part_of(cell):
 
 
 def groups_of(history, played):
-    """The steps of an operation, a group for each command buffer of a submit, or for a write."""
+    """The steps of an entry, a group for each command buffer of a submit, for a write, or for a host access."""
+    if played.op is None:
+        return [host_steps(played.entry, *access) for access in host_accesses(played)]
     if played.do == "submit":
-        return [command_steps(history.commands_of(one), played.op) for one in played.uses["buffers"]]
+        return [command_steps(history.commands_of(one), f"op {played.op}") for one in played.uses["buffers"]]
     return [write_steps(played)]
 
 
-def command_steps(commands, op):
+def host_steps(entry, name, buffer, mapping):
+    """The step of a host access, over the range of a mapping; an empty range makes none.
+
+    A host write reads its range before it writes it, since what the caller left as it was stays.
+    """
+    _, offset, size = mapping
+    usage, kind = ("host-read", "read") if name == "hostRead" else ("host-write", "both")
+    touches = in_buffer(buffer, offset, size, usage, kind)
+    return [Step(f"host {entry}", name, touches)] if touches else []
+
+
+def command_steps(commands, at):
     """The steps of recorded commands; a copy or clear of size 0 makes none, nor does a debug group."""
-    return [Step(op, command.do, touches) for command in commands if (touches := touches_of(command))]
+    return [Step(at, command.do, touches) for command in commands if (touches := touches_of(command))]
 
 
 def write_steps(played):
     """The step of a queue write; one of size 0 makes none."""
     touches = write_touches(played) if played.do == "writeBuffer" else to_texture(played, "texture", played.call)
-    return [Step(played.op, played.do, touches)] if touches else []
+    return [Step(f"op {played.op}", played.do, touches)] if touches else []
 
 
 def write_touches(played):

@@ -7,17 +7,16 @@ over the steps that the trace has so far.
 from steps import Step, groups_of
 
 # The usages that only read, as far as steps of today use them.
-ONLY_READ = {"copy-src"}
+ONLY_READ = {"copy-src", "host-read"}
 
 
 def trace_of(history):
-    """The items of the trace, entry by entry: the steps of its operation, then what it makes due."""
+    """The items of the trace, entry by entry: its steps, then what it makes due."""
     items, freed = [], []
     for past in pasts(history):
         played = past.played[-1]
-        if played.op is not None:
-            for group in groups_of(past, played):
-                add_group(items, group)
+        for group in groups_of(past, played):
+            add_group(items, group)
         for thing in history.objects:
             if thing.do in ("createBuffer", "createTexture") and thing not in freed and past.is_due(thing):
                 freed.append(thing)
@@ -48,17 +47,17 @@ def add_group(items, group):
         for cell in cut(step.reads(), known + group):
             if not is_written(cell, group[:place]) and not is_written(cell, known):
                 needed.append(cell)
-    add_clear(items, needed, group[0].op)
+    add_clear(items, needed, group[0].at)
     for step in group:
         known = steps_in(items)
-        add_clear(items, [cell for cell in cut(step.reads(), known) if not is_written(cell, known)], step.op)
+        add_clear(items, [cell for cell in cut(step.reads(), known) if not is_written(cell, known)], step.at)
         add_step(items, step)
 
 
-def add_clear(items, cells, op):
+def add_clear(items, cells, at):
     """A clear uses its parts as `clear` and writes its cells; one of no cells is no step."""
     if cells:
-        add_step(items, Step(op, "clear", [(cell, "clear", "write") for cell in cells]))
+        add_step(items, Step(at, "clear", [(cell, "clear", "write") for cell in cells]))
 
 
 def add_step(items, step):

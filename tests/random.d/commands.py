@@ -18,7 +18,7 @@ def with_usage(world, usage, size=None):
     found = world.some(old) if old and world.random.random() < 0.7 else None
     if found is not None:
         return found
-    usage = world.random.choice([usage, 12])
+    usage = {1: 9, 2: 6}.get(usage) or world.random.choice([usage, 12])
     return world.buffer(usage=usage) if size is None else world.buffer(usage=usage, size=size)
 
 
@@ -87,7 +87,51 @@ def write_buffer(world, good, buffer=None):
     if not good and random.random() < 0.8:
         spoil_range(random, call, "offset", "size", buffer)
     world.add(call)
-    world.issued += 1
+    world.queued(good)
+
+
+def map_range(random, buffer):
+    """A range that can be mapped: its offset a multiple of 8, its size of 4; often the last that fits."""
+    words = buffer.call["size"] // 4
+    first = 2 * random.choice([0, 0, random.randint(0, words // 2), words // 2])
+    return 4 * first, 4 * random.choice([words - first, random.randint(0, words - first), 0])
+
+
+MAP_FAULTS = ["usage", "usage", "mode", "range", "range", "range", "offset", "again"]
+
+
+def map_async(world, good):
+    """A map of a buffer, or one that leaves a rule unmet."""
+    random, mode = world.random, world.random.choice([1, 2])
+    fault = None if good else random.choice(MAP_FAULTS)
+    buffer = lacking(world, mode) if fault == "usage" and random.random() < 0.4 else with_usage(world, mode)
+    mode = 3 - mode if fault == "usage" else random.choice([0, 3, 4, 2**32 - 1]) if fault == "mode" else mode
+    call = {"mode": mode}
+    call["offset"], call["size"] = map_range(random, buffer)
+    if fault == "range":
+        spoil_range(random, call, "offset", "size", buffer)
+    elif fault == "offset":
+        call["offset"] += random.choice([4, 4, 1, 2])
+    if random.random() < 0.3:
+        del call["size"]
+    if call["offset"] == 0 and random.random() < 0.6:
+        del call["offset"]
+    if mode == 1 and buffer.good and not buffer.mapped and not buffer.destroyed and buffer.call["usage"] & 8 and random.random() < 0.6:
+        write_buffer(world, True, buffer)
+    elif mode == 2 and buffer.good and buffer.call["usage"] & 4 and random.random() < 0.4:
+        copied_away(world, buffer)
+    if fault == "again":
+        world.map(buffer, True, call)
+    world.map(buffer, good, call)
+
+
+def copied_away(world, buffer):
+    """A submit that copies from a buffer, at times nothing."""
+    encoder, target = world.encoder(), world.buffer(usage=12)
+    size = 4 if min(buffer.call["size"], target.call["size"]) >= 4 and world.random.random() < 0.7 else 0
+    call = {"do": "copyBufferToBuffer", "on": encoder.name, "source": buffer.name, "target": target.name}
+    world.add(call | {"sourceOffset": 0, "targetOffset": 0, "size": size})
+    world.submit([world.finish(encoder)])
 
 
 def clear_buffer(world, encoder, good):
@@ -170,7 +214,7 @@ def write_texture(world, good, texture=None):
     size = min(size, 2**53 - 101)
     spot["dataSize"] = max(size - 1, 0) if "bytes" in faults or "buffer" in faults else size + random.choice([0, 0, 0, 1, 100])
     world.add({"do": "writeTexture", "texture": texture.name} | usual_left_out(random, spot))
-    world.issued += 1
+    world.queued(good)
 
 
 def copy_texels(world, encoder, good, do):

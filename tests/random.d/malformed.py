@@ -6,11 +6,11 @@ from json_forms import Pairs, Raw, text_of
 WORD_LIMIT, WHOLE_LIMIT = 2**32 - 1, 2**53 - 1
 UNBUILT = """
 createSampler createBindGroupLayout createPipelineLayout createBindGroup createComputePipeline createRenderPipeline createQuerySet
-createBundleEncoder beginComputePass beginRenderPass end finishBundle mapAsync unmap workDone drop pushErrorScope popErrorScope lose
+createBundleEncoder beginComputePass beginRenderPass end finishBundle drop
 resolveQuerySet setPipeline setBindGroup setVertexBuffer setIndexBuffer dispatch dispatchIndirect beginOcclusionQuery endOcclusionQuery
 executeBundles draw drawIndexed drawIndirect drawIndexedIndirect createCanvas configureCanvas currentTexture present
 """.split()
-UNKNOWN = ["", "createbuffer", "CreateBuffer", "createBuffer ", "getBindGroupLayout", "setViewport", "copy", "createBuffer\0", "é"]
+UNKNOWN = ["", "createbuffer", "CreateBuffer", "createBuffer ", "getBindGroupLayout", "setViewport", "copy", "createBuffer\0", "é", "Lose", "onSubmittedWorkDone"]
 NAME_KEYS = {"buffer", "texture", "source", "target", "on", "object"}
 NUMBERS = [
     "0", "1", "-1", "-0", "1.0", "1.5", "1e3", "1E3", "1e-3", "0e400", "0.0e999999", "4294967295", "4294967296", "9007199254740991",
@@ -108,13 +108,18 @@ def key_gone(random, call):
 
 
 def key_more(random, call):
-    call[random.choice(["x", "", "DO", "label", "mapped", "size", "usage", "as", "queries", "depthSlice", "limits"])] = random.choice(VALUES)
+    call[random.choice(["x", "", "DO", "label", "mapped", "size", "usage", "as", "filter", "op", "queries", "depthSlice", "limits", "mode"])] = random.choice(VALUES)
+
+
+WRONG_WORDS = [
+    "", "2D", "all", "cube", "2d", "3d-array", "rgba8", "rgba8unorm-SRGB", "depth-only", "color", "Validation", "out-of-memory ", "outofmemory", "internal", None,
+]
 
 
 def other_word(random, call):
-    words = [key for key in ("format", "dim", "aspect") if key in call]
+    words = [key for key in ("format", "dim", "aspect", "filter") if key in call]
     if words:
-        call[random.choice(words)] = random.choice(["", "2D", "all", "cube", "2d", "3d-array", "rgba8", "rgba8unorm-SRGB", "depth-only", "color", None])
+        call[random.choice(words)] = random.choice(WRONG_WORDS)
 
 
 def unbuilt(random, call):
@@ -126,6 +131,7 @@ def unknown(random, call):
 
 
 def mapped(random, call):
+    """A buffer whose key `mapped` is of the right type or not; nothing else of it may be wrong."""
     made = {"do": "createBuffer", "size": 4, "usage": 8, "as": "m", "mapped": random.choice([True, True, 1, "true", None, False])}
     return made | random.choice([{}, {"x": 1}, {"size": None}, {"usage": -1}, {"do": "createView"}])
 

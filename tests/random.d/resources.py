@@ -19,6 +19,8 @@ def good_buffer(random):
     size = random.choice([0, 4, 7, 8, 16, 16, 16, 32, 64, 256, 1024, 4096, 65536, GREATEST_BUFFER])
     usage = random.choice([12, 12, 12, 12, 12, 4, 8, 1, 2, 9, 6, 1020, 12 + 16 * random.randrange(64)])
     call = {"do": "createBuffer", "size": size, "usage": usage}
+    if random.random() < 0.08 and size % 4 == 0 and size < GREATEST_BUFFER:
+        return call | {"mapped": True}
     return call | {"mapped": False} if random.random() < 0.1 else call
 
 
@@ -29,6 +31,7 @@ BUFFER_FAULTS = [
     lambda random, call: call.update(usage=2 | random.choice([8, 12, 32, 516])),
     lambda random, call: call.update(size=GREATEST_BUFFER + 1),
     lambda random, call: call.update(size=2**53 - 1),
+    lambda random, call: call.update(size=random.choice([1, 2, 3, 6, 4094]), mapped=True),
 ]
 
 

@@ -13,6 +13,7 @@ class Thing:
         self.call = call
         self.good = good
         self.destroyed = False
+        self.mapped = bool(call.get("mapped")) and good
         self.finished = False
         self.submitted = False
         self.groups = 0
@@ -26,6 +27,9 @@ class World:
         self.calls = []
         self.names = 0
         self.issued = 0
+        self.completed = 0
+        self.scopes = 0
+        self.is_lost = False
         self.buffers = []
         self.textures = []
         self.encoders = []
@@ -51,7 +55,7 @@ class World:
             fault(self.random, *what)
 
     def make(self, letter, call, good):
-        thing = Thing(self.new_name(letter), call, good)
+        thing = Thing(self.new_name(letter), call, good and not self.is_lost)
         self.add(call | {"as": thing.name})
         return thing
 
@@ -99,20 +103,51 @@ class World:
 
     def submit(self, command_buffers):
         self.add({"do": "submit", "buffers": [thing.name for thing in command_buffers]})
+        self.queued(all(thing.good and not thing.submitted for thing in command_buffers))
         for thing in command_buffers:
             thing.submitted = True
-        self.issued += 1
+
+    def queued(self, good):
+        """An operation more, where the call is taken to be good; a lost device takes none."""
+        self.issued += good and not self.is_lost
+
+    def map(self, thing, good, call):
+        """A map of a buffer, which is pending or mapped from then on, where it is taken to be good."""
+        self.add({"do": "mapAsync", "buffer": thing.name} | call)
+        thing.mapped = thing.mapped or good and thing.good and not thing.destroyed and not self.is_lost
+
+    def unmap(self, thing):
+        self.add({"do": "unmap", "buffer": thing.name})
+        thing.mapped = False
 
     def destroy(self, thing):
         self.add({"do": "destroy", "object": thing.name})
         thing.destroyed = True
+        thing.mapped = False
 
     def complete(self, number):
         self.add({"do": "complete", "op": number})
+        self.completed = number if self.completed < number <= self.issued else self.completed
+
+    def push_scope(self):
+        words = ["validation", "out-of-memory", "internal"]
+        self.add({"do": "pushErrorScope", "filter": self.random.choices(words, [4, 1, 1])[0]})
+        self.scopes += 1
+
+    def pop_scope(self):
+        self.add({"do": "popErrorScope"})
+        self.scopes = max(self.scopes - 1, 0)
+
+    def work_done(self):
+        self.add({"do": "workDone"})
+
+    def lose(self):
+        self.add({"do": "lose"})
+        self.is_lost = True
 
     def some(self, things):
-        """One of some objects: a good one that is not destroyed, as a rule, or None."""
-        usable = [thing for thing in things if thing.good and not thing.destroyed]
+        """One of some objects: a good one that is not destroyed, pending or mapped, as a rule, or None."""
+        usable = [thing for thing in things if thing.good and not thing.destroyed and not thing.mapped]
         if usable and self.random.random() > 0.03:
             return self.random.choice(usable[-6:])
         return self.random.choice(things) if things else None

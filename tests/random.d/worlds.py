@@ -1,14 +1,23 @@
-"""Whole scripts: borders of single rules one after another, and mixed work with submits, completes and destroys."""
+"""Whole scripts: borders of single rules one after another, and mixed work with submits, completes and destroys.
 
-from commands import command, write_buffer, write_texture
+Both have error scopes, promises and mapped buffers; some lose their device, mostly late.
+"""
+
+from commands import command, map_async, write_buffer, write_texture
 from world import World
 
 
 def borders(random):
     """Many objects, writes and encoders of one or two commands, half of them with a rule just unmet."""
     world = World(random, 0.5)
-    for _ in range(random.randint(10, 40)):
-        kind = random.randrange(8)
+    count = random.randint(10, 40)
+    last = last_before_loss(random, count, 0.15)
+    for act in range(count):
+        if act == last:
+            world.lose()
+        if random.random() < 0.3:
+            scope(world)
+        kind = random.randrange(11)
         if kind == 0:
             world.buffer(not world.has_fault())
         elif kind == 1:
@@ -19,9 +28,20 @@ def borders(random):
             write_buffer(world, not world.has_fault())
         elif kind == 4:
             write_texture(world, not world.has_fault())
+        elif kind == 5:
+            random.choice([work_done, complete])(world)
+        elif kind in (6, 7):
+            maps(world)
         else:
             single(world)
     return world.calls
+
+
+def last_before_loss(random, count, chance):
+    """The number of the act before which the device is lost: none as a rule, and mostly a late one."""
+    if random.random() >= chance:
+        return None
+    return random.randrange(count) if random.random() < 0.2 else random.randrange(count * 2 // 3, count)
 
 
 def single(world):
@@ -30,17 +50,21 @@ def single(world):
     for _ in range(world.random.choice([1, 1, 1, 2, 3])):
         command(world, encoder, not world.has_fault())
     command_buffer = world.finish(encoder)
-    if command_buffer.good or world.random.random() < 0.1:
+    if command_buffer.good or world.random.random() < (0.5 if world.is_lost else 0.1):
         world.submit([command_buffer])
 
 
 def mixed(random, longest=60):
     """Work as a program does it: several encoders open at once, few faults."""
-    world = World(random, random.choice([0.0, 0.01, 0.05]))
+    world = World(random, random.choice([0.0, 0.01, 0.05, 0.2]))
     for _ in range(random.randint(1, 3)):
         world.buffer(usage=12)
         world.texture(usage=3)
-    for _ in range(random.randint(min(3, longest), longest)):
+    count = random.randint(min(3, longest), longest)
+    last = last_before_loss(random, count, 0.25)
+    for act in range(count):
+        if act == last:
+            world.lose()
         random.choices(ACTS, ACT_WEIGHTS)[0](world)
     return world.calls
 
@@ -87,9 +111,57 @@ def submit(world):
 
 
 def complete(world):
-    """Mostly an operation that was queued; at times the last, the next, or 0."""
+    """Mostly an operation that was queued and is not complete; at times the last, the next, or 0."""
     random, issued = world.random, world.issued
-    world.complete(random.choice([issued, issued, random.randint(0, issued), issued + 1, 0]))
+    waiting = range(world.completed + 1, issued + 1)
+    if waiting and random.random() < 0.7:
+        world.complete(random.choice([waiting[0], waiting[-1], random.choice(waiting)]))
+    else:
+        world.complete(random.choice([issued, issued, random.randint(0, issued), issued + 1, 0]))
+
+
+def scope(world):
+    """Error scopes are opened a little more often than closed, so that several are open; at times one too many is closed."""
+    if world.random.random() < (0.45 if world.scopes else 0.1):
+        world.pop_scope()
+    else:
+        world.push_scope()
+
+
+def maps(world):
+    """A map, or the end of one: of a buffer that is mapped or pending as a rule, and at times of any."""
+    random = world.random
+    mapped = [thing for thing in world.buffers if thing.mapped]
+    if mapped and random.random() < 0.55:
+        world.unmap(random.choice(mapped if random.random() < 0.9 else world.buffers))
+    elif mapped and random.random() < 0.2:
+        use_while_mapped(world, random.choice(mapped))
+    else:
+        map_async(world, not world.has_fault())
+
+
+def use_while_mapped(world, buffer):
+    """A write, a submit or a destroy of a buffer that is mapped or pending."""
+    random = world.random
+    kind = random.randrange(3)
+    if kind == 0:
+        world.destroy(buffer)
+    elif kind == 1:
+        write_buffer(world, False, buffer)
+    else:
+        encoder = world.encoder()
+        other = world.buffer(usage=12)
+        source, target = (buffer, other) if buffer.call["usage"] & 4 else (other, buffer)
+        copy = {"do": "copyBufferToBuffer", "on": encoder.name, "source": source.name, "target": target.name}
+        world.add(copy | {"sourceOffset": 0, "targetOffset": 0, "size": random.choice([0, 4])})
+        command_buffer = world.finish(encoder)
+        if random.random() < 0.3:
+            world.unmap(buffer)
+        world.submit([command_buffer])
+
+
+def work_done(world):
+    world.work_done()
 
 
 def destroy(world):
@@ -101,7 +173,7 @@ def destroy(world):
 def odd(world):
     """What a script may do that the device refuses: late calls, second finishes, submits that can't be."""
     random = world.random
-    kind = random.randrange(7)
+    kind = random.choices(range(8), [3, 1, 1, 1, 1, 1, 1, 1])[0]
     ended = [encoder for encoder in world.encoders if encoder.finished]
     if kind == 0 and ended:
         command(world, random.choice(ended), True)
@@ -113,6 +185,8 @@ def odd(world):
         destroyed_before_submit(world)
     elif kind == 5:
         write_after_destroy(world)
+    elif kind == 6 and world.is_lost:
+        world.lose()
     else:
         world.complete(random.choice([2**53 - 1, world.issued + 1]))
 
@@ -141,5 +215,5 @@ def write_after_destroy(world):
             write_texture(world, True, thing)
 
 
-ACTS = [make, write, record, finish, submit, complete, destroy, odd]
-ACT_WEIGHTS = [2, 4, 10, 3, 3, 2, 1, 1]
+ACTS = [make, write, record, finish, submit, complete, destroy, scope, work_done, maps, odd]
+ACT_WEIGHTS = [2, 4, 10, 3, 3, 2, 1, 2, 2, 4, 1]

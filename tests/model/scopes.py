@@ -1,0 +1,66 @@
+"""Error scopes: which are open, which one catches a fault, and how a pop is settled.
+
+A fault is a pair of its kind and its rule. A scope's place is its number on the stack of those that are open, from 0 at the
+outermost, all of them counted.
+"""
+
+from rules import note
+
+# The filters of scopes; a scope catches the faults whose kind is its filter.
+FILTERS = ("validation", "out-of-memory", "internal")
+
+
+class Scope:
+    """An open error scope: its filter, and the first fault that it received, or None."""
+
+    def __init__(self, filter):
+        self.filter = filter
+        self.first = None
+
+    def receive(self, fault):
+        if self.first is None:
+            self.first = fault
+
+
+def open_scopes(history):
+    """The scopes that are open, outermost first: a pop closes the last, but where there is none, and but on a lost device."""
+    stack = []
+    for played in history.played:
+        if played.do == "pushErrorScope":
+            stack.append(Scope(played.call["filter"]))
+        elif played.do == "popErrorScope" and stack and not played.on_lost:
+            stack.pop()
+        elif played.catcher is not None:
+            stack[played.catcher].receive(played.fault)
+    return stack
+
+
+def catcher_of(history, fault):
+    """The place of the innermost open scope that catches a fault; None where it is uncaptured, or there is no fault."""
+    if fault is None:
+        return None
+    kind, _ = fault
+    stack = open_scopes(history)
+    places = [place for place, scope in enumerate(stack) if scope.filter == kind]
+    note("fault", 0, "caught", places != [])
+    if not places:
+        return None
+    note("fault", 0, "caught by the innermost scope", places[-1] == len(stack) - 1)
+    note("fault", 0, "caught first", stack[places[-1]].first is None)
+    return places[-1]
+
+
+def how_popped(history, pop):
+    """How the promise of a pop is settled: null on a lost device; else by the scope that was opened last, if there is one."""
+    note("popErrorScope", 0, "not lost", not pop.on_lost)
+    if pop.on_lost:
+        return "null"
+    stack = open_scopes(history)
+    note("popErrorScope", 0, "open scope", stack != [])
+    if not stack:
+        return "rejected"
+    note("popErrorScope", 0, "no fault", stack[-1].first is None)
+    if stack[-1].first is None:
+        return "null"
+    kind, rule = stack[-1].first
+    return f"error {kind} {rule}"
