@@ -19,6 +19,7 @@ class Beside:
         self.names = {}
         self.makers = {}
         self.operations = {}
+        self.promises = {entry.number: n for n, entry in enumerate(each for each in report.entries if each.answer == ["promise"])}
         self.command_of = {}
         if script is not None:
             self.match_entries()
@@ -61,10 +62,22 @@ class Beside:
         for step in self.report.steps():
             if not step.is_host and step.name != "clear":
                 by_operation.setdefault(step.at, []).append(step)
+            elif step.is_host and step.name != "clear":
+                self.match_host(step)
         for operation, steps in by_operation.items():
             made = self.calls_of(operation)
             if [calls.step_of(call.word) for call in made] == [step.name for step in steps]:
                 self.command_of.update({step.number: call for step, call in zip(steps, made)})
+
+    def match_host(self, step):
+        """Finds the call of a host access: the unmap at its entry, or the mapAsync whose promise is settled there."""
+        entry = self.report.entries[step.at] if step.at < len(self.report.entries) else None
+        asked = [self.call_of.get(promise) for promise, how in entry.settled if how == "mapped"] if entry else []
+        for call in [self.call_of.get(step.at), *asked]:
+            if call is not None and calls.step_of(call.word) == step.name:
+                maker = self.object_of(call.value.member("buffer").what)
+                if maker is not None and step.uses[0][0].object == maker.object():
+                    self.command_of[step.number] = call
 
     def calls_of(self, operation):
         """The calls that make the steps of an operation, in their order."""

@@ -136,12 +136,13 @@ def paired(ours, theirs, some, others):
 
 
 def entry_text(beside, entry):
-    """An entry without its number, with names in the place of object numbers."""
-    words = entry.line.split(" ")[1:]
+    """An entry without its number, with names in the place of object numbers. Promises go by their number among the promises."""
+    words = entry.line.split(" settle ")[0].split(" ")[1:]
     number = entry.object()
     if number is not None and number in beside.names:
         words[words.index("made") + 1] = beside.names[number]
-    return "lane " + " ".join(words)
+    settled = [f", {'its promise' if made == entry.number else f'promise {beside.promises.get(made)}'} is {how}" for made, how in entry.settled]
+    return "lane " + " ".join(words) + "".join(settled)
 
 
 def item_texts(beside):

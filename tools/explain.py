@@ -9,6 +9,7 @@ from beside import Beside, DoNotMatch
 from ends import REFUSED, SILENT, End
 from places import NotJson
 from report import NotReport, Release, Report, count, summary
+from scopes import Scopes
 
 ANSWERS = {"plain": "done", "bad": "bad: what is complete already, or was never queued, was said to be complete", "promise": "a promise"}
 ACCESSES = {
@@ -36,6 +37,7 @@ class Explained:
             self.lines += refusal.explained(text, said)
             return
         self.beside = set_beside(text, said, self.say)
+        self.scopes = Scopes(self.beside)
         self.say(summary(self.beside.report))
         self.faults()
         self.history()
@@ -54,7 +56,8 @@ class Explained:
                 self.say(f"    {self.beside.script.said(call)}")
             self.fault(entry, call)
         if not wrong:
-            self.say("", "NO FAULT: every call was taken")
+            self.say("", "NO FAULT: every call was taken" if self.scopes.lost is None else "NO FAULT: every call before the loss was taken")
+        self.say(*self.scopes.loss())
 
     def history(self):
         self.say("", "HISTORY: what the device answered, with the line and column of each call", "")
@@ -66,7 +69,7 @@ class Explained:
             why = f", by rule {entry.fault[1]}" if entry.fault else ""
             self.say(f"      {self.answer(entry)}{why}")
             for promise, how in entry.settled:
-                self.say(f"      settles the promise of entry {promise}: {how}")
+                self.say(f"      {self.scopes.settled(entry, promise, how)}")
 
     def place(self, call):
         """The line and column of a call."""
@@ -77,9 +80,12 @@ class Explained:
         if number is not None:
             name = self.beside.names.get(number)
             made = f"makes {name}, object {number}" if name else f"makes object {number}"
-            return f"{made}, {entry.answer[2]}"
+            return f"{made}, {entry.answer[2]}" + (", since the device is lost" if self.scopes.is_lost_before(entry) else "")
         if entry.operation() is not None:
             return f"queued as operation {entry.operation()}"
+        more = self.scopes.answer(entry)
+        if more is not None:
+            return more
         if entry.fault and entry.answer[0] == "plain":
             return "refused" if entry.word != "late" else "late: what it is recorded on has ended"
         return ANSWERS.get(entry.answer[0], " ".join(entry.answer))
@@ -88,6 +94,7 @@ class Explained:
         kind, number, caught = entry.fault
         uncaught = "uncaptured" if caught == "uncaptured" else f"caught by error {caught}"
         self.say(f"    breaks rule {number} ({kind} error, {uncaught})")
+        self.say(*[f"    {line}" for line in self.scopes.of_fault(entry)])
         found = None
         if call is not None and calls.ends_encoder(call.word):
             found = culprit.find(self.beside, call, number, self.program)
@@ -116,8 +123,9 @@ class Explained:
         if number == 12:
             for _, name in call.names():
                 self.invalid(name.what)
-        if number in (180, 190, 192, 193, 203, 210):
+        if number in (180, 190, 192, 193, 203, 210, 225):
             self.earlier(call, number)
+            self.say(*[f"    {line}" for line in self.scopes.maps.of_fault(entry, sorted(self.reached(call)))])
 
     def invalid(self, name):
         maker = self.beside.object_of(name)

@@ -237,9 +237,20 @@ def faults(beside):
         call = beside.call_of.get(entry.number)
         if entry.fault:
             where = f"line {beside.script.line(call)}: " if call else ""
-            lines.append(f"<p class='fault'>Fault: {where}{escape(entry.word)} breaks rule {entry.fault[1]} (see <code>wgsim explain</code>)</p>")
+            caught = "" if entry.fault[2] == "uncaptured" else f", caught by error {entry.fault[2]}"
+            lines.append(f"<p class='fault'>Fault: {where}{escape(entry.word)} breaks rule {entry.fault[1]}{caught} (see <code>wgsim explain</code>)</p>")
     more = [f"<p class='fault'>and {count(len(lines) - 8, 'more fault')}</p>"] * (len(lines) > 8)
-    return "\n".join(lines[:8] + more)
+    return "\n".join(lines[:8] + more + loss(beside))
+
+
+def loss(beside):
+    """A line where the device was lost, since the calls after that leave no fault and no step."""
+    for entry in beside.report.entries:
+        if entry.word == "lose":
+            call = beside.call_of.get(entry.number)
+            where = f"line {beside.script.line(call)}" if call else f"entry {entry.number}"
+            return [f"<p class='fault'>Lost: the device is lost from {where} on: no later submit or write does anything</p>"]
+    return []
 
 
 def picture(text, data, program):

@@ -127,8 +127,6 @@ def not_built(refusal, text, call, top):
     do = call.member("do")
     if do is not None and do.what in calls.LATER:
         return refusal.at(do.start, f"the call {do.what}", "a call that is built: this one is not built yet")
-    if call.key("mapped") is not None:
-        return refusal.at(call.member("mapped").start, "mapped true", "false: buffers that are mapped at their creation are not built yet")
     return refusal
 
 
@@ -137,7 +135,8 @@ def keys_of_call(refusal, text, call, top):
     keys = calls.keys_of(word)
     if keys is None:
         return refusal
-    has = "has the keys " + ", ".join(name + (" (may be left out)" if key.may_be_left_out else "") for name, key in keys.items())
+    told = [name + (" (may be left out)" if key.may_be_left_out else "") for name, key in keys.items()]
+    has = "has the keys " + ", ".join(told) if told else "has the key do alone"
     for key, _ in call.what:
         if key.what != "do" and key.what not in keys:
             return refusal.at(key.start, f"the key {quoted(key.what)}", f"no such key: {word} {has}", near(key.what, keys))
