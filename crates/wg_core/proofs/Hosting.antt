@@ -28,8 +28,8 @@ use Rattle.wg_history.specs.Loss.{is_lost, Ascends, scopes_of, Awaited, mapping,
 use Rattle.wg_history.specs.Rules.{unmap_rule, destroy_rule, map_async_rule, is_mapped_how, settles_mapped, waits_of, mapped_at}
 use Rattle.wg_history.specs.Answers.{is_taken, at_once, settle_all, kept_how, ended_how, is_over, is_kept, either, settled_in, reply_to}
 use Rattle.wg_history.specs.Steps.{group_of, written_back, read_back, unmap_groups, read_groups, host_groups}
-use Rattle.wg_history.proofs.Awaiting.{awaiting_ascends, settled_below}
-use Rattle.wg_history.proofs.Mappings.{one_free, ended_free, pop_free, mapped_settles}
+use Rattle.wg_history.proofs.Awaiting.{ascends_le, awaiting_ascends, settled_below}
+use Rattle.wg_history.proofs.Mappings.{free_if, free_unless, free_work, one_free, ended_free, pop_free, mapped_settles}
 use Rattle.wg_state.specs.Waits.{map_in, map_waits}
 use Rattle.wg_core.specs.Plans.{told, reads_of, is_kept_at_once, hosted, IsMapInRange}
 
@@ -88,11 +88,7 @@ reads_due at op lo hi (w ∷ ws) a = by_kept (is_kept op w) refl (reads_due at o
 
 reads_later : (at : ℕ) (how : How) (lo hi : ℕ) (ws : List Wait) → Ascends lo hi ws → reads at (at_once hi how) ws ≡ []
 reads_later at how lo hi [] a = refl
-reads_later at how lo hi (w ∷ ws) a = ap₂ ◌++◌ (unread at (at_once hi how) w.promise w.awaited (ap (λ b. (b && is_mapped_how how) || false) (ne_eqb hi w.promise (λ same. let h = below (suc w.promise) hi ws a.1 in absurd (omega (arith, h, same)))))) (reads_later at how (suc w.promise) hi ws a.1)
-  where
-    below : (lo hi : ℕ) (ws : List Wait) → Ascends lo hi ws → lo ≤ hi
-    below lo hi [] a = a
-    below lo hi (w ∷ ws) a = let h = below (suc w.promise) hi ws a.1 in let g = a.0 in omega (arith, h, g)
+reads_later at how lo hi (w ∷ ws) a = ap₂ ◌++◌ (unread at (at_once hi how) w.promise w.awaited (ap (λ b. (b && is_mapped_how how) || false) (ne_eqb hi w.promise (λ same. let h = ascends_le (suc w.promise) hi ws a.1 in absurd (omega (arith, h, same)))))) (reads_later at how (suc w.promise) hi ws a.1)
 
 own_reads : (past : Past) (buffer : ObjRef) (mode offset size : ℕ) (lost met over : Bool) →
     reads (length past) (if lost then at_once (length past) Aborted else if not met then at_once (length past) Rejected else if over then at_once (length past) Mapped else []) (awaiting past ++ promised past (Promising (ForMap buffer mode offset size)))
@@ -105,18 +101,6 @@ own_reads past buffer mode offset size false true true =
     ∙ (ap₂ ◌++◌ (reads_later (length past) Mapped 0 (length past) (awaiting past) (awaiting_ascends past))
     (ap (λ b. (if (b && true) || false then group_of (read_back (asked_mapping mode offset size).mode (Host (length past)) buffer.number (asked_mapping mode offset size)) else []) ++ []) (eq-eqb (length past) (length past) refl)
     ∙ append-nil (group_of (read_back (asked_mapping mode offset size).mode (Host (length past)) buffer.number (asked_mapping mode offset size)))))
-
-free_if : (b : Bool) (ws : List Wait) (p : ℕ) → settles_mapped (if b then settle_all ended_how ws else []) p ≡ false
-free_if true ws p = ended_free ws p
-free_if false ws p = refl
-
-free_unless : (b : Bool) (ws : List Wait) (p : ℕ) → settles_mapped (if b then [] else settle_all ended_how ws) p ≡ false
-free_unless true ws p = refl
-free_unless false ws p = ended_free ws p
-
-free_work : (b : Bool) (promise p : ℕ) → settles_mapped (if b then at_once promise Done else []) p ≡ false
-free_work true promise p = one_free promise Done refl p
-free_work false promise p = refl
 
 -- Where nothing is read, an entry has the host write of its unmap alone.
 unmaps_alone : (setup : Setup) (past : Past) (entry : Entry) → ((p : ℕ) → settles_mapped entry.reply.settled p ≡ false) → host_groups setup past entry ≡ unmap_groups setup past (effects_of entry.event).unmapped

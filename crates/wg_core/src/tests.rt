@@ -6,7 +6,7 @@ use wg_encoder::{Noted, Recorder, Recording};
 use wg_types::commands::{Command, On};
 use wg_types::handles::{BufferInfo, Handle, Info, ObjRef};
 use wg_types::items::Items;
-use wg_types::replies::{Answer, Caught, Fault, FaultKind, Filter};
+use wg_types::replies::{Answer, Caught, Fault, FaultKind};
 use wg_types::steps::{Item, Sort};
 
 /// The object of this number of the device with serial 1.
@@ -14,18 +14,13 @@ fn own(number: u64) -> ObjRef {
     ObjRef { device: 1, number }
 }
 
-/// A validation fault of this rule, and where it went.
-fn validation(rule: u16, caught: Caught) -> Option<Fault> {
+/// A validation fault of this rule that no scope caught.
+fn uncaptured(rule: u16) -> Option<Fault> {
     Some(Fault {
         kind: FaultKind::Validation,
         rule,
-        caught,
+        caught: Caught::Uncaptured,
     })
-}
-
-/// A validation fault of this rule that no scope caught.
-fn uncaptured(rule: u16) -> Option<Fault> {
-    validation(rule, Caught::Uncaptured)
 }
 
 #[test]
@@ -68,23 +63,9 @@ fn each_call_is_answered(rt: HostRuntime) -> Result<(), Fail> {
         ),
         (Event::Destroy { object: own(0) }, Answer::Plain, None),
         (write(own(0), 0, 4), Answer::Plain, uncaptured(203)),
-        (
-            Event::PushErrorScope {
-                filter: Filter::Validation,
-            },
-            Answer::Plain,
-            None,
-        ),
-        (
-            write(own(0), 0, 4),
-            Answer::Plain,
-            validation(203, Caught::Scope(0)),
-        ),
         (Event::Complete { op: 3 }, Answer::BadCompletion, None),
         (Event::Complete { op: 2 }, Answer::Plain, None),
         (Event::Complete { op: 2 }, Answer::BadCompletion, None),
-        (Event::Lose, Answer::Plain, None),
-        (write(own(0), 0, 4), Answer::Plain, None),
     ];
     for (event, answer, fault) in cases {
         let reply = core.step(0, event).ok().ok_or("no memory")?;
@@ -92,7 +73,7 @@ fn each_call_is_answered(rt: HostRuntime) -> Result<(), Fail> {
         assert_eq!(rt; reply.fault, fault);
         assert!(rt; reply.settled.as_slice().is_empty());
     }
-    assert_eq!(rt; core.history().len(), 15);
+    assert_eq!(rt; core.history().len(), 11);
     assert_eq!(rt; core.trace().len(), 2);
     assert!(rt; matches!(&core.trace()[0], Item::Step(_)));
     assert!(rt;

@@ -15,11 +15,11 @@ use Rattle.wg_history.specs.Answers.{at_once, settle_all, ended_how, either, set
 use Rattle.wg_history.specs.Rules.{first_rule}
 use Rattle.wg_history.proofs.Runs.{newest, others}
 
-ascends_le : (lo hi : ℕ) (ws : List Wait) → Ascends lo hi ws → lo ≤ hi
+pub ascends_le : (lo hi : ℕ) (ws : List Wait) → Ascends lo hi ws → lo ≤ hi
 ascends_le lo hi [] a = a
 ascends_le lo hi (w ∷ ws) a = let h = ascends_le (suc w.promise) hi ws a.1 in let g = a.0 in omega (arith, h, g)
 
-ascends_from : (k lo hi : ℕ) (ws : List Wait) → k ≤ lo → Ascends lo hi ws → Ascends k hi ws
+pub ascends_from : (k lo hi : ℕ) (ws : List Wait) → k ≤ lo → Ascends lo hi ws → Ascends k hi ws
 ascends_from k lo hi [] le a = omega (arith, le, a)
 ascends_from k lo hi (w ∷ ws) le a = (let g = a.0 in omega (arith, le, g), a.1)
 
@@ -31,7 +31,7 @@ ascends_push : (lo hi : ℕ) (awaited : Awaited) (ws : List Wait) → Ascends lo
 ascends_push lo hi awaited [] a = (a, omega arith)
 ascends_push lo hi awaited (w ∷ ws) a = (a.0, ascends_push (suc w.promise) hi awaited ws a.1)
 
-ascends_filter : (p : Wait → Bool) (lo hi : ℕ) (ws : List Wait) → Ascends lo hi ws → Ascends lo hi (filter p ws)
+pub ascends_filter : (p : Wait → Bool) (lo hi : ℕ) (ws : List Wait) → Ascends lo hi ws → Ascends lo hi (filter p ws)
 ascends_filter p lo hi [] a = a
 ascends_filter p lo hi (w ∷ ws) a = by_test (p w) (ascends_filter p (suc w.promise) hi ws a.1)
   where

@@ -6,6 +6,7 @@ use Rattle.wg_types.specs.declared.handles.ObjRef.{ObjRef}
 use Rattle.wg_types.specs.declared.mappings.Mapping.{Mapping}
 use Rattle.wg_types.specs.declared.replies.Reply.{Reply}
 use Rattle.wg_types.specs.declared.replies.How.{How}
+use Rattle.wg_types.specs.declared.replies.How.TheVariants.{Done}
 use Rattle.wg_types.specs.declared.replies.Settlement.{Settlement}
 use Rattle.wg_types.specs.declared.replies.Scope.{Scope}
 use Rattle.wg_types.specs.declared.replies.First.{First}
@@ -18,8 +19,8 @@ use Rattle.wg_history.specs.Loss.{is_lost, Ascends, Awaited, mapping, work, Wait
 use Rattle.wg_history.specs.Rules.{unmaps, is_mapped_how, settles_mapped, mapped_in, mapped_now, or_before, mapped_made, waits_of, mapped_at, map_async_list, map_async_rule}
 use Rattle.wg_history.specs.Answers.{at_once, settle_all, kept_how, ended_how, is_over, is_kept, own_settled, reply_to, IsRun}
 use Rattle.wg_history.proofs.Runs.{newest, others}
-use Rattle.wg_history.proofs.Unborn.{own_below}
-use Rattle.wg_history.proofs.Awaiting.{awaiting_ascends, unsettled_own, settled_below}
+use Rattle.wg_history.proofs.Unborn.{own_below, older_le}
+use Rattle.wg_history.proofs.Awaiting.{ascends_le, awaiting_ascends, unsettled_own, settled_below}
 use Rattle.wg_history.proofs.Destroyed.{any_unsettled, any_both, own_of_other, refused_how, keeps_of, keeps_none, own_refused, mapped_none}
 
 -- Settlements that map nothing.
@@ -51,6 +52,18 @@ ended_free (w ∷ ws) p = ap₂ ◌||◌ (ap (λ b. w.promise == p && b) (not_ma
     and_false true = refl
     and_false false = refl
 
+pub free_if : (b : Bool) (ws : List Wait) (p : ℕ) → settles_mapped (if b then settle_all ended_how ws else []) p ≡ false
+free_if true ws p = ended_free ws p
+free_if false ws p = refl
+
+pub free_unless : (b : Bool) (ws : List Wait) (p : ℕ) → settles_mapped (if b then [] else settle_all ended_how ws) p ≡ false
+free_unless true ws p = refl
+free_unless false ws p = ended_free ws p
+
+pub free_work : (b : Bool) (promise p : ℕ) → settles_mapped (if b then at_once promise Done else []) p ≡ false
+free_work true promise p = one_free promise Done refl p
+free_work false promise p = refl
+
 pub pop_free : (lost : Bool) (scopes : List Scope) → is_mapped_how (pop_how lost scopes) ≡ false
 pop_free true scopes = refl
 pop_free false scopes = by_top _
@@ -75,12 +88,8 @@ mapped_settles (s ∷ settled) p e = by_test (s.promise == p) refl e (mapped_set
 pub keeps_later : (n : ℕ) (how : How) (lo hi : ℕ) (ws : List Wait) → Ascends lo hi ws → list_any (keeps_of n (at_once hi how)) ws ≡ false
 keeps_later n how lo hi [] a = refl
 keeps_later n how lo hi (w ∷ ws) a =
-    ap₂ (λ b rest. (is_map_of n w && ((b && is_mapped_how how) || false)) || rest) (ne_eqb hi w.promise (λ same. let h = below (suc w.promise) hi ws a.1 in absurd (omega (arith, h, same)))) (keeps_later n how (suc w.promise) hi ws a.1) ∙ by_test (is_map_of n w)
+    ap₂ (λ b rest. (is_map_of n w && ((b && is_mapped_how how) || false)) || rest) (ne_eqb hi w.promise (λ same. let h = ascends_le (suc w.promise) hi ws a.1 in absurd (omega (arith, h, same)))) (keeps_later n how (suc w.promise) hi ws a.1) ∙ by_test (is_map_of n w)
   where
-    below : (lo hi : ℕ) (ws : List Wait) → Ascends lo hi ws → lo ≤ hi
-    below lo hi [] a = a
-    below lo hi (w ∷ ws) a = let h = below (suc w.promise) hi ws a.1 in let g = a.0 in omega (arith, h, g)
-
     by_test : (b : Bool) → ((b && false) || false) ≡ false
     by_test true = refl
     by_test false = refl
@@ -165,14 +174,10 @@ unborn_pends setup past (MapAsync buffer mode offset size) n before le = by_same
     by_same false e = any_unsettled (is_map_of n) (reply_to setup past (MapAsync buffer mode offset size)).settled (awaiting past ++ promised past (Promising (ForMap buffer mode offset size))) (any_both (is_map_of n) (awaiting past) (promised past (Promising (ForMap buffer mode offset size))) before (ap (λ b. b || false) e))
 unborn_pends setup past event n before le = any_unsettled (is_map_of n) (reply_to setup past event).settled (awaiting past ++ promised past (effects_of event).form) (any_both (is_map_of n) (awaiting past) (promised past (effects_of event).form) before (own_of_other n past (effects_of event).form (λ buffer mode offset size e. absurd (cc))))
 
-older_below : (b : Bool) (c n : ℕ) → (if b then c + 1 else c) ≤ n → c ≤ n
-older_below true c n le = omega (arith, le)
-older_below false c n le = le
-
 pub pending_new : (setup : Setup) (past : Past) (n : ℕ) → IsRun setup past → count past ≤ n → is_pending past n ≡ false
 pending_new setup [] n run le = refl
 pending_new setup (entry ∷ older) n run le =
-    let before : count older ≤ n = older_below (is_making entry.event) (count older) n le in
+    let before : count older ≤ n = older_le (is_making entry.event) (count older) n le in
     ap (λ (reply : Reply). list_any (is_map_of n) (unsettled reply.settled (awaiting older ++ promised older (effects_of entry.event).form))) (newest setup entry older run)
     ∙ unborn_pends setup older entry.event n (pending_new setup older n (others setup entry older run) before) before
 

@@ -53,7 +53,7 @@ destroys_below setup past (Destroy object) n h =
     omega (arith, lt, same)
 destroys_below setup past _ n h = absurd (true≢false (sym h))
 
-older_le : (b : Bool) (c n : ℕ) → (if b then c + 1 else c) ≤ n → c ≤ n
+pub older_le : (b : Bool) (c n : ℕ) → (if b then c + 1 else c) ≤ n → c ≤ n
 older_le true c n le = omega (arith, le)
 older_le false c n le = le
 

@@ -28,9 +28,9 @@ use Rattle.wg_history.specs.Loss.{is_lost, Ascends, scopes_of, Awaited, mapping,
 use Rattle.wg_history.specs.Rules.{destroy_rule, unmap_rule, unmaps, settles_mapped, mapped_now, or_before, mapped_made, waits_of, mapped_at, is_busy, is_destroyed, map_async_list, map_async_rule}
 use Rattle.wg_history.specs.Answers.{is_taken, at_once, settle_all, kept_how, ended_how, is_over, is_kept, reply_to, IsRun}
 use Rattle.wg_history.proofs.AfterUse.{not_true}
-use Rattle.wg_history.proofs.Awaiting.{awaiting_ascends, unsettled_none}
+use Rattle.wg_history.proofs.Awaiting.{ascends_le, awaiting_ascends, unsettled_none}
 use Rattle.wg_history.proofs.Destroyed.{mapped_none}
-use Rattle.wg_history.proofs.Mappings.{keeps_free, one_free, ended_free, pop_free, keeps_later, mapped_append, due_in, due_now, mapped_due, pending_new, mapped_new}
+use Rattle.wg_history.proofs.Mappings.{free_if, free_unless, free_work, keeps_free, one_free, ended_free, pop_free, keeps_later, mapped_append, due_in, due_now, mapped_due, pending_new, mapped_new}
 use Rattle.wg_maps.specs.Mappings.{MapsValue, pending_of, state_with, state_of, without, with_map, still_pending, with_due}
 use Rattle.wg_maps.proofs.TableLemmas.{get_inserted, get_removed}
 use Rattle.wg_state.specs.Rows.{is_at}
@@ -102,15 +102,11 @@ map_last : (new : PendingMap) (lo : ℕ) (ws : List Wait) → Ascends lo new.pro
 map_last new lo [] a = refl
 map_last new lo (w ∷ ws) a = one w.awaited (map_last new (suc w.promise) ws a.1)
   where
-    below : (lo hi : ℕ) (ws : List Wait) → Ascends lo hi ws → lo ≤ hi
-    below lo hi [] a = a
-    below lo hi (w ∷ ws) a = let h = below (suc w.promise) hi ws a.1 in let g = a.0 in omega (arith, h, g)
-
     not_before : nat_lt new.promise w.promise ≡ false
     not_before = by_test (nat_lt new.promise w.promise) refl
       where
         by_test : (b : Bool) → nat_lt new.promise w.promise ≡ b → b ≡ false
-        by_test true e = absurd (let h = below (suc w.promise) new.promise ws a.1 in let lt : new.promise < w.promise = ltb-true new.promise w.promise e in omega (arith, h, lt))
+        by_test true e = absurd (let h = ascends_le (suc w.promise) new.promise ws a.1 in let lt : new.promise < w.promise = ltb-true new.promise w.promise e in omega (arith, h, lt))
         by_test false e = refl
 
     one : (awaited : Awaited) → with_map (map_waits ws) new ≡ map_waits ws ++ new ∷ [] → with_map (map_in w.promise awaited ++ map_waits ws) new ≡ (map_in w.promise awaited ++ map_waits ws) ++ new ∷ []
@@ -217,18 +213,6 @@ unmapped_maps setup older entry number b maps are making unmapping free left = r
     by_test : (b : Bool) → (unmapped_in (if b then Some number else None) maps).pending ≡ map_waits (if b then filter (λ w. not (is_map_of number w)) (awaiting older) else awaiting older)
     by_test true = ap (λ ws. without ws number) are.pending_are ∙ sym (maps_without number (awaiting older))
     by_test false = are.pending_are
-
-free_if : (b : Bool) (ws : List Wait) (p : ℕ) → settles_mapped (if b then settle_all ended_how ws else []) p ≡ false
-free_if true ws p = ended_free ws p
-free_if false ws p = refl
-
-free_unless : (b : Bool) (ws : List Wait) (p : ℕ) → settles_mapped (if b then [] else settle_all ended_how ws) p ≡ false
-free_unless true ws p = refl
-free_unless false ws p = ended_free ws p
-
-free_work : (b : Bool) (promise p : ℕ) → settles_mapped (if b then at_once promise Done else []) p ≡ false
-free_work true promise p = one_free promise Done refl p
-free_work false promise p = refl
 
 lost_maps : (setup : Setup) (older : Past) (who : ℕ) (maps : MapsValue) → IsRun setup older → AreMapsOf setup older maps → AreMapsOf setup (told setup older who Lose ∷ older) (record maps { pending = [] })
 lost_maps setup older who maps run are = record {

@@ -10,6 +10,7 @@ use Rattle.wg_types.specs.declared.mappings.PendingMap.{PendingMap}
 use Rattle.wg_types.specs.declared.mappings.Mapping.{Mapping}
 use Rattle.wg_history.specs.Loss.{Awaited, mapping, work, Wait, Ascends, is_map_of}
 use Rattle.wg_history.specs.Answers.{settle_all, kept_how, ended_how, is_kept}
+use Rattle.wg_history.proofs.Awaiting.{ascends_filter}
 use Rattle.wg_state.specs.Waits.{work_in, work_waits, map_in, map_waits}
 use Rattle.wg_state.specs.Settling.{in_order, done_work, settled_maps, due_work, due_maps, maps_of}
 
@@ -132,18 +133,6 @@ maps_due op (w ∷ ws) = by_awaited w.promise w.awaited (maps_due op ws)
         → due_maps op (map_in promise awaited ++ map_waits ws) ≡ map_waits (filter (is_kept op) (record { promise = promise; awaited = awaited } ∷ ws))
     by_awaited promise (work ops) e = without promise ops (nat_le ops op) e
     by_awaited promise (mapping buffer last m) e = by_test promise buffer last m (nat_le last op) e
-
-ascends_from : (k lo hi : ℕ) (ws : List Wait) → k ≤ lo → Ascends lo hi ws → Ascends k hi ws
-ascends_from k lo hi [] le a = omega (arith, le, a)
-ascends_from k lo hi (w ∷ ws) le a = (let g = a.0 in omega (arith, le, g), a.1)
-
-ascends_filter : (p : Wait → Bool) (lo hi : ℕ) (ws : List Wait) → Ascends lo hi ws → Ascends lo hi (filter p ws)
-ascends_filter p lo hi [] a = a
-ascends_filter p lo hi (w ∷ ws) a = by_test (p w) (ascends_filter p (suc w.promise) hi ws a.1)
-  where
-    by_test : (b : Bool) → Ascends (suc w.promise) hi (filter p ws) → Ascends lo hi (if b then w ∷ filter p ws else filter p ws)
-    by_test true rest = (a.0, rest)
-    by_test false rest = ascends_from lo (suc w.promise) hi (filter p ws) (let g = a.0 in omega (arith, g)) rest
 
 -- What settles once the operations up to one are complete.
 pub kept_in_order : (op : ℕ) (works : List Waiting) (maps : List PendingMap) (waits : List Wait) (hi : ℕ) → Ascends 0 hi waits → works ≡ work_waits waits → maps ≡ map_waits waits
