@@ -11,6 +11,10 @@ from report import NotReport, Report
 
 # The rules of a finish itself, in the order of its tests, that are about what is still open.
 OPEN = {182, 183}
+# The rule that nothing is used that was dropped: of an encoder that has ended well it is about what its commands name.
+DROPPED = 11
+# The rules that are the finish's own, and not those of a command.
+OF_FINISH = OPEN | {DROPPED}
 # The rules of a finish that need no command: on the encoder itself.
 OF_ENCODER = {180}
 
@@ -42,7 +46,7 @@ class Cuts:
             self.needed = None
 
     def makers(self):
-        """The calls that make what the encoder's commands name, and what those name in turn."""
+        """The calls that make what the encoder's commands name, and what those name in turn, and the drops of all that."""
         found, waiting = {self.encoder.call, *self.commands, self.finish}, [self.encoder.call, *self.commands]
         while waiting:
             for _, name in waiting.pop().names():
@@ -50,7 +54,8 @@ class Cuts:
                 if maker is not None and maker not in found:
                     found.add(maker)
                     waiting.append(maker)
-        return found
+        named = {call.gives for call in found}
+        return found | {call for call in self.script.calls if call.word == "drop" and {name.what for _, name in call.names()} <= named}
 
     def is_as_valid(self):
         """Whether the script of these calls alone makes objects as valid as the whole script does."""
@@ -58,8 +63,8 @@ class Cuts:
         if status != 0:
             return False
         made = [entry.answer[2] for entry in Report(out.decode("utf-8")).entries if entry.object() is not None]
-        kept = [call for call in self.script.calls if call in self.needed and self.beside.entry_of.get(call)]
-        return made == [self.beside.entry_of[call].answer[2] for call in kept]
+        kept = [self.beside.entry_of[call] for call in self.script.calls if call in self.needed and call in self.beside.entry_of]
+        return made == [entry.answer[2] for entry in kept if entry.object() is not None]
 
     def rule(self, kept, is_closed):
         """The rule that the finish has with the first `kept` commands alone; with `is_closed`, what they leave open is closed first."""
@@ -149,4 +154,6 @@ def opener(cuts, rule):
 
 
 def said_of(rule):
+    if rule == DROPPED:
+        return "names what was dropped before the encoder was made"
     return "opens what is still open" if rule in OPEN else "invalidated the encoder"

@@ -98,14 +98,18 @@ class Explained:
         found = None
         if call is not None and calls.ends_encoder(call.word):
             found = culprit.find(self.beside, call, number, self.program)
-        self.sentence(number, found.call.word if found and number not in culprit.OPEN else entry.word)
+        self.sentence(number, found.call.word if found and number not in culprit.OF_FINISH else entry.word, found is not None)
         if found:
             self.command(found)
+            if number == culprit.DROPPED:
+                self.before(call, {name.what for _, name in found.call.names()}, ("drop",))
         elif call is not None:
             self.reasons(entry, call, number)
 
-    def sentence(self, number, word):
-        for rule in rules.of(number, word)[:1]:
+    def sentence(self, number, word, is_of_command):
+        """A rule's sentence. A finish has rule 11 twice, of its encoder and then of what the commands name."""
+        asked = rules.of(number, word)
+        for rule in asked[-1:] if is_of_command and number == culprit.DROPPED else asked[:1]:
             self.say(f"    rule {number} asks of {rule.label}: {rule.asks}", f"    {rules.section(rule)}")
 
     def command(self, found):
@@ -123,8 +127,10 @@ class Explained:
         if number == 12:
             for _, name in call.names():
                 self.invalid(name.what)
+        if number == culprit.DROPPED:
+            self.before(call, {name.what for _, name in call.names()}, ("drop",))
         if number in (180, 190, 192, 193, 203, 210, 225):
-            self.earlier(call, number)
+            self.before(call, self.reached(call), {180: ("finish",), 190: ("submit",)}.get(number, ("destroy",)))
             self.say(*[f"    {line}" for line in self.scopes.maps.of_fault(entry, sorted(self.reached(call)))])
 
     def invalid(self, name):
@@ -141,10 +147,8 @@ class Explained:
         if place is not None and place.finish is not None:
             self.say(f"    {place.name} was finished at {self.beside.script.where(place.finish)}")
 
-    def earlier(self, call, number):
-        """The earlier calls that name what this one names and that the rule is about."""
-        words = {180: ("finish",), 190: ("submit",)}.get(number, ("destroy",))
-        names = self.reached(call)
+    def before(self, call, names, words):
+        """The calls before one that have one of some words and name one of some names."""
         for other in self.beside.script.calls:
             if other is call:
                 return

@@ -24,6 +24,8 @@ class Maps:
         self.ended = {}
         self.busy = {}
         self.asked = {}
+        self.dropped = set()
+        self.of_dropped = set()
         standing = {}
         for entry in beside.report.entries:
             self.take(entry, standing)
@@ -42,8 +44,12 @@ class Maps:
                 standing[buffer] = Standing(entry, MODES.get(call.number("mode")), True)
         for promise, how in entry.settled:
             self.settle(self.beside.report.entries[promise], how, standing, entry)
+        if entry.word == "drop":
+            self.dropped.add(buffer)
         if entry.word in ("unmap", "destroy"):
-            self.ended[entry.number] = standing.pop(buffer, None)
+            if buffer in self.dropped:
+                self.of_dropped.add(entry.number)
+            self.ended[entry.number] = standing.pop(buffer, None) if buffer not in self.dropped else None
         if entry.word == "createBuffer" and entry.is_valid() and is_true(call.value.member("mapped")):
             standing[entry.object()] = Standing(entry, "writing", False)
 
@@ -68,6 +74,8 @@ class Maps:
         if entry.number not in self.ended or entry.fault:
             return None
         stands = self.ended[entry.number]
+        if entry.number in self.of_dropped:
+            return "does nothing: the buffer was dropped"
         if stands is None:
             return "does nothing: the buffer is neither mapped nor pending"
         if stands.is_pending:

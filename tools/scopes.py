@@ -163,5 +163,5 @@ class Scopes:
             "",
             f"LOST at entry {self.lost.number}: {self.at(self.lost)}",
             "    the device is lost from here on: no later call makes a fault, what it makes is invalid, and a submit or",
-            "    write does nothing; unmap, destroy and complete work as before",
+            "    write does nothing; unmap, destroy, drop and complete work as before",
         ]

@@ -13,8 +13,8 @@ def answer(data):
     if len(data) > script.MOST_BYTES:
         return TOO_LARGE, ""
     try:
-        calls = script.read(data)
+        budget, calls = script.read(data)
         names.bind(calls)
     except script.Refused as refused:
         return BAD_SCRIPT, report.refusal(refused)
-    return DONE, report.report(replies.play([call for _, call in calls]))
+    return DONE, report.report(replies.play(budget, [call for _, call in calls]))

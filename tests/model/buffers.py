@@ -26,7 +26,7 @@ def create_rules(call):
 
 
 def write_rules(call, buffer):
-    """The rules of writeBuffer on its range, after those that the buffer is of this device and valid."""
+    """The rules of writeBuffer on its range, after those that the buffer is of this device, not dropped, and valid."""
     yield 200, "COPY_DST", buffer["usage"] & COPY_DST != 0
     yield 201, "offset", call["offset"] % 4 == 0
     yield 201, "size", call["size"] % 4 == 0

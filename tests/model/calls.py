@@ -21,6 +21,7 @@ BUFFER = ("name", ("buffer",))
 TEXTURE = ("name", ("texture",))
 ENCODER = ("name", ("encoder",))
 RESOURCE = ("name", ("buffer", "texture"))
+OBJECT = ("name", ("buffer", "texture", "view", "encoder", "command buffer"))
 COMMAND_BUFFERS = ("names", ("command buffer",))
 
 
@@ -53,6 +54,7 @@ CALLS = {
     "mapAsync": [("buffer", BUFFER, NEEDED), ("mode", WORD32, NEEDED), ("offset", WHOLE, 0), ("size", WHOLE, None)],
     "unmap": [("buffer", BUFFER, NEEDED)],
     "destroy": [("object", RESOURCE, NEEDED)],
+    "drop": [("object", OBJECT, NEEDED)],
     "complete": [("op", WHOLE, NEEDED)],
     "workDone": [],
     "pushErrorScope": [("filter", word(FILTERS), NEEDED)],
@@ -76,7 +78,7 @@ CALLS = {
 # The calls that are known and not built yet.
 UNBUILT = set("""
     createSampler createBindGroupLayout createPipelineLayout createBindGroup createComputePipeline createRenderPipeline createQuerySet
-    createBundleEncoder beginComputePass beginRenderPass end finishBundle drop resolveQuerySet setPipeline setBindGroup
+    createBundleEncoder beginComputePass beginRenderPass end finishBundle resolveQuerySet setPipeline setBindGroup
     setVertexBuffer setIndexBuffer dispatch dispatchIndirect beginOcclusionQuery endOcclusionQuery executeBundles draw drawIndexed
     drawIndirect drawIndexedIndirect createCanvas configureCanvas currentTexture present
 """.split())

@@ -53,7 +53,7 @@ def has_gaps(call, texel):
 
 
 def write_texture_rules(call, texture, is_destroyed):
-    """The rules of writeTexture, after those that the texture is of this device and valid. Nothing has to be aligned."""
+    """The rules of writeTexture, after those that the texture is of this device, not dropped, and valid. Nothing has to be aligned."""
     yield 205, "COPY_DST", texture["usage"] & textures.COPY_DST != 0
     yield 206, "samples", texture["samples"] == 1
     yield from spot_rules(207, "target", texture, call["mip"], call["origin"], call["size"])

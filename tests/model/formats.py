@@ -27,6 +27,24 @@ FORMATS = {
     "stencil8": (STENCIL, False, True),
 }
 
+# The bytes that a texel takes in the memory of a device, for each format, in all of its aspects together.
+MEMORY_OF_TEXEL = {
+    "r8unorm": 1,
+    "rg8unorm": 2,
+    "rgba8unorm": 4,
+    "rgba8unorm-srgb": 4,
+    "bgra8unorm": 4,
+    "r32uint": 4,
+    "r32float": 4,
+    "rgba16float": 8,
+    "rgba32float": 16,
+    "depth16unorm": 2,
+    "depth24plus": 4,
+    "depth24plus-stencil8": 5,
+    "depth32float": 4,
+    "stencil8": 1,
+}
+
 # The bytes of a texel in a copy from a texture, for each format and aspect that can be copied from.
 TEXELS_FROM = {
     ("r8unorm", "color"): 1,

@@ -4,13 +4,15 @@ All looking back is over two plain lists: the calls that were played, oldest fir
 they were made.
 """
 
+import memory
 from calls import RECORDING, WAITING, name_keys
 
 
 class Played:
     """A call that was played: what it says, which objects its names stand for, and how it was answered.
 
-    A command that was recorded in time has no entry in the history and no answer.
+    Its rule is the first that it leaves unmet, also on a lost device, where that makes no fault. A command that was recorded in
+    time has no entry in the history, no rule and no answer.
     """
 
     def __init__(self, call, uses):
@@ -19,6 +21,7 @@ class Played:
         self.uses = uses
         self.on_lost = False
         self.entry = None
+        self.rule = None
         self.answer = None
         self.fault = None
         self.catcher = None
@@ -27,15 +30,22 @@ class Played:
         self.op = None
         self.awaited = None
         self.ended = None
+        self.released = []
+
+    @property
+    def is_met(self):
+        """The call leaves no rule unmet. Whether the device is lost is not looked at."""
+        return self.rule is None
 
     @property
     def is_valid(self):
-        """The object that this call made is valid exactly where the call has no fault and came before the device was lost."""
-        return self.fault is None and not self.on_lost
+        """The object that this call made is valid exactly where no rule is unmet and the device was not lost before."""
+        return self.is_met and not self.on_lost
 
 
 class History:
-    def __init__(self):
+    def __init__(self, budget):
+        self.budget = budget
         self.played = []
         self.objects = []
         self.names = {}
@@ -72,12 +82,45 @@ class History:
         return self.commands_on(encoder) if self.finishes(encoder)[0] is command_buffer else []
 
     def is_destroyed(self, thing):
-        """Some destroy named the object, be it on a lost device."""
-        return any(played.do == "destroy" and played.uses["object"] is thing for played in self.played)
+        """Some destroy that met its rules named the object, be it on a lost device."""
+        return any(played.do == "destroy" and played.is_met and played.uses["object"] is thing for played in self.played)
+
+    def drop_of(self, thing):
+        """The drop that met its rules and named the object, be it on a lost device; there is one at most, or None."""
+        drops = [played for played in self.played if played.do == "drop" and played.is_met and played.uses["object"] is thing]
+        return drops[0] if drops else None
+
+    def is_dropped(self, thing):
+        return self.drop_of(thing) is not None
+
+    def was_dropped_before(self, thing, other):
+        """The object was dropped before the other one was made."""
+        drop = self.drop_of(thing)
+        return drop is not None and drop.entry < other.entry
 
     def is_consumed(self, command_buffer):
         """Some submit listed the command buffer, accepted, refused or on a lost device."""
         return any(played.do == "submit" and command_buffer in played.uses["buffers"] for played in self.played)
+
+    def is_open(self, encoder):
+        """An encoder is open until a finish names it, be that accepted, refused or on a lost device, or until it is dropped."""
+        return not self.has_finished(encoder) and not self.is_dropped(encoder)
+
+    def is_held(self, thing):
+        """An object is held while it is not dropped, and after that while something else holds it."""
+        return not self.is_dropped(thing) or any(self.holds(other, thing) for other in self.objects)
+
+    def holds(self, other, thing):
+        """Whether an object holds one that was dropped.
+
+        A valid view that is itself held holds its texture; a valid command buffer that is neither consumed nor dropped holds what
+        it names; and an encoder that is open, valid or not, holds all that was dropped since it was made.
+        """
+        if other.do == "createView":
+            return other.uses["texture"] is thing and other.is_valid and self.is_held(other)
+        if other.do == "finish":
+            return other.is_valid and not self.is_consumed(other) and not self.is_dropped(other) and thing in self.resources_of([other])
+        return other.do == "createEncoder" and self.is_open(other) and not self.was_dropped_before(thing, other)
 
     def issued(self):
         """How many operations were queued; they are numbered from 1."""
@@ -108,6 +151,22 @@ class History:
         commands = [command for one in command_buffers for command in self.commands_of(one)]
         return [thing for command in commands for key, thing in command.uses.items() if key != "on"]
 
+    def resources(self):
+        """The valid buffers and textures, those that were released too."""
+        return [thing for thing in self.objects if thing.do in ("createBuffer", "createTexture") and thing.is_valid]
+
     def is_due(self, thing):
-        """A valid buffer or texture is due where it is destroyed and every operation that uses it is complete."""
-        return thing.is_valid and self.is_destroyed(thing) and self.last_use(thing) <= self.completed()
+        """A valid buffer or texture is due where it is destroyed or not held, and every operation that uses it is complete."""
+        return (self.is_destroyed(thing) or not self.is_held(thing)) and self.last_use(thing) <= self.completed()
+
+    def is_released(self, thing):
+        """It is released by the first entry after which it is due."""
+        return any(thing in played.released for played in self.played)
+
+    def newly_due(self):
+        """What is due after the last entry and was released by none before."""
+        return [thing for thing in self.resources() if not self.is_released(thing) and self.is_due(thing)]
+
+    def live_bytes(self):
+        """The bytes of all that is valid and was not released."""
+        return sum(memory.bytes_of(thing.call) for thing in self.resources() if not self.is_released(thing))

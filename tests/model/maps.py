@@ -21,7 +21,7 @@ def asked_by(call, buffer):
 
 
 def map_rules(history, call, buffer):
-    """The rules of mapAsync, after those that the buffer is of this device and valid."""
+    """The rules of mapAsync, after those that the buffer is of this device, not dropped, and valid."""
     mode, offset, size = asked_by(call, buffer)
     yield 220, "offset", offset % 8 == 0
     yield 221, "size left out" if call["size"] is None else "size", size % 4 == 0
@@ -67,9 +67,9 @@ def mapping_at_creation(buffer):
 
 
 def unmapped_by(played):
-    """The object that an event unmaps, if it is one: that of an unmap or a destroy, be it on a lost device."""
+    """The object that an event unmaps, if it is one: that of an unmap or a destroy that meets its rules, be it on a lost device."""
     key = {"unmap": "buffer", "destroy": "object"}.get(played.do)
-    return [] if key is None else [played.uses[key]]
+    return [] if key is None or not played.is_met else [played.uses[key]]
 
 
 def host_accesses(played):

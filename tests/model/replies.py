@@ -3,6 +3,7 @@
 import buffers
 import copies
 import maps
+import memory
 import promises
 import recording
 import scopes
@@ -11,15 +12,15 @@ from calls import MADE, PROMISING, QUEUED, RECORDING
 from history import History, Played
 from rules import first_unmet, note
 
-LATE_RULE = 14
+BUDGET_RULE, LATE_RULE = 13, 14
 
-# The kind of the faults that all rules of today make.
-KIND = "validation"
+# The calls that do on a lost device what they do on any, where they meet their rules.
+AS_EVER = {"unmap", "destroy", "drop"}
 
 
-def play(calls):
+def play(budget, calls):
     """The history of the calls of a script."""
-    history = History()
+    history = History(budget)
     for call in calls:
         answer_call(history, call)
     return history
@@ -34,20 +35,28 @@ def answer_call(history, call):
         return
     played.entry = len(history.entries())
     played.on_lost = history.is_lost()
-    played.fault = fault_of(history, played)
+    played.rule = rule_of(history, played)
+    played.fault = fault_of(played)
     played.catcher = scopes.catcher_of(history, played.fault)
     played.answer = answer_of(history, played)
     played.settled = promises.settled_by(history, played)
     history.played.append(played)
+    played.released = history.newly_due()
 
 
-def fault_of(history, played):
-    """The kind and the rule of the fault of an event, or None. On a lost device there is none, and no rule is tested."""
-    if played.on_lost:
+def rule_of(history, played):
+    """The first unmet rule of an event, or None. On a lost device only those rules are tested by which a call does something."""
+    if played.on_lost and played.do not in AS_EVER:
         return None
     word = "late" if played.do in RECORDING else played.do
-    rule = first_unmet(word, rules_of(history, played))
-    return None if rule is None else (KIND, rule)
+    return first_unmet(f"{word} on a lost device" if played.on_lost else word, rules_of(history, played))
+
+
+def fault_of(played):
+    """The kind and the rule of the fault of an event whose rule is known, or None: a lost device makes no fault."""
+    if played.is_met or played.on_lost:
+        return None
+    return "out-of-memory" if played.rule == BUDGET_RULE else "validation", played.rule
 
 
 def answer_of(history, played):
@@ -67,11 +76,11 @@ def answer_of(history, played):
         played.awaited = history.issued()
     if played.do == "mapAsync":
         played.awaited = history.last_use(played.uses["buffer"])
-    if played.do == "unmap":
+    if played.do == "unmap" and played.is_met:
         played.ended = maps.mapping_of(history, played.uses["buffer"])
     if played.do in PROMISING:
         return "promise"
-    if played.do in QUEUED and played.fault is None and not played.on_lost:
+    if played.do in QUEUED and played.is_met and not played.on_lost:
         played.op = history.issued() + 1
         return f"op {played.op}"
     return "plain"
@@ -91,41 +100,46 @@ def rules_of(history, played):
     if played.do in RECORDING:
         return iter([(LATE_RULE, "in time", False)])
     if played.do == "createBuffer":
-        return buffers.create_rules(call)
+        return making_rules(history, call, buffers.create_rules(call))
     if played.do == "createTexture":
-        return textures.create_rules(call)
+        return making_rules(history, call, textures.create_rules(call))
     if played.do == "createView":
-        return view_rules(played)
+        texture = uses["texture"]
+        view = textures.view_of(call, texture.call, texture.is_valid)
+        return of_object(history, "texture", texture, textures.view_rules(view, texture.call))
     if played.do == "writeBuffer":
-        return target_rules(uses["buffer"], write_buffer_rules(history, call, uses["buffer"]))
+        return of_object(history, "target", uses["buffer"], write_buffer_rules(history, call, uses["buffer"]))
     if played.do == "writeTexture":
         texture = uses["texture"]
-        return target_rules(texture, copies.write_texture_rules(call, texture.call, history.is_destroyed(texture)))
+        return of_object(history, "target", texture, copies.write_texture_rules(call, texture.call, history.is_destroyed(texture)))
     if played.do == "mapAsync":
-        return target_rules(uses["buffer"], maps.map_rules(history, call, uses["buffer"]))
-    if played.do == "unmap":
-        return iter([(10, "buffer", True)])
+        return of_object(history, "target", uses["buffer"], maps.map_rules(history, call, uses["buffer"]))
     if played.do == "finish":
-        return finish_rules(history, uses["on"])
+        return of_object(history, "encoder", uses["on"], finish_rules(history, uses["on"]))
     if played.do == "submit":
         return submit_rules(history, uses["buffers"])
-    if played.do == "destroy":
-        return iter([(10, "object", True)])
+    if played.do in AS_EVER:
+        return own_and_kept(history, "object", *uses.values())
     return iter([])
 
 
-def view_rules(played):
-    texture = played.uses["texture"]
-    yield 10, "texture", True
-    yield 12, "texture", texture.is_valid
-    yield from textures.view_rules(textures.view_of(played.call, texture.call, texture.is_valid), texture.call)
-
-
-def target_rules(target, own_rules):
-    """The rules of a write or a map: those of what it is to, then its own."""
-    yield 10, "target", True
-    yield 12, "target", target.is_valid
+def making_rules(history, call, own_rules):
+    """The rules of what takes memory: its own, and then that the budget is enough for it beside what is live before the call."""
     yield from own_rules
+    yield BUDGET_RULE, "budget", history.live_bytes() + memory.bytes_of(call) <= history.budget
+
+
+def own_and_kept(history, what, thing):
+    """An object that a call names is of this device, which no script can leave unmet, and was not dropped."""
+    yield 10, what, True
+    yield 11, what, not history.is_dropped(thing)
+
+
+def of_object(history, what, thing, further_rules):
+    """The rules of a call that asks for a valid object, and then the further ones of the call."""
+    yield from own_and_kept(history, what, thing)
+    yield 12, what, thing.is_valid
+    yield from further_rules
 
 
 def write_buffer_rules(history, call, buffer):
@@ -134,12 +148,10 @@ def write_buffer_rules(history, call, buffer):
 
 
 def finish_rules(history, encoder):
-    """First the encoder, then the rule that invalidated it, then what was recorded.
+    """The rules of a finish after those of its encoder: first the rule that invalidated it, then what was recorded.
 
-    No script can leave 10, 12, 182, 11 or 184 unmet yet.
+    No script can leave 182 or 184 unmet yet.
     """
-    yield 10, "encoder", True
-    yield 12, "encoder", encoder.is_valid
     yield 180, "ended", not history.has_finished(encoder)
     commands = history.commands_on(encoder)
     invalidating = recording.verdict(commands)
@@ -147,15 +159,15 @@ def finish_rules(history, encoder):
         yield invalidating, "invalidated the encoder", False
     yield 182, "no pass is open", True
     yield 183, "groups are closed", recording.open_groups(commands) == 0
-    yield 11, "handles", True
+    named = [thing for command in commands for key, thing in command.uses.items() if key != "on"]
+    yield 11, "what commands name", not any(history.was_dropped_before(thing, encoder) for thing in named)
     yield 184, "scopes", True
 
 
 def submit_rules(history, command_buffers):
     """The rules of each command buffer in turn, then those of all."""
     for command_buffer in command_buffers:
-        yield 10, "command buffer", True
-        yield 12, "command buffer", command_buffer.is_valid
+        yield from of_object(history, "command buffer", command_buffer, [])
     yield 190, "consumed", not any(history.is_consumed(one) for one in command_buffers)
     yield 191, "named twice", len(set(command_buffers)) == len(command_buffers)
     resources = history.resources_of(command_buffers)

@@ -34,7 +34,7 @@ def ask(rule, what, is_met, place=()):
 
 
 def read(data):
-    """The calls of a script, as pairs of a place and a call whose left out keys have their values."""
+    """The budget of a script, and its calls, as pairs of a place and a call whose left out keys have their values."""
     top = read_json(data)
     ask(13, "limits", not (type(top) is dict and "limits" in top))
     ask_one_lane(top)
@@ -43,7 +43,7 @@ def read(data):
     ask(2, "budget", is_whole(top["budget"], GREATEST_WHOLE))
     ask(2, "list of phases", type(top["phases"]) is list)
     ask(3, "phases", len(top["phases"]) <= MOST_PHASES)
-    return [found for number, phase in enumerate(top["phases"]) for found in read_phase(number, phase)]
+    return top["budget"], [found for number, phase in enumerate(top["phases"]) for found in read_phase(number, phase)]
 
 
 def read_json(data):

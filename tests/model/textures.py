@@ -86,7 +86,7 @@ def dim_by(texture):
 
 
 def view_rules(view, texture):
-    """The rules of createView, after those that the texture is of this device and valid."""
+    """The rules of createView, after those that the texture is of this device, not dropped, and valid."""
     dim, layers = view["dim"], view["layers"]
     yield 120, view["aspect"], formats.named_aspects(texture["format"], view["aspect"]) != ()
     yield 121, "no mips", view["mips"] >= 1

@@ -11,26 +11,13 @@ ONLY_READ = {"copy-src", "host-read"}
 
 
 def trace_of(history):
-    """The items of the trace, entry by entry: its steps, then what it makes due."""
-    items, freed = [], []
-    for past in pasts(history):
-        played = past.played[-1]
-        for group in groups_of(past, played):
+    """The items of the trace, entry by entry: its steps, then what it releases."""
+    items = []
+    for played in history.entries():
+        for group in groups_of(history, played):
             add_group(items, group)
-        for thing in history.objects:
-            if thing.do in ("createBuffer", "createTexture") and thing not in freed and past.is_due(thing):
-                freed.append(thing)
-                items.append(("free", thing))
+        items += [("free", thing) for thing in played.released]
     return items
-
-
-def pasts(history):
-    """The history as it was after each entry, so that what is due is found by looking back alone."""
-    past = type(history)()
-    for played in history.played:
-        past.played.append(played)
-        if played.entry is not None:
-            yield past
 
 
 def steps_in(items):

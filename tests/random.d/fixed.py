@@ -6,7 +6,7 @@ MOST_BYTES = 4_194_304
 
 
 def script(calls):
-    return json.dumps({"budget": 1, "phases": [[calls]]}, separators=(",", ":")).encode()
+    return json.dumps({"budget": 2**53 - 1, "phases": [[calls]]}, separators=(",", ":")).encode()
 
 
 def of_size(size):

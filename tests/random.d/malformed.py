@@ -6,7 +6,7 @@ from json_forms import Pairs, Raw, text_of
 WORD_LIMIT, WHOLE_LIMIT = 2**32 - 1, 2**53 - 1
 UNBUILT = """
 createSampler createBindGroupLayout createPipelineLayout createBindGroup createComputePipeline createRenderPipeline createQuerySet
-createBundleEncoder beginComputePass beginRenderPass end finishBundle drop
+createBundleEncoder beginComputePass beginRenderPass end finishBundle
 resolveQuerySet setPipeline setBindGroup setVertexBuffer setIndexBuffer dispatch dispatchIndirect beginOcclusionQuery endOcclusionQuery
 executeBundles draw drawIndexed drawIndirect drawIndexedIndirect createCanvas configureCanvas currentTexture present
 """.split()

@@ -6,18 +6,25 @@ LETTERS = "abcdefghijklmnopqrstuvwxyzABCDEFGHIJKLMNOPQRSTUVWXYZ0123456789_"
 
 
 class Thing:
-    """An object under a name, with the call that makes it."""
+    """An object under a name, with the call that makes it. A time is how many calls the script had then."""
 
     def __init__(self, name, call, good):
         self.name = name
         self.call = call
         self.good = good
         self.destroyed = False
+        self.size = 0
+        self.made_at = 0
+        self.dropped_at = None
         self.mapped = bool(call.get("mapped")) and good
         self.finished = False
         self.submitted = False
         self.groups = 0
         self.commands = 0
+
+    @property
+    def dropped(self):
+        return self.dropped_at is not None
 
 
 class World:
@@ -32,6 +39,7 @@ class World:
         self.is_lost = False
         self.buffers = []
         self.textures = []
+        self.views = []
         self.encoders = []
         self.command_buffers = []
 
@@ -57,6 +65,7 @@ class World:
     def make(self, letter, call, good):
         thing = Thing(self.new_name(letter), call, good and not self.is_lost)
         self.add(call | {"as": thing.name})
+        thing.made_at = len(self.calls)
         return thing
 
     def buffer(self, good=True, **wanted):
@@ -84,7 +93,9 @@ class World:
         call = good_view(self.random, texture.call) if texture.good else {"do": "createView"}
         if not good and texture.good:
             self.spoil(VIEW_FAULTS, call, texture.call)
-        self.make("v", call | {"texture": texture.name}, good)
+        thing = self.make("v", call | {"texture": texture.name}, good and texture.good and not texture.dropped)
+        self.views.append(thing)
+        return thing
 
     def encoder(self):
         thing = self.make("e", {"do": "createEncoder"}, True)
@@ -96,14 +107,14 @@ class World:
         while encoder.groups > 0 and not self.has_fault():
             self.add({"do": "popDebugGroup", "on": encoder.name})
             encoder.groups -= 1
-        thing = self.make("c", {"do": "finish", "on": encoder.name}, not encoder.finished and encoder.good and encoder.groups == 0)
+        thing = self.make("c", {"do": "finish", "on": encoder.name}, not encoder.finished and encoder.good and not encoder.dropped and encoder.groups == 0)
         encoder.finished = True
         self.command_buffers.append(thing)
         return thing
 
     def submit(self, command_buffers):
         self.add({"do": "submit", "buffers": [thing.name for thing in command_buffers]})
-        self.queued(all(thing.good and not thing.submitted for thing in command_buffers))
+        self.queued(all(thing.good and not thing.submitted and not thing.dropped for thing in command_buffers))
         for thing in command_buffers:
             thing.submitted = True
 
@@ -114,7 +125,7 @@ class World:
     def map(self, thing, good, call):
         """A map of a buffer, which is pending or mapped from then on, where it is taken to be good."""
         self.add({"do": "mapAsync", "buffer": thing.name} | call)
-        thing.mapped = thing.mapped or good and thing.good and not thing.destroyed and not self.is_lost
+        thing.mapped = thing.mapped or good and thing.good and not thing.destroyed and not thing.dropped and not self.is_lost
 
     def unmap(self, thing):
         self.add({"do": "unmap", "buffer": thing.name})
@@ -124,6 +135,13 @@ class World:
         self.add({"do": "destroy", "object": thing.name})
         thing.destroyed = True
         thing.mapped = False
+
+    def drop(self, thing):
+        self.add({"do": "drop", "object": thing.name})
+        thing.dropped_at = thing.dropped_at or len(self.calls)
+
+    def everything(self):
+        return self.buffers + self.textures + self.views + self.encoders + self.command_buffers
 
     def complete(self, number):
         self.add({"do": "complete", "op": number})
@@ -146,8 +164,8 @@ class World:
         self.is_lost = True
 
     def some(self, things):
-        """One of some objects: a good one that is not destroyed, pending or mapped, as a rule, or None."""
-        usable = [thing for thing in things if thing.good and not thing.destroyed and not thing.mapped]
+        """One of some objects: a good one that is not destroyed, dropped, pending or mapped, as a rule, or None."""
+        usable = [thing for thing in things if thing.good and not thing.destroyed and not thing.dropped and not thing.mapped]
         if usable and self.random.random() > 0.03:
             return self.random.choice(usable[-6:])
         return self.random.choice(things) if things else None

@@ -17,7 +17,7 @@ def borders(random):
             world.lose()
         if random.random() < 0.3:
             scope(world)
-        kind = random.randrange(11)
+        kind = random.randrange(12)
         if kind == 0:
             world.buffer(not world.has_fault())
         elif kind == 1:
@@ -32,6 +32,8 @@ def borders(random):
             random.choice([work_done, complete])(world)
         elif kind in (6, 7):
             maps(world)
+        elif kind == 8:
+            drop_and_use(world)
         else:
             single(world)
     return world.calls
@@ -92,7 +94,7 @@ def write(world):
 
 
 def open_encoder(world):
-    found = [encoder for encoder in world.encoders if not encoder.finished]
+    found = [encoder for encoder in world.encoders if not encoder.finished and (not encoder.dropped or random_use(world))]
     return world.random.choice(found) if found else world.encoder()
 
 
@@ -105,7 +107,7 @@ def finish(world):
 
 
 def submit(world):
-    ready = [thing for thing in world.command_buffers if thing.good and not thing.submitted]
+    ready = [thing for thing in world.command_buffers if thing.good and not thing.submitted and (not thing.dropped or random_use(world))]
     world.random.shuffle(ready)
     world.submit(ready[:world.random.randint(0, 3)])
 
@@ -170,6 +172,46 @@ def destroy(world):
         world.destroy(world.random.choice(things) if world.random.random() < 0.15 else world.some(things))
 
 
+def drop(world):
+    """A drop of anything, mostly of what was not dropped before."""
+    things = [thing for thing in world.everything() if not thing.dropped or random_use(world)]
+    if things:
+        world.drop(world.random.choice(things))
+
+
+def random_use(world):
+    """Whether what was dropped is used all the same, which is refused."""
+    return world.random.random() < 0.1
+
+
+def drop_and_use(world):
+    """A call on something that was dropped just before, or on an invalid one that was."""
+    random, good = world.random, not world.has_fault()
+    kind = random.randrange(5)
+    if kind < 2:
+        buffer = world.buffer(good)
+        world.drop(buffer)
+        random.choice([world.destroy, world.unmap, world.drop, lambda thing: write_buffer(world, True, thing), lambda thing: world.map(thing, True, {"mode": 1})])(buffer)
+    elif kind == 2:
+        texture = world.texture(good)
+        world.drop(texture)
+        acts = [world.destroy, world.drop, world.view] + [lambda thing: write_texture(world, True, thing)] * (2 * good)
+        random.choice(acts)(texture)
+    elif kind == 3:
+        encoder = world.encoder()
+        command(world, encoder, good)
+        world.drop(encoder)
+        world.finish(encoder)
+    else:
+        before = len(world.buffers)
+        command(world, world.encoder(), True)
+        for thing in world.buffers[before:]:
+            world.drop(thing)
+        command_buffer = world.finish(world.encoders[-1])
+        world.drop(random.choice([command_buffer, world.encoders[-1]]))
+        world.submit([command_buffer])
+
+
 def odd(world):
     """What a script may do that the device refuses: late calls, second finishes, submits that can't be."""
     random = world.random
@@ -215,5 +257,5 @@ def write_after_destroy(world):
             write_texture(world, True, thing)
 
 
-ACTS = [make, write, record, finish, submit, complete, destroy, scope, work_done, maps, odd]
-ACT_WEIGHTS = [2, 4, 10, 3, 3, 2, 1, 2, 2, 4, 1]
+ACTS = [make, write, record, finish, submit, complete, destroy, drop, scope, work_done, maps, odd]
+ACT_WEIGHTS = [2, 4, 10, 3, 3, 2, 1, 2, 2, 2, 4, 1]

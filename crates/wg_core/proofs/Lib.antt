@@ -3,3 +3,4 @@ pub mod Tracing
 pub mod Submitting
 pub mod Distinct
 pub mod Hosting
+pub mod Budgets

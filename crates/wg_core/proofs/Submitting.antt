@@ -1,16 +1,15 @@
 -- The first unmet rule of a submit, over the list of what its command buffers use.
-use Rattle.std.proofs.Common.{◌≡◌, ℕ, Bool, true, false, not, List, [], ◌∷◌, Option, Some, None, refl, sym, ap, ap₂, ◌∙◌}
+use Rattle.std.proofs.Common.{◌≡◌, ℕ, true, false, not, List, [], ◌∷◌, Option, None, sym, ap, ap₂, ◌∙◌}
 use Rattle.std.specs.List.{list_any}
 use Rattle.wg_types.specs.declared.handles.ObjRef.{ObjRef}
-use Rattle.wg_types.specs.declared.steps.Sort.TheVariants.{Buffer, Texture}
-use Rattle.wg_model.specs.Rules.{Rule, first_unmet, or_else}
+use Rattle.wg_model.specs.Rules.{first_unmet, or_else}
 use Rattle.wg_model.specs.Recorded.{buffers_of, textures_of}
 use Rattle.wg_model.proofs.Unmet.{first_unmet_joined}
 use Rattle.wg_history.specs.declared.events.Setup.{Setup}
 use Rattle.wg_history.specs.Entries.{Past}
 use Rattle.wg_history.specs.Rules.{is_destroyed, is_consumed, are_distinct, listed_rules, together_rules, any_used, is_busy, submit_rule}
 use Rattle.wg_state.specs.declared.uses.Used.{Used}
-use Rattle.wg_state.specs.Uses.{uses_of, is_used_as}
+use Rattle.wg_state.specs.Uses.{uses_of}
 use Rattle.wg_state.proofs.UsesLemmas.{used_buffers, used_textures}
 use Rattle.wg_core.specs.Plans.{use_rules}
 

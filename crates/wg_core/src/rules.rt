@@ -8,7 +8,10 @@ ghost use Rattle.wg_history.specs.Objects.{is_own, is_command_buffer};
 ghost use Rattle.wg_model.specs.Commands.{no_texture};
 ghost use Rattle.wg_access.specs.Ranges.{IsInRange};
 ghost use Rattle.wg_history.specs.Entries.{effects_of, submitted, written};
-ghost use Rattle.wg_history.specs.Rules.{is_busy, map_async_rule, unmap_rule, first_rule, create_view_rule, write_buffer_rule, write_texture_rule, destroy_rule, destroys, is_destroyed, finish_rule, ends_encoder, has_finished, consumes, is_consumed, are_distinct, listed_rules, submit_rule};
+ghost use Rattle.wg_history.specs.Rules.{is_busy, map_async_rule, unmap_rule, create_view_rule, write_buffer_rule, write_texture_rule, destroy_rule, drop_rule, destroys, is_destroyed, finish_rule, ends_encoder, has_finished, consumes, is_consumed, are_distinct, listed_rules, submit_rule};
+ghost use Rattle.wg_history.specs.FirstRules.{first_rule, create_buffer_rule, create_texture_rule};
+ghost use Rattle.wg_history.specs.Budget.{bytes_made};
+ghost use Rattle.wg_model.specs.Memory.{texture_bytes};
 
 use crate::uses;
 use std::alloc::Global;
@@ -16,13 +19,49 @@ use std::collections::BTreeSet;
 use wg_buffers::{check_create as check_buffer, check_map};
 use wg_copy::{check_write_buffer, check_write_texture};
 use wg_encoder::Recording;
+use wg_formats::texture_bytes;
 use wg_history::NoMemory;
 use wg_history::events::Event;
 use wg_state::{State, Used};
 use wg_textures::{check_create as check_texture, check_view};
-use wg_types::handles::ObjRef;
+use wg_types::handles::{BufferInfo, ObjRef};
 use wg_types::steps::Sort;
-use wg_types::textures::{DataLayout, TextureSpot, ViewDesc};
+use wg_types::textures::{DataLayout, TextureInfo, TextureSpot, ViewDesc};
+
+/// The first unmet rule of a createBuffer (WebGPU, "Buffer Creation"): rule 13, where the budget has no
+/// room for it, is the last.
+#[tactic(auto, unfolding(wg_history::specs::FirstRules::create_buffer_rule))]
+fn create_buffer(state: &State, info: &BufferInfo) -> Option<u16>
+    ensures rule { result ≡ create_buffer_rule state.now.setup (reverse state.now.history) info.now }
+    ensures bytes { IsNone result → info.now.size < 2 ^ 64 }
+{
+    if let Some(rule) = check_buffer(info, &state.setup().limits) {
+        return Some(rule);
+    }
+    if !state.fits(info.size) {
+        return Some(13);
+    }
+    None
+}
+
+/// The first unmet rule of a createTexture (WebGPU, "Texture Creation"): rule 13, where the budget has no
+/// room for it, is the last.
+#[tactic(auto, unfolding(wg_history::specs::FirstRules::create_texture_rule))]
+fn create_texture(state: &State, info: &TextureInfo) -> Option<u16>
+    ensures rule { result ≡ create_texture_rule state.now.setup (reverse state.now.history) info.now }
+    ensures bytes { IsNone result → texture_bytes info.now < 2 ^ 64 }
+{
+    if let Some(rule) = check_texture(info, &state.setup().limits) {
+        return Some(rule);
+    }
+    let Some(bytes) = texture_bytes(info) else {
+        return Some(13);
+    };
+    if !state.fits(bytes) {
+        return Some(13);
+    }
+    None
+}
 
 /// The first unmet rule of a createView (WebGPU, "Texture View Creation").
 #[tactic(auto, unfolding(wg_history::specs::Rules::create_view_rule))]
@@ -32,6 +71,9 @@ fn create_view(state: &State, texture: ObjRef, desc: &ViewDesc) -> Option<u16>
     let Some(info) = wg_state::own_texture(state.setup(), state.book(), texture) else {
         return Some(10);
     };
+    if state.is_dropped(texture.number) {
+        return Some(11);
+    }
     if !state.book().is_valid(texture.number) {
         return Some(12);
     }
@@ -46,6 +88,23 @@ fn destroy(state: &State, object: ObjRef) -> Option<u16>
     if !wg_state::is_own_resource(state.setup(), state.book(), object) {
         return Some(10);
     }
+    if state.is_dropped(object.number) {
+        return Some(11);
+    }
+    None
+}
+
+/// The first unmet rule of a drop (WebGPU, "Internal Objects").
+#[tactic(auto, unfolding(wg_history::specs::Rules::drop_rule))]
+fn drop_object(state: &State, object: ObjRef) -> Option<u16>
+    ensures { result ≡ drop_rule state.now.setup (reverse state.now.history) object }
+{
+    if !wg_state::is_own_object(state.setup(), state.book(), object) {
+        return Some(10);
+    }
+    if state.is_dropped(object.number) {
+        return Some(11);
+    }
     None
 }
 
@@ -58,6 +117,9 @@ fn write_buffer(state: &State, buffer: ObjRef, offset: u64, size: u64) -> Option
     let Some(info) = wg_state::own_buffer(state.setup(), state.book(), buffer) else {
         return Some(10);
     };
+    if state.is_dropped(buffer.number) {
+        return Some(11);
+    }
     if !state.book().is_valid(buffer.number) {
         return Some(12);
     }
@@ -79,6 +141,9 @@ fn map_async(state: &State, buffer: ObjRef, mode: u32, offset: u64, size: u64) -
     let Some(info) = wg_state::own_buffer(state.setup(), state.book(), buffer) else {
         return Some(10);
     };
+    if state.is_dropped(buffer.number) {
+        return Some(11);
+    }
     if !state.book().is_valid(buffer.number) {
         return Some(12);
     }
@@ -99,6 +164,9 @@ fn unmap(state: &State, buffer: ObjRef) -> Option<u16>
     if wg_state::own_buffer(state.setup(), state.book(), buffer).is_none() {
         return Some(10);
     }
+    if state.is_dropped(buffer.number) {
+        return Some(11);
+    }
     None
 }
 
@@ -117,6 +185,9 @@ fn write_texture(
     let Some(info) = wg_state::own_texture(state.setup(), state.book(), texture) else {
         return Some(10);
     };
+    if state.is_dropped(texture.number) {
+        return Some(11);
+    }
     if !state.book().is_valid(texture.number) {
         return Some(12);
     }
@@ -137,6 +208,9 @@ fn finish(state: &State, encoder: ObjRef, recording: &Recording) -> Option<u16>
     if !wg_state::is_own_encoder(state.setup(), state.book(), encoder) {
         return Some(10);
     }
+    if state.is_dropped(encoder.number) {
+        return Some(11);
+    }
     if !state.book().is_valid(encoder.number) {
         return Some(12);
     }
@@ -152,7 +226,7 @@ fn finish(state: &State, encoder: ObjRef, recording: &Recording) -> Option<u16>
     if recording.open_group() {
         return Some(183);
     }
-    if uses::any_forged(state, recording.commands()) {
+    if uses::any_barred(state, encoder.number, recording.commands()) {
         return Some(11);
     }
     if recording.scopes().is_some() {
@@ -230,6 +304,9 @@ fn check_listed(state: &State, buffers: &[ObjRef]) -> Option<u16>
         if !wg_state::is_own_command_buffer(state.setup(), state.book(), *buffer) {
             return Some(10);
         }
+        if state.is_dropped(buffer.number) {
+            return Some(11);
+        }
         if !state.book().is_valid(buffer.number) {
             return Some(12);
         }
@@ -290,16 +367,16 @@ fn submit(alloc: Global, state: &State, buffers: &[ObjRef]) -> Result<Ruled, NoM
 
 /// The first unmet rule of an event, which one that meets all its rules has not. A recording call that
 /// came after the end of its encoder or pass always has rule 14.
-#[tactic(auto, unfolding(wg_history::specs::Rules::create_buffer_rule, wg_history::specs::Rules::create_texture_rule))]
 pub fn first_rule(alloc: Global, state: &State, event: &Event) -> Result<Ruled, NoMemory>
     ensures rule { IfOk result (λ ruled. ruled.rule ≡ first_rule state.now.setup (reverse state.now.history) event.now) }
     ensures uses { IfOk result (λ ruled. IsNone ruled.rule → ruled.uses.items ≡ uses_of (reverse state.now.history) (submitted event.now)) }
     ensures range { IfOk result (λ ruled. IsNone ruled.rule → IfSome (written (λ _. no_texture) event.now) IsInRange) }
+    ensures bytes { IfOk result (λ ruled. IsNone ruled.rule → bytes_made event.now < 2 ^ 64) }
     ensures map_range { IfOk result (λ ruled. IsNone ruled.rule → IsMapInRange (effects_of event.now).form) }
 {
     let rule = match event {
-        Event::CreateBuffer { info } => check_buffer(info, &state.setup().limits),
-        Event::CreateTexture { info } => check_texture(info, &state.setup().limits),
+        Event::CreateBuffer { info } => create_buffer(state, info),
+        Event::CreateTexture { info } => create_texture(state, info),
         Event::CreateView { texture, desc } => create_view(state, *texture, desc),
         Event::Finish { encoder, recording } => finish(state, *encoder, recording),
         Event::Late { .. } => Some(14),
@@ -317,6 +394,7 @@ pub fn first_rule(alloc: Global, state: &State, event: &Event) -> Result<Ruled, 
             data_size,
         } => write_texture(state, *texture, spot, layout, *size, *data_size),
         Event::Destroy { object } => destroy(state, *object),
+        Event::Drop { object } => drop_object(state, *object),
         Event::MapAsync {
             buffer,
             mode,

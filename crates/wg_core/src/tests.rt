@@ -139,7 +139,6 @@ fn answer(core: &mut Core, event: Event) -> Result<(Answer, Option<u16>), Fail> 
 #[test]
 fn references_that_no_script_has(rt: HostRuntime) -> Result<(), Fail> {
     let alloc = rt.alloc();
-    let mut core = Core::new(alloc, 1_000_000, 1);
     let made = |number, valid| Answer::Made { number, valid };
     let finish = |encoder, recording| Event::Finish { encoder, recording };
     let buffer = BufferInfo {
@@ -159,10 +158,42 @@ fn references_that_no_script_has(rt: HostRuntime) -> Result<(), Fail> {
         (submit(alloc, &[3])?, Answer::Queued(1), None),
         (submit(alloc, &[3])?, Answer::Plain, Some(190)),
     ];
+    let mut core = Core::new(alloc, 1_000_000, 1);
     for (event, expected, rule) in cases {
         let found = answer(&mut core, event)?;
         assert_eq!(rt; found.0, expected);
         assert_eq!(rt; found.1, rule);
+    }
+    Ok(())
+}
+
+#[test]
+fn references_of_another_device(rt: HostRuntime) -> Result<(), Fail> {
+    let mut core = Core::new(rt.alloc(), 100, 2);
+    let info = BufferInfo {
+        size: 16,
+        usage: 8,
+        mapped: false,
+    };
+    let found = answer(&mut core, Event::CreateBuffer { info })?;
+    assert_eq!(rt;
+        found.0,
+        Answer::Made {
+            number: 0,
+            valid: true
+        }
+    );
+    let unknown = ObjRef {
+        device: 2,
+        number: 1,
+    };
+    for object in [own(0), unknown] {
+        let reply = core
+            .step(0, Event::Destroy { object })
+            .ok()
+            .ok_or("no memory")?;
+        assert_eq!(rt; reply.answer, Answer::Plain);
+        assert_eq!(rt; reply.fault, uncaptured(10));
     }
     Ok(())
 }

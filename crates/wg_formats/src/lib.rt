@@ -1,11 +1,12 @@
-//! Texture formats, extents of mip levels, the layout of texels in bytes, what handles know of buffers and textures, and
-//! what is known of a view.
+//! Texture formats, extents of mip levels, the layout of texels in bytes, what handles know of buffers and textures,
+//! what is known of a view, and what resources take of a budget of bytes.
 #![tactic(auto)]
 
 mod aspects;
 mod extents;
 mod handles;
 mod layout;
+mod memory;
 
 pub use aspects::{copy_compatible, has_named, is_color, named_aspects, texel_from, texel_to};
 pub use extents::{
@@ -15,6 +16,7 @@ pub use handles::{
     buffer_of, no_texture, same_object, size_or_rest, texture_of, view_info, whole_spot,
 };
 pub use layout::{bytes_fit, required};
+pub use memory::{bytes_of, texture_bytes};
 
 #[cfg(test)]
 mod tests;

@@ -1,7 +1,8 @@
 //! What no script reaches: how formats are sampled and stored and what they take of memory, levels past
-//! the last, and layouts of more bytes than 64 bits can say.
+//! the last, layouts of more bytes than 64 bits can say, and textures of as many.
 use crate::extents::{end_layer, extent};
 use crate::layout::required;
+use crate::memory::texture_bytes;
 use wg_types::formats::{Format, SampleType, StorageAccesses};
 use wg_types::textures::{DataLayout, TextureDim, TextureInfo};
 
@@ -63,4 +64,19 @@ fn numbers_may_be_vast(rt: HostRuntime) {
     };
     let bytes = Some(79228162458924105385300197360);
     assert_eq!(rt; required(&layout, 16, [268435455, vast, vast]), bytes);
+}
+
+#[test]
+fn levels_add_up(rt: HostRuntime) {
+    let mut texture = TextureInfo {
+        size: [4, 4, 1],
+        usage: 1,
+        format: Format::Rgba8Unorm,
+        dim: TextureDim::Two,
+        mips: 3,
+        samples: 1,
+    };
+    assert_eq!(rt; texture_bytes(&texture), Some((16 + 4 + 1) * 4));
+    texture.size = [4294967295, 4294967295, 1];
+    assert_eq!(rt; texture_bytes(&texture), None);
 }

@@ -12,7 +12,7 @@ use Rattle.wg_history.specs.Entries.{Event, Form, Making, Queue, Promising, Comp
 use Rattle.wg_history.specs.Operations.{issued, last_use}
 use Rattle.wg_history.specs.Loss.{is_lost, Awaited, mapping, work, Wait, Ascends, asked_mapping, promised, settles, unsettled, awaiting}
 use Rattle.wg_history.specs.Answers.{at_once, settle_all, ended_how, either, settled_in, IsRun}
-use Rattle.wg_history.specs.Rules.{first_rule}
+use Rattle.wg_history.specs.FirstRules.{first_rule}
 use Rattle.wg_history.proofs.Runs.{newest, others}
 
 pub ascends_le : (lo hi : ℕ) (ws : List Wait) → Ascends lo hi ws → lo ≤ hi

@@ -1,8 +1,8 @@
--- A destroyed buffer is neither mapped nor pending, and no later map of it is kept, so the host accesses it no more.
-use Rattle.std.proofs.Common.{◌≡◌, ℕ, ◌<◌, List, [], ◌∷◌, ◌++◌, length, filter, Bool, true, false, not, ◌&&◌, ◌||◌, ◌==◌, Option, Some, None, is_none, option_and_then, refl, ap, ap₂, sym, ◌∙◌, arith, append-nil, if◌then◌else◌, true≢false, subst}
+-- A destroyed buffer is neither mapped nor pending, and no later map of it is kept. The host accesses no buffer any more that is gone
+-- and whose uses are complete.
+use Rattle.std.proofs.Common.{◌≡◌, ℕ, ◌<◌, List, [], ◌∷◌, ◌++◌, length, filter, Bool, true, false, not, ◌&&◌, ◌||◌, ◌==◌, Option, Some, None, is_none, option_and_then, refl, ap, ap₂, sym, ◌∙◌, arith, append-nil, if◌then◌else◌, true≢false, subst, inl, inr}
 use Rattle.std.specs.List.{list_any, flat_map}
-use Rattle.std.proofs.lemmas.List.Folds.{list_any-append}
-use Rattle.std.proofs.lemmas.Bool.{and_parts, eq-eqb, eqb-true, or_left, or_right}
+use Rattle.std.proofs.lemmas.Bool.{and_parts, eq-eqb, eqb-true, or_cases, or_left, or_right}
 use Rattle.wg_types.specs.declared.handles.ObjRef.{ObjRef}
 use Rattle.wg_types.specs.declared.mappings.Mapping.{Mapping}
 use Rattle.wg_types.specs.declared.mappings.MapMode.{MapMode}
@@ -20,47 +20,41 @@ use Rattle.wg_model.specs.Recorded.{touching, host_name, host_touches, host_step
 use Rattle.wg_model.proofs.Unmet.{all_met}
 use Rattle.wg_model.proofs.Sparing.{or_first, host_spares}
 use Rattle.wg_history.specs.Entries.{Setup, Event, MapAsync, Destroy, Unmap, Form, Making, Queue, Promising, Completion, Plainly, ForWork, ForError, ForMap, effects_of, Entry, Past}
-use Rattle.wg_history.specs.Objects.{is_making, count}
+use Rattle.wg_history.specs.Objects.{is_making, count, is_own, is_buffer}
 use Rattle.wg_history.specs.Operations.{last_use}
 use Rattle.wg_history.specs.Loss.{is_lost, Awaited, mapping, work, Wait, asked_mapping, promised, settles, unsettled, awaiting, is_of, is_map_of, is_pending}
-use Rattle.wg_history.specs.Rules.{destroy_rule, destroys, is_destroyed, unmap_rule, unmaps, settles_mapped, mapped_in, mapped_now, or_before, mapped_made, waits_of, mapped_at, is_busy, map_async_list, map_async_rule}
+use Rattle.wg_history.specs.Rules.{destroy_rule, destroys, is_destroyed, unmap_rule, unmaps, settles_mapped, mapped_in, mapped_now, or_before, mapped_made, waits_of, mapped_at, is_busy, is_dropped, map_async_list, map_async_rule}
+use Rattle.wg_history.specs.Held.{is_held}
+use Rattle.wg_history.specs.Releases.{is_gone}
 use Rattle.wg_history.specs.Answers.{at_once, settle_all, ended_how, own_settled, reply_to, IsRun}
 use Rattle.wg_history.specs.Steps.{group_of, written_back, read_back, unmap_groups, read_groups, host_groups}
 use Rattle.wg_history.proofs.Runs.{newest, others}
-use Rattle.wg_history.proofs.AfterUse.{not_true}
+use Rattle.wg_history.proofs.Tests.{not_true}
+use Rattle.wg_history.proofs.Makers.{own_below}
+use Rattle.wg_history.proofs.Holders.{undropped_held}
+use Rattle.wg_history.proofs.AfterUse.{IsOver, stands}
+use Rattle.wg_history.proofs.Waits.{any_unsettled, any_both, pending_over}
 use Rattle.wg_history.proofs.Unborn.{destroyed_new, destroys_below}
 use Rattle.wg_history.proofs.Awaiting.{awaiting_ascends, unsettled_own}
 use Rattle.wg_history.proofs.Declared.{steps_in_append}
 
--- A map that meets its rules is of a buffer that is not destroyed.
-map_stands : (setup : Setup) (past : Past) (buffer : ObjRef) (mode offset size : ℕ) → is_none (map_async_rule setup past buffer mode offset size) ≡ true → is_destroyed setup past buffer.number ≡ false
+-- A map that meets its rules is of a buffer that is not gone.
+map_stands : (setup : Setup) (past : Past) (buffer : ObjRef) (mode offset size : ℕ) → is_none (map_async_rule setup past buffer mode offset size) ≡ true → is_gone setup past buffer.number ≡ false
 unfolding map_async_rule
 map_stands setup past buffer mode offset size e =
-    or_first (is_destroyed setup past buffer.number) _ (not_true (is_busy setup past buffer.number) (all_met (map_async_list setup past buffer mode offset size) e).1.1.1.1.1.1.1.0)
+    let met = all_met (map_async_list setup past buffer mode offset size) e in
+    stands setup past buffer.number (or_first (is_destroyed setup past buffer.number) _ (not_true (is_busy setup past buffer.number) met.1.1.1.1.1.1.1.1.0))
+    (undropped_held setup past buffer.number (own_below setup past _ buffer met.0) (not_true (is_dropped setup past buffer.number) met.1.0))
 
-map_refused : (setup : Setup) (past : Past) (buffer : ObjRef) (mode offset size n : ℕ) → is_destroyed setup past n ≡ true → buffer.number ≡ n → is_none (map_async_rule setup past buffer mode offset size) ≡ false
-map_refused setup past buffer mode offset size n destroyed same = by_rule (is_none (map_async_rule setup past buffer mode offset size)) refl
+map_refused : (setup : Setup) (past : Past) (buffer : ObjRef) (mode offset size n : ℕ) → is_gone setup past n ≡ true → buffer.number ≡ n → is_none (map_async_rule setup past buffer mode offset size) ≡ false
+map_refused setup past buffer mode offset size n gone same = by_rule (is_none (map_async_rule setup past buffer mode offset size)) refl
   where
     by_rule : (b : Bool) → is_none (map_async_rule setup past buffer mode offset size) ≡ b → b ≡ false
-    by_rule true e = absurd (true≢false (sym destroyed ∙ (ap (is_destroyed setup past) (sym same) ∙ map_stands setup past buffer mode offset size e)))
+    by_rule true e = absurd (true≢false (sym gone ∙ (ap (is_gone setup past) (sym same) ∙ map_stands setup past buffer mode offset size e)))
     by_rule false e = refl
 
--- what is left of what waits, by a test
-
-pub any_unsettled : (p : Wait → Bool) (settled : List Settlement) (ws : List Wait) → list_any p ws ≡ false → list_any p (unsettled settled ws) ≡ false
-any_unsettled p settled [] e = refl
-any_unsettled p settled (w ∷ ws) e = by_test (not (settles settled w.promise)) (any_unsettled p settled ws (or_second (p w) (list_any p ws) e))
-  where
-    or_second : (a b : Bool) → (a || b) ≡ false → b ≡ false
-    or_second true b h = absurd (true≢false h)
-    or_second false b h = h
-
-    by_test : (b : Bool) → list_any p (unsettled settled ws) ≡ false → list_any p (if b then w ∷ unsettled settled ws else unsettled settled ws) ≡ false
-    by_test true rest = ap₂ ◌||◌ (or_first (p w) (list_any p ws) e) rest
-    by_test false rest = rest
-
-pub any_both : (p : Wait → Bool) (xs ys : List Wait) → list_any p xs ≡ false → list_any p ys ≡ false → list_any p (xs ++ ys) ≡ false
-any_both p xs ys e f = list_any-append p xs ys ∙ ap₂ ◌||◌ e f
+destroyed_gone : (setup : Setup) (past : Past) (n : ℕ) → is_destroyed setup past n ≡ true → is_gone setup past n ≡ true
+destroyed_gone setup past n h = or_left (is_destroyed setup past n) (not (is_held setup past n)) h
 
 -- settling all that pass a test leaves none that does, whatever else is settled
 none_left : (p : Wait → Bool) (settled : List Settlement) (ws : List Wait) → ((w : Wait) → p w ≡ true → list_any (λ (x : Wait). x.promise == w.promise && p x) ws ≡ true → settles settled w.promise ≡ true) → list_any p (unsettled settled ws) ≡ false
@@ -112,14 +106,14 @@ own_of_other n past Queue other = refl
 own_of_other n past (Completion op) other = refl
 own_of_other n past Plainly other = refl
 
--- how a map of a destroyed buffer is answered
+-- how a map of a buffer is answered that is gone
 abbrev pub refused_how : Bool → How
 refused_how true = Aborted
 refused_how false = Rejected
 
-map_settled : (setup : Setup) (past : Past) (buffer : ObjRef) (mode offset size n : ℕ) → is_destroyed setup past n ≡ true → buffer.number ≡ n → (reply_to setup past (MapAsync buffer mode offset size)).settled ≡ at_once (length past) (refused_how (is_lost past))
-map_settled setup past buffer mode offset size n destroyed same =
-    ap (λ met. own_settled past (is_lost past) met (ForMap buffer mode offset size)) (map_refused setup past buffer mode offset size n destroyed same) ∙ by_lost (is_lost past)
+map_settled : (setup : Setup) (past : Past) (buffer : ObjRef) (mode offset size n : ℕ) → is_gone setup past n ≡ true → buffer.number ≡ n → (reply_to setup past (MapAsync buffer mode offset size)).settled ≡ at_once (length past) (refused_how (is_lost past))
+map_settled setup past buffer mode offset size n gone same =
+    ap (λ met. own_settled past (is_lost past) met (ForMap buffer mode offset size)) (map_refused setup past buffer mode offset size n gone same) ∙ by_lost (is_lost past)
   where
     by_lost : (b : Bool) → own_settled past b false (ForMap buffer mode offset size) ≡ at_once (length past) (refused_how b)
     by_lost true = refl
@@ -140,7 +134,7 @@ pend_next setup past (MapAsync buffer mode offset size) n before h = by_same (bu
   where
     by_same : (b : Bool) → (buffer.number == n) ≡ b → list_any (is_map_of n) (unsettled (reply_to setup past (MapAsync buffer mode offset size)).settled (awaiting past ++ promised past (Promising (ForMap buffer mode offset size)))) ≡ false
     by_same true e =
-        ap (λ (settled : List Settlement). list_any (is_map_of n) (unsettled settled (awaiting past ++ promised past (Promising (ForMap buffer mode offset size))))) (map_settled setup past buffer mode offset size n h (eqb-true buffer.number n e))
+        ap (λ (settled : List Settlement). list_any (is_map_of n) (unsettled settled (awaiting past ++ promised past (Promising (ForMap buffer mode offset size))))) (map_settled setup past buffer mode offset size n (destroyed_gone setup past n h) (eqb-true buffer.number n e))
         ∙ (ap (list_any (is_map_of n)) (unsettled_own (refused_how (is_lost past)) (mapping buffer.number (last_use past buffer.number) (asked_mapping mode offset size)) (length past) (awaiting past) (awaiting_ascends past)) ∙ before h)
     by_same false e = any_unsettled (is_map_of n) (reply_to setup past (MapAsync buffer mode offset size)).settled (awaiting past ++ promised past (Promising (ForMap buffer mode offset size))) (any_both (is_map_of n) (awaiting past) (promised past (Promising (ForMap buffer mode offset size))) (before h) (ap (λ b. b || false) e))
 pend_next setup past event n before h = any_unsettled (is_map_of n) (reply_to setup past event).settled (awaiting past ++ promised past (effects_of event).form) (any_both (is_map_of n) (awaiting past) (promised past (effects_of event).form) (before h) (own_of_other n past (effects_of event).form (λ buffer mode offset size e. absurd (cc))))
@@ -176,7 +170,7 @@ own_refused past false = by_test (length past == length past)
     by_test true = refl
     by_test false = refl
 
-own_keeps : (setup : Setup) (past : Past) (event : Event) (n : ℕ) → is_destroyed setup past n ≡ true → list_any (keeps_of n (reply_to setup past event).settled) (promised past (effects_of event).form) ≡ false
+own_keeps : (setup : Setup) (past : Past) (event : Event) (n : ℕ) → is_gone setup past n ≡ true → list_any (keeps_of n (reply_to setup past event).settled) (promised past (effects_of event).form) ≡ false
 own_keeps setup past (MapAsync buffer mode offset size) n h = by_same (buffer.number == n) refl
   where
     by_same : (b : Bool) → (buffer.number == n) ≡ b → (((buffer.number == n) && settles_mapped (reply_to setup past (MapAsync buffer mode offset size)).settled (length past)) || false) ≡ false
@@ -188,7 +182,7 @@ pub never_kept : (setup : Setup) (entry : Entry) (older : Past) (n : ℕ) → Is
 never_kept setup entry older n run h =
     any_both (keeps_of n entry.reply.settled) (awaiting older) (promised older (effects_of entry.event).form)
     (keeps_none n entry.reply.settled (awaiting older) (never_pending setup older n (others setup entry older run) h))
-    (ap (λ (reply : Reply). list_any (keeps_of n reply.settled) (promised older (effects_of entry.event).form)) (newest setup entry older run) ∙ own_keeps setup older entry.event n h)
+    (ap (λ (reply : Reply). list_any (keeps_of n reply.settled) (promised older (effects_of entry.event).form)) (newest setup entry older run) ∙ own_keeps setup older entry.event n (destroyed_gone setup older n h))
 
 -- It is not mapped.
 
@@ -231,7 +225,7 @@ never_mapped setup (entry ∷ older) n run h = by_making (is_making entry.event 
         omega (arith, lt, same))
     by_making false e rest = by_unmaps (unmaps setup older entry.event n) refl rest
 
--- The host steps of an entry after which it is destroyed already.
+-- The host steps of an entry before which it is gone already, and its uses are complete.
 
 host_spare : (place : StepPlace) (buffer n : ℕ) (m : Mapping) → (buffer == n) ≡ false → Unused n (steps_in (group_of (host_step place buffer m)))
 host_spare place buffer n m other = by_size (m.lo == m.hi)
@@ -248,18 +242,31 @@ read_spare : (mode : MapMode) (place : StepPlace) (buffer n : ℕ) (m : Mapping)
 read_spare ReadMode place buffer n m other = host_spare place buffer n m other
 read_spare WriteMode place buffer n m other = unused_none n
 
-unmap_spare : (setup : Setup) (past : Past) (o : Option ObjRef) (n : ℕ) → mapped_at setup past n ≡ None → Unused n (steps_in (unmap_groups setup past o))
-unmap_spare setup past None n none = unused_none n
-unmap_spare setup past (Some buffer) n none = by_rule (is_none (unmap_rule setup past buffer))
-  where
-    by_same : (b : Bool) → (buffer.number == n) ≡ b → (o : Option Mapping) → mapped_at setup past buffer.number ≡ o → Unused n (steps_in (group_of (option_and_then (λ m. written_back m.mode (Host (length past)) buffer.number m) o)))
-    by_same b e None is = unused_none n
-    by_same false e (Some m) is = written_spare m.mode (Host (length past)) buffer.number n m e
-    by_same true e (Some m) is = absurd (let missing : mapped_at setup past buffer.number ≡ None = ap (mapped_at setup past) (eqb-true buffer.number n e) ∙ none in let both : Some m ≡ None = sym is ∙ missing in cc (both))
+-- an unmap of a buffer that is dropped is refused
+dropped_refused : (setup : Setup) (past : Past) (buffer : ObjRef) → is_none (unmap_rule setup past buffer) ≡ true → is_held setup past buffer.number ≡ true
+unfolding unmap_rule
+dropped_refused setup past buffer e =
+    let met = all_met ((10, is_own setup past is_buffer buffer) ∷ ((11, not (is_dropped setup past buffer.number)) ∷ [])) e in
+    undropped_held setup past buffer.number (own_below setup past _ buffer met.0) (not_true (is_dropped setup past buffer.number) met.1.0)
 
-    by_rule : (b : Bool) → Unused n (steps_in (if b then group_of (option_and_then (λ m. written_back m.mode (Host (length past)) buffer.number m) (mapped_at setup past buffer.number)) else []))
-    by_rule true = by_same (buffer.number == n) refl (mapped_at setup past buffer.number) refl
-    by_rule false = unused_none n
+unmap_spare : (setup : Setup) (past : Past) (o : Option ObjRef) (n : ℕ) → IsRun setup past → is_gone setup past n ≡ true → Unused n (steps_in (unmap_groups setup past o))
+unmap_spare setup past None n run gone = unused_none n
+unmap_spare setup past (Some buffer) n run gone = by_rule (is_none (unmap_rule setup past buffer)) refl
+  where
+    unmapped : is_none (unmap_rule setup past buffer) ≡ true → buffer.number ≡ n → mapped_at setup past n ≡ None
+    unmapped met same = elim (or_cases (is_destroyed setup past n) (not (is_held setup past n)) gone) [
+      | inl destroyed ↦ never_mapped setup past n run destroyed
+      | inr unheld ↦ absurd (true≢false (sym (dropped_refused setup past buffer met) ∙ (ap (is_held setup past) same ∙ not_true (is_held setup past n) unheld)))
+    ]
+
+    by_same : (b : Bool) → (buffer.number == n) ≡ b → (b ≡ true → mapped_at setup past n ≡ None) → (o : Option Mapping) → mapped_at setup past buffer.number ≡ o → Unused n (steps_in (group_of (option_and_then (λ m. written_back m.mode (Host (length past)) buffer.number m) o)))
+    by_same b e none None is = unused_none n
+    by_same false e none (Some m) is = written_spare m.mode (Host (length past)) buffer.number n m e
+    by_same true e none (Some m) is = absurd (let missing : mapped_at setup past buffer.number ≡ None = ap (mapped_at setup past) (eqb-true buffer.number n e) ∙ none refl in let both : Some m ≡ None = sym is ∙ missing in cc (both))
+
+    by_rule : (b : Bool) → is_none (unmap_rule setup past buffer) ≡ b → Unused n (steps_in (if b then group_of (option_and_then (λ m. written_back m.mode (Host (length past)) buffer.number m) (mapped_at setup past buffer.number)) else []))
+    by_rule true met = by_same (buffer.number == n) refl (λ e. unmapped met (eqb-true buffer.number n e)) (mapped_at setup past buffer.number) refl
+    by_rule false met = unused_none n
 
 one_spare : (at : ℕ) (settled : List Settlement) (promise : ℕ) (awaited : Awaited) (n : ℕ) → (is_of n awaited && settles_mapped settled promise) ≡ false → Unused n (steps_in (read_groups at settled promise awaited))
 one_spare at settled promise (work ops) n e = unused_none n
@@ -285,10 +292,17 @@ reads_spare at settled (w ∷ ws) n e = by_parts (keeps_of n settled w) refl e (
         both_unused : (a b : List (List Step)) → Unused n (steps_in a) → Unused n (steps_in b) → Unused n (steps_in (a ++ b))
         both_unused a b first second = subst (Unused n) (sym (steps_in_append a b)) (unused_append n (steps_in a) (steps_in b) first second)
 
-pub host_unused : (setup : Setup) (entry : Entry) (older : Past) (n : ℕ) → IsRun setup (entry ∷ older) → is_destroyed setup older n ≡ true → Unused n (steps_in (host_groups setup older entry))
-host_unused setup entry older n run h =
+-- no map of it is kept
+over_kept : (setup : Setup) (entry : Entry) (older : Past) (n : ℕ) → IsRun setup (entry ∷ older) → IsOver setup older n → list_any (keeps_of n entry.reply.settled) (waits_of entry older) ≡ false
+over_kept setup entry older n run over =
+    any_both (keeps_of n entry.reply.settled) (awaiting older) (promised older (effects_of entry.event).form)
+    (keeps_none n entry.reply.settled (awaiting older) (pending_over setup older n (others setup entry older run) over.complete))
+    (ap (λ (reply : Reply). list_any (keeps_of n reply.settled) (promised older (effects_of entry.event).form)) (newest setup entry older run) ∙ own_keeps setup older entry.event n over.gone)
+
+pub host_unused : (setup : Setup) (entry : Entry) (older : Past) (n : ℕ) → IsRun setup (entry ∷ older) → IsOver setup older n → Unused n (steps_in (host_groups setup older entry))
+host_unused setup entry older n run over =
     let a : List (List Step) = unmap_groups setup older (effects_of entry.event).unmapped in
     let b : List (List Step) = flat_map (λ (wait : Wait). read_groups (length older) entry.reply.settled wait.promise wait.awaited) (waits_of entry older) in
     subst (Unused n) (sym (steps_in_append a b)) (unused_append n (steps_in a) (steps_in b)
-    (unmap_spare setup older (effects_of entry.event).unmapped n (never_mapped setup older n (others setup entry older run) h))
-    (reads_spare (length older) entry.reply.settled (waits_of entry older) n (never_kept setup entry older n run h)))
+    (unmap_spare setup older (effects_of entry.event).unmapped n (others setup entry older run) over.gone)
+    (reads_spare (length older) entry.reply.settled (waits_of entry older) n (over_kept setup entry older n run over)))

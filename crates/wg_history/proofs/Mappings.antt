@@ -19,9 +19,10 @@ use Rattle.wg_history.specs.Loss.{is_lost, Ascends, Awaited, mapping, work, Wait
 use Rattle.wg_history.specs.Rules.{unmaps, is_mapped_how, settles_mapped, mapped_in, mapped_now, or_before, mapped_made, waits_of, mapped_at, map_async_list, map_async_rule}
 use Rattle.wg_history.specs.Answers.{at_once, settle_all, kept_how, ended_how, is_over, is_kept, own_settled, reply_to, IsRun}
 use Rattle.wg_history.proofs.Runs.{newest, others}
-use Rattle.wg_history.proofs.Unborn.{own_below, older_le}
+use Rattle.wg_history.proofs.Makers.{own_below, older_le}
 use Rattle.wg_history.proofs.Awaiting.{ascends_le, awaiting_ascends, unsettled_own, settled_below}
-use Rattle.wg_history.proofs.Destroyed.{any_unsettled, any_both, own_of_other, refused_how, keeps_of, keeps_none, own_refused, mapped_none}
+use Rattle.wg_history.proofs.Waits.{any_unsettled, any_both}
+use Rattle.wg_history.proofs.Destroyed.{own_of_other, refused_how, keeps_of, keeps_none, own_refused, mapped_none}
 
 -- Settlements that map nothing.
 

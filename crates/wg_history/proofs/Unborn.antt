@@ -1,61 +1,36 @@
 -- What a history says of an object it says of one that was made: nothing is said of a number that is not yet given.
-use Rattle.std.proofs.Common.{◌≡◌, ℕ, ◌+◌, ◌<◌, ◌≤◌, List, [], ◌∷◌, ◌++◌, Bool, true, false, not, ◌&&◌, ◌||◌, ◌==◌, max, Option, Some, None, option_and_then, is_some, is_none, unwrap_or, refl, ap, ap₂, sym, ◌∙◌, arith, if◌then◌else◌, true≢false}
+use Rattle.std.proofs.Common.{◌≡◌, ℕ, ◌+◌, ◌<◌, ◌≤◌, List, [], ◌∷◌, Bool, true, false, not, ◌&&◌, ◌||◌, ◌==◌, max, Option, Some, None, is_some, is_none, unwrap_or, refl, ap, ap₂, sym, ◌∙◌, arith, if◌then◌else◌, true≢false}
 use Rattle.std.specs.Option.{option_map_or}
 use Rattle.std.specs.List.{list_any}
 use Rattle.std.proofs.lemmas.Bool.{and_parts, eqb-true}
-use Rattle.wg_types.specs.Handles.{HandleValue}
 use Rattle.wg_types.specs.declared.handles.Info.{Info}
 use Rattle.wg_types.specs.declared.handles.ObjRef.{ObjRef}
-use Rattle.wg_types.specs.declared.commands.On.{On}
-use Rattle.wg_types.specs.Commands.{Command, named}
-use Rattle.wg_types.specs.declared.wanted.Wanted.{Wanted}
 use Rattle.wg_types.specs.declared.replies.Reply.{Reply}
-use Rattle.wg_model.specs.Rules.{Rule, first_unmet, or_else, AreMet}
-use Rattle.wg_model.specs.Walk.{Verdict}
-use Rattle.wg_model.specs.Recorded.{wants_resource, numbered, resources, uses_resource}
-use Rattle.wg_model.proofs.NamedLemmas.{any_resources}
+use Rattle.wg_model.specs.Rules.{Rule, AreMet}
+use Rattle.wg_model.specs.Recorded.{uses_resource}
 use Rattle.wg_model.proofs.Unmet.{all_met}
-use Rattle.wg_encoder.specs.Recorders.{RecordingValue}
 use Rattle.wg_history.specs.Loss.{is_lost}
-use Rattle.wg_history.specs.Entries.{recorded_by, Setup, Event, Finish, Submit, WriteBuffer, WriteTexture, Destroy, Entry, Past}
-use Rattle.wg_history.specs.Objects.{is_making, count, maker, made_info, info_at, is_own, is_valid, is_made_valid, is_encoder, is_command_buffer, commands_at}
+use Rattle.wg_history.specs.Entries.{Setup, Event, Finish, Submit, WriteBuffer, WriteTexture, Destroy, Entry, Past}
+use Rattle.wg_history.specs.Objects.{is_making, count, maker, is_own, is_valid, is_made_valid, is_encoder, is_command_buffer, has_memory, commands_at}
 use Rattle.wg_history.specs.Operations.{issued, submit_uses, is_used, op_of, use_by, last_use}
-use Rattle.wg_history.specs.Rules.{destroy_rule, destroys, is_destroyed, ends_encoder, has_finished, consumes, is_consumed, is_genuine, any_forged, encoder_rules, recording_rules, finish_rule, listed_rules, together_rules, submit_list, submit_rule, write_buffer_list, write_buffer_rule, write_texture_list, write_texture_rule}
+use Rattle.wg_history.specs.Rules.{is_dropped, destroy_rule, destroys, is_destroyed, ends_encoder, has_finished, consumes, is_consumed, listed_rules, together_rules, submit_list, submit_rule, write_buffer_list, write_buffer_rule, write_texture_list, write_texture_rule}
 use Rattle.wg_history.specs.Answers.{Queued, Plain, reply_to, IsRun}
 use Rattle.wg_history.specs.Releases.{is_due, is_released}
 use Rattle.wg_history.proofs.Released.{maker_below, resource_made, due_some}
-use Rattle.wg_history.proofs.AfterUse.{not_true, any_grows}
+use Rattle.wg_history.proofs.Tests.{fails, met_before}
+use Rattle.wg_history.proofs.Makers.{older_le, own_below}
+use Rattle.wg_history.proofs.Holders.{used_named}
+use Rattle.wg_history.proofs.Making.{names_back}
 use Rattle.wg_history.proofs.Runs.{newest, others}
-
-some_maker : {X : Type 0} (f : Entry → Option X) (test : X → Bool) (o : Option Entry) → option_map_or test (option_and_then f o) false ≡ true → is_some o ≡ true
-some_maker f test None h = absurd (true≢false (sym h))
-some_maker f test (Some entry) h = refl
-
-pub own_below : (setup : Setup) (past : Past) (kind : Info → Bool) (object : ObjRef) → is_own setup past kind object ≡ true → object.number < count past
-own_below setup past kind object own =
-    maker_below past object.number (some_maker (λ entry. made_info past entry.event) kind (maker past object.number) (and_parts (object.device == setup.serial) (option_map_or kind (info_at past object.number) false) own).1)
-
-rule_none : (own : Bool) → is_none (first_unmet ((10, own) ∷ [])) ≡ true → own ≡ true
-rule_none true h = refl
-rule_none false h = absurd (true≢false (sym h))
-
--- a test that would put an object below its number fails
-fails : (b : Bool) (c n : ℕ) → c ≤ n → (b ≡ true → n < c) → b ≡ false
-fails true c n le below = absurd (let lt = below refl in omega (arith, lt, le))
-fails false c n le below = refl
 
 pub destroys_below : (setup : Setup) (past : Past) (event : Event) (n : ℕ) → destroys setup past event n ≡ true → n < count past
 unfolding destroy_rule
 destroys_below setup past (Destroy object) n h =
     let both : ((object.number == n) ≡ true) × (is_none (destroy_rule setup past object) ≡ true) = and_parts (object.number == n) (is_none (destroy_rule setup past object)) h in
-    let lt : object.number < count past = own_below setup past _ object (rule_none _ both.1) in
+    let lt : object.number < count past = own_below setup past _ object (all_met ((10, is_own setup past has_memory object) ∷ ((11, not (is_dropped setup past object.number)) ∷ [])) both.1).0 in
     let same : object.number ≡ n = eqb-true object.number n both.0 in
     omega (arith, lt, same)
 destroys_below setup past _ n h = absurd (true≢false (sym h))
-
-pub older_le : (b : Bool) (c n : ℕ) → (if b then c + 1 else c) ≤ n → c ≤ n
-older_le true c n le = omega (arith, le)
-older_le false c n le = le
 
 either_fails : (a b : Bool) → a ≡ false → b ≡ false → (a || b) ≡ false
 either_fails a b e f = ap₂ ◌||◌ e f
@@ -108,64 +83,22 @@ consumed_new setup (entry ∷ older) n le =
     let before : count older ≤ n = older_le (is_making entry.event) (count older) n le in
     either_fails (consumes setup older entry.event n) (is_consumed setup older n) (consumes_below setup older entry.event n before) (consumed_new setup older n before)
 
--- Commands of a valid command buffer name objects that were made before it.
-
-named_resource : (command : Command) (n : ℕ) → list_any (λ r. r == n) (resources command) ≡ true → list_any (λ (object : HandleValue × Wanted). object.0.reference.number == n) (named command) ≡ true
-named_resource command n h =
-    any_grows (λ (object : HandleValue × Wanted). object.0.reference.number == n) (numbered wants_resource (λ r. r == n))
-    (λ object both. (and_parts (wants_resource object.1) (object.0.reference.number == n) both).1)
-    (named command) (sym (any_resources (λ r. r == n) command) ∙ h)
-
-not_genuine : (setup : Setup) (past : Past) (handle : HandleValue) (n : ℕ) → count past ≤ n → (handle.reference.number == n) ≡ true → not (is_genuine setup past handle) ≡ true
-not_genuine setup past handle n le e = ap not (fails (is_genuine setup past handle) (count past) n le (λ h.
-    let lt : handle.reference.number < count past = own_below setup past _ handle.reference (and_parts _ _ (and_parts _ _ h).0).0 in
-    let same : handle.reference.number ≡ n = eqb-true handle.reference.number n e in
-    omega (arith, lt, same)))
-
-used_forged : (setup : Setup) (past : Past) (commands : List (On × Command)) (n : ℕ) → count past ≤ n → uses_resource commands n ≡ true → any_forged setup past commands ≡ true
-used_forged setup past commands n le used =
-    any_grows (λ kept. list_any (λ (object : HandleValue × Wanted). not (is_genuine setup past object.0)) (named kept.1)) (λ kept. list_any (λ r. r == n) (resources kept.1))
-    (λ kept in_command. any_grows (λ (object : HandleValue × Wanted). not (is_genuine setup past object.0)) (λ (object : HandleValue × Wanted). object.0.reference.number == n) (λ object same. not_genuine setup past object.0 n le same) (named kept.1) (named_resource kept.1 n in_command))
-    commands used
-
-neither : (first second : Option ℕ) → is_none (or_else first second) ≡ true → (is_none first ≡ true) × (is_none second ≡ true)
-neither None second h = (refl, h)
-neither (Some rule) second h = absurd (true≢false (sym h))
-
-finished_unused : (setup : Setup) (past : Past) (encoder : ObjRef) (recording : RecordingValue) (n : ℕ) → count past ≤ n → is_none (finish_rule setup past encoder recording) ≡ true → uses_resource recording.commands n ≡ false
-unfolding finish_rule
-finished_unused setup past encoder recording n le e =
-    let last : is_none (first_unmet (recording_rules setup past recording)) ≡ true = (neither (Verdict recording.device recording.commands) (first_unmet (recording_rules setup past recording)) (neither (first_unmet (encoder_rules setup past encoder)) (or_else (Verdict recording.device recording.commands) (first_unmet (recording_rules setup past recording))) e).1).1 in
-    let genuine : any_forged setup past recording.commands ≡ false = not_true (any_forged setup past recording.commands) (all_met (recording_rules setup past recording) last).1.1.0 in
-    by_use (uses_resource recording.commands n) refl
-  where
-    by_use : (b : Bool) → uses_resource recording.commands n ≡ b → b ≡ false
-    by_use true used = absurd (true≢false (sym (used_forged setup past recording.commands n le used) ∙ not_true (any_forged setup past recording.commands) (all_met (recording_rules setup past recording) (neither (Verdict recording.device recording.commands) (first_unmet (recording_rules setup past recording)) (neither (first_unmet (encoder_rules setup past encoder)) (or_else (Verdict recording.device recording.commands) (first_unmet (recording_rules setup past recording))) e).1).1).1.1.0))
-    by_use false used = refl
-
-made_unused : (setup : Setup) (past : Past) (event : Event) (n : ℕ) → count past ≤ n → is_made_valid (reply_to setup past event).answer ≡ true → uses_resource (recorded_by event) n ≡ false
-made_unused setup past (Finish encoder recording) n le valid = finished_unused setup past encoder recording n le (and_parts (not (is_lost past)) (is_none (finish_rule setup past encoder recording)) valid).1
-made_unused setup past _ n le valid = refl
-
+-- A valid command buffer uses objects that were made before it.
 valid_unused : (setup : Setup) (past : Past) (k n : ℕ) → IsRun setup past → count past ≤ n → is_valid past k ≡ true → uses_resource (commands_at past k) n ≡ false
-valid_unused setup [] k n run le valid = refl
-valid_unused setup (entry ∷ older) k n run le valid =
-    let before : count older ≤ n = older_le (is_making entry.event) (count older) n le in
-    by_maker (is_making entry.event && count older == k) before (valid_unused setup older k n (others setup entry older run) before) valid
+valid_unused setup past k n run le valid = fails (uses_resource (commands_at past k) n) (count past) n le (λ used.
+    let lt = names_back setup past k n run valid (used_named (commands_at past k) n used) in
+    let made = maker_below past k (valid_made (maker past k) valid) in
+    omega (arith, lt, made))
   where
-    by_maker : (b : Bool) → count older ≤ n → (is_valid older k ≡ true → uses_resource (commands_at older k) n ≡ false) → option_map_or (λ e. is_made_valid e.reply.answer) (if b then Some entry else maker older k) false ≡ true → uses_resource (option_map_or (λ e. recorded_by e.event) (if b then Some entry else maker older k) []) n ≡ false
-    by_maker true before rest is = made_unused setup older entry.event n before (ap (λ (reply : Reply). is_made_valid reply.answer) (sym (newest setup entry older run)) ∙ is)
-    by_maker false before rest is = rest is
+    valid_made : (o : Option Entry) → option_map_or (λ entry. is_made_valid entry.reply.answer) o false ≡ true → is_some o ≡ true
+    valid_made None h = absurd (true≢false (sym h))
+    valid_made (Some entry) h = refl
 
 -- No operation of a run uses an object that is not yet made.
 
 submit_below : (setup : Setup) (past : Past) (buffers : List ObjRef) (more : List Rule) (n : ℕ) → IsRun setup past → count past ≤ n → AreMet (listed_rules setup past buffers) → submit_uses past buffers n ≡ false
 submit_below setup past [] more n run le met = refl
-submit_below setup past (buffer ∷ buffers) more n run le met = either_fails (uses_resource (commands_at past buffer.number) n) (submit_uses past buffers n) (valid_unused setup past buffer.number n run le met.1.0) (submit_below setup past buffers more n run le met.1.1)
-
-met_before : (rules more : List Rule) → AreMet (rules ++ more) → AreMet rules
-met_before [] more met = tt
-met_before (rule ∷ rules) more met = (met.0, met_before rules more met.1)
+submit_below setup past (buffer ∷ buffers) more n run le met = either_fails (uses_resource (commands_at past buffer.number) n) (submit_uses past buffers n) (valid_unused setup past buffer.number n run le met.1.1.0) (submit_below setup past buffers more n run le met.1.1.1)
 
 no_use : (b : Bool) → ◌≡◌ {A = ℕ} (if b then 0 else 0) 0
 no_use true = refl

@@ -1,25 +1,24 @@
--- The first unmet rule of an event.
-use Rattle.std.specs.Prelude.{ℕ, Bool, true, false, not, ◌&&◌, ◌||◌, ◌==◌, List, [], ◌∷◌, ◌++◌, reverse, Option, Some, None, is_none, is_some, unwrap_or, if◌then◌else◌}
+-- The first unmet rule of an event that names objects.
+use Rattle.std.specs.Prelude.{ℕ, Bool, true, false, not, ◌&&◌, ◌||◌, ◌==◌, nat_lt, List, [], ◌∷◌, ◌++◌, reverse, Option, Some, None, is_none, is_some, unwrap_or, if◌then◌else◌}
 use Rattle.std.specs.List.{list_any}
 use Rattle.std.specs.Option.{option_map_or}
 use Rattle.wg_types.specs.Handles.{HandleValue}
-use Rattle.wg_types.specs.declared.textures.TextureInfo.{TextureInfo}
 use Rattle.wg_types.specs.declared.textures.ViewDesc.{ViewDesc}
 use Rattle.wg_types.specs.declared.textures.TextureSpot.{TextureSpot}
 use Rattle.wg_types.specs.declared.textures.DataLayout.{DataLayout}
 use Rattle.wg_types.specs.declared.commands.On.{On}
 use Rattle.wg_types.specs.Commands.{Command}
 use Rattle.wg_model.specs.Rules.{Rule, first_unmet, or_else}
-use Rattle.wg_model.specs.Buffers.{create_buffer_rules, write_buffer_rules, map_rules}
-use Rattle.wg_model.specs.Textures.{create_texture_rules, create_view_rules}
+use Rattle.wg_model.specs.Buffers.{write_buffer_rules, map_rules}
+use Rattle.wg_model.specs.Textures.{create_view_rules}
 use Rattle.wg_model.specs.TexelCopies.{write_texture_rules}
 use Rattle.wg_model.specs.Commands.{named, no_buffer, no_texture}
 use Rattle.wg_model.specs.Scopes.{first_clash}
 use Rattle.wg_model.specs.Walk.{Verdict, ScopesOf, open_pass, encoder_depth}
 use Rattle.wg_model.specs.Recorded.{buffers_of, textures_of, any_named}
 use Rattle.wg_encoder.specs.Recorders.{RecordingValue}
-use Rattle.wg_history.specs.Entries.{Setup, Event, CreateBuffer, CreateTexture, CreateView, CreateEncoder, Finish, Late, Submit, WriteBuffer, WriteTexture, Destroy, Complete, PushErrorScope, PopErrorScope, Lose, WorkDone, MapAsync, Unmap, effects_of, submitted, Entry, Past}
-use Rattle.wg_history.specs.Objects.{BufferInfo, ObjRef, is_making, count, info_made, is_made_valid, is_own, is_valid, info_at, is_buffer, is_texture, is_encoder, is_command_buffer, has_memory, buffer_at, texture_or_none_at, commands_at}
+use Rattle.wg_history.specs.Entries.{Setup, Event, effects_of, submitted, Entry, Past}
+use Rattle.wg_history.specs.Objects.{ObjRef, is_making, count, info_made, is_made_valid, is_own, is_valid, info_at, is_any, is_buffer, is_texture, is_encoder, is_command_buffer, has_memory, buffer_at, texture_or_none_at, commands_at}
 use Rattle.wg_types.specs.declared.handles.Info.{Info}
 use Rattle.wg_types.specs.declared.handles.Info.TheVariants.{Buffer}
 use Rattle.wg_types.specs.declared.mappings.Mapping.{Mapping}
@@ -31,27 +30,42 @@ use Rattle.wg_types.specs.declared.replies.How.TheVariants.{Mapped, Done, Aborte
 use Rattle.wg_history.specs.Loss.{Awaited, mapping, work, Wait, promised, awaiting, is_pending}
 use Rattle.wg_history.specs.Infos.{same_kind, same_info, same_bool}
 
--- createBuffer
-unfoldable pub create_buffer_rule : Setup → BufferInfo → Option ℕ
-create_buffer_rule setup info = first_unmet (create_buffer_rules setup.limits info)
+-- drop: 10 the object is one of this device, of any kind, valid or not; 11 it was not dropped before
+abbrev pub drop_list : Bool → Setup → Past → ObjRef → List Rule
+drop_list dropped setup past object = (10, is_own setup past is_any object) ∷ ((11, not dropped) ∷ [])
 
--- createTexture
-unfoldable pub create_texture_rule : Setup → TextureInfo → Option ℕ
-create_texture_rule setup info = first_unmet (create_texture_rules setup.limits info)
+-- whether an event that comes after a past drops object n, where that was dropped before or was not
+abbrev pub drops : Bool → Setup → Past → Event → ℕ → Bool
+drops dropped setup past event n = option_map_or (λ object. object.number == n && is_none (first_unmet (drop_list dropped setup past object))) (effects_of event).dropped false
 
--- The rules of createView: 10 the texture is one of this device, 12 it is valid, then the rules by what the texture is
+-- How many objects had been made when object n was dropped, if it was: some drop of it met its rules at its place. Objects are
+-- numbered as they are made, so those of lower numbers are those that were made before the drop.
+abbrev pub dropped_at : Setup → Past → ℕ → Option ℕ
+dropped_at setup [] n = None
+dropped_at setup (entry ∷ older) n = if drops (is_some (dropped_at setup older n)) setup older entry.event n then Some (count older) else dropped_at setup older n
+
+abbrev pub is_dropped : Setup → Past → ℕ → Bool
+is_dropped setup past n = is_some (dropped_at setup past n)
+
+unfoldable pub drop_rule : Setup → Past → ObjRef → Option ℕ
+drop_rule setup past object = first_unmet (drop_list (is_dropped setup past object.number) setup past object)
+
+-- The rules of createView: 10 the texture is one of this device, 11 it is not dropped, 12 it is valid, then the rules by what
+-- the texture is
 abbrev pub create_view_list : Setup → Past → ObjRef → ViewDesc → List Rule
 create_view_list setup past texture desc =
     (10, is_own setup past is_texture texture)
+    ∷ ((11, not (is_dropped setup past texture.number))
     ∷ ((12, is_valid past texture.number)
-    ∷ create_view_rules (texture_or_none_at past texture.number) desc)
+    ∷ create_view_rules (texture_or_none_at past texture.number) desc))
 
 unfoldable pub create_view_rule : Setup → Past → ObjRef → ViewDesc → Option ℕ
 create_view_rule setup past texture desc = first_unmet (create_view_list setup past texture desc)
 
--- destroy (WebGPU, "Buffer Destruction" and "Texture Destruction"): 10 the object is a resource of this device, valid or not
+-- destroy (WebGPU, "Buffer Destruction" and "Texture Destruction"): 10 the object is a resource of this device, valid or
+-- not; 11 it is not dropped
 unfoldable pub destroy_rule : Setup → Past → ObjRef → Option ℕ
-destroy_rule setup past object = first_unmet ((10, is_own setup past has_memory object) ∷ [])
+destroy_rule setup past object = first_unmet ((10, is_own setup past has_memory object) ∷ ((11, not (is_dropped setup past object.number)) ∷ []))
 
 -- whether an event that comes after a past destroys object n
 abbrev pub destroys : Setup → Past → Event → ℕ → Bool
@@ -62,9 +76,9 @@ abbrev pub is_destroyed : Setup → Past → ℕ → Bool
 is_destroyed setup [] n = false
 is_destroyed setup (entry ∷ older) n = destroys setup older entry.event n || is_destroyed setup older n
 
--- unmap (WebGPU, "unmap"): 10 the buffer is one of this device, valid or not
+-- unmap (WebGPU, "unmap"): 10 the buffer is one of this device, valid or not; 11 it is not dropped
 unfoldable pub unmap_rule : Setup → Past → ObjRef → Option ℕ
-unmap_rule setup past buffer = first_unmet ((10, is_own setup past is_buffer buffer) ∷ [])
+unmap_rule setup past buffer = first_unmet ((10, is_own setup past is_buffer buffer) ∷ ((11, not (is_dropped setup past buffer.number)) ∷ []))
 
 -- whether an event that comes after a past unmaps buffer n, as its unmap does that meets its rules, and its destroy
 abbrev pub unmaps : Setup → Past → Event → ℕ → Bool
@@ -120,38 +134,41 @@ mapped_at setup (entry ∷ older) n =
 abbrev pub is_busy : Setup → Past → ℕ → Bool
 is_busy setup past n = is_destroyed setup past n || (is_some (mapped_at setup past n) || is_pending past n)
 
--- The rules of mapAsync: 10 the buffer is one of this device, 12 it is valid, then the rules by what it is and what is asked,
--- and 225 it is not mapped, pending or destroyed
+-- The rules of mapAsync: 10 the buffer is one of this device, 11 it is not dropped, 12 it is valid, then the rules by what it
+-- is and what is asked, and 225 it is not mapped, pending or destroyed
 abbrev pub map_async_list : Setup → Past → ObjRef → ℕ → ℕ → ℕ → List Rule
 map_async_list setup past buffer mode offset size =
     (10, is_own setup past is_buffer buffer)
+    ∷ ((11, not (is_dropped setup past buffer.number))
     ∷ ((12, is_valid past buffer.number)
     ∷ (map_rules (unwrap_or (buffer_at past buffer.number) no_buffer) mode offset size
-    ++ (225, not (is_busy setup past buffer.number)) ∷ []))
+    ++ (225, not (is_busy setup past buffer.number)) ∷ [])))
 
 unfoldable pub map_async_rule : Setup → Past → ObjRef → ℕ → ℕ → ℕ → Option ℕ
 map_async_rule setup past buffer mode offset size = first_unmet (map_async_list setup past buffer mode offset size)
 
--- The rules of writeBuffer: 10 the target is a buffer of this device, 12 it is valid, then the rules by its size and usage, and 203
--- it is not mapped, pending or destroyed
+-- The rules of writeBuffer: 10 the target is a buffer of this device, 11 it is not dropped, 12 it is valid, then the rules by
+-- its size and usage, and 203 it is not mapped, pending or destroyed
 abbrev pub write_buffer_list : Setup → Past → ObjRef → ℕ → ℕ → List Rule
 write_buffer_list setup past buffer offset size =
     (10, is_own setup past is_buffer buffer)
+    ∷ ((11, not (is_dropped setup past buffer.number))
     ∷ ((12, is_valid past buffer.number)
     ∷ (write_buffer_rules (unwrap_or (buffer_at past buffer.number) no_buffer) offset size
-    ++ (203, not (is_busy setup past buffer.number)) ∷ []))
+    ++ (203, not (is_busy setup past buffer.number)) ∷ [])))
 
 unfoldable pub write_buffer_rule : Setup → Past → ObjRef → ℕ → ℕ → Option ℕ
 write_buffer_rule setup past buffer offset size = first_unmet (write_buffer_list setup past buffer offset size)
 
--- The rules of writeTexture: 10 the target is a texture of this device, 12 it is valid, then the rules by what it is, and
--- 210 it is not destroyed
+-- The rules of writeTexture: 10 the target is a texture of this device, 11 it is not dropped, 12 it is valid, then the rules
+-- by what it is, and 210 it is not destroyed
 abbrev pub write_texture_list : Setup → Past → ObjRef → TextureSpot → DataLayout → List ℕ → ℕ → List Rule
 write_texture_list setup past texture spot layout size data_size =
     (10, is_own setup past is_texture texture)
+    ∷ ((11, not (is_dropped setup past texture.number))
     ∷ ((12, is_valid past texture.number)
     ∷ (write_texture_rules (texture_or_none_at past texture.number) spot layout size data_size
-    ++ (210, not (is_destroyed setup past texture.number)) ∷ []))
+    ++ (210, not (is_destroyed setup past texture.number)) ∷ [])))
 
 unfoldable pub write_texture_rule : Setup → Past → ObjRef → TextureSpot → DataLayout → List ℕ → ℕ → Option ℕ
 write_texture_rule setup past texture spot layout size data_size = first_unmet (write_texture_list setup past texture spot layout size data_size)
@@ -164,9 +181,14 @@ is_genuine setup past handle =
     && same_bool handle.valid (is_valid past handle.reference.number)
     && (not handle.valid || option_map_or (same_info handle.info) (info_at past handle.reference.number) false)
 
--- whether some handle that recorded commands name is not genuine
-abbrev pub any_forged : Setup → Past → List (On × Command) → Bool
-any_forged setup past commands = list_any (λ kept. list_any (λ object. not (is_genuine setup past object.0)) (named kept.1)) commands
+-- whether commands of an encoder may name object n: it was not dropped before the encoder was made
+abbrev pub may_name : Setup → Past → ℕ → ℕ → Bool
+may_name setup past encoder n = option_map_or (nat_lt encoder) (dropped_at setup past n) true
+
+-- whether some handle that recorded commands of an encoder name is not genuine, or its object was dropped before the encoder
+-- was made
+abbrev pub any_barred : Setup → Past → ℕ → List (On × Command) → Bool
+any_barred setup past encoder commands = list_any (λ kept. list_any (λ object. not (is_genuine setup past object.0 && may_name setup past encoder object.0.reference.number)) (named kept.1)) commands
 
 -- whether an event that comes after a past ends the encoder n: a finish of it does, whether or not it is accepted. A finish
 -- that names a number which no encoder of this device has ends nothing, also if one gets that number later.
@@ -177,29 +199,30 @@ abbrev pub has_finished : Setup → Past → ℕ → Bool
 has_finished setup [] n = false
 has_finished setup (entry ∷ older) n = ends_encoder setup older entry.event n || has_finished setup older n
 
--- The rules of finish that go before those of the commands (WebGPU, "finish"): 10 the encoder is one of this device; 12 it
--- is valid; 180 it has not ended.
+-- The rules of finish that go before those of the commands (WebGPU, "finish"): 10 the encoder is one of this device; 11 it
+-- is not dropped; 12 it is valid; 180 it has not ended.
 abbrev pub encoder_rules : Setup → Past → ObjRef → List Rule
 encoder_rules setup past encoder =
     (10, is_own setup past is_encoder encoder)
+    ∷ ((11, not (is_dropped setup past encoder.number))
     ∷ ((12, is_valid past encoder.number)
     ∷ ((180, not (has_finished setup past encoder.number))
-    ∷ []))
+    ∷ [])))
 
 -- and those after them: 182 no pass is open; 183 no debug group of the encoder is open; 11 each handle that a command
--- names is genuine; 184 every usage scope is compatible.
-abbrev pub recording_rules : Setup → Past → RecordingValue → List Rule
-recording_rules setup past recording =
+-- names is genuine, and its object was not dropped before the encoder was made; 184 every usage scope is compatible.
+abbrev pub recording_rules : Setup → Past → ℕ → RecordingValue → List Rule
+recording_rules setup past encoder recording =
     (182, is_none (open_pass (reverse recording.commands)))
     ∷ ((183, encoder_depth (reverse recording.commands) == 0)
-    ∷ ((11, not (any_forged setup past recording.commands))
+    ∷ ((11, not (any_barred setup past encoder recording.commands))
     ∷ ((184, is_none (first_clash (ScopesOf recording.device recording.commands)))
     ∷ [])))
 
 -- finish: the rules of the encoder, then the rule that invalidated it first, then those of the recording
 unfoldable pub finish_rule : Setup → Past → ObjRef → RecordingValue → Option ℕ
 finish_rule setup past encoder recording =
-    or_else (first_unmet (encoder_rules setup past encoder)) (or_else (Verdict recording.device recording.commands) (first_unmet (recording_rules setup past recording)))
+    or_else (first_unmet (encoder_rules setup past encoder)) (or_else (Verdict recording.device recording.commands) (first_unmet (recording_rules setup past encoder.number recording)))
 
 -- whether an event that comes after a past consumes the command buffer n: a submit that lists it does, whether or not it is
 -- accepted
@@ -215,13 +238,15 @@ abbrev pub are_distinct : List ObjRef → Bool
 are_distinct [] = true
 are_distinct (buffer ∷ buffers) = not (list_any (λ other. other.number == buffer.number) buffers) && are_distinct buffers
 
--- The rules of submit on one command buffer after another (WebGPU, "submit"): 10 it is one of this device; 12 it is valid.
+-- The rules of submit on one command buffer after another (WebGPU, "submit"): 10 it is one of this device; 11 it is not
+-- dropped; 12 it is valid.
 abbrev pub listed_rules : Setup → Past → List ObjRef → List Rule
 listed_rules setup past [] = []
 listed_rules setup past (buffer ∷ buffers) =
     (10, is_own setup past is_command_buffer buffer)
+    ∷ ((11, not (is_dropped setup past buffer.number))
     ∷ ((12, is_valid past buffer.number)
-    ∷ listed_rules setup past buffers)
+    ∷ listed_rules setup past buffers))
 
 -- whether one of the objects that the commands of these command buffers name passes the test
 abbrev pub any_used : (Command → List ℕ) → (ℕ → Bool) → Past → List ObjRef → Bool
@@ -243,24 +268,3 @@ submit_list setup past buffers = listed_rules setup past buffers ++ together_rul
 
 unfoldable pub submit_rule : Setup → Past → List ObjRef → Option ℕ
 submit_rule setup past buffers = first_unmet (submit_list setup past buffers)
-
--- The first unmet rule of an event that comes after a past. An event that meets all its rules is met. A recording call that
--- came after the end of its encoder or pass always has rule 14.
-abbrev pub first_rule : Setup → Past → Event → Option ℕ
-first_rule setup past (CreateBuffer info) = create_buffer_rule setup info
-first_rule setup past (CreateTexture info) = create_texture_rule setup info
-first_rule setup past (CreateView texture desc) = create_view_rule setup past texture desc
-first_rule setup past CreateEncoder = None
-first_rule setup past (Finish encoder recording) = finish_rule setup past encoder recording
-first_rule setup past (Late encoder) = Some 14
-first_rule setup past (Submit buffers) = submit_rule setup past buffers
-first_rule setup past (WriteBuffer buffer offset size) = write_buffer_rule setup past buffer offset size
-first_rule setup past (WriteTexture texture spot layout size data_size) = write_texture_rule setup past texture spot layout size data_size
-first_rule setup past (Destroy object) = destroy_rule setup past object
-first_rule setup past (Complete op) = None
-first_rule setup past (PushErrorScope filter) = None
-first_rule setup past PopErrorScope = None
-first_rule setup past Lose = None
-first_rule setup past WorkDone = None
-first_rule setup past (MapAsync buffer mode offset size) = map_async_rule setup past buffer mode offset size
-first_rule setup past (Unmap buffer) = unmap_rule setup past buffer

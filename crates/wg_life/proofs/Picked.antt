@@ -10,14 +10,15 @@ use Rattle.std.specs.List.{sum_by}
 use Rattle.std.proofs.lemmas.List.Sums.{sum_by-append}
 use Rattle.wg_types.specs.declared.steps.Sort.{Sort}
 use Rattle.wg_orders.specs.Trace.{Free, free}
+use Rattle.wg_life.specs.declared.rows.Resource.{Resource}
 use Rattle.wg_life.specs.declared.rows.Row.{Row}
 use Rattle.wg_life.specs.Lives.{row_at, below}
 use Rattle.wg_life.specs.Waits.{picked, with_number, times, sort_at}
 
 -- what is released as an item, or none
-pub released_item : (rows : List Row) (n : ℕ) (o : Option Sort) → (row_at rows n).resource ≡ o → map free (sort_at rows n) ≡ option_to_list (option_map (λ (sort : Sort). Free n sort) o)
-released_item rows n None e = ap (λ (o : Option Sort). map free (option_to_list (option_map (λ (sort : Sort). (n, sort)) o))) e
-released_item rows n (Some sort) e = ap (λ (o : Option Sort). map free (option_to_list (option_map (λ (sort : Sort). (n, sort)) o))) e
+pub released_item : (rows : List Row) (n : ℕ) (o : Option Resource) → (row_at rows n).resource ≡ o → map free (sort_at rows n) ≡ option_to_list (option_map (λ (resource : Resource). Free n resource.sort) o)
+released_item rows n None e = ap (λ (o : Option Resource). map free (option_to_list (option_map (λ (sort : Sort). (n, sort)) (option_map (λ (resource : Resource). resource.sort) o)))) e
+released_item rows n (Some resource) e = ap (λ (o : Option Resource). map free (option_to_list (option_map (λ (sort : Sort). (n, sort)) (option_map (λ (resource : Resource). resource.sort) o)))) e
 
 -- Numbers picked by tests that agree below.
 pub picked_same : (p q : ℕ → Bool) (m : ℕ) → ((n : ℕ) → n < m → p n ≡ q n) → picked p m ≡ picked q m
@@ -50,6 +51,11 @@ flat_picked f g p zero same = refl
 flat_picked f g p (suc m) same =
     flat_map-append f (picked p m) (if p m then m ∷ [] else [])
     ∙ ap₂ ◌++◌ (flat_picked f g p m (λ n lt. same n (omega (arith, lt)))) (flat_one f (p m) m ∙ same m (omega arith))
+
+-- the same lists
+pub below_same : (f g : ℕ → List (ℕ × Sort)) (m : ℕ) → ((n : ℕ) → n < m → f n ≡ g n) → below f m ≡ below g m
+below_same f g zero same = refl
+below_same f g (suc m) same = ap₂ ◌++◌ (below_same f g m (λ n lt. same n (omega (arith, lt)))) (same m (omega arith))
 
 pub picked_nothing : (p : ℕ → Bool) (m : ℕ) → ((n : ℕ) → n < m → p n ≡ false) → picked p m ≡ []
 picked_nothing p zero none = refl

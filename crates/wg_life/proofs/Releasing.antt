@@ -10,9 +10,8 @@ use Rattle.std.proofs.lemmas.List.Sorted.{IsNonDecreasingBy-drop, IsNonDecreasin
 use Rattle.wg_types.specs.declared.steps.Sort.{Sort}
 use Rattle.wg_life.specs.declared.rows.Row.{Row}
 use Rattle.wg_life.specs.declared.waiting.Wait.{Wait}
-use Rattle.wg_life.specs.Lives.{no_row, row_at, with_release, is_due, released_at, releases, Notes}
-use Rattle.wg_life.specs.Waits.{waits, is_waiting, picked, with_number, times, is_early, early, starts_late, stands_for, IsInserted, IsTidy, is_taken, IsReleasing, sort_at}
-use Rattle.wg_life.proofs.RowsLemmas.{marks_release}
+use Rattle.wg_life.specs.Lives.{no_row, row_at, sort_of, with_release, Notes}
+use Rattle.wg_life.specs.Waits.{gone_at, waits, is_waiting, is_due_where, with_due, freed_at, freed, picked, with_number, times, is_early, early, starts_late, stands_for, IsInserted, IsTidy, is_taken, IsReleasing, sort_at}
 use Rattle.wg_life.proofs.Picked.{picked_nothing, picked_with, picked_rises, flat_picked, length_picked, length_with, length_picked_lt, times_push, times_with, times_permuted, rising_same}
 use Rattle.wg_life.proofs.Tidy.{or_left, or_right, stands_on}
 
@@ -52,10 +51,10 @@ inserted_at wait listed i le rises point = record {
 }
 
 -- what waits was made
-pub waits_made : (rows : List Row) (n : ℕ) → is_waiting rows n ≡ true → n < length rows
-waits_made rows n e = elim (cases_lt n (length rows)) [
+waits_made : (rows : List Row) (gone : List Bool) (n : ℕ) → is_waiting rows gone n ≡ true → n < length rows
+waits_made rows gone n e = elim (cases_lt n (length rows)) [
   | inl less ↦ less
-  | inr past ↦ absurd (true≢false (sym e ∙ ap waits (get_or_past rows n no_row past)))
+  | inr past ↦ absurd (true≢false (sym e ∙ ap (λ (row : Row). waits row (gone_at gone n)) (get_or_past rows n no_row past)))
 ]
 
 -- the first of what is listed is taken out
@@ -63,11 +62,12 @@ waits_made rows n e = elim (cases_lt n (length rows)) [
 first_other : (rows : List Row) (wait : Wait) (listed : List Wait) (n : ℕ) → wait.number ≢ n → list_any (stands_for rows n) (wait ∷ listed) ≡ true → list_any (stands_for rows n) listed ≡ true
 first_other rows wait listed n other is = sym (ap (λ b. (b && nat_le wait.last (row_at rows n).last) || list_any (stands_for rows n) listed) (ne_eqb wait.number n other)) ∙ is
 
-pub step_gone : (done : ℕ) (first rows : List Row) (wait : Wait) (listed : List Wait) (due : List ℕ) → is_waiting rows wait.number ≡ false → IsReleasing done first rows (wait ∷ listed) due → IsReleasing done first rows listed due
-step_gone done first rows wait listed due out before = record {
+pub step_gone : (done : ℕ) (first rows : List Row) (gone : List Bool) (wait : Wait) (listed : List Wait) (due : List ℕ) → is_waiting rows gone wait.number ≡ false → IsReleasing done first rows gone (wait ∷ listed) due → IsReleasing done first rows gone listed due
+step_gone done first rows gone wait listed due out before = record {
   tidy = record {
+    both = before.tidy.both;
     in_order = IsNonDecreasingBy-drop (λ (wait : Wait). wait.last) 1 (wait ∷ listed) before.tidy.in_order;
-    are_listed = λ n lt is. first_other rows wait listed n (λ e. true≢false (sym is ∙ (ap (is_waiting rows) (sym e) ∙ out))) (before.tidy.are_listed n lt is);
+    are_listed = λ n lt is. first_other rows wait listed n (λ e. true≢false (sym is ∙ (ap (is_waiting rows gone) (sym e) ∙ out))) (before.tidy.are_listed n lt is);
     fits = let fits = before.tidy.fits in omega (arith, fits);
   };
   notes = before.notes;
@@ -75,9 +75,10 @@ step_gone done first rows wait listed due out before = record {
   due_are = before.due_are;
 }
 
-pub step_later : (done : ℕ) (first rows : List Row) (wait : Wait) (listed listed' : List Wait) (due : List ℕ) → IsInserted (record { last = (row_at rows wait.number).last; number = wait.number }) listed listed' → IsReleasing done first rows (wait ∷ listed) due → IsReleasing done first rows listed' due
-step_later done first rows wait listed listed' due inserted before = record {
+pub step_later : (done : ℕ) (first rows : List Row) (gone : List Bool) (wait : Wait) (listed listed' : List Wait) (due : List ℕ) → IsInserted (record { last = (row_at rows wait.number).last; number = wait.number }) listed listed' → IsReleasing done first rows gone (wait ∷ listed) due → IsReleasing done first rows gone listed' due
+step_later done first rows gone wait listed listed' due inserted before = record {
   tidy = record {
+    both = before.tidy.both;
     in_order = inserted.in_order;
     are_listed = λ n lt is. inserted.any (stands_for rows n) ∙ elim (cases_eq wait.number n) [
       | inl here ↦ or_left (wait.number == n && nat_le (row_at rows wait.number).last (row_at rows n).last) (list_any (stands_for rows n) listed) (and_from _ _ (eq-eqb wait.number n here) (let e = ap (λ k. (row_at rows k).last) here in grind (arith, nat_tests, e)))
@@ -90,50 +91,46 @@ step_later done first rows wait listed listed' due inserted before = record {
   due_are = before.due_are;
 }
 
-now_released : (done : ℕ) (row : Row) → waits row ≡ true → nat_le row.last done ≡ true → ((is_due done row) || row.released) ≡ true
-now_released done row w c = by_cases (is_some row.resource) row.destroyed row.released (nat_le row.last done) w c
+now_released : (done : ℕ) (g : Bool) (row : Row) → waits row g ≡ true → nat_le row.last done ≡ true → (is_due_where done g row || row.released) ≡ true
+now_released done g row w c = by_cases (is_some row.resource) g row.released (nat_le row.last done) w c
   where
-    by_cases : (r d l c : Bool) → (r && d && not l) ≡ true → c ≡ true → ((r && d && c) || l) ≡ true
-    by_cases false d l c w e = absurd (true≢false (sym w))
+    by_cases : (r g l c : Bool) → (r && g && not l) ≡ true → c ≡ true → ((r && g && c) || l) ≡ true
+    by_cases false g l c w e = absurd (true≢false (sym w))
     by_cases true false l c w e = absurd (true≢false (sym w))
     by_cases true true l true w e = refl
     by_cases true true l false w e = absurd (true≢false (sym e))
 
-gone : (row : Row) → row.released ≡ true → waits row ≡ false
-gone row e = ap (λ b. is_some row.resource && row.destroyed && not b) e ∙ by_cases (is_some row.resource) row.destroyed
+not_released : (row : Row) (g : Bool) → waits row g ≡ true → row.released ≡ false
+not_released row g w = by_cases (is_some row.resource) g row.released w
   where
-    by_cases : (r d : Bool) → (r && d && false) ≡ false
-    by_cases false d = refl
+    by_cases : (r g l : Bool) → (r && g && not l) ≡ true → l ≡ false
+    by_cases false g l w = absurd (true≢false (sym w))
+    by_cases true false l w = absurd (true≢false (sym w))
+    by_cases true true true w = absurd (true≢false (sym w))
+    by_cases true true false w = refl
+
+waits_no_more : (row : Row) (g : Bool) → row.released ≡ true → waits row g ≡ false
+waits_no_more row g e = ap (λ b. is_some row.resource && g && not b) e ∙ by_cases (is_some row.resource) g
+  where
+    by_cases : (r g : Bool) → (r && g && false) ≡ false
+    by_cases false g = refl
     by_cases true false = refl
     by_cases true true = refl
 
--- what waits waited before a release of some
-waited : (done : ℕ) (b : Bool) (row : Row) → waits (with_release done b row) ≡ true → waits row ≡ true
-waited done b row w = by_cases (is_some row.resource) row.destroyed row.released (b && is_due done row) w
-  where
-    by_cases : (r d l x : Bool) → (r && d && not (x || l)) ≡ true → (r && d && not l) ≡ true
-    by_cases false d l x w = w
-    by_cases true false l x w = w
-    by_cases true true l false w = w
-    by_cases true true l true w = absurd (true≢false (sym w))
-
-or_true : (b : Bool) → (b || true) ≡ true
-or_true true = refl
-or_true false = refl
-
-pub step_released : (done : ℕ) (first rows new : List Row) (wait : Wait) (listed : List Wait) (due : List ℕ) → is_waiting rows wait.number ≡ true → nat_le (row_at rows wait.number).last done ≡ true → Notes (λ n. with_release done (wait.number == n)) rows new → IsReleasing done first rows (wait ∷ listed) due → IsReleasing done first new listed (due ++ wait.number ∷ [])
-step_released done first rows new wait listed due waiting complete notes before = record {
+pub step_released : (done : ℕ) (first rows new : List Row) (gone : List Bool) (wait : Wait) (listed : List Wait) (due : List ℕ) → is_waiting rows gone wait.number ≡ true → nat_le (row_at rows wait.number).last done ≡ true → Notes (λ n. with_release (wait.number == n)) rows new → IsReleasing done first rows gone (wait ∷ listed) due → IsReleasing done first new gone listed (due ++ wait.number ∷ [])
+step_released done first rows new gone wait listed due waiting complete notes before = record {
   tidy = record {
+    both = before.tidy.both ∙ sym notes.len;
     in_order = IsNonDecreasingBy-drop (λ (wait : Wait). wait.last) 1 (wait ∷ listed) before.tidy.in_order;
     are_listed = λ n lt is.
         let less : n < length rows = subst (λ m. n < m) notes.len lt in
-        let other : n ≢ wait.number = λ e. true≢false (sym is ∙ (ap (is_waiting new) e ∙ out)) in
+        let other : n ≢ wait.number = λ e. true≢false (sym is ∙ (ap (is_waiting new gone) e ∙ out)) in
         stands_on rows new listed n (let e = ap (λ (row : Row). row.last) (others n less other) in omega (arith, e))
-        (first_other rows wait listed n (λ e. other (sym e)) (before.tidy.are_listed n less (sym (ap waits (others n less other)) ∙ is)));
+        (first_other rows wait listed n (λ e. other (sym e)) (before.tidy.are_listed n less (sym (others_wait n less other) ∙ is)));
     fits =
-        let e = ap length (picked_with (is_waiting new) (is_waiting rows) (length rows) wait.number made out waiting (λ n lt other. sym (ap waits (others n lt other)))) in
-        let f = ap (λ m. length (picked (is_waiting new) m)) notes.len in
-        let more = length_with wait.number (picked (is_waiting new) (length rows)) in
+        let e = ap length (picked_with (is_waiting new gone) (is_waiting rows gone) (length rows) wait.number made out waiting (λ n lt other. sym (others_wait n lt other))) in
+        let f = ap (λ m. length (picked (is_waiting new gone) m)) notes.len in
+        let more = length_with wait.number (picked (is_waiting new gone) (length rows)) in
         let fits = before.tidy.fits in
         omega (arith, e, f, more, fits);
   };
@@ -142,12 +139,12 @@ step_released done first rows new wait listed due waiting complete notes before 
     each = λ n lt.
         let less : n < length rows = subst (λ m. n < m) (sym before.notes.len) lt in
         elim (cases_eq n wait.number) [
-          | inl same ↦ subst (λ k. row_at new k ≡ with_release done (row_at new k).released (row_at first k)) (sym same) (here (subst (λ k. k < length first) same lt))
-          | inr other ↦ others n less other ∙ (before.notes.each n lt ∙ ap (λ (row : Row). with_release done row.released (row_at first n)) (sym (others n less other)))
+          | inl same ↦ subst (λ k. row_at new k ≡ with_due done (gone_at gone k) (row_at new k).released (row_at first k)) (sym same) here
+          | inr other ↦ others n less other ∙ (before.notes.each n lt ∙ ap (λ (row : Row). with_due done (gone_at gone n) row.released (row_at first n)) (sym (others n less other)))
         ];
   };
-  due_len = let e = length_push due wait.number in let f = ap length taken in let g = length_with wait.number (picked (is_taken first rows) (length first)) in let h = before.due_len in omega (arith, e, f, g, h);
-  due_are = λ n. let e = times_push n wait.number due in let f = ap (times n) taken in let g = times_with n wait.number (picked (is_taken first rows) (length first)) in let h = before.due_are n in omega (arith, e, f, g, h);
+  due_len = let e = length_push due wait.number in let f = ap length taken in let g = length_with wait.number (picked (is_taken first rows gone) (length first)) in let h = before.due_len in omega (arith, e, f, g, h);
+  due_are = λ n. let e = times_push n wait.number due in let f = ap (times n) taken in let g = times_with n wait.number (picked (is_taken first rows gone) (length first)) in let h = before.due_are n in omega (arith, e, f, g, h);
 }
   where
     and_no : (b : Bool) → (b && false) ≡ false
@@ -155,40 +152,50 @@ step_released done first rows new wait listed due waiting complete notes before 
     and_no false = refl
 
     made : wait.number < length rows
-    made = waits_made rows wait.number waiting
+    made = waits_made rows gone wait.number waiting
 
     made_first : wait.number < length first
     made_first = subst (λ m. wait.number < m) before.notes.len made
 
     others : (n : ℕ) → n < length rows → n ≢ wait.number → row_at new n ≡ row_at rows n
-    others n lt other = notes.each n lt ∙ ap (λ b. with_release done b (row_at rows n)) (ne_eqb wait.number n (λ e. other (sym e)))
+    others n lt other = notes.each n lt ∙ ap (λ b. with_release b (row_at rows n)) (ne_eqb wait.number n (λ e. other (sym e)))
 
-    at : row_at new wait.number ≡ with_release done true (row_at rows wait.number)
-    at = notes.each wait.number made ∙ ap (λ b. with_release done b (row_at rows wait.number)) (eq-eqb wait.number wait.number refl)
+    others_wait : (n : ℕ) → n < length rows → n ≢ wait.number → is_waiting new gone n ≡ is_waiting rows gone n
+    others_wait n lt other = ap (λ (row : Row). waits row (gone_at gone n)) (others n lt other)
+
+    at : row_at new wait.number ≡ with_release true (row_at rows wait.number)
+    at = notes.each wait.number made ∙ ap (λ b. with_release b (row_at rows wait.number)) (eq-eqb wait.number wait.number refl)
 
     is_released : (row_at new wait.number).released ≡ true
-    is_released = ap (λ (row : Row). row.released) at ∙ now_released done (row_at rows wait.number) waiting complete
+    is_released = ap (λ (row : Row). row.released) at
 
-    out : is_waiting new wait.number ≡ false
-    out = gone (row_at new wait.number) is_released
+    out : is_waiting new gone wait.number ≡ false
+    out = waits_no_more (row_at new wait.number) (gone_at gone wait.number) is_released
 
-    taken : picked (is_taken first new) (length first) ≡ with_number wait.number (picked (is_taken first rows) (length first))
-    taken = picked_with (is_taken first rows) (is_taken first new) (length first) wait.number made_first
-        (ap (λ b. is_waiting first wait.number && not b) waiting ∙ and_no (is_waiting first wait.number))
-        (ap₂ (λ a b. a && not b) (waited done (row_at rows wait.number).released (row_at first wait.number) (sym (ap waits (before.notes.each wait.number made_first)) ∙ waiting)) out)
-        (λ n lt other. ap (λ row. is_waiting first n && not (waits row)) (others n (subst (λ m. n < m) (sym before.notes.len) lt) other))
+    -- it is as it was at first
+    same : row_at rows wait.number ≡ row_at first wait.number
+    same = before.notes.each wait.number made_first ∙ ap (λ b. with_due done (gone_at gone wait.number) b (row_at first wait.number)) (not_released (row_at rows wait.number) (gone_at gone wait.number) waiting)
 
-    here : wait.number < length first → row_at new wait.number ≡ with_release done (row_at new wait.number).released (row_at first wait.number)
-    here lt = at ∙ (ap (with_release done true) (before.notes.each wait.number lt)
-        ∙ ((marks_release done).twice (row_at rows wait.number).released true (row_at first wait.number)
-        ∙ ap (λ b. with_release done b (row_at first wait.number)) (or_true (row_at rows wait.number).released ∙ sym is_released)))
+    waited : is_waiting first gone wait.number ≡ true
+    waited = ap (λ (row : Row). waits row (gone_at gone wait.number)) (sym same) ∙ waiting
+
+    taken : picked (is_taken first new gone) (length first) ≡ with_number wait.number (picked (is_taken first rows gone) (length first))
+    taken = picked_with (is_taken first rows gone) (is_taken first new gone) (length first) wait.number made_first
+        (ap (λ b. is_waiting first gone wait.number && not b) waiting ∙ and_no (is_waiting first gone wait.number))
+        (ap₂ (λ a b. a && not b) waited out)
+        (λ n lt other. ap (λ (b : Bool). is_waiting first gone n && not b) (others_wait n (subst (λ m. n < m) (sym before.notes.len) lt) other))
+
+    here : row_at new wait.number ≡ with_due done (gone_at gone wait.number) (row_at new wait.number).released (row_at first wait.number)
+    here = at ∙ (ap (with_release true) same
+        ∙ (ap {B = Row} (λ b. record (row_at first wait.number) { released = b }) (sym (now_released done (gone_at gone wait.number) (row_at first wait.number) waited (ap (λ (row : Row). nat_le row.last done) (sym same) ∙ complete)))
+        ∙ ap (λ b. with_due done (gone_at gone wait.number) b (row_at first wait.number)) (sym is_released)))
 
 -- the start
 
-pub releasing_none : (done : ℕ) (rows : List Row) (listed : List Wait) (due : List ℕ) → due ≡ [] → IsTidy rows listed → IsReleasing done rows rows listed due
-releasing_none done rows listed due none tidy = record {
+pub releasing_none : (done : ℕ) (rows : List Row) (gone : List Bool) (listed : List Wait) (due : List ℕ) → due ≡ [] → IsTidy rows gone listed → IsReleasing done rows rows gone listed due
+releasing_none done rows gone listed due none tidy = record {
   tidy = tidy;
-  notes = record { len = refl; each = λ n lt. sym (ap {B = Row} (λ b. record (row_at rows n) { released = b }) (by_cases (row_at rows n).released (is_due done (row_at rows n)))) };
+  notes = record { len = refl; each = λ n lt. sym (ap {B = Row} (λ b. record (row_at rows n) { released = b }) (by_cases (row_at rows n).released (is_due_where done (gone_at gone n) (row_at rows n)))) };
   due_len = ap length start;
   due_are = λ n. ap (times n) start;
 }
@@ -202,18 +209,18 @@ releasing_none done rows listed due none tidy = record {
     never true = refl
     never false = refl
 
-    start : due ≡ picked (is_taken rows rows) (length rows)
-    start = none ∙ sym (picked_nothing (is_taken rows rows) (length rows) (λ n lt. never (is_waiting rows n)))
+    start : due ≡ picked (is_taken rows rows gone) (length rows)
+    start = none ∙ sym (picked_nothing (is_taken rows rows gone) (length rows) (λ n lt. never (is_waiting rows gone n)))
 
 -- room
 
-pub due_le : (done : ℕ) (first rows : List Row) (listed : List Wait) (due : List ℕ) → IsReleasing done first rows listed due → length due ≤ length first
-due_le done first rows listed due now = let e = now.due_len in let le = length_picked (is_taken first rows) (length first) in omega (arith, e, le)
+pub due_le : (done : ℕ) (first rows : List Row) (gone : List Bool) (listed : List Wait) (due : List ℕ) → IsReleasing done first rows gone listed due → length due ≤ length first
+due_le done first rows gone listed due now = let e = now.due_len in let le = length_picked (is_taken first rows gone) (length first) in omega (arith, e, le)
 
-pub due_lt : (done : ℕ) (first rows : List Row) (listed : List Wait) (due : List ℕ) (n : ℕ) → IsReleasing done first rows listed due → is_waiting rows n ≡ true → length due < length first
-due_lt done first rows listed due n now waiting =
+pub due_lt : (done : ℕ) (first rows : List Row) (gone : List Bool) (listed : List Wait) (due : List ℕ) (n : ℕ) → IsReleasing done first rows gone listed due → is_waiting rows gone n ≡ true → length due < length first
+due_lt done first rows gone listed due n now waiting =
     let e = now.due_len in
-    let lt = length_picked_lt (is_taken first rows) (length first) n (subst (λ m. n < m) now.notes.len (waits_made rows n waiting)) (ap (λ b. is_waiting first n && not b) waiting ∙ and_no (is_waiting first n)) in
+    let lt = length_picked_lt (is_taken first rows gone) (length first) n (subst (λ m. n < m) now.notes.len (waits_made rows gone n waiting)) (ap (λ b. is_waiting first gone n && not b) waiting ∙ and_no (is_waiting first gone n)) in
     omega (arith, e, lt)
   where
     and_no : (b : Bool) → (b && false) ≡ false
@@ -239,10 +246,10 @@ all_late done (wait ∷ listed) late rises i d lt = let here : nat_le wait.last 
     not_true true e = absurd (true≢false (sym e))
     not_true false e = refl
 
-still_runs : (done : ℕ) (first rows : List Row) (listed : List Wait) (due : List ℕ) → starts_late done listed ≡ true → IsReleasing done first rows listed due → (n : ℕ) → n < length first → is_waiting rows n ≡ true → nat_le (row_at rows n).last done ≡ false
-still_runs done first rows listed due late now n lt waiting = none_early done listed (all_late done listed late now.tidy.in_order) n (row_at rows n).last (now.tidy.are_listed n (subst (λ m. n < m) (sym now.notes.len) lt) waiting)
+still_runs : (done : ℕ) (first rows : List Row) (gone : List Bool) (listed : List Wait) (due : List ℕ) → starts_late done listed ≡ true → IsReleasing done first rows gone listed due → (n : ℕ) → n < length first → is_waiting rows gone n ≡ true → nat_le (row_at rows n).last done ≡ false
+still_runs done first rows gone listed due late now n lt waiting = none_early done listed (all_late done listed late now.tidy.in_order) n (row_at rows n).last (now.tidy.are_listed n (subst (λ m. n < m) (sym now.notes.len) lt) waiting)
 
--- Tests of one row: whether it is a resource (r), is destroyed (d), was released before (l) and is now (b), and its uses
+-- Tests of one row: whether it is a resource (r), is gone (d), was released before (l) and is now (b), and its uses
 -- are complete (c).
 
 released_all : (r d l c b : Bool) → b ≡ ((b && (r && d && c)) || l) → ((r && d && not b) ≡ true → c ≡ false) → ((b && (r && d && c)) || l) ≡ ((r && d && c) || l)
@@ -262,31 +269,31 @@ taken_all true true false true false x is runs = absurd (true≢false (runs refl
 taken_all true true false false true x is runs = absurd (true≢false is)
 taken_all true true false false false x is runs = refl
 
-runs : {done : ℕ} (first rows : List Row) (listed : List Wait) (due : List ℕ) → starts_late done listed ≡ true → IsReleasing done first rows listed due → (n : ℕ) → n < length first → (is_some (row_at first n).resource && (row_at first n).destroyed && not (row_at rows n).released) ≡ true → nat_le (row_at first n).last done ≡ false
-runs {done} first rows listed due late now n lt is =
+runs : {done : ℕ} (first rows : List Row) (gone : List Bool) (listed : List Wait) (due : List ℕ) → starts_late done listed ≡ true → IsReleasing done first rows gone listed due → (n : ℕ) → n < length first → (is_some (row_at first n).resource && gone_at gone n && not (row_at rows n).released) ≡ true → nat_le (row_at first n).last done ≡ false
+runs {done} first rows gone listed due late now n lt is =
     let e = now.notes.each n lt in
     sym (ap (λ (row : Row). nat_le row.last done) e)
-    ∙ still_runs done first rows listed due late now n lt (ap₂ (λ a b. a && b && not (row_at rows n).released) (ap (λ (row : Row). is_some row.resource) e) (ap (λ (row : Row). row.destroyed) e) ∙ is)
+    ∙ still_runs done first rows gone listed due late now n lt (ap (λ (row : Row). is_some row.resource && gone_at gone n && not (row_at rows n).released) e ∙ is)
 
-pub marked_due : (done : ℕ) (first rows : List Row) (listed : List Wait) (due : List ℕ) → starts_late done listed ≡ true → IsReleasing done first rows listed due → Notes (λ n. with_release done true) first rows
-marked_due done first rows listed due late now = record {
+pub marked_due : (done : ℕ) (first rows : List Row) (gone : List Bool) (listed : List Wait) (due : List ℕ) → starts_late done listed ≡ true → IsReleasing done first rows gone listed due → Notes (λ n. with_due done (gone_at gone n) true) first rows
+marked_due done first rows gone listed due late now = record {
   len = now.notes.len;
   each = λ n lt. now.notes.each n lt ∙ ap {B = Row} (λ b. record (row_at first n) { released = b })
-      (released_all (is_some (row_at first n).resource) (row_at first n).destroyed (row_at first n).released (nat_le (row_at first n).last done) (row_at rows n).released
-      (ap (λ (row : Row). row.released) (now.notes.each n lt)) (runs first rows listed due late now n lt));
+      (released_all (is_some (row_at first n).resource) (gone_at gone n) (row_at first n).released (nat_le (row_at first n).last done) (row_at rows n).released
+      (ap (λ (row : Row). row.released) (now.notes.each n lt)) (runs first rows gone listed due late now n lt));
 }
 
-pub pushed_due : (done : ℕ) (first rows : List Row) (listed : List Wait) (due sorted : List ℕ) → IsPermutation due sorted → IsSorted nat_cmp sorted → starts_late done listed ≡ true → IsReleasing done first rows listed due → flat_map (sort_at rows) sorted ≡ releases first done
-pushed_due done first rows listed due sorted permuted rises late now =
-    ap (flat_map (sort_at rows)) (rising_same sorted (picked (is_taken first rows) (length first)) (IsNonDecreasingBy-from_sort (λ n. n) sorted rises) (picked_rises (is_taken first rows) (length first)) (λ n. times_permuted n due sorted permuted ∙ now.due_are n))
-    ∙ flat_picked (sort_at rows) (released_at first done) (is_taken first rows) (length first) each
+pub pushed_due : (done : ℕ) (first rows : List Row) (gone : List Bool) (listed : List Wait) (due sorted : List ℕ) → IsPermutation due sorted → IsSorted nat_cmp sorted → starts_late done listed ≡ true → IsReleasing done first rows gone listed due → flat_map (sort_at rows) sorted ≡ freed first gone done
+pushed_due done first rows gone listed due sorted permuted rises late now =
+    ap (flat_map (sort_at rows)) (rising_same sorted (picked (is_taken first rows gone) (length first)) (IsNonDecreasingBy-from_sort (λ n. n) sorted rises) (picked_rises (is_taken first rows gone) (length first)) (λ n. times_permuted n due sorted permuted ∙ now.due_are n))
+    ∙ flat_picked (sort_at rows) (freed_at first gone done) (is_taken first rows gone) (length first) each
   where
-    each : (n : ℕ) → n < length first → (if is_taken first rows n then sort_at rows n else []) ≡ released_at first done n
+    each : (n : ℕ) → n < length first → (if is_taken first rows gone n then sort_at rows n else []) ≡ freed_at first gone done n
     each n lt =
         let e = now.notes.each n lt in
-        ap₂ (λ (b : Bool) (x : List (ℕ × Sort)). if is_waiting first n && not b then x else [])
-        (ap₂ (λ a b. a && b && not (row_at rows n).released) (ap (λ (row : Row). is_some row.resource) e) (ap (λ (row : Row). row.destroyed) e))
-        (ap (λ (row : Row). option_to_list (option_map (λ (sort : Sort). (n, sort)) row.resource)) e)
-        ∙ taken_all (is_some (row_at first n).resource) (row_at first n).destroyed (row_at first n).released (nat_le (row_at first n).last done) (row_at rows n).released
-        (option_to_list (option_map (λ (sort : Sort). (n, sort)) (row_at first n).resource))
-        (ap (λ (row : Row). row.released) e) (runs first rows listed due late now n lt)
+        ap₂ (λ (b : Bool) (x : List (ℕ × Sort)). if is_waiting first gone n && not b then x else [])
+        (ap (λ (row : Row). is_some row.resource && gone_at gone n && not (row_at rows n).released) e)
+        (ap (λ (row : Row). option_to_list (option_map (λ (sort : Sort). (n, sort)) (sort_of row))) e)
+        ∙ taken_all (is_some (row_at first n).resource) (gone_at gone n) (row_at first n).released (nat_le (row_at first n).last done) (row_at rows n).released
+        (option_to_list (option_map (λ (sort : Sort). (n, sort)) (sort_of (row_at first n))))
+        (ap (λ (row : Row). row.released) e) (runs first rows gone listed due late now n lt)

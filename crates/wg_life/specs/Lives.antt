@@ -1,15 +1,23 @@
 -- What is noted of each object, and what is released.
-use Rattle.std.specs.Prelude.{◌≡◌, ℕ, zero, suc, ◌<◌, Bool, false, not, ◌&&◌, ◌||◌, nat_le, max, List, [], ◌++◌, length, Option, None, is_some, option_map, option_to_list, slice_index_or, if◌then◌else◌}
+use Rattle.std.specs.Prelude.{◌≡◌, ℕ, zero, suc, ◌+◌, ◌<◌, Bool, false, not, ◌&&◌, ◌||◌, nat_le, max, List, [], ◌∷◌, ◌++◌, length, Option, None, is_some, option_map, option_to_list, slice_index_or, if◌then◌else◌}
+use Rattle.std.specs.Option.{option_map_or}
 use Rattle.wg_types.specs.declared.steps.Sort.{Sort}
+use Rattle.wg_holders.specs.Holders.{Holdings, with_made, is_held}
+use Rattle.wg_life.specs.declared.rows.Resource.{Resource}
 use Rattle.wg_life.specs.declared.rows.Row.{Row}
+use Rattle.wg_life.specs.declared.rows.Made.{Made}
 
--- what is noted of the objects by number, and how many more there is room for
+-- what is noted of the objects by number, who holds them, how many bytes resources may have, and for how many more objects and
+-- holds there is room
 pub record LifeValue : Type 0 where
   pub rows : List Row
+  pub holdings : Holdings
+  pub budget : ℕ
   pub spare : ℕ
+  pub room : ℕ
 
-abbrev pub new_row : Option Sort → Row
-new_row resource = record { resource = resource; destroyed = false; ended = false; consumed = false; last = 0; released = false }
+abbrev pub new_row : Option Resource → Row
+new_row resource = record { resource = resource; destroyed = false; last = 0; released = false }
 
 abbrev pub no_row : Row
 no_row = new_row None
@@ -20,12 +28,6 @@ row_at rows n = slice_index_or rows n no_row
 abbrev pub with_destroyed : Bool → Row → Row
 with_destroyed b row = record row { destroyed = b || row.destroyed }
 
-abbrev pub with_ended : Bool → Row → Row
-with_ended b row = record row { ended = b || row.ended }
-
-abbrev pub with_consumed : Bool → Row → Row
-with_consumed b row = record row { consumed = b || row.consumed }
-
 abbrev pub with_last : ℕ → Row → Row
 with_last op row = record row { last = max op row.last }
 
@@ -33,22 +35,31 @@ with_last op row = record row { last = max op row.last }
 abbrev pub with_use : ℕ → Bool → Row → Row
 with_use op b row = with_last (if b then op else 0) row
 
--- An object is due where it is a resource, is destroyed, and every operation that uses it is complete.
-abbrev pub is_due : ℕ → Row → Bool
-is_due done row = is_some row.resource && row.destroyed && nat_le row.last done
+abbrev pub with_release : Bool → Row → Row
+with_release b row = record row { released = b || row.released }
 
--- It is released where it is due, if the test passes.
-abbrev pub with_release : ℕ → Bool → Row → Row
-with_release done b row = record row { released = (b && is_due done row) || row.released }
+-- An object is gone where it is destroyed or not held.
+abbrev pub is_gone : Row → Bool → Bool
+is_gone row held = row.destroyed || not held
+
+-- It is due where it is a resource, is gone, and every operation that uses it is complete.
+abbrev pub is_due_row : ℕ → Row → Bool → Bool
+is_due_row done row held = is_some row.resource && is_gone row held && nat_le row.last done
+
+abbrev pub is_due : LifeValue → ℕ → ℕ → Bool
+is_due v done n = is_due_row done (row_at v.rows n) (is_held v.holdings n)
 
 -- rows and what a note makes of them, by number
 pub record Notes (note : ℕ → Row → Row) (old new : List Row) : Type 0 where
   pub len : length new ≡ length old
   pub each : (n : ℕ) → n < length old → row_at new n ≡ note n (row_at old n)
 
+abbrev pub sort_of : Row → Option Sort
+sort_of row = option_map (λ (resource : Resource). resource.sort) row.resource
+
 -- what is released of object n now, where it was not released before
-abbrev pub released_at : List Row → ℕ → ℕ → List (ℕ × Sort)
-released_at rows done n = if is_due done (row_at rows n) && not (row_at rows n).released then option_to_list (option_map (λ sort. (n, sort)) (row_at rows n).resource) else []
+abbrev pub released_at : LifeValue → ℕ → ℕ → List (ℕ × Sort)
+released_at v done n = if is_due v done n && not (row_at v.rows n).released then option_to_list (option_map (λ sort. (n, sort)) (sort_of (row_at v.rows n))) else []
 
 -- lists of the numbers below m, least number first
 abbrev pub below : (ℕ → List (ℕ × Sort)) → ℕ → List (ℕ × Sort)
@@ -56,5 +67,26 @@ below list zero = []
 below list (suc m) = below list m ++ list m
 
 -- all that is released now, least numbers first
-abbrev pub releases : List Row → ℕ → List (ℕ × Sort)
-releases rows done = below (released_at rows done) (length rows)
+abbrev pub releases : LifeValue → ℕ → List (ℕ × Sort)
+releases v done = below (released_at v done) (length v.rows)
+
+-- the bytes of a resource that is not released
+abbrev pub live_of : Row → ℕ
+live_of row = if row.released then 0 else option_map_or (λ (resource : Resource). resource.bytes) row.resource 0
+
+-- the bytes of all resources that are not released
+abbrev pub live_bytes : List Row → ℕ
+live_bytes [] = 0
+live_bytes (row ∷ rows) = live_of row + live_bytes rows
+
+-- and how many such resources there are
+abbrev pub is_live : Row → Bool
+is_live row = is_some row.resource && not row.released
+
+abbrev pub live_count : List Row → ℕ
+live_count [] = 0
+live_count (row ∷ rows) = (if is_live row then 1 else 0) + live_count rows
+
+-- with one object more
+abbrev pub with_object : Made → Holdings → Holdings
+with_object made h = with_made made.encoder made.links h

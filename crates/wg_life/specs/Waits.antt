@@ -1,22 +1,53 @@
 -- What is kept beside rows, so that a release looks only at what may be due.
-use Rattle.std.specs.Prelude.{◌≡◌, ℕ, zero, suc, ◌+◌, ◌<◌, ◌≤◌, Bool, true, not, ◌&&◌, ◌==◌, nat_le, nat_lt, List, [], ◌∷◌, ◌++◌, length, filter, is_some, option_map, option_to_list, if◌then◌else◌}
+use Rattle.std.specs.Prelude.{◌≡◌, ℕ, zero, suc, ◌+◌, ◌<◌, ◌≤◌, Bool, true, false, not, ◌&&◌, ◌||◌, ◌==◌, nat_le, nat_lt, List, [], ◌∷◌, ◌++◌, length, filter, is_some, option_map, option_to_list, slice_index_or, if◌then◌else◌}
 use Rattle.std.specs.List.{list_any}
 use Rattle.std.specs.List.Sorted.{IsNonDecreasingBy}
 use Rattle.wg_types.specs.declared.steps.Sort.{Sort}
+use Rattle.wg_holders.specs.Holders.{Holdings, is_held}
 use Rattle.wg_life.specs.declared.rows.Row.{Row}
 use Rattle.wg_life.specs.declared.waiting.Wait.{Wait}
-use Rattle.wg_life.specs.Lives.{row_at, with_release, Notes}
+use Rattle.wg_life.specs.Lives.{row_at, sort_of, is_gone, with_release, below, Notes}
 
--- A resource waits for its release where it is destroyed and was not released.
-abbrev pub waits : Row → Bool
-waits row = is_some row.resource && row.destroyed && not row.released
+-- the mark of an object that is gone
+abbrev pub gone_at : List Bool → ℕ → Bool
+gone_at gone n = slice_index_or gone n false
 
-abbrev pub is_waiting : List Row → ℕ → Bool
-is_waiting rows n = waits (row_at rows n)
+-- marks, and the same with those that pass a test
+pub record Losses (test : ℕ → Bool) (old new : List Bool) : Type 0 where
+  pub len : length new ≡ length old
+  pub each : (n : ℕ) → n < length old → gone_at new n ≡ test n || gone_at old n
 
--- whether a destroy makes an object wait that did not wait before
-abbrev pub will_wait : Row → Bool
-will_wait row = is_some row.resource && not row.destroyed && not row.released
+-- The marks tell what is gone.
+pub record IsGone (rows : List Row) (h : Holdings) (gone : List Bool) : Type 0 where
+  pub made : length h.marks ≡ length rows
+  pub each : (n : ℕ) → n < length rows → gone_at gone n ≡ is_gone (row_at rows n) (is_held h n)
+
+-- A resource waits for its release where it is gone and was not released.
+abbrev pub waits : Row → Bool → Bool
+waits row gone = is_some row.resource && gone && not row.released
+
+abbrev pub is_waiting : List Row → List Bool → ℕ → Bool
+is_waiting rows gone n = waits (row_at rows n) (gone_at gone n)
+
+-- whether an object waits once it is gone that did not wait before
+abbrev pub will_wait : Row → Bool → Bool
+will_wait row gone = is_some row.resource && not gone && not row.released
+
+-- It is due where every operation that uses it is complete.
+abbrev pub is_due_where : ℕ → Bool → Row → Bool
+is_due_where done gone row = is_some row.resource && gone && nat_le row.last done
+
+-- released where it is due, if the test passes
+abbrev pub with_due : ℕ → Bool → Bool → Row → Row
+with_due done gone b row = with_release (b && is_due_where done gone row) row
+
+-- what is released of object n now, where it was not released before
+abbrev pub freed_at : List Row → List Bool → ℕ → ℕ → List (ℕ × Sort)
+freed_at rows gone done n = if is_due_where done (gone_at gone n) (row_at rows n) && not (row_at rows n).released then option_to_list (option_map (λ sort. (n, sort)) (sort_of (row_at rows n))) else []
+
+-- all that is released now, least numbers first
+abbrev pub freed : List Row → List Bool → ℕ → List (ℕ × Sort)
+freed rows gone done = below (freed_at rows gone done) (length rows)
 
 -- the numbers below m that pass a test, least first
 abbrev pub picked : (ℕ → Bool) → ℕ → List ℕ
@@ -56,21 +87,22 @@ abbrev pub stands_for : List Row → ℕ → Wait → Bool
 stands_for rows n wait = wait.number == n && nat_le wait.last (row_at rows n).last
 
 -- All that waits is listed, and no more than that many.
-pub record IsTidy (rows : List Row) (listed : List Wait) : Type 0 where
+pub record IsTidy (rows : List Row) (gone : List Bool) (listed : List Wait) : Type 0 where
+  pub both : length gone ≡ length rows
   pub in_order : IsNonDecreasingBy (λ (wait : Wait). wait.last) listed
-  pub are_listed : (n : ℕ) → n < length rows → is_waiting rows n ≡ true → list_any (stands_for rows n) listed ≡ true
-  pub fits : length listed ≤ length (picked (is_waiting rows) (length rows))
+  pub are_listed : (n : ℕ) → n < length rows → is_waiting rows gone n ≡ true → list_any (stands_for rows n) listed ≡ true
+  pub fits : length listed ≤ length (picked (is_waiting rows gone) (length rows))
 
 -- what waited and does no more
-abbrev pub is_taken : List Row → List Row → ℕ → Bool
-is_taken first rows n = is_waiting first n && not (is_waiting rows n)
+abbrev pub is_taken : List Row → List Row → List Bool → ℕ → Bool
+is_taken first rows gone n = is_waiting first gone n && not (is_waiting rows gone n)
 
 -- The first rows of a release, and what it made of them so far: some are released, and their numbers are listed in some order.
-pub record IsReleasing (done : ℕ) (first rows : List Row) (listed : List Wait) (due : List ℕ) : Type 0 where
-  pub tidy : IsTidy rows listed
-  pub notes : Notes (λ n. with_release done (row_at rows n).released) first rows
-  pub due_len : length due ≡ length (picked (is_taken first rows) (length first))
-  pub due_are : (n : ℕ) → times n due ≡ times n (picked (is_taken first rows) (length first))
+pub record IsReleasing (done : ℕ) (first rows : List Row) (gone : List Bool) (listed : List Wait) (due : List ℕ) : Type 0 where
+  pub tidy : IsTidy rows gone listed
+  pub notes : Notes (λ n. with_due done (gone_at gone n) (row_at rows n).released) first rows
+  pub due_len : length due ≡ length (picked (is_taken first rows gone) (length first))
+  pub due_are : (n : ℕ) → times n due ≡ times n (picked (is_taken first rows gone) (length first))
 
 abbrev pub sort_at : List Row → ℕ → List (ℕ × Sort)
-sort_at rows n = option_to_list (option_map (λ (sort : Sort). (n, sort)) (row_at rows n).resource)
+sort_at rows n = option_to_list (option_map (λ (sort : Sort). (n, sort)) (sort_of (row_at rows n)))

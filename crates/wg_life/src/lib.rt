@@ -2,8 +2,12 @@
 #![tactic(auto)]
 
 mod life;
+mod live;
 mod rows;
 mod waiting;
 
 pub use life::Life;
-pub use rows::Row;
+pub use rows::{Made, Resource, Row};
+
+#[cfg(test)]
+mod tests;

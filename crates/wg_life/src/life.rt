@@ -1,68 +1,124 @@
 //! What becomes of objects.
-ghost use Rattle.std.specs.Prelude.{◌≡◌, ◌+◌, ◌-◌, ◌≤◌, ◌<◌, ◌∷◌, ◌++◌, [], ◌==◌, length, map, true, vec_len, vec_capacity, OnOk};
+ghost use Rattle.std.specs.Prelude.{◌≡◌, ℕ, ◌+◌, ◌≤◌, ◌<◌, ◌∷◌, ◌++◌, [], ◌==◌, nat_le, length, map, true, None, IfSome, vec_len, vec_capacity, OnOk};
+ghost use Rattle.std.specs.VecDeque.{deque_capacity};
+ghost use Rattle.wg_model.specs.Holding.{is_among};
 ghost use Rattle.wg_orders.specs.Trace.{free};
-ghost use Rattle.wg_life.specs.Lives.{LifeValue, new_row, row_at, with_destroyed, with_ended, with_consumed, with_use, with_release, releases, Notes};
+ghost use Rattle.wg_holders.specs.Holders.{HoldersValue, no_holdings, mark_at, is_held, with_ended, with_consumed, with_dropped, Marks, Falls};
+ghost use Rattle.wg_life.specs.Lives.{LifeValue, new_row, row_at, with_destroyed, with_use, with_release, is_due, releases, live_bytes, live_count, with_object, Notes};
+ghost use Rattle.wg_life.specs.Waits.{IsGone, IsTidy};
 
-use crate::rows::{Row, mark_consumed, mark_ended, mark_use, row_in};
-use crate::waiting::{self, Waiting};
+use crate::live::{Live, add_row};
+use crate::rows::{Made, Row, mark_destroyed, mark_use, row_in};
+use crate::waiting::{self, Wait, Waiting, lose, lose_all};
 use std::alloc::Global;
 use std::collections::VecDeque;
 use std::marker::Model;
+use wg_holders::{Holders, Mark};
 use wg_types::NoMemory;
-use wg_types::steps::{Item, Sort};
+use wg_types::steps::Item;
 
-/// What becomes of the objects of a device. Contracts see what was noted of each object by its number.
-/// A note of a number that no object has changes nothing.
+/// What becomes of the objects of a device. Contracts see what was noted of each object by its number,
+/// who holds which, and how many bytes resources may have. A note of a number that no object has
+/// changes nothing.
 #[derive(Drop)]
 pub struct Life {
     rows: Vec<Row>,
+    /// Which objects are known to be gone; those that are resources were listed when they were marked.
+    gone: Vec<bool>,
+    holders: Holders,
     waiting: Waiting,
+    live: Live,
+    budget: u64,
     spare: usize,
 }
 
 impl Model for Life {
     ghost use Rattle.std.specs.Prelude.{◌≡◌, ◌+◌, ◌≤◌, [], vec_len, vec_capacity};
     ghost use Rattle.std.specs.VecDeque.{deque_capacity};
-    ghost use Rattle.wg_life.specs.Lives.{LifeValue};
-    ghost use Rattle.wg_life.specs.Waits.{IsTidy};
+    ghost use Rattle.wg_life.specs.Lives.{LifeValue, live_bytes};
+    ghost use Rattle.wg_life.specs.Living.{HasPlacesFor, IsKept};
+    ghost use Rattle.wg_life.specs.Waits.{IsGone, IsTidy};
 
     ghost Value = { LifeValue };
 
-    ghost view = { λ l. record { rows = l.rows.items; spare = l.spare } };
+    ghost view = { λ l. record { rows = l.rows.items; holdings = l.holders.holdings; budget = l.budget; spare = l.spare; room = l.holders.room } };
 
     ghost invariant = { λ l. record {
-      tidy : IsTidy l.rows.items l.waiting.listed.items;
+      tidy : IsTidy l.rows.items l.gone.items l.waiting.listed.items;
+      marks : IsGone l.rows.items l.holders.holdings l.gone.items;
+      none_fell : l.holders.fallen ≡ [];
+      kept : IsKept l.rows.items l.live;
+      within : live_bytes l.rows.items ≤ l.budget;
       none_due : l.waiting.due.items ≡ [];
       rows_fit : vec_len l.rows + l.spare ≤ vec_capacity l.rows;
+      gone_fit : vec_len l.rows + l.spare ≤ vec_capacity l.gone;
       listed_fit : vec_len l.rows + l.spare ≤ deque_capacity l.waiting.listed;
       due_fit : vec_len l.rows + l.spare ≤ vec_capacity l.waiting.due;
+      live_fit : HasPlacesFor l.live l.spare;
+      holders_fit : l.spare ≤ l.holders.spare;
     } };
 }
 
+/// Marks what fell as gone, and forgets that it fell.
+#[tactic(auto, using(crate::proofs::Gone::gone_fell))]
+fn note_fallen(
+    rows: &[Row],
+    gone: &mut Vec<bool>,
+    listed: &mut VecDeque<Wait>,
+    holders: &mut Holders,
+)
+    requires tidy { IsTidy rows.now gone.old.items listed.old.items }
+    requires room { length rows.now ≤ deque_capacity listed.old }
+    ensures marks { (before : HoldersValue) → before.fallen ≡ [] → Falls before holders.old → length holders.old.holdings.marks ≡ length before.holdings.marks → IsGone rows.now before.holdings gone.old.items → IsGone rows.now holders.new.holdings gone.new.items }
+    ensures tidy { IsTidy rows.now gone.new.items listed.new.items }
+    ensures gone_room { vec_capacity gone.new ≡ vec_capacity gone.old }
+    ensures listed_room { deque_capacity listed.old ≤ deque_capacity listed.new }
+    ensures holdings { holders.new.holdings ≡ holders.old.holdings }
+    ensures fallen { holders.new.fallen ≡ [] }
+    ensures spare { holders.new.spare ≡ holders.old.spare }
+    ensures holders_room { holders.new.room ≡ holders.old.room }
+{
+    lose_all(rows, gone, listed, holders.fallen());
+    holders.clear();
+}
+
 impl Life {
-    /// No objects.
-    #[tactic(auto, using(crate::proofs::Tidy::tidy_none))]
-    pub fn new(alloc: Global) -> Life
-        ensures { result ≡ record { rows = []; spare = 0 } }
+    /// No objects, and so many bytes for resources.
+    #[tactic(auto, using(crate::proofs::Tidy::tidy_none, crate::proofs::Gone::gone_none))]
+    pub fn new(alloc: Global, budget: u64) -> Life
+        ensures rows { result.rows ≡ [] }
+        ensures holdings { result.holdings ≡ no_holdings }
+        ensures budget { result.budget ≡ budget }
     {
         Life {
             rows: Vec::new(alloc),
+            gone: Vec::new(alloc),
+            holders: Holders::new(alloc),
             waiting: Waiting {
                 listed: VecDeque::new(alloc),
                 due: Vec::new(alloc),
             },
+            live: Live::new(alloc),
+            budget,
             spare: 0,
         }
     }
 
-    /// Makes room for one object more.
-    pub fn reserve(&mut self) -> Result<(), NoMemory>
+    /// Makes room for one object more with so many links.
+    pub fn reserve(&mut self, links: u64) -> Result<(), NoMemory>
         ensures rows { self.new.rows ≡ self.old.rows }
+        ensures holdings { self.new.holdings ≡ self.old.holdings }
+        ensures budget { self.new.budget ≡ self.old.budget }
         ensures spare { self.old.spare ≤ self.new.spare }
-        ensures room { OnOk result (0 < self.new.spare) }
+        ensures rooms { self.new.room ≡ self.old.room }
+        ensures place { OnOk result (0 < self.new.spare) }
+        ensures room { OnOk result (links < self.new.room) }
     {
+        self.holders.reserve(links)?;
         if self.spare == 0 {
             self.rows.reserve(1)?;
+            self.gone.reserve(1)?;
+            self.live.reserve()?;
             let Some(more) = self.rows.len().checked_add(1) else {
                 return Err(NoMemory);
             };
@@ -75,21 +131,39 @@ impl Life {
         Ok(())
     }
 
-    /// Adds the next object, with its sort if it is a valid one that has memory.
-    #[tactic(auto, using(crate::proofs::Tidy::tidy_added))]
-    pub fn add(&mut self, resource: Option<Sort>)
-        requires { 0 < self.old.spare }
-        ensures { self.new ≡ record { rows = self.old.rows ++ new_row resource ∷ []; spare = self.old.spare - 1 } }
+    /// Whether the budget has so many bytes more.
+    pub fn fits(&self, bytes: u64) -> bool
+        ensures { result ≡ nat_le (live_bytes self.now.rows + bytes) self.now.budget }
     {
-        self.rows.push_reserved(Row {
-            resource,
-            destroyed: false,
-            ended: false,
-            consumed: false,
-            last: 0,
-            released: false,
-        });
+        bytes <= self.budget - self.live.bytes()
+    }
+
+    /// How many resources are not released.
+    pub fn live(&self) -> u64
+        ensures { result ≡ live_count self.now.rows }
+    {
+        self.live.count()
+    }
+
+    /// Adds the next object.
+    pub fn add(&mut self, made: Made)
+        requires place { 0 < self.old.spare }
+        requires room { length made.links.refers + length made.links.names < self.old.room }
+        requires fits { IfSome made.resource (λ resource. live_bytes self.old.rows + resource.bytes ≤ self.old.budget) }
+        requires refers_back { (n : ℕ) → is_among made.links.refers n ≡ true → n < length self.old.rows }
+        requires names_back { (n : ℕ) → is_among made.links.names n ≡ true → n < length self.old.rows }
+        requires refers_held { (n : ℕ) → is_among made.links.refers n ≡ true → is_held self.old.holdings n ≡ true }
+        requires names_held { (n : ℕ) → is_among made.links.names n ≡ true → is_held self.old.holdings n ≡ true }
+        ensures rows { self.new.rows ≡ self.old.rows ++ new_row made.resource ∷ [] }
+        ensures holdings { self.new.holdings ≡ with_object made self.old.holdings }
+        ensures budget { self.new.budget ≡ self.old.budget }
+        ensures spare { self.old.spare ≤ self.new.spare + 1 }
+        ensures room { self.old.room ≤ self.new.room + (length made.links.refers + length made.links.names + 1) }
+    {
+        add_row(&mut self.rows, &mut self.live, made.resource);
+        self.gone.push_reserved(false);
         self.spare -= 1;
+        self.holders.add(made.encoder, made.links);
     }
 
     /// How many objects there are.
@@ -100,50 +174,105 @@ impl Life {
     }
 
     /// Notes a finish of an encoder.
-    #[tactic(auto, using(crate::proofs::Tidy::tidy_ended))]
     pub fn ended(&mut self, encoder: u64)
-        ensures rows { Notes (λ n. with_ended (encoder == n)) self.old.rows self.new.rows }
+        ensures marks { Marks (λ n. with_ended (encoder == n)) self.old.holdings self.new.holdings }
+        ensures rows { self.new.rows ≡ self.old.rows }
+        ensures budget { self.new.budget ≡ self.old.budget }
         ensures spare { self.new.spare ≡ self.old.spare }
+        ensures room { self.new.room ≡ self.old.room }
     {
-        mark_ended(&mut self.rows, encoder);
+        self.holders.ended(encoder);
+        note_fallen(
+            self.rows.as_slice(),
+            &mut self.gone,
+            &mut self.waiting.listed,
+            &mut self.holders,
+        );
     }
 
     /// Notes that a submit listed a command buffer.
-    #[tactic(auto, using(crate::proofs::Tidy::tidy_consumed))]
     pub fn consumed(&mut self, buffer: u64)
-        ensures rows { Notes (λ n. with_consumed (buffer == n)) self.old.rows self.new.rows }
+        ensures marks { Marks (λ n. with_consumed (buffer == n)) self.old.holdings self.new.holdings }
+        ensures rows { self.new.rows ≡ self.old.rows }
+        ensures budget { self.new.budget ≡ self.old.budget }
         ensures spare { self.new.spare ≡ self.old.spare }
+        ensures room { self.new.room ≡ self.old.room }
     {
-        mark_consumed(&mut self.rows, buffer);
+        self.holders.consumed(buffer);
+        note_fallen(
+            self.rows.as_slice(),
+            &mut self.gone,
+            &mut self.waiting.listed,
+            &mut self.holders,
+        );
     }
 
-    /// Notes that an operation uses an object.
-    #[tactic(auto, using(crate::proofs::Tidy::tidy_used))]
-    pub fn used(&mut self, number: u64, op: u64)
-        ensures rows { Notes (λ n. with_use op (number == n)) self.old.rows self.new.rows }
+    /// Notes the drop of an object that was not dropped before.
+    pub fn dropped(&mut self, number: u64)
+        requires { (mark_at self.old.holdings.marks number).dropped ≡ None }
+        ensures marks { Marks (λ n. with_dropped (length self.old.holdings.marks) (number == n)) self.old.holdings self.new.holdings }
+        ensures rows { self.new.rows ≡ self.old.rows }
+        ensures budget { self.new.budget ≡ self.old.budget }
         ensures spare { self.new.spare ≡ self.old.spare }
+        ensures room { self.new.room ≡ self.old.room }
     {
-        mark_use(&mut self.rows, number, op);
+        self.holders.dropped(number);
+        note_fallen(
+            self.rows.as_slice(),
+            &mut self.gone,
+            &mut self.waiting.listed,
+            &mut self.holders,
+        );
     }
 
     /// Notes a destroy.
     pub fn destroyed(&mut self, number: u64)
         ensures rows { Notes (λ n. with_destroyed (number == n)) self.old.rows self.new.rows }
+        ensures holdings { self.new.holdings ≡ self.old.holdings }
+        ensures budget { self.new.budget ≡ self.old.budget }
         ensures spare { self.new.spare ≡ self.old.spare }
+        ensures room { self.new.room ≡ self.old.room }
     {
-        waiting::destroy(&mut self.rows, &mut self.waiting.listed, number);
+        mark_destroyed(&mut self.rows, number);
+        lose(
+            self.rows.as_slice(),
+            &mut self.gone,
+            &mut self.waiting.listed,
+            number,
+        );
+    }
+
+    /// Notes that an operation uses an object.
+    pub fn used(&mut self, number: u64, op: u64)
+        ensures rows { Notes (λ n. with_use op (number == n)) self.old.rows self.new.rows }
+        ensures holdings { self.new.holdings ≡ self.old.holdings }
+        ensures budget { self.new.budget ≡ self.old.budget }
+        ensures spare { self.new.spare ≡ self.old.spare }
+        ensures room { self.new.room ≡ self.old.room }
+    {
+        mark_use(&mut self.rows, number, op);
     }
 
     /// Releases what is due where all operations up to this one are complete, and was not released
     /// before, and adds that to a trace in room that there is.
     pub fn release(&mut self, completed: u64, trace: &mut Vec<Item>)
         requires { vec_len trace.old + length self.old.rows ≤ vec_capacity trace.old }
-        ensures items { trace.new.items ≡ trace.old.items ++ map free (releases self.old.rows completed) }
+        ensures items { trace.new.items ≡ trace.old.items ++ map free (releases self.old completed) }
         ensures capacity { vec_capacity trace.new ≡ vec_capacity trace.old }
-        ensures rows { Notes (λ n. with_release completed true) self.old.rows self.new.rows }
+        ensures rows { Notes (λ n. with_release (is_due self.old completed n)) self.old.rows self.new.rows }
+        ensures holdings { self.new.holdings ≡ self.old.holdings }
+        ensures budget { self.new.budget ≡ self.old.budget }
         ensures spare { self.new.spare ≡ self.old.spare }
+        ensures room { self.new.room ≡ self.old.room }
     {
-        waiting::release(&mut self.rows, &mut self.waiting, completed, trace);
+        waiting::release(
+            &mut self.rows,
+            self.gone.as_slice(),
+            &mut self.live,
+            &mut self.waiting,
+            completed,
+            trace,
+        );
     }
 
     /// What was noted of an object; of one that there is not, nothing.
@@ -151,5 +280,12 @@ impl Life {
         ensures { result ≡ row_at self.now.rows number }
     {
         row_in(self.rows.as_slice(), number)
+    }
+
+    /// What was noted of an object as a holder; of one that there is not, nothing.
+    pub fn mark(&self, number: u64) -> Mark
+        ensures { result ≡ mark_at self.now.holdings.marks number }
+    {
+        self.holders.mark(number)
     }
 }

@@ -1,19 +1,33 @@
 //! What is noted of each object.
 ghost use Rattle.std.specs.Prelude.{◌≡◌, ◌==◌, slice_set, vec_len, vec_capacity};
-ghost use Rattle.wg_life.specs.Lives.{row_at, with_destroyed, with_ended, with_consumed, with_use, with_release, is_due, Notes};
+ghost use Rattle.wg_life.specs.Lives.{row_at, with_destroyed, with_use, with_release, Notes};
+ghost use Rattle.wg_life.specs.Waits.{gone_at, Losses};
 
+use wg_holders::Links;
 use wg_types::steps::Sort;
+
+/// The memory of a valid object: of which sort it is, and how many bytes it takes of the budget.
+#[derive(Clone, Copy, PartialEq, Eq, Debug)]
+pub struct Resource {
+    pub sort: Sort,
+    pub bytes: u64,
+}
+
+/// An object that is made: its memory, if it is a valid one that has such; whether it is an encoder; and
+/// to which objects it refers and which it names.
+#[derive(Drop)]
+pub struct Made {
+    pub resource: Option<Resource>,
+    pub encoder: bool,
+    pub links: Links,
+}
 
 /// What was noted of an object.
 #[derive(Clone, Copy)]
 pub struct Row {
-    /// Its sort, if it is a valid object that has memory.
-    pub resource: Option<Sort>,
+    /// Its memory, if it is a valid object that has such.
+    pub resource: Option<Resource>,
     pub destroyed: bool,
-    /// A finish named it as its encoder.
-    pub ended: bool,
-    /// A submit listed it.
-    pub consumed: bool,
     /// The greatest operation that uses it, or 0.
     pub last: u64,
     pub released: bool,
@@ -27,8 +41,6 @@ pub fn row_in(rows: &[Row], number: u64) -> Row
         return Row {
             resource: None,
             destroyed: false,
-            ended: false,
-            consumed: false,
             last: 0,
             released: false,
         };
@@ -63,31 +75,6 @@ pub fn mark_destroyed(rows: &mut Vec<Row>, number: u64)
     );
 }
 
-/// Notes that an encoder has ended.
-pub fn mark_ended(rows: &mut Vec<Row>, number: u64)
-    ensures notes { Notes (λ n. with_ended (number == n)) rows.old.items rows.new.items }
-    ensures room { vec_capacity rows.new ≡ vec_capacity rows.old }
-{
-    let row = row_in(rows.as_slice(), number);
-    put_row(rows, number, Row { ended: true, ..row });
-}
-
-/// Notes that a command buffer was consumed.
-pub fn mark_consumed(rows: &mut Vec<Row>, number: u64)
-    ensures notes { Notes (λ n. with_consumed (number == n)) rows.old.items rows.new.items }
-    ensures room { vec_capacity rows.new ≡ vec_capacity rows.old }
-{
-    let row = row_in(rows.as_slice(), number);
-    put_row(
-        rows,
-        number,
-        Row {
-            consumed: true,
-            ..row
-        },
-    );
-}
-
 /// Notes that an operation uses an object.
 pub fn mark_use(rows: &mut Vec<Row>, number: u64, op: u64)
     ensures notes { Notes (λ n. with_use op (number == n)) rows.old.items rows.new.items }
@@ -104,16 +91,9 @@ pub fn mark_use(rows: &mut Vec<Row>, number: u64, op: u64)
     );
 }
 
-/// Whether an object is a destroyed resource of which all uses are complete.
-pub fn is_due(row: Row, done: u64) -> bool
-    ensures { result ≡ is_due done row }
-{
-    row.resource.is_some() && row.destroyed && row.last <= done
-}
-
-/// Notes that an object is released, if it is due.
-pub fn mark_released(rows: &mut Vec<Row>, number: u64, done: u64)
-    ensures notes { Notes (λ n. with_release done (number == n)) rows.old.items rows.new.items }
+/// Notes that an object is released.
+pub fn mark_released(rows: &mut Vec<Row>, number: u64)
+    ensures notes { Notes (λ n. with_release (number == n)) rows.old.items rows.new.items }
     ensures room { vec_capacity rows.new ≡ vec_capacity rows.old }
 {
     let row = row_in(rows.as_slice(), number);
@@ -121,8 +101,26 @@ pub fn mark_released(rows: &mut Vec<Row>, number: u64, done: u64)
         rows,
         number,
         Row {
-            released: is_due(row, done) || row.released,
+            released: true,
             ..row
         },
     );
+}
+
+/// Whether an object is known to be gone.
+pub fn gone_in(gone: &[bool], number: u64) -> bool
+    ensures { result ≡ gone_at gone.now number }
+{
+    (number as usize) < gone.len() && gone[number as usize]
+}
+
+/// Notes that an object is gone.
+pub fn mark_gone(gone: &mut Vec<bool>, number: u64)
+    ensures losses { Losses (λ n. number == n) gone.old.items gone.new.items }
+    ensures room { vec_capacity gone.new ≡ vec_capacity gone.old }
+{
+    if number as usize >= gone.len() {
+        return;
+    }
+    gone[number as usize] = true;
 }

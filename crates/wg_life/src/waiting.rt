@@ -1,13 +1,16 @@
 //! What waits for its release.
-ghost use Rattle.std.specs.Prelude.{◌≡◌, ℕ, List, ◌+◌, ◌≤◌, ◌<◌, ◌∷◌, [], ◌++◌, ◌||◌, ◌==◌, true, length, map, option_to_list, IfSome, IfNone, vec_len, vec_capacity};
+ghost use Rattle.std.specs.Prelude.{◌≡◌, ℕ, List, ◌+◌, ◌≤◌, ◌<◌, ◌∷◌, [], ◌++◌, ◌||◌, ◌==◌, true, length, map, option_map, option_to_list, IfSome, IfNone, vec_len, vec_capacity};
 ghost use Rattle.std.specs.VecDeque.{deque_len, deque_capacity};
 ghost use Rattle.std.specs.List.{flat_map};
 ghost use Rattle.std.specs.List.Sorted.{IsNonDecreasingBy};
+ghost use Rattle.wg_model.specs.Holding.{is_among};
 ghost use Rattle.wg_orders.specs.Trace.{free};
-ghost use Rattle.wg_life.specs.Lives.{with_destroyed, with_release, releases, Notes};
-ghost use Rattle.wg_life.specs.Waits.{waits, is_waiting, will_wait, is_early, early, starts_late, IsInserted, IsTidy, IsReleasing, sort_at};
+ghost use Rattle.wg_life.specs.Lives.{Notes};
+ghost use Rattle.wg_life.specs.Living.{IsKept, IsLess};
+ghost use Rattle.wg_life.specs.Waits.{gone_at, waits, is_waiting, will_wait, with_due, freed, is_early, early, starts_late, Losses, IsInserted, IsTidy, IsReleasing, sort_at};
 
-use crate::rows::{Row, mark_destroyed, mark_released, row_in};
+use crate::live::{Live, release_row};
+use crate::rows::{Row, gone_in, mark_gone, row_in};
 use std::collections::VecDeque;
 use wg_types::steps::Item;
 
@@ -22,7 +25,7 @@ pub struct Wait {
 /// What waits for its release, kept beside rows.
 #[derive(Drop)]
 pub struct Waiting {
-    /// The destroyed resources that were not released, in the order of the operations that they wait for.
+    /// The resources that are gone and were not released, in the order of the operations that they wait for.
     pub listed: VecDeque<Wait>,
     /// What a release gives back; empty between releases.
     pub due: Vec<u64>,
@@ -56,32 +59,33 @@ fn next_early(listed: &mut VecDeque<Wait>, done: u64) -> Option<Wait>
 }
 
 /// Whether an object waits for its release.
-fn waits(row: Row) -> bool
-    ensures { result ≡ waits row }
+fn waits(row: Row, gone: bool) -> bool
+    ensures { result ≡ waits row gone }
 {
-    row.resource.is_some() && row.destroyed && !row.released
+    row.resource.is_some() && gone && !row.released
 }
 
-/// Whether a destroy makes an object wait.
-fn will_wait(row: Row) -> bool
-    ensures { result ≡ will_wait row }
+/// Whether an object that is gone now waits, and did not before.
+fn will_wait(row: Row, gone: bool) -> bool
+    ensures { result ≡ will_wait row gone }
 {
-    row.resource.is_some() && !row.destroyed && !row.released
+    row.resource.is_some() && !gone && !row.released
 }
 
-/// Notes that an object is destroyed.
-#[tactic(auto, using(crate::proofs::Tidy::tidy_destroyed, crate::proofs::Tidy::tidy_listed, crate::proofs::Tidy::listed_lt))]
-pub fn destroy(rows: &mut Vec<Row>, listed: &mut VecDeque<Wait>, number: u64)
-    requires tidy { IsTidy rows.old.items listed.old.items }
-    requires room { vec_len rows.old ≤ deque_capacity listed.old }
-    ensures notes { Notes (λ n. with_destroyed (number == n)) rows.old.items rows.new.items }
-    ensures tidy { IsTidy rows.new.items listed.new.items }
-    ensures rows_room { vec_capacity rows.new ≡ vec_capacity rows.old }
+/// Notes that an object is gone.
+#[tactic(auto, using(crate::proofs::Tidy::tidy_lost, crate::proofs::Tidy::tidy_listed, crate::proofs::Tidy::listed_lt))]
+pub fn lose(rows: &[Row], gone: &mut Vec<bool>, listed: &mut VecDeque<Wait>, number: u64)
+    requires tidy { IsTidy rows.now gone.old.items listed.old.items }
+    requires room { length rows.now ≤ deque_capacity listed.old }
+    ensures losses { Losses (λ n. number == n) gone.old.items gone.new.items }
+    ensures tidy { IsTidy rows.now gone.new.items listed.new.items }
+    ensures gone_room { vec_capacity gone.new ≡ vec_capacity gone.old }
     ensures listed_room { deque_capacity listed.old ≤ deque_capacity listed.new }
 {
-    let row = row_in(rows.as_slice(), number);
-    mark_destroyed(rows, number);
-    if will_wait(row) {
+    let row = row_in(rows, number);
+    let was_gone = gone_in(gone.as_slice(), number);
+    mark_gone(gone, number);
+    if will_wait(row, was_gone) {
         list(
             listed,
             Wait {
@@ -92,13 +96,38 @@ pub fn destroy(rows: &mut Vec<Row>, listed: &mut VecDeque<Wait>, number: u64)
     }
 }
 
+/// Notes that all of a list are gone.
+#[tactic(auto, using(crate::proofs::Gone::losses_none, crate::proofs::Gone::losses_more))]
+pub fn lose_all(rows: &[Row], gone: &mut Vec<bool>, listed: &mut VecDeque<Wait>, numbers: &[u64])
+    requires tidy { IsTidy rows.now gone.old.items listed.old.items }
+    requires room { length rows.now ≤ deque_capacity listed.old }
+    ensures losses { Losses (is_among numbers.now) gone.old.items gone.new.items }
+    ensures tidy { IsTidy rows.now gone.new.items listed.new.items }
+    ensures gone_room { vec_capacity gone.new ≡ vec_capacity gone.old }
+    ensures listed_room { deque_capacity listed.old ≤ deque_capacity listed.new }
+{
+    for number in numbers {
+        lose(rows, gone, listed, *number);
+    }
+}
+
 /// Releases an object that was listed, if it is due; lists it again if it was used since.
-#[tactic(auto, using(crate::proofs::Releasing::step_gone, crate::proofs::Releasing::step_later, crate::proofs::Releasing::step_released))]
-fn settle(rows: &mut Vec<Row>, waiting: &mut Waiting, wait: Wait, done: u64)
-    requires tidy { IsTidy rows.old.items (wait ∷ waiting.old.listed.items) }
+#[tactic(auto, using(crate::proofs::Releasing::step_gone, crate::proofs::Releasing::step_later, crate::proofs::Releasing::step_released, crate::proofs::Kept::less_same))]
+fn settle(
+    rows: &mut Vec<Row>,
+    gone: &[bool],
+    live: &mut Live,
+    waiting: &mut Waiting,
+    wait: Wait,
+    done: u64,
+)
+    requires tidy { IsTidy rows.old.items gone.now (wait ∷ waiting.old.listed.items) }
+    requires kept { IsKept rows.old.items live.old }
     requires room { vec_len rows.old ≤ deque_capacity waiting.old.listed }
-    requires due_room { is_waiting rows.old.items wait.number ≡ true → vec_len waiting.old.due < vec_capacity waiting.old.due }
-    ensures releasing { (first : List Row) → IsReleasing done first rows.old.items (wait ∷ waiting.old.listed.items) waiting.old.due.items → IsReleasing done first rows.new.items waiting.new.listed.items waiting.new.due.items }
+    requires due_room { is_waiting rows.old.items gone.now wait.number ≡ true → vec_len waiting.old.due < vec_capacity waiting.old.due }
+    ensures releasing { (first : List Row) → IsReleasing done first rows.old.items gone.now (wait ∷ waiting.old.listed.items) waiting.old.due.items → IsReleasing done first rows.new.items gone.now waiting.new.listed.items waiting.new.due.items }
+    ensures kept { IsKept rows.new.items live.new }
+    ensures less { IsLess live.old live.new }
     ensures early { early done waiting.new.listed.items ≤ early done waiting.old.listed.items }
     ensures rows_room { vec_capacity rows.new ≡ vec_capacity rows.old }
     ensures listed_room { deque_capacity waiting.old.listed ≤ deque_capacity waiting.new.listed }
@@ -106,7 +135,7 @@ fn settle(rows: &mut Vec<Row>, waiting: &mut Waiting, wait: Wait, done: u64)
 {
     let number = wait.number;
     let row = row_in(rows.as_slice(), number);
-    if !waits(row) {
+    if !waits(row, gone_in(gone, number)) {
         return;
     }
     if row.last > done {
@@ -119,24 +148,28 @@ fn settle(rows: &mut Vec<Row>, waiting: &mut Waiting, wait: Wait, done: u64)
         );
         return;
     }
-    mark_released(rows, number, done);
+    release_row(rows, live, number);
     waiting.due.push_reserved(number);
 }
 
 /// Releases what is due, and lists its numbers.
-fn take_due(rows: &mut Vec<Row>, waiting: &mut Waiting, done: u64)
-    requires tidy { IsTidy rows.old.items waiting.old.listed.items }
+#[tactic(auto, using(crate::proofs::Kept::less_then))]
+fn take_due(rows: &mut Vec<Row>, gone: &[bool], live: &mut Live, waiting: &mut Waiting, done: u64)
+    requires tidy { IsTidy rows.old.items gone.now waiting.old.listed.items }
+    requires kept { IsKept rows.old.items live.old }
     requires none { waiting.old.due.items ≡ [] }
     requires room { vec_len rows.old ≤ deque_capacity waiting.old.listed }
     requires due_room { vec_len rows.old ≤ vec_capacity waiting.old.due }
-    ensures releasing { IsReleasing done rows.old.items rows.new.items waiting.new.listed.items waiting.new.due.items }
+    ensures releasing { IsReleasing done rows.old.items rows.new.items gone.now waiting.new.listed.items waiting.new.due.items }
+    ensures kept { IsKept rows.new.items live.new }
+    ensures less { IsLess live.old live.new }
     ensures late { starts_late done waiting.new.listed.items ≡ true }
     ensures rows_room { vec_capacity rows.new ≡ vec_capacity rows.old }
     ensures listed_room { deque_capacity waiting.old.listed ≤ deque_capacity waiting.new.listed }
     ensures due_room { vec_capacity waiting.old.due ≤ vec_capacity waiting.new.due }
 {
     while let Some(wait) = next_early(&mut waiting.listed, done) {
-        settle(rows, waiting, wait, done);
+        settle(rows, gone, live, waiting, wait, done);
     }
 }
 
@@ -148,10 +181,10 @@ fn push_released(rows: &[Row], number: u64, trace: &mut Vec<Item>)
     ensures room { vec_len trace.new ≤ vec_len trace.old + 1 }
     ensures capacity { vec_capacity trace.new ≡ vec_capacity trace.old }
 {
-    if let Some(sort) = row_in(rows, number).resource {
+    if let Some(resource) = row_in(rows, number).resource {
         trace.push_reserved(Item::Free {
             object: number,
-            sort,
+            sort: resource.sort,
         });
     }
 }
@@ -169,22 +202,32 @@ fn push_all(rows: &[Row], due: &[u64], trace: &mut Vec<Item>)
 
 /// Releases what is due, and adds it to a trace, least numbers first.
 #[tactic(auto, using(crate::proofs::Releasing::pushed_due, crate::proofs::Releasing::marked_due, crate::proofs::Releasing::due_le))]
-pub fn release(rows: &mut Vec<Row>, waiting: &mut Waiting, done: u64, trace: &mut Vec<Item>)
-    requires tidy { IsTidy rows.old.items waiting.old.listed.items }
+pub fn release(
+    rows: &mut Vec<Row>,
+    gone: &[bool],
+    live: &mut Live,
+    waiting: &mut Waiting,
+    done: u64,
+    trace: &mut Vec<Item>,
+)
+    requires tidy { IsTidy rows.old.items gone.now waiting.old.listed.items }
+    requires kept { IsKept rows.old.items live.old }
     requires none { waiting.old.due.items ≡ [] }
     requires room { vec_len rows.old ≤ deque_capacity waiting.old.listed }
     requires due_room { vec_len rows.old ≤ vec_capacity waiting.old.due }
     requires trace_room { vec_len trace.old + vec_len rows.old ≤ vec_capacity trace.old }
-    ensures items { trace.new.items ≡ trace.old.items ++ map free (releases rows.old.items done) }
-    ensures notes { Notes (λ n. with_release done true) rows.old.items rows.new.items }
-    ensures tidy { IsTidy rows.new.items waiting.new.listed.items }
+    ensures items { trace.new.items ≡ trace.old.items ++ map free (freed rows.old.items gone.now done) }
+    ensures notes { Notes (λ n. with_due done (gone_at gone.now n) true) rows.old.items rows.new.items }
+    ensures tidy { IsTidy rows.new.items gone.now waiting.new.listed.items }
+    ensures kept { IsKept rows.new.items live.new }
+    ensures less { IsLess live.old live.new }
     ensures none { waiting.new.due.items ≡ [] }
     ensures rows_room { vec_capacity rows.new ≡ vec_capacity rows.old }
     ensures listed_room { deque_capacity waiting.old.listed ≤ deque_capacity waiting.new.listed }
     ensures due_room { vec_capacity waiting.old.due ≤ vec_capacity waiting.new.due }
     ensures capacity { vec_capacity trace.new ≡ vec_capacity trace.old }
 {
-    take_due(rows, waiting, done);
+    take_due(rows, gone, live, waiting, done);
     waiting.due.sort_unstable();
     push_all(rows.as_slice(), waiting.due.as_slice(), trace);
     waiting.due.clear();

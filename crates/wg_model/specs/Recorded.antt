@@ -1,7 +1,7 @@
 -- The steps of queue writes and of recorded commands, and the resources that commands name (WebGPU, "Queues", "Command
 -- Encoding" and "Resource Usages").
 use Rattle.std.specs.Prelude.{ℕ, ◌+◌, ◌*◌, ◌==◌, nat_lt, Bool, true, false, ◌||◌, ◌&&◌, List, [], ◌∷◌, ◌++◌, map, Option, Some, None, unwrap_or, reverse, if◌then◌else◌}
-use Rattle.std.specs.List.{list_any, filter}
+use Rattle.std.specs.List.{list_any, filter, flat_map}
 use Rattle.wg_types.specs.declared.steps.QueueWrite.{QueueWrite}
 use Rattle.wg_types.specs.declared.steps.QueueWrite.TheVariants.{Buffer as BufferWrite, Texture as TextureWrite}
 use Rattle.wg_types.specs.declared.steps.StepName.{StepName}
@@ -229,3 +229,7 @@ any_resource test commands = any_named resources test commands
 -- whether recorded commands use object n
 abbrev pub uses_resource : List (On × Command) → ℕ → Bool
 uses_resource commands n = any_resource (λ r. r == n) commands
+
+-- the numbers of the objects that recorded commands name
+abbrev pub names_within : List (On × Command) → List ℕ
+names_within commands = flat_map (λ (kept : On × Command). map (λ (object : HandleValue × Wanted). object.0.reference.number) (named kept.1)) commands

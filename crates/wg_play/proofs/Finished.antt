@@ -16,7 +16,7 @@ use Rattle.wg_types.specs.Wanted.{admits}
 use Rattle.wg_types.specs.Commands.{named, map_refs}
 use Rattle.wg_types.specs.Requests.{kind_made, named as asked_of}
 use Rattle.wg_types.specs.declared.requests.RequestOf.{RequestOf}
-use Rattle.wg_types.specs.declared.requests.RequestOf.TheVariants.{CreateBuffer, CreateTexture, CreateView, CreateEncoder, Finish, Submit, WriteBuffer, WriteTexture, Destroy, Complete, PushErrorScope, PopErrorScope, Lose, WorkDone, MapAsync, Unmap}
+use Rattle.wg_types.specs.declared.requests.RequestOf.TheVariants.{CreateBuffer, CreateTexture, CreateView, CreateEncoder, Finish, Submit, WriteBuffer, WriteTexture, Destroy, Drop, Complete, PushErrorScope, PopErrorScope, Lose, WorkDone, MapAsync, Unmap}
 use Rattle.wg_encoder.specs.Recorders.{RecorderValue, after_take, is_late}
 use Rattle.wg_types.specs.declared.commands.On.TheVariants.{Encoder}
 use Rattle.wg_history.specs.declared.events.Setup.{Setup}
@@ -93,6 +93,7 @@ request_unborn made n (Submit buffers) below all = refl
 request_unborn made n (WriteBuffer buffer offset size) below all = refl
 request_unborn made n (WriteTexture texture spot layout size data_size) below all = refl
 request_unborn made n (Destroy object) below all = refl
+request_unborn made n (Drop object) below all = refl
 request_unborn made n (Complete op) below all = refl
 request_unborn made n (PushErrorScope filter) below all = refl
 request_unborn made n PopErrorScope below all = refl
@@ -155,6 +156,7 @@ request_length setup state (Submit buffers) slot = omega arith
 request_length setup state (WriteBuffer buffer offset size) slot = omega arith
 request_length setup state (WriteTexture texture spot layout size data_size) slot = omega arith
 request_length setup state (Destroy object) slot = omega arith
+request_length setup state (Drop object) slot = omega arith
 request_length setup state (Complete op) slot = omega arith
 request_length setup state (PushErrorScope filter) slot = omega arith
 request_length setup state PopErrorScope slot = omega arith
@@ -195,6 +197,7 @@ encoder_new setup state (Submit buffers) slot e = absurd (cc)
 encoder_new setup state (WriteBuffer buffer offset size) slot e = absurd (cc)
 encoder_new setup state (WriteTexture texture spot layout size data_size) slot e = absurd (cc)
 encoder_new setup state (Destroy object) slot e = absurd (cc)
+encoder_new setup state (Drop object) slot e = absurd (cc)
 encoder_new setup state (Complete op) slot e = absurd (cc)
 encoder_new setup state (PushErrorScope filter) slot e = absurd (cc)
 encoder_new setup state PopErrorScope slot e = absurd (cc)

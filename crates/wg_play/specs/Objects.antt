@@ -11,7 +11,7 @@ use Rattle.wg_types.specs.Commands.{Command}
 use Rattle.wg_types.specs.Refs.{first_of}
 use Rattle.wg_types.specs.Requests.{named}
 use Rattle.wg_types.specs.declared.requests.RequestOf.{RequestOf}
-use Rattle.wg_types.specs.declared.requests.RequestOf.TheVariants.{CreateBuffer, CreateTexture, CreateView, CreateEncoder, Finish, Submit, WriteBuffer, WriteTexture, Destroy, Complete, PushErrorScope, PopErrorScope, Lose, WorkDone, MapAsync, Unmap}
+use Rattle.wg_types.specs.declared.requests.RequestOf.TheVariants.{CreateBuffer, CreateTexture, CreateView, CreateEncoder, Finish, Submit, WriteBuffer, WriteTexture, Destroy, Drop, Complete, PushErrorScope, PopErrorScope, Lose, WorkDone, MapAsync, Unmap}
 use Rattle.wg_model.specs.Commands.{texture_of, no_texture, size_or_rest}
 use Rattle.wg_model.specs.Views.{view_of}
 use Rattle.wg_encoder.specs.Recorders.{RecorderValue, RecordingValue, is_late, recorded, after_take}
@@ -75,6 +75,7 @@ event_asked objects (Submit buffers) = event.Submit (map (reference_at objects) 
 event_asked objects (WriteBuffer buffer offset size) = event.WriteBuffer (reference_at objects buffer) offset size
 event_asked objects (WriteTexture texture spot layout size data_size) = event.WriteTexture (reference_at objects texture) spot layout size data_size
 event_asked objects (Destroy object) = event.Destroy (reference_at objects object)
+event_asked objects (Drop object) = event.Drop (reference_at objects object)
 event_asked objects (Complete op) = event.Complete op
 event_asked objects (PushErrorScope filter) = event.PushErrorScope filter
 event_asked objects PopErrorScope = event.PopErrorScope
@@ -94,6 +95,7 @@ ended_by (Submit buffers) = None
 ended_by (WriteBuffer buffer offset size) = None
 ended_by (WriteTexture texture spot layout size data_size) = None
 ended_by (Destroy object) = None
+ended_by (Drop object) = None
 ended_by (Complete op) = None
 ended_by (PushErrorScope filter) = None
 ended_by PopErrorScope = None

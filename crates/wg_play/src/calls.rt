@@ -141,6 +141,9 @@ pub fn event_asked(
         RequestOf::Destroy { object } => Ok(Event::Destroy {
             object: reference_at(objects, *object),
         }),
+        RequestOf::Drop { object } => Ok(Event::Drop {
+            object: reference_at(objects, *object),
+        }),
         RequestOf::Complete { op } => Ok(Event::Complete { op: *op }),
         RequestOf::PushErrorScope { filter } => Ok(Event::PushErrorScope { filter: *filter }),
         RequestOf::PopErrorScope => Ok(Event::PopErrorScope),

@@ -18,7 +18,7 @@ use Rattle.wg_types.specs.declared.commands.CommandOf.TheVariants.{CopyBufferToB
 use Rattle.wg_types.specs.declared.replies.Filter.{Filter}
 use Rattle.wg_types.specs.declared.replies.Filter.TheVariants as filter
 use Rattle.wg_types.specs.declared.requests.RequestOf.{RequestOf}
-use Rattle.wg_types.specs.declared.requests.RequestOf.TheVariants.{CreateBuffer, CreateEncoder, Finish, Submit, WriteBuffer, Destroy, Complete, PushErrorScope, PopErrorScope, Lose, WorkDone, MapAsync, Unmap}
+use Rattle.wg_types.specs.declared.requests.RequestOf.TheVariants.{CreateBuffer, CreateEncoder, Finish, Submit, WriteBuffer, Destroy, Drop, Complete, PushErrorScope, PopErrorScope, Lose, WorkDone, MapAsync, Unmap}
 use Rattle.wg_script.specs.Calling.{recording, asking, making}
 
 -- createBuffer
@@ -62,6 +62,10 @@ write_buffer_of d = read_by write_buffer_keys d
 -- destroy
 unfoldable pub destroy_of : Data → Result Call ℕ
 destroy_of d = read_by (gives (λ dead. asking (Destroy dead)) ▹ need (codes "object") name_at) d
+
+-- drop
+unfoldable pub drop_of : Data → Result Call ℕ
+drop_of d = read_by (gives (λ dropped. asking (Drop dropped)) ▹ need (codes "object") name_at) d
 
 -- complete
 unfoldable pub complete_of : Data → Result Call ℕ
@@ -160,6 +164,7 @@ call_as word.Submit d = submit_of d
 call_as word.WriteBuffer d = write_buffer_of d
 call_as word.WriteTexture d = write_texture_of d
 call_as word.Destroy d = destroy_of d
+call_as word.Drop d = drop_of d
 call_as word.Complete d = complete_of d
 call_as word.PushErrorScope d = push_error_scope_of d
 call_as word.PopErrorScope d = pop_error_scope_of d
@@ -186,7 +191,6 @@ call_as word.BeginComputePass d = Err 13
 call_as word.BeginRenderPass d = Err 13
 call_as word.End d = Err 13
 call_as word.FinishBundle d = Err 13
-call_as word.Drop d = Err 13
 call_as word.ResolveQuerySet d = Err 13
 call_as word.SetPipeline d = Err 13
 call_as word.SetBindGroup d = Err 13

@@ -3,7 +3,7 @@
 ghost use Rattle.std.specs.Prelude.{◌≡◌};
 ghost use Rattle.serde_json.specs.View.{view};
 ghost use Rattle.wg_script.specs.Giving.{Gives};
-ghost use Rattle.wg_script.specs.Calls.{call_of, call_as, create_buffer_of, create_encoder_of, finish_of, submit_of, write_buffer_of, destroy_of, complete_of, push_error_scope_of, keyless_of, pop_error_scope_of, work_done_of, lose_of, map_async_of, unmap_of, copy_buffer_to_buffer_of, clear_buffer_of, bare_of, push_debug_group_of, pop_debug_group_of};
+ghost use Rattle.wg_script.specs.Calls.{call_of, call_as, create_buffer_of, create_encoder_of, finish_of, submit_of, write_buffer_of, destroy_of, drop_of, complete_of, push_error_scope_of, keyless_of, pop_error_scope_of, work_done_of, lose_of, map_async_of, unmap_of, copy_buffer_to_buffer_of, clear_buffer_of, bare_of, push_debug_group_of, pop_debug_group_of};
 
 use crate::calling::{asking, making, recording};
 use crate::calls::Call;
@@ -91,6 +91,15 @@ fn destroy(alloc: Global, call: &Value) -> Result<Call, Refusal>
     reading!(call:
         need object = name_at(alloc, "object");
         => asking(RequestOf::Destroy { object }))
+}
+
+#[tactic(auto, unfolding(crate::specs::Calls::drop_of))]
+fn drop_call(alloc: Global, call: &Value) -> Result<Call, Refusal>
+    ensures { Gives result (drop_of (view call.now)) }
+{
+    reading!(call:
+        need object = name_at(alloc, "object");
+        => asking(RequestOf::Drop { object }))
 }
 
 #[tactic(auto, unfolding(crate::specs::Calls::complete_of))]
@@ -223,6 +232,7 @@ fn call_as(alloc: Global, word: Word, call: &Value) -> Result<Call, Refusal>
         Word::WriteBuffer => write_buffer(alloc, call),
         Word::WriteTexture => write_texture(alloc, call),
         Word::Destroy => destroy(alloc, call),
+        Word::Drop => drop_call(alloc, call),
         Word::Complete => complete(call),
         Word::PushErrorScope => push_error_scope(call),
         Word::PopErrorScope => pop_error_scope(call),
@@ -249,7 +259,6 @@ fn call_as(alloc: Global, word: Word, call: &Value) -> Result<Call, Refusal>
         | Word::BeginRenderPass
         | Word::End
         | Word::FinishBundle
-        | Word::Drop
         | Word::ResolveQuerySet
         | Word::SetPipeline
         | Word::SetBindGroup

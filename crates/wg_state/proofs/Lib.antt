@@ -1,9 +1,14 @@
-pub mod Places
 pub mod MadeLemmas
+pub mod KnownLemmas
+pub mod Places
+pub mod NoteLemmas
 pub mod LeftLemmas
 pub mod QueueLemmas
 pub mod ErrorLemmas
 pub mod MapLemmas
+pub mod LifeLemmas
+pub mod BudgetLemmas
+pub mod AddLemmas
 pub mod KeptLemmas
 pub mod UsesLemmas
 pub mod SettleLemmas

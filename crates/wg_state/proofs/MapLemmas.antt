@@ -1,5 +1,5 @@
 -- How buffers are mapped, after one more entry.
-use Rattle.std.proofs.Common.{◌≡◌, ℕ, suc, ◌+◌, ◌<◌, ◌≤◌, Bool, true, false, not, ◌&&◌, ◌||◌, ◌==◌, nat_le, nat_lt, List, [], ◌∷◌, ◌++◌, length, filter, Option, Some, None, is_none, is_some, unwrap_or, refl, ap, ap₂, sym, ◌∙◌, arith, append-nil, if◌then◌else◌, true≢false, subst}
+use Rattle.std.proofs.Common.{◌≡◌, ℕ, suc, ◌+◌, ◌<◌, Bool, true, false, not, ◌&&◌, ◌||◌, ◌==◌, nat_le, nat_lt, List, [], ◌∷◌, ◌++◌, length, filter, Option, Some, None, is_none, is_some, unwrap_or, refl, ap, ap₂, sym, ◌∙◌, arith, append-nil, if◌then◌else◌, true≢false, subst}
 use Rattle.std.specs.List.{list_any}
 use Rattle.std.specs.FinMap as table
 use Rattle.std.specs.FinMap.{FinMap}
@@ -10,7 +10,7 @@ use Rattle.wg_types.specs.declared.mappings.Mapping.{Mapping}
 use Rattle.wg_types.specs.declared.mappings.PendingMap.{PendingMap}
 use Rattle.wg_types.specs.declared.replies.Answer.TheVariants.{Plain, BadCompletion}
 use Rattle.wg_types.specs.declared.replies.Reply.{Reply}
-use Rattle.wg_types.specs.declared.replies.How.TheVariants.{Mapped, Done, Aborted, Rejected}
+use Rattle.wg_types.specs.declared.replies.How.TheVariants.{Mapped, Aborted, Rejected}
 use Rattle.wg_types.specs.declared.replies.Settlement.{Settlement}
 use Rattle.wg_model.specs.ErrorScopes.{pop_how}
 use Rattle.wg_model.specs.Commands.{no_buffer}
@@ -26,16 +26,16 @@ use Rattle.wg_history.specs.Objects.{is_making, count, buffer_at}
 use Rattle.wg_history.specs.Operations.{issued, completed, last_use}
 use Rattle.wg_history.specs.Loss.{is_lost, Ascends, scopes_of, Awaited, mapping, work, Wait, asked_mapping, promised, unsettled, awaiting, is_of, is_map_of, is_pending}
 use Rattle.wg_history.specs.Rules.{destroy_rule, unmap_rule, unmaps, settles_mapped, mapped_now, or_before, mapped_made, waits_of, mapped_at, is_busy, is_destroyed, map_async_list, map_async_rule}
-use Rattle.wg_history.specs.Answers.{is_taken, at_once, settle_all, kept_how, ended_how, is_over, is_kept, reply_to, IsRun}
-use Rattle.wg_history.proofs.AfterUse.{not_true}
+use Rattle.wg_history.specs.Answers.{is_taken, at_once, settle_all, kept_how, is_over, is_kept, reply_to, IsRun}
+use Rattle.wg_history.proofs.Tests.{not_true}
 use Rattle.wg_history.proofs.Awaiting.{ascends_le, awaiting_ascends, unsettled_none}
 use Rattle.wg_history.proofs.Destroyed.{mapped_none}
-use Rattle.wg_history.proofs.Mappings.{free_if, free_unless, free_work, keeps_free, one_free, ended_free, pop_free, keeps_later, mapped_append, due_in, due_now, mapped_due, pending_new, mapped_new}
+use Rattle.wg_history.proofs.Mappings.{free_if, free_unless, free_work, keeps_free, one_free, pop_free, keeps_later, mapped_append, due_in, due_now, mapped_due, pending_new, mapped_new}
 use Rattle.wg_maps.specs.Mappings.{MapsValue, pending_of, state_with, state_of, without, with_map, still_pending, with_due}
 use Rattle.wg_maps.proofs.TableLemmas.{get_inserted, get_removed}
 use Rattle.wg_state.specs.Rows.{is_at}
 use Rattle.wg_state.specs.Waits.{map_in, map_waits}
-use Rattle.wg_state.specs.Mapped.{AreMapsOf, is_held, made_in, mapped_in, settled_in, unmapped_in, maps_after, keeps_map, IsFree, FitsIn}
+use Rattle.wg_state.specs.Mapped.{AreMapsOf, is_mapping, made_in, mapped_in, settled_in, unmapped_in, maps_after, keeps_map, IsFree, FitsIn}
 use Rattle.wg_state.proofs.LeftLemmas.{left_complete, left_unmap, left_destroy, left_lose, left_pop, left_work, left_map, left_other}
 
 -- the pending maps of what is left
@@ -258,11 +258,11 @@ made_maps setup older entry maps run are making none own stays o made = record {
 
 map_idle : (setup : Setup) (past : Past) (buffer : ObjRef) (mode offset size : ℕ) → is_none (map_async_rule setup past buffer mode offset size) ≡ true → is_busy setup past buffer.number ≡ false
 unfolding map_async_rule
-map_idle setup past buffer mode offset size e = not_true (is_busy setup past buffer.number) (all_met (map_async_list setup past buffer mode offset size) e).1.1.1.1.1.1.1.0
+map_idle setup past buffer mode offset size e = not_true (is_busy setup past buffer.number) (all_met (map_async_list setup past buffer mode offset size) e).1.1.1.1.1.1.1.1.0
 
 map_fits : (setup : Setup) (past : Past) (buffer : ObjRef) (mode offset size : ℕ) → is_none (map_async_rule setup past buffer mode offset size) ≡ true → nat_le (offset + size) (unwrap_or (buffer_at past buffer.number) no_buffer).size ≡ true
 unfolding map_async_rule
-map_fits setup past buffer mode offset size e = (all_met (map_async_list setup past buffer mode offset size) e).1.1.1.1.0
+map_fits setup past buffer mode offset size e = (all_met (map_async_list setup past buffer mode offset size) e).1.1.1.1.1.0
 
 asked_maps : (setup : Setup) (older : Past) (who : ℕ) (buffer : ObjRef) (mode offset size : ℕ) (maps : MapsValue) → AreMapsOf setup older maps
     → AreMapsOf setup (told setup older who (MapAsync buffer mode offset size) ∷ older) (mapped_in (length older) buffer.number (last_use older buffer.number) (asked_mapping mode offset size) (reply_to setup older (MapAsync buffer mode offset size)).settled maps)
@@ -391,12 +391,12 @@ pending_some n (w ∷ ws) = one w.awaited (pending_some n ws)
         by_same true = refl
         by_same false = e
 
-pub held_is : (setup : Setup) (past : Past) (maps : MapsValue) (n : ℕ) → AreMapsOf setup past maps → is_held (state_of maps n) ≡ (is_some (mapped_at setup past n) || is_pending past n)
-held_is setup past maps n are =
+pub map_state_is : (setup : Setup) (past : Past) (maps : MapsValue) (n : ℕ) → AreMapsOf setup past maps → is_mapping (state_of maps n) ≡ (is_some (mapped_at setup past n) || is_pending past n)
+map_state_is setup past maps n are =
     by_both (pending_of maps.pending n) (table.get maps.mapped n)
     ∙ ap₂ ◌||◌ (ap is_some (are.mapped_are n)) (ap (λ ws. is_some (pending_of ws n)) are.pending_are ∙ pending_some n (awaiting past))
   where
-    by_both : (p : Option PendingMap) (m : Option Mapping) → is_held (state_with p m) ≡ is_some m || is_some p
+    by_both : (p : Option PendingMap) (m : Option Mapping) → is_mapping (state_with p m) ≡ is_some m || is_some p
     by_both (Some wait) None = refl
     by_both (Some wait) (Some m) = refl
     by_both None (Some m) = refl

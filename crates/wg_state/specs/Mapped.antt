@@ -29,10 +29,10 @@ pub record AreMapsOf (setup : Setup) (past : Past) (maps : MapsValue) : Type 0 w
   pub mapped_are : (n : ℕ) → table.get maps.mapped n ≡ mapped_at setup past n
 
 -- whether a buffer is mapped, or a map of it is pending
-abbrev pub is_held : MapState → Bool
-is_held Pending = true
-is_held Mapped = true
-is_held Unmapped = false
+abbrev pub is_mapping : MapState → Bool
+is_mapping Pending = true
+is_mapping Mapped = true
+is_mapping Unmapped = false
 
 -- a buffer that is mapped now
 abbrev pub started : ℕ → Mapping → MapsValue → MapsValue

@@ -1,39 +1,48 @@
 //! A history with its objects.
-ghost use Rattle.std.specs.Prelude.{◌≡◌, ◌+◌, ◌-◌, ◌^◌, ◌<◌, ◌≤◌, ◌∷◌, ◌++◌, [], length, reverse, option_copied, OnOk};
-ghost use Rattle.wg_history.specs.Objects.{count, maker, is_valid, is_made_valid};
+ghost use Rattle.std.specs.Prelude.{◌≡◌, ◌+◌, ◌-◌, ◌^◌, ◌<◌, ◌≤◌, ◌∷◌, ◌++◌, [], true, length, reverse, slice_get, option_copied, OnOk};
+ghost use Rattle.wg_history.specs.Objects.{count, maker, made_info, info_at, texture_at, texture_or_none_at, is_valid, is_made_valid};
+ghost use Rattle.wg_state.specs.Books.{known_at, is_back};
 
 use std::alloc::Global;
 use std::marker::Model;
+use wg_formats::no_texture;
 use wg_history::NoMemory;
-use wg_history::events::Entry;
+use wg_history::events::{Entry, Event};
 use wg_hub::{Hub, Made};
+use wg_types::handles::Info;
 use wg_types::replies::Answer;
+use wg_types::textures::TextureInfo;
 
-/// A history. Contracts see its entries, and the number of those that it has room for.
+/// A history, with its objects and the places of the entries that made them. Contracts see the serial of
+/// its device, its entries, and the number of those that it has room for.
 #[derive(Drop)]
 pub struct Book {
     entries: Vec<Entry>,
     hub: Hub,
+    places: Vec<usize>,
     spare: usize,
 }
 
 impl Model for Book {
-    ghost use Rattle.std.specs.Prelude.{◌≡◌, ◌+◌, ◌≤◌, reverse, vec_len, vec_capacity};
-    ghost use Rattle.wg_state.specs.Books.{BookValue, objects_of};
+    ghost use Rattle.std.specs.Prelude.{◌≡◌, ◌+◌, ◌≤◌, true, reverse, vec_len, vec_capacity};
+    ghost use Rattle.wg_state.specs.Books.{BookValue, objects_of, places_of, all_back};
 
     ghost Value = { BookValue };
 
-    ghost view = { λ b. record { entries = b.entries.items; spare = b.spare } };
+    ghost view = { λ b. record { device = b.hub.device; entries = b.entries.items; spare = b.spare } };
 
     ghost invariant = { λ b. record {
       objects_are : b.hub.objects ≡ objects_of (reverse b.entries.items);
+      places_are : b.places.items ≡ places_of (reverse b.entries.items);
+      back : all_back (reverse b.entries.items) ≡ true;
       entries_fit : vec_len b.entries + b.spare ≤ vec_capacity b.entries;
+      places_fit : vec_len b.places + b.spare ≤ vec_capacity b.places;
       objects_fit : b.spare ≤ b.hub.spare;
     } };
 }
 
 /// Whether an answer makes a valid object.
-fn is_made_valid(answer: Answer) -> bool
+pub fn is_made_valid(answer: Answer) -> bool
     ensures { result ≡ is_made_valid answer }
 {
     match answer {
@@ -42,20 +51,32 @@ fn is_made_valid(answer: Answer) -> bool
     }
 }
 
+/// The place that an object has in a list, if it has one.
+fn place_in(places: &[usize], number: u64) -> Option<usize>
+    ensures { result ≡ slice_get places.now number }
+{
+    match places.get(number as usize) {
+        Some(place) => Some(*place),
+        None => None,
+    }
+}
+
 impl Book {
-    /// No entries.
-    pub fn new(alloc: Global) -> Book
-        ensures { result ≡ record { entries = []; spare = 0 } }
+    /// No entries, of the device with this serial.
+    pub fn new(alloc: Global, device: u64) -> Book
+        ensures { result ≡ record { device = device; entries = []; spare = 0 } }
     {
         Book {
             entries: Vec::new(alloc),
-            hub: Hub::new(alloc),
+            hub: Hub::new(alloc, device),
+            places: Vec::new(alloc),
             spare: 0,
         }
     }
 
     /// Makes room for one entry more.
     pub fn reserve(&mut self) -> Result<(), NoMemory>
+        ensures device { self.new.device ≡ self.old.device }
         ensures entries { self.new.entries ≡ self.old.entries }
         ensures spare { self.old.spare ≤ self.new.spare }
         ensures room { OnOk result (0 < self.new.spare) }
@@ -63,22 +84,24 @@ impl Book {
     {
         if self.spare == 0 {
             self.entries.reserve(1)?;
+            self.places.reserve(1)?;
             self.hub.reserve(1)?;
             self.spare = 1;
         }
         Ok(())
     }
 
-    /// Adds an entry in room that there is.
+    /// Adds an entry in room that there is. A view that it makes valid is of a texture that was made
+    /// before.
     pub fn add(&mut self, entry: Entry)
-        requires { 0 < self.old.spare }
-        ensures { self.new ≡ record { entries = self.old.entries ++ entry ∷ []; spare = self.old.spare - 1 } }
+        requires room { 0 < self.old.spare }
+        requires back { is_back (reverse self.old.entries) entry ≡ true }
+        ensures { self.new ≡ record { device = self.old.device; entries = self.old.entries ++ entry ∷ []; spare = self.old.spare - 1 } }
     {
-        if entry.event.is_making() {
-            let _ = self.hub.add(Made {
-                valid: is_made_valid(entry.reply.answer),
-                place: self.entries.len(),
-            });
+        if let Some(info) = self.info_made(&entry.event) {
+            let valid = is_made_valid(entry.reply.answer);
+            let _ = self.hub.add(Made { info, valid });
+            self.places.push_reserved(self.entries.len());
         }
         self.entries.push_reserved(entry);
         self.spare -= 1;
@@ -106,11 +129,69 @@ impl Book {
         self.hub.valid(number)
     }
 
+    /// What was known of the object when it was made, which for a valid one is what is known of it.
+    pub fn info(&self, number: u64) -> Option<&Info>
+        ensures known { option_copied result ≡ known_at (reverse self.now.entries) number }
+        ensures valid { is_valid (reverse self.now.entries) number ≡ true → option_copied result ≡ info_at (reverse self.now.entries) number }
+    {
+        self.hub.info(number)
+    }
+
+    /// What is known of the object, if it is a texture.
+    #[tactic(auto, using(crate::proofs::KnownLemmas::texture_known))]
+    pub fn texture(&self, number: u64) -> Option<TextureInfo>
+        ensures { result ≡ texture_at (reverse self.now.entries) number }
+    {
+        match self.info(number) {
+            Some(Info::Texture(info)) => Some(*info),
+            Some(Info::Buffer(_) | Info::View(_) | Info::Encoder | Info::CommandBuffer) | None =>
+                None,
+        }
+    }
+
+    /// And with a texture of no texels standing for what is none.
+    pub fn texture_or_none(&self, number: u64) -> TextureInfo
+        ensures { result ≡ texture_or_none_at (reverse self.now.entries) number }
+    {
+        match self.texture(number) {
+            Some(info) => info,
+            None => no_texture(),
+        }
+    }
+
+    /// What is known of the object that an event makes.
+    fn info_made(&self, event: &Event) -> Option<Info>
+        ensures { result ≡ made_info (reverse self.now.entries) event.now }
+    {
+        match event {
+            Event::CreateView { texture, .. } => {
+                event.info_made(self.texture_or_none(texture.number))
+            }
+            Event::CreateBuffer { .. }
+            | Event::CreateTexture { .. }
+            | Event::CreateEncoder
+            | Event::Finish { .. }
+            | Event::Late { .. }
+            | Event::Submit { .. }
+            | Event::WriteBuffer { .. }
+            | Event::WriteTexture { .. }
+            | Event::Destroy { .. }
+            | Event::Drop { .. }
+            | Event::Complete { .. }
+            | Event::PushErrorScope { .. }
+            | Event::PopErrorScope
+            | Event::Lose
+            | Event::WorkDone
+            | Event::MapAsync { .. }
+            | Event::Unmap { .. } => event.info_made(no_texture()),
+        }
+    }
+
     /// The entry that made the object of this number.
     pub fn maker(&self, number: u64) -> Option<&Entry>
         ensures { option_copied result ≡ maker (reverse self.now.entries) number }
     {
-        let Some(place) = self.hub.place(number) else {
+        let Some(place) = place_in(self.places.as_slice(), number) else {
             return None;
         };
         Some(&self.entries[place])

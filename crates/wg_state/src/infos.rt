@@ -1,18 +1,33 @@
-//! Whether what a handle says of an object is what is known of it.
-ghost use Rattle.std.specs.Prelude.{◌≡◌, ◌==◌, ◌&&◌, reverse, false, if◌then◌else◌};
-ghost use Rattle.std.specs.Option.{option_map_or};
+//! Of which kind an info is, and whether two infos are of one kind or the same.
+ghost use Rattle.std.specs.Prelude.{◌≡◌};
 ghost use Rattle.wg_types.specs.Textures.{same_texture, same_view};
-ghost use Rattle.wg_model.specs.Views.{view_info};
 ghost use Rattle.wg_history.specs.Infos.{same_buffer, same_info, same_kind};
-ghost use Rattle.wg_history.specs.Objects.{made_info};
+ghost use Rattle.wg_history.specs.Objects.{is_encoder, is_command_buffer, has_memory};
 
-use crate::book::Book;
-use crate::look;
-use wg_formats::view_info;
-use wg_history::events::Event;
 use wg_types::handles::{BufferInfo, Info};
 use wg_types::same::Same;
 use wg_types::textures::{TextureInfo, ViewInfo};
+
+/// Whether the object is an encoder.
+pub fn is_encoder(info: &Info) -> bool
+    ensures { result ≡ is_encoder info.now }
+{
+    matches!(info, Info::Encoder)
+}
+
+/// Whether the object is a command buffer.
+pub fn is_command_buffer(info: &Info) -> bool
+    ensures { result ≡ is_command_buffer info.now }
+{
+    matches!(info, Info::CommandBuffer)
+}
+
+/// Whether the object has memory.
+pub fn has_memory(info: &Info) -> bool
+    ensures { result ≡ has_memory info.now }
+{
+    matches!(info, Info::Buffer(_) | Info::Texture(_))
+}
 
 /// Whether two infos of buffers are the same.
 fn same_buffer(a: &BufferInfo, b: &BufferInfo) -> bool
@@ -35,40 +50,37 @@ fn same_view(a: &ViewInfo, b: &ViewInfo) -> bool
     a.same(b)
 }
 
-/// Whether a handle's info is that of the object which an event of a history made, by its kind and,
-/// where `whole` says so, by all that is known.
-pub fn is_info_of(book: &Book, info: &Info, event: &Event, whole: bool) -> bool
-    ensures { result ≡ option_map_or (if whole then same_info info.now else same_kind info.now) (made_info (reverse book.now.entries) event.now) false }
+/// Whether two infos are of one kind.
+pub fn same_kind(a: &Info, b: &Info) -> bool
+    ensures { result ≡ same_kind a.now b.now }
 {
-    match event {
-        Event::CreateBuffer { info: made } => match info {
-            Info::Buffer(info) => !whole || same_buffer(info, made),
+    match a {
+        Info::Buffer(_) => matches!(b, Info::Buffer(_)),
+        Info::Texture(_) => matches!(b, Info::Texture(_)),
+        Info::View(_) => matches!(b, Info::View(_)),
+        Info::Encoder => matches!(b, Info::Encoder),
+        Info::CommandBuffer => matches!(b, Info::CommandBuffer),
+    }
+}
+
+/// Whether two infos are the same.
+pub fn same_info(a: &Info, b: &Info) -> bool
+    ensures { result ≡ same_info a.now b.now }
+{
+    match a {
+        Info::Buffer(one) => match b {
+            Info::Buffer(other) => same_buffer(one, other),
             _ => false,
         },
-        Event::CreateTexture { info: made } => match info {
-            Info::Texture(info) => !whole || same_texture(info, made),
+        Info::Texture(one) => match b {
+            Info::Texture(other) => same_texture(one, other),
             _ => false,
         },
-        Event::CreateView { texture, desc } => match info {
-            Info::View(info) => {
-                let known = look::texture_or_none_at(book, texture.number);
-                !whole || same_view(info, &view_info(known, *texture, desc))
-            }
+        Info::View(one) => match b {
+            Info::View(other) => same_view(one, other),
             _ => false,
         },
-        Event::CreateEncoder => matches!(info, Info::Encoder),
-        Event::Finish { .. } => matches!(info, Info::CommandBuffer),
-        Event::Late { .. }
-        | Event::Submit { .. }
-        | Event::WriteBuffer { .. }
-        | Event::WriteTexture { .. }
-        | Event::Destroy { .. }
-        | Event::Complete { .. }
-        | Event::PushErrorScope { .. }
-        | Event::PopErrorScope
-        | Event::Lose
-        | Event::WorkDone
-        | Event::MapAsync { .. }
-        | Event::Unmap { .. } => false,
+        Info::Encoder => matches!(b, Info::Encoder),
+        Info::CommandBuffer => matches!(b, Info::CommandBuffer),
     }
 }

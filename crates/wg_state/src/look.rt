@@ -1,26 +1,36 @@
 //! What a history says of its objects.
-ghost use Rattle.std.specs.Prelude.{◌≡◌, ◌≤◌, ◌==◌, reverse, option_copied, length, is_some, IfSome, Some, not, false, ◌&&◌, if◌then◌else◌};
+ghost use Rattle.std.specs.Prelude.{◌≡◌, ◌≤◌, ◌==◌, reverse, option_copied, length, is_some, IfSome, Some, not, true, false, ◌&&◌, if◌then◌else◌};
 ghost use Rattle.std.specs.Option.{option_map_or};
-ghost use Rattle.wg_history.specs.Infos.{same_bool};
-ghost use Rattle.wg_history.specs.Objects.{info_at, buffer_at, texture_at, texture_or_none_at, commands_at, is_own, is_buffer, is_texture, is_encoder, is_command_buffer, has_memory};
+ghost use Rattle.wg_history.specs.Infos.{same_bool, same_kind, same_info};
+ghost use Rattle.wg_history.specs.Objects.{info_at, buffer_at, texture_at, texture_or_none_at, commands_at, is_valid, is_own, is_any, is_buffer, is_texture, is_encoder, is_command_buffer, has_memory};
 ghost use Rattle.wg_history.specs.Rules.{is_genuine};
+ghost use Rattle.wg_state.specs.Books.{own_known};
 
 use crate::book::Book;
-use crate::infos::is_info_of;
-use crate::made;
-use wg_formats::no_texture;
+use crate::infos::{has_memory, is_command_buffer, is_encoder, same_info, same_kind};
 use wg_history::events::Setup;
 use wg_types::commands::{Command, On};
-use wg_types::handles::{BufferInfo, Handle, ObjRef};
+use wg_types::handles::{BufferInfo, Handle, Info, ObjRef};
 use wg_types::textures::TextureInfo;
 
+/// What was known of an object of this device when it was made.
+fn own_info(setup: Setup, book: &Book, object: ObjRef) -> Option<&Info>
+    ensures { option_copied result ≡ own_known setup (reverse book.now.entries) object }
+{
+    if object.device != setup.serial {
+        return None;
+    }
+    book.info(object.number)
+}
+
 /// What is known of the object, if it is a buffer.
+#[tactic(auto, using(crate::proofs::KnownLemmas::buffer_known))]
 pub fn buffer_at(book: &Book, number: u64) -> Option<BufferInfo>
     ensures { result ≡ buffer_at (reverse book.now.entries) number }
 {
-    match book.maker(number) {
-        Some(entry) => made::buffer_made(&entry.event),
-        None => None,
+    match book.info(number) {
+        Some(Info::Buffer(info)) => Some(*info),
+        Some(Info::Texture(_) | Info::View(_) | Info::Encoder | Info::CommandBuffer) | None => None,
     }
 }
 
@@ -28,20 +38,14 @@ pub fn buffer_at(book: &Book, number: u64) -> Option<BufferInfo>
 pub fn texture_at(book: &Book, number: u64) -> Option<TextureInfo>
     ensures { result ≡ texture_at (reverse book.now.entries) number }
 {
-    match book.maker(number) {
-        Some(entry) => made::texture_made(&entry.event),
-        None => None,
-    }
+    book.texture(number)
 }
 
 /// And with a texture of no texels standing for what is none.
 pub fn texture_or_none_at(book: &Book, number: u64) -> TextureInfo
     ensures { result ≡ texture_or_none_at (reverse book.now.entries) number }
 {
-    match texture_at(book, number) {
-        Some(info) => info,
-        None => no_texture(),
-    }
+    book.texture_or_none(number)
 }
 
 /// What is known of a buffer of this device.
@@ -66,40 +70,41 @@ pub fn own_texture(setup: Setup, book: &Book, texture: ObjRef) -> Option<Texture
     texture_at(book, texture.number)
 }
 
+/// Whether the object is one of this device, of any kind, valid or not.
+pub fn is_own_object(setup: Setup, book: &Book, object: ObjRef) -> bool
+    ensures { result ≡ is_own setup (reverse book.now.entries) is_any object }
+{
+    matches!(own_info(setup, book, object), Some(_))
+}
+
 /// Whether the object is one of this device that has memory, valid or not.
 pub fn is_own_resource(setup: Setup, book: &Book, object: ObjRef) -> bool
     ensures { result ≡ is_own setup (reverse book.now.entries) has_memory object }
 {
-    if object.device != setup.serial {
+    let Some(info) = own_info(setup, book, object) else {
         return false;
-    }
-    buffer_at(book, object.number).is_some() || texture_at(book, object.number).is_some()
+    };
+    has_memory(info)
 }
 
 /// Whether the object is an encoder of this device, valid or not.
 pub fn is_own_encoder(setup: Setup, book: &Book, object: ObjRef) -> bool
     ensures { result ≡ is_own setup (reverse book.now.entries) is_encoder object }
 {
-    if object.device != setup.serial {
+    let Some(info) = own_info(setup, book, object) else {
         return false;
-    }
-    match book.maker(object.number) {
-        Some(entry) => made::makes_encoder(&entry.event),
-        None => false,
-    }
+    };
+    is_encoder(info)
 }
 
 /// Whether the object is a command buffer of this device, valid or not.
 pub fn is_own_command_buffer(setup: Setup, book: &Book, object: ObjRef) -> bool
     ensures { result ≡ is_own setup (reverse book.now.entries) is_command_buffer object }
 {
-    if object.device != setup.serial {
+    let Some(info) = own_info(setup, book, object) else {
         return false;
-    }
-    match book.maker(object.number) {
-        Some(entry) => made::makes_command_buffer(&entry.event),
-        None => false,
-    }
+    };
+    is_command_buffer(info)
 }
 
 /// The commands of the object, if it is a command buffer.
@@ -112,22 +117,36 @@ pub fn commands_at(book: &Book, number: u64) -> &[(On, Command)]
     }
 }
 
+/// Whether the object is one of this device and of the kind of this info.
+fn is_own_like(setup: Setup, book: &Book, object: ObjRef, info: &Info) -> bool
+    ensures { result ≡ is_own setup (reverse book.now.entries) (same_kind info.now) object }
+{
+    let Some(known) = own_info(setup, book, object) else {
+        return false;
+    };
+    same_kind(info, known)
+}
+
+/// Whether this is what is known of the object, if that is valid.
+fn is_known_as(book: &Book, number: u64, info: &Info) -> bool
+    ensures { is_valid (reverse book.now.entries) number ≡ true → result ≡ option_map_or (same_info info.now) (info_at (reverse book.now.entries) number) false }
+{
+    let Some(known) = book.info(number) else {
+        return false;
+    };
+    same_info(info, known)
+}
+
 /// Whether the handle is as the object of this device is that it names.
 pub fn is_genuine(setup: Setup, book: &Book, handle: &Handle) -> bool
     ensures { result ≡ is_genuine setup (reverse book.now.entries) handle.now }
 {
     let reference = handle.reference();
-    if reference.device != setup.serial {
-        return false;
-    }
-    let Some(entry) = book.maker(reference.number) else {
-        return false;
-    };
-    if !is_info_of(book, handle.info(), &entry.event, false) {
+    if !is_own_like(setup, book, reference, handle.info()) {
         return false;
     }
     if handle.valid() != book.is_valid(reference.number) {
         return false;
     }
-    !handle.valid() || is_info_of(book, handle.info(), &entry.event, true)
+    !handle.valid() || is_known_as(book, reference.number, handle.info())
 }

@@ -8,11 +8,12 @@ ghost use Rattle.wg_history.specs.Loss.{asked_mapping};
 ghost use Rattle.wg_history.specs.Rules.{mapped_made, is_mapped_how};
 ghost use Rattle.wg_life.specs.Lives.{row_at};
 ghost use Rattle.wg_maps.specs.Mappings.{state_of};
-ghost use Rattle.wg_state.specs.Mapped.{is_held, made_in, keeps_map, mapped_in, settled_in, unmapped_by, unmapped_in, lost_in, maps_after, FitsIn, IsFree};
+ghost use Rattle.wg_state.specs.Rows.{AreDropsOf};
+ghost use Rattle.wg_state.specs.Mapped.{is_mapping, made_in, keeps_map, mapped_in, settled_in, unmapped_by, unmapped_in, lost_in, maps_after, FitsIn, IsFree};
 
 use crate::book::Book;
 use crate::look;
-use crate::notes::destroyed_by;
+use crate::notes::{destroyed_by, is_dropped};
 use wg_formats::no_texture;
 use wg_history::events::{Entry, Event, Form, Promise, Setup};
 use wg_life::Life;
@@ -22,8 +23,8 @@ use wg_types::mappings::{MapMode, MapState, Mapping};
 use wg_types::replies::{Answer, How, Settlement};
 
 /// Whether a buffer is mapped, or a map of it is pending.
-pub fn is_held(state: MapState) -> bool
-    ensures { result ≡ is_held state }
+pub fn is_mapping(state: MapState) -> bool
+    ensures { result ≡ is_mapping state }
 {
     match state {
         MapState::Pending | MapState::Mapped => true,
@@ -138,13 +139,17 @@ fn settle(op: u64, answer: Answer, maps: &mut Maps)
 
 /// The buffer that an event unmaps, if it meets its rules.
 #[tactic(auto, unfolding(wg_history::specs::Rules::unmap_rule))]
-fn unmapped_by(setup: Setup, book: &Book, event: &Event) -> Option<u64>
+fn unmapped_by(setup: Setup, book: &Book, life: &Life, event: &Event) -> Option<u64>
+    requires { AreDropsOf setup (reverse book.now.entries) life.now.holdings.marks }
     ensures { result ≡ unmapped_by setup (reverse book.now.entries) event.now }
 {
     let Some(buffer) = event.effects().unmapped else {
-        return destroyed_by(setup, book, event);
+        return destroyed_by(setup, book, life, event);
     };
     if look::own_buffer(setup, book, buffer).is_none() {
+        return None;
+    }
+    if is_dropped(life, buffer.number) {
         return None;
     }
     Some(buffer.number)
@@ -176,6 +181,7 @@ fn end(loses: bool, number: Option<u64>, maps: &mut Maps)
 pub fn note_maps(setup: Setup, book: &Book, life: &Life, entry: &Entry, maps: &mut Maps)
     requires place { 0 < maps.old.spare }
     requires fits { FitsIn (reverse book.now.entries) (effects_of entry.now.event).form entry.now.reply.settled maps.old }
+    requires drops { AreDropsOf setup (reverse book.now.entries) life.now.holdings.marks }
     requires last { (n : _) → (row_at life.now.rows n).last ≡ last_use (reverse book.now.entries) n }
     ensures after { maps.new ≡ record (maps_after setup (reverse book.now.entries) entry.now maps.old) { spare = maps.new.spare } }
     ensures room { maps.old.spare ≤ maps.new.spare + 1 }
@@ -196,17 +202,14 @@ pub fn note_maps(setup: Setup, book: &Book, life: &Life, entry: &Entry, maps: &m
             };
             let last = life.row(buffer.number).last;
             let promise = book.entries().len() as u64;
-            map(
-                promise,
-                buffer.number,
-                last,
-                mapping,
-                entry.reply.settled.as_slice(),
-                maps,
-            );
+            let settled = entry.reply.settled.as_slice();
+            map(promise, buffer.number, last, mapping, settled, maps);
         }
         Form::Completion(op) => settle(op, entry.reply.answer, maps),
-        Form::Plain => end(effects.loses, unmapped_by(setup, book, &entry.event), maps),
+        Form::Plain => {
+            let unmapped = unmapped_by(setup, book, life, &entry.event);
+            end(effects.loses, unmapped, maps);
+        }
         Form::Queue | Form::Promise(Promise::WorkDone | Promise::ScopeError) => {}
     }
 }

@@ -4,15 +4,18 @@ ghost use Rattle.wg_orders.specs.Trace.{free};
 ghost use Rattle.wg_history.specs.Operations.{issued, completed, last_use};
 ghost use Rattle.wg_model.specs.ErrorScopes.{deliver, pop_how};
 ghost use Rattle.wg_history.specs.Loss.{is_lost, scopes_of, awaiting, is_map_of, is_pending};
-ghost use Rattle.wg_history.specs.Rules.{has_finished, is_consumed, is_destroyed, is_busy, mapped_at};
+ghost use Rattle.wg_history.specs.Budget.{live_bytes};
+ghost use Rattle.wg_history.specs.Objects.{is_made_valid};
+ghost use Rattle.wg_history.specs.Rules.{has_finished, is_consumed, is_destroyed, is_dropped, may_name, is_busy, mapped_at};
 ghost use Rattle.wg_history.specs.Answers.{Run, reply_to, settle_all, kept_how, ended_how, is_kept};
 ghost use Rattle.wg_history.specs.Releases.{freed};
-ghost use Rattle.wg_state.specs.Rows.{AreUsed};
+ghost use Rattle.wg_state.specs.Rows.{AreUsed, made_by, links_of};
 ghost use Rattle.wg_state.specs.States.{IsKept};
 ghost use Rattle.wg_state.specs.Waits.{map_waits};
 
 use crate::book::Book;
-use crate::mappings::{is_held, note_maps};
+use crate::mappings::{is_mapping, note_maps};
+use crate::names::links_of;
 use crate::notes::{grow, note_entry};
 use crate::queues::note_queue;
 use crate::scopes::note_errors;
@@ -23,7 +26,7 @@ use std::marker::Model;
 use wg_errors::Errors;
 use wg_history::NoMemory;
 use wg_history::events::{Entry, Setup};
-use wg_life::Life;
+use wg_life::{Life, Made};
 use wg_maps::Maps;
 use wg_queue::Queue;
 use wg_types::mappings::{Mapping, PendingMap};
@@ -45,6 +48,7 @@ fn note(
     setup: Setup,
     book: &Book,
     entry: &Entry,
+    made: Option<Made>,
     uses: &[Used],
     kept: &mut Kept,
     trace: &mut Vec<Item>,
@@ -52,14 +56,16 @@ fn note(
     requires run { Run setup book.now.entries }
     requires answers { entry.now.reply ≡ reply_to setup (reverse book.now.entries) entry.now.event }
     requires used { AreUsed (reverse book.now.entries) entry.now.reply.answer entry.now.event uses.now }
-    requires kept { IsKept setup (reverse book.now.entries) kept.old.life.rows kept.old.queue kept.old.errors kept.old.maps }
+    requires made { made ≡ made_by entry.now.event (is_made_valid entry.now.reply.answer) }
+    requires links { links_of made < kept.old.life.room }
+    requires kept { IsKept setup (reverse book.now.entries) kept.old.life kept.old.queue kept.old.errors kept.old.maps }
     requires small { length book.now.entries + 1 < 2 ^ 64 }
     requires place { 0 < kept.old.life.spare }
     requires queue_place { 0 < kept.old.queue.spare }
     requires errors_place { 0 < kept.old.errors.spare }
     requires maps_place { 0 < kept.old.maps.spare }
     requires room { vec_len trace.old + (length book.now.entries + 1) ≤ vec_capacity trace.old }
-    ensures kept { IsKept setup (entry.now ∷ reverse book.now.entries) kept.new.life.rows kept.new.queue kept.new.errors kept.new.maps }
+    ensures kept { IsKept setup (entry.now ∷ reverse book.now.entries) kept.new.life kept.new.queue kept.new.errors kept.new.maps }
     ensures trace { trace.new.items ≡ trace.old.items ++ map free (freed setup (entry.now ∷ reverse book.now.entries)) }
     ensures spare { kept.old.life.spare ≤ kept.new.life.spare + 1 }
     ensures queue_spare { kept.old.queue.spare ≤ kept.new.queue.spare + 1 }
@@ -67,7 +73,7 @@ fn note(
     ensures maps_spare { kept.old.maps.spare ≤ kept.new.maps.spare + 1 }
 {
     note_maps(setup, book, &kept.life, entry, &mut kept.maps);
-    grow(entry, &mut kept.life);
+    grow(made, &mut kept.life);
     note_entry(setup, book, entry, uses, &mut kept.life);
     note_queue(book.entries().len() as u64, entry, &mut kept.queue);
     note_errors(entry, &mut kept.errors);
@@ -75,7 +81,8 @@ fn note(
 }
 
 /// A device's history, with what it says kept beside it. Contracts see what the device was opened
-/// with, the history, which is a run, and how many entries there is room for.
+/// with, the history, which is a run, for how many entries there is room, and for how many holds of
+/// objects.
 #[derive(Drop)]
 pub struct State {
     setup: Setup,
@@ -86,15 +93,16 @@ pub struct State {
 }
 
 impl Model for State {
-    ghost use Rattle.std.specs.Prelude.{◌≤◌, reverse};
+    ghost use Rattle.std.specs.Prelude.{◌≡◌, ◌≤◌, reverse};
     ghost use Rattle.wg_state.specs.States.{StateValue, IsKept};
 
     ghost Value = { StateValue };
 
-    ghost view = { λ s. record { setup = s.setup; history = s.book.entries; run = s.run; spare = s.spare } };
+    ghost view = { λ s. record { setup = s.setup; history = s.book.entries; run = s.run; spare = s.spare; room = s.kept.life.room } };
 
     ghost invariant = { λ s. record {
-      kept : IsKept s.setup (reverse s.book.entries) s.kept.life.rows s.kept.queue s.kept.errors s.kept.maps;
+      device_is : s.book.device ≡ s.setup.serial;
+      kept : IsKept s.setup (reverse s.book.entries) s.kept.life s.kept.queue s.kept.errors s.kept.maps;
       book_fits : s.spare ≤ s.book.spare;
       life_fits : s.spare ≤ s.kept.life.spare;
       queue_fits : s.spare ≤ s.kept.queue.spare;
@@ -112,9 +120,9 @@ impl State {
     {
         State {
             setup,
-            book: Book::new(alloc),
+            book: Book::new(alloc, setup.serial),
             kept: Kept {
-                life: Life::new(alloc),
+                life: Life::new(alloc, setup.budget),
                 queue: Queue::new(alloc),
                 errors: Errors::new(alloc),
                 maps: Maps::new(alloc),
@@ -225,17 +233,17 @@ impl State {
     }
 
     /// Whether the buffer is mapped, or a map of it is pending.
-    fn is_held(&self, buffer: u64) -> bool
+    fn is_mapping(&self, buffer: u64) -> bool
         ensures { result ≡ (is_some (mapped_at self.now.setup (reverse self.now.history) buffer) || is_pending (reverse self.now.history) buffer) }
     {
-        is_held(self.kept.maps.state(buffer))
+        is_mapping(self.kept.maps.state(buffer))
     }
 
     /// Whether the buffer is destroyed, or mapped, or a map of it is pending.
     pub fn is_busy(&self, buffer: u64) -> bool
         ensures { result ≡ is_busy self.now.setup (reverse self.now.history) buffer }
     {
-        self.is_destroyed(buffer) || self.is_held(buffer)
+        self.is_destroyed(buffer) || self.is_mapping(buffer)
     }
 
     /// Whether the object is destroyed.
@@ -245,18 +253,42 @@ impl State {
         self.kept.life.row(number).destroyed
     }
 
+    /// Whether the object is dropped.
+    pub fn is_dropped(&self, number: u64) -> bool
+        ensures { result ≡ is_dropped self.now.setup (reverse self.now.history) number }
+    {
+        self.kept.life.mark(number).dropped.is_some()
+    }
+
+    /// Whether commands of the encoder may name the object: it was not dropped before that was made.
+    pub fn may_name(&self, encoder: u64, number: u64) -> bool
+        ensures { result ≡ may_name self.now.setup (reverse self.now.history) encoder number }
+    {
+        match self.kept.life.mark(number).dropped {
+            Some(made) => encoder < made,
+            None => true,
+        }
+    }
+
+    /// Whether the budget has so many bytes more.
+    pub fn fits(&self, bytes: u64) -> bool
+        ensures { result ≡ nat_le (live_bytes self.now.setup (reverse self.now.history) + bytes) self.now.setup.budget }
+    {
+        self.kept.life.fits(bytes)
+    }
+
     /// Whether the encoder has ended.
     pub fn has_finished(&self, number: u64) -> bool
         ensures { result ≡ has_finished self.now.setup (reverse self.now.history) number }
     {
-        self.kept.life.row(number).ended
+        self.kept.life.mark(number).ended
     }
 
     /// Whether the command buffer was consumed.
     pub fn is_consumed(&self, number: u64) -> bool
         ensures { result ≡ is_consumed self.now.setup (reverse self.now.history) number }
     {
-        self.kept.life.row(number).consumed
+        self.kept.life.mark(number).consumed
     }
 
     /// The last operation that uses the object, or 0.
@@ -266,14 +298,15 @@ impl State {
         self.kept.life.row(number).last
     }
 
-    /// Makes room for one entry more.
-    pub fn reserve(&mut self) -> Result<(), NoMemory>
+    /// Makes room for one entry more, which makes this object, if it makes one.
+    pub fn reserve(&mut self, made: &Option<Made>) -> Result<(), NoMemory>
         ensures setup { self.new.setup ≡ self.old.setup }
         ensures history { self.new.history ≡ self.old.history }
         ensures room { OnOk result (0 < self.new.spare) }
+        ensures links { OnOk result (links_of made.now < self.new.room) }
         ensures small { OnOk result (length self.new.history + 1 < 2 ^ 64) }
     {
-        self.kept.life.reserve()?;
+        self.kept.life.reserve(links_of(made)?)?;
         self.kept.queue.reserve(1)?;
         self.kept.errors.reserve(1)?;
         self.kept.maps.reserve(1)?;
@@ -282,19 +315,29 @@ impl State {
         Ok(())
     }
 
-    /// Adds an entry, of which the operation uses these objects, and its releases to a trace, in room
-    /// that there is.
-    pub fn add(&mut self, entry: Entry, uses: &[Used], trace: &mut Vec<Item>)
+    /// Adds an entry, which makes this object, if it makes one, and of which the operation uses these, and
+    /// its releases to a trace, in room that there is.
+    pub fn add(&mut self, entry: Entry, made: Option<Made>, uses: &[Used], trace: &mut Vec<Item>)
         requires answers { entry.reply ≡ reply_to self.old.setup (reverse self.old.history) entry.event }
         requires used { AreUsed (reverse self.old.history) entry.reply.answer entry.event uses.now }
+        requires made { made ≡ made_by entry.event (is_made_valid entry.reply.answer) }
         requires place { 0 < self.old.spare }
+        requires links { links_of made < self.old.room }
         requires small { length self.old.history + 1 < 2 ^ 64 }
         requires room { vec_len trace.old + (length self.old.history + 1) ≤ vec_capacity trace.old }
         ensures setup { self.new.setup ≡ self.old.setup }
         ensures history { self.new.history ≡ self.old.history ++ entry ∷ [] }
         ensures trace { trace.new.items ≡ trace.old.items ++ map free (freed self.old.setup (entry ∷ reverse self.old.history)) }
     {
-        note(self.setup, &self.book, &entry, uses, &mut self.kept, trace);
+        note(
+            self.setup,
+            &self.book,
+            &entry,
+            made,
+            uses,
+            &mut self.kept,
+            trace,
+        );
         self.book.add(entry);
         self.spare -= 1;
     }

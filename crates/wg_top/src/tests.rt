@@ -79,7 +79,7 @@ fn scripts_have_their_texts(rt: HostRuntime) -> Result<(), Fail> {
 fn copies(alloc: Global, count: u32) -> Result<String, Fail> {
     let mut script = String::from_str(
         alloc,
-        "{\"budget\":1000000,\"phases\":[[[{\"do\":\"createBuffer\",\"as\":\"b\",\"size\":16,\"usage\":12},{\"do\":\"createBuffer\",\"as\":\"d\",\"size\":268435456,\"usage\":8}",
+        "{\"budget\":300000000,\"phases\":[[[{\"do\":\"createBuffer\",\"as\":\"b\",\"size\":16,\"usage\":12},{\"do\":\"createBuffer\",\"as\":\"d\",\"size\":268435456,\"usage\":8}",
     )?;
     for i in 0..count {
         let calls = format!(in alloc;

@@ -6,7 +6,7 @@ use Rattle.wg_types.specs.declared.wanted.Kind.TheVariants as kind
 use Rattle.wg_types.specs.declared.wanted.Wanted.{Wanted}
 use Rattle.wg_types.specs.declared.wanted.Wanted.TheVariants as wanted
 pub use Rattle.wg_types.specs.declared.requests.RequestOf.{RequestOf}
-use Rattle.wg_types.specs.declared.requests.RequestOf.TheVariants.{CreateBuffer, CreateTexture, CreateView, CreateEncoder, Finish, Submit, WriteBuffer, WriteTexture, Destroy, Complete, PushErrorScope, PopErrorScope, Lose, WorkDone, MapAsync, Unmap}
+use Rattle.wg_types.specs.declared.requests.RequestOf.TheVariants.{CreateBuffer, CreateTexture, CreateView, CreateEncoder, Finish, Submit, WriteBuffer, WriteTexture, Destroy, Drop, Complete, PushErrorScope, PopErrorScope, Lose, WorkDone, MapAsync, Unmap}
 
 -- the kind of the object that a call makes, if it makes one
 abbrev pub kind_made : {R : Type 0} → RequestOf R → Option Kind
@@ -19,6 +19,7 @@ kind_made (Submit buffers) = None
 kind_made (WriteBuffer buffer offset size) = None
 kind_made (WriteTexture texture spot layout size data_size) = None
 kind_made (Destroy object) = None
+kind_made (Drop object) = None
 kind_made (Complete op) = None
 kind_made (PushErrorScope filter) = None
 kind_made PopErrorScope = None
@@ -38,6 +39,7 @@ named (Submit buffers) = all_wanted wanted.CommandBuffer buffers
 named (WriteBuffer buffer offset size) = (buffer, wanted.Buffer) ∷ []
 named (WriteTexture texture spot layout size data_size) = (texture, wanted.Texture) ∷ []
 named (Destroy object) = (object, wanted.Destroyable) ∷ []
+named (Drop object) = (object, wanted.Object) ∷ []
 named (Complete op) = []
 named (PushErrorScope filter) = []
 named PopErrorScope = []
@@ -57,6 +59,7 @@ map_refs f (Submit buffers) = Submit (map f buffers)
 map_refs f (WriteBuffer buffer offset size) = WriteBuffer (f buffer) offset size
 map_refs f (WriteTexture texture spot layout size data_size) = WriteTexture (f texture) spot layout size data_size
 map_refs f (Destroy object) = Destroy (f object)
+map_refs f (Drop object) = Drop (f object)
 map_refs f (Complete op) = Complete op
 map_refs f (PushErrorScope filter) = PushErrorScope filter
 map_refs f PopErrorScope = PopErrorScope

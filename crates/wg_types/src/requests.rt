@@ -47,6 +47,9 @@ pub enum RequestOf<R> {
     Destroy {
         object: R,
     },
+    Drop {
+        object: R,
+    },
     Complete {
         op: u64,
     },
@@ -82,6 +85,7 @@ impl<R> RequestOf<R> {
             | RequestOf::WriteBuffer { .. }
             | RequestOf::WriteTexture { .. }
             | RequestOf::Destroy { .. }
+            | RequestOf::Drop { .. }
             | RequestOf::Complete { .. }
             | RequestOf::PushErrorScope { .. }
             | RequestOf::PopErrorScope
@@ -107,6 +111,7 @@ impl<R> RequestOf<R> {
             | RequestOf::Unmap { buffer } => asked.ask(buffer, Wanted::Buffer),
             RequestOf::WriteTexture { texture, .. } => asked.ask(texture, Wanted::Texture),
             RequestOf::Destroy { object } => asked.ask(object, Wanted::Destroyable),
+            RequestOf::Drop { object } => asked.ask(object, Wanted::Object),
             RequestOf::CreateBuffer { .. }
             | RequestOf::CreateTexture { .. }
             | RequestOf::CreateEncoder
@@ -163,6 +168,9 @@ impl<R> RequestOf<R> {
                 data_size: *data_size,
             }),
             RequestOf::Destroy { object } => Ok(RequestOf::Destroy {
+                object: find.find(object)?,
+            }),
+            RequestOf::Drop { object } => Ok(RequestOf::Drop {
                 object: find.find(object)?,
             }),
             RequestOf::Complete { op } => Ok(RequestOf::Complete { op: *op }),

@@ -6,7 +6,7 @@ use Rattle.wg_life.proofs.waiting.release.Goals as goal
 
 pub push_all-requires : goal.push_all-requires
 push_all-requires c =
-    let le = due_le _ _ _ _ _ c.take_due.ensures.releasing in
+    let le = due_le _ _ _ _ _ _ c.take_due.ensures.releasing in
     let room = c.requires.trace_room in
     let e : length c.as_slice-2.result.now ≡ length c.take_due.new.waiting.due.items = search rules in
     let f : vec_len c.args.rows.now ≡ length c.args.rows.now.items = search rules in
@@ -15,7 +15,7 @@ push_all-requires c =
 pub returns-clause-items : goal.returns-clause-items
 returns-clause-items c =
     let items : c.push_all.new.trace.items ≡ c.args.trace.now.items ++ map free (flat_map (sort_at c.take_due.new.rows.items) c.sort_unstable.new.self.items) = search rules in
-    items ∙ ap (λ (freed : List _). c.args.trace.now.items ++ map free freed) (pushed_due _ _ _ _ _ _ c.sort_unstable.ensures.permutation c.sort_unstable.ensures.sorted c.take_due.ensures.late c.take_due.ensures.releasing)
+    items ∙ ap (λ (freed : List _). c.args.trace.now.items ++ map free freed) (pushed_due _ _ _ _ _ _ _ c.sort_unstable.ensures.permutation c.sort_unstable.ensures.sorted c.take_due.ensures.late c.take_due.ensures.releasing)
 
 pub returns-clause-notes : goal.returns-clause-notes
-returns-clause-notes c = marked_due _ _ _ _ _ c.take_due.ensures.late c.take_due.ensures.releasing
+returns-clause-notes c = marked_due _ _ _ _ _ _ c.take_due.ensures.late c.take_due.ensures.releasing

@@ -1,0 +1,4 @@
+pub mod Ending
+pub mod Holding
+pub mod Keeping
+pub mod Sums

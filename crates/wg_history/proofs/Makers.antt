@@ -1,0 +1,60 @@
+-- What made an object, and that an event which makes a valid one met its rules.
+use Rattle.std.proofs.Common.{◌≡◌, ℕ, ◌+◌, ◌<◌, ◌≤◌, ◌∷◌, Bool, true, false, not, ◌&&◌, ◌==◌, Option, Some, None, is_some, is_none, option_and_then, refl, ap, sym, ◌∙◌, arith, if◌then◌else◌, true≢false}
+use Rattle.std.specs.Option.{option_map_or}
+use Rattle.std.proofs.lemmas.Bool.{and_parts, and_from}
+use Rattle.std.proofs.lemmas.Bool.Decides.{nat_tests}
+use Rattle.wg_types.specs.declared.handles.Info.{Info}
+use Rattle.wg_types.specs.declared.handles.ObjRef.{ObjRef}
+use Rattle.wg_types.specs.declared.replies.Reply.{Reply}
+use Rattle.wg_history.specs.Entries.{Setup, effects_of, Entry, Past}
+use Rattle.wg_history.specs.Objects.{is_making, count, maker, made_info, info_at, is_own, is_made_valid}
+use Rattle.wg_history.specs.Loss.{is_lost}
+use Rattle.wg_history.specs.FirstRules.{first_rule}
+use Rattle.wg_history.specs.Answers.{answer_by, reply_to}
+use Rattle.wg_history.proofs.Released.{maker_below}
+
+-- What made an object stays.
+if_no : {A : Type 0} (b t : Bool) (x y : A) → t ≡ false → (if b && t then x else y) ≡ y
+if_no true t x y h = ap (λ u. if u then x else y) h
+if_no false t x y h = refl
+
+pub maker_stays : (past : Past) (entry : Entry) (n : ℕ) → n < count past → maker (entry ∷ past) n ≡ maker past n
+maker_stays past entry n lt = if_no (is_making entry.event) (count past == n) (Some entry) (maker past n) (grind (arith, nat_tests, lt))
+
+-- The entry that makes an object is its maker.
+count_step : (b : Bool) (c n : ℕ) → c ≤ n → n < (if b then c + 1 else c) → (b ≡ true) × (n ≡ c)
+count_step true c n le lt = (refl, omega (arith, le, lt))
+count_step false c n le lt = absurd (omega (arith, le, lt))
+
+pub maker_new : (entry : Entry) (older : Past) (n : ℕ) → count older ≤ n → n < count (entry ∷ older) → maker (entry ∷ older) n ≡ Some entry
+maker_new entry older n le lt =
+    let new : (is_making entry.event ≡ true) × (n ≡ count older) = count_step (is_making entry.event) (count older) n le lt in
+    let same : (count older == n) ≡ true = grind (arith, nat_tests, new.1) in
+    ap (λ b. if b then Some entry else maker older n) (and_from (is_making entry.event) (count older == n) new.0 same)
+
+-- how the number of objects goes on
+
+pub older_le : (b : Bool) (c n : ℕ) → (if b then c + 1 else c) ≤ n → c ≤ n
+older_le true c n le = omega (arith, le)
+older_le false c n le = le
+
+pub count_grows : (b : Bool) (c k : ℕ) → k ≤ c → k ≤ (if b then c + 1 else c)
+count_grows true c k le = omega (arith, le)
+count_grows false c k le = le
+
+pub made_more : (b : Bool) (c n : ℕ) → n < c → n < (if b then c + 1 else c)
+made_more true c n lt = omega (arith, lt)
+made_more false c n lt = lt
+
+-- An own object was made.
+some_maker : {X : Type 0} (f : Entry → Option X) (test : X → Bool) (o : Option Entry) → option_map_or test (option_and_then f o) false ≡ true → is_some o ≡ true
+some_maker f test None h = absurd (true≢false (sym h))
+some_maker f test (Some entry) h = refl
+
+pub own_below : (setup : Setup) (past : Past) (kind : Info → Bool) (object : ObjRef) → is_own setup past kind object ≡ true → object.number < count past
+own_below setup past kind object own =
+    maker_below past object.number (some_maker (λ entry. made_info past entry.event) kind (maker past object.number) (and_parts (object.device == setup.serial) (option_map_or kind (info_at past object.number) false) own).1)
+
+-- An object that is valid was made by an event that met its rules.
+pub made_met : (setup : Setup) (entry : Entry) (older : Past) → entry.reply ≡ reply_to setup older entry.event → is_made_valid entry.reply.answer ≡ true → is_made_valid (answer_by older (effects_of entry.event).form (not (is_lost older) && is_none (first_rule setup older entry.event))) ≡ true
+made_met setup entry older same e = ap (λ (reply : Reply). is_made_valid reply.answer) (sym same) ∙ e

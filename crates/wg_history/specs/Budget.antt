@@ -1,0 +1,26 @@
+-- How many bytes of the budget are taken.
+use Rattle.std.specs.Prelude.{ℕ, zero, suc, ◌+◌, Bool, not, ◌&&◌, is_some, if◌then◌else◌}
+use Rattle.std.specs.Option.{option_map_or}
+use Rattle.wg_model.specs.Commands.{no_texture}
+use Rattle.wg_model.specs.Memory.{bytes_of}
+use Rattle.wg_history.specs.Entries.{Setup, Event, Past}
+use Rattle.wg_history.specs.Objects.{count, maker, info_made, resource_at}
+use Rattle.wg_history.specs.Releases.{is_released}
+
+-- the bytes of the object that an event makes
+abbrev pub bytes_made : Event → ℕ
+bytes_made event = option_map_or bytes_of (info_made (λ _. no_texture) event) 0
+
+abbrev pub bytes_at : Past → ℕ → ℕ
+bytes_at past n = option_map_or (λ entry. bytes_made entry.event) (maker past n) 0
+
+-- A resource is live where it is valid and not released.
+abbrev pub is_live : Setup → Past → ℕ → Bool
+is_live setup past n = is_some (resource_at past n) && not (is_released setup past n)
+
+abbrev pub live_below : Setup → Past → ℕ → ℕ
+live_below setup past zero = 0
+live_below setup past (suc n) = live_below setup past n + (if is_live setup past n then bytes_at past n else 0)
+
+abbrev pub live_bytes : Setup → Past → ℕ
+live_bytes setup past = live_below setup past (count past)

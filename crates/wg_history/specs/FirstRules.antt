@@ -1,0 +1,45 @@
+-- The first unmet rule of each event. Those of buffers and textures that are made end by the budget.
+use Rattle.std.specs.Prelude.{ℕ, ◌+◌, nat_le, List, [], ◌∷◌, ◌++◌, Option, Some, None}
+use Rattle.wg_types.specs.declared.handles.BufferInfo.{BufferInfo}
+use Rattle.wg_types.specs.declared.textures.TextureInfo.{TextureInfo}
+use Rattle.wg_model.specs.Rules.{Rule, first_unmet}
+use Rattle.wg_model.specs.Buffers.{create_buffer_rules}
+use Rattle.wg_model.specs.Textures.{create_texture_rules}
+use Rattle.wg_model.specs.Memory.{texture_bytes}
+use Rattle.wg_history.specs.Entries.{Setup, Event, CreateBuffer, CreateTexture, CreateView, CreateEncoder, Finish, Late, Submit, WriteBuffer, WriteTexture, Destroy, Drop, Complete, PushErrorScope, PopErrorScope, Lose, WorkDone, MapAsync, Unmap, Past}
+use Rattle.wg_history.specs.Rules.{create_view_rule, destroy_rule, drop_rule, unmap_rule, map_async_rule, write_buffer_rule, write_texture_rule, finish_rule, submit_rule}
+use Rattle.wg_history.specs.Budget.{live_bytes}
+
+-- 13 what is live before the event and the new bytes are within the budget
+abbrev pub budget_rules : Setup → Past → ℕ → List Rule
+budget_rules setup past bytes = (13, nat_le (live_bytes setup past + bytes) setup.budget) ∷ []
+
+-- createBuffer
+unfoldable pub create_buffer_rule : Setup → Past → BufferInfo → Option ℕ
+create_buffer_rule setup past info = first_unmet (create_buffer_rules setup.limits info ++ budget_rules setup past info.size)
+
+-- createTexture
+unfoldable pub create_texture_rule : Setup → Past → TextureInfo → Option ℕ
+create_texture_rule setup past info = first_unmet (create_texture_rules setup.limits info ++ budget_rules setup past (texture_bytes info))
+
+-- The first unmet rule of an event that comes after a past. An event that meets all its rules is met. A recording call that
+-- came after the end of its encoder or pass always has rule 14.
+abbrev pub first_rule : Setup → Past → Event → Option ℕ
+first_rule setup past (CreateBuffer info) = create_buffer_rule setup past info
+first_rule setup past (CreateTexture info) = create_texture_rule setup past info
+first_rule setup past (CreateView texture desc) = create_view_rule setup past texture desc
+first_rule setup past CreateEncoder = None
+first_rule setup past (Finish encoder recording) = finish_rule setup past encoder recording
+first_rule setup past (Late encoder) = Some 14
+first_rule setup past (Submit buffers) = submit_rule setup past buffers
+first_rule setup past (WriteBuffer buffer offset size) = write_buffer_rule setup past buffer offset size
+first_rule setup past (WriteTexture texture spot layout size data_size) = write_texture_rule setup past texture spot layout size data_size
+first_rule setup past (Destroy object) = destroy_rule setup past object
+first_rule setup past (Drop object) = drop_rule setup past object
+first_rule setup past (Complete op) = None
+first_rule setup past (PushErrorScope filter) = None
+first_rule setup past PopErrorScope = None
+first_rule setup past Lose = None
+first_rule setup past WorkDone = None
+first_rule setup past (MapAsync buffer mode offset size) = map_async_rule setup past buffer mode offset size
+first_rule setup past (Unmap buffer) = unmap_rule setup past buffer

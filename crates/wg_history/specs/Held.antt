@@ -1,0 +1,54 @@
+-- Which objects are held (WebGPU, "Internal Objects"): the least relation, and the same as a test.
+use Rattle.std.specs.Prelude.{◌≡◌, ℕ, ◌<◌, Bool, true, false, not, ◌&&◌, List, [], ◌∷◌, Some, if◌then◌else◌}
+use Rattle.std.specs.Option.{option_map_or}
+use Rattle.wg_model.specs.Holding.{Holds, is_among, is_held_in}
+use Rattle.wg_model.specs.Recorded.{names_within}
+use Rattle.wg_types.specs.declared.handles.Info.{Info}
+use Rattle.wg_types.specs.declared.handles.Info.TheVariants.{Buffer, Texture, View, Encoder, CommandBuffer}
+use Rattle.wg_history.specs.Entries.{Setup, Event, Past}
+use Rattle.wg_model.specs.Commands.{no_texture}
+use Rattle.wg_history.specs.Objects.{count, maker, info_made, info_at, is_valid, is_encoder, commands_at}
+use Rattle.wg_history.specs.Rules.{dropped_at, is_dropped, is_consumed, has_finished}
+
+-- the objects to which one of this info refers, if it is valid: a view refers to its texture
+abbrev pub refers_of : Info → List ℕ
+refers_of (View info) = info.texture.number ∷ []
+refers_of (Buffer info) = []
+refers_of (Texture info) = []
+refers_of Encoder = []
+refers_of CommandBuffer = []
+
+-- the objects to which one that an event makes refers, if it is valid
+abbrev pub refers_made : Event → List ℕ
+refers_made event = option_map_or refers_of (info_made (λ _. no_texture) event) []
+
+abbrev pub refers_at : Past → ℕ → List ℕ
+refers_at past n = if is_valid past n then option_map_or (λ entry. refers_made entry.event) (maker past n) [] else []
+
+-- A command buffer may be submitted, and is pending, where it is valid and neither consumed nor dropped.
+abbrev pub is_submittable : Setup → Past → ℕ → Bool
+is_submittable setup past n = is_valid past n && (not (is_consumed setup past n) && not (is_dropped setup past n))
+
+-- the objects that the commands of a pending command buffer name
+abbrev pub names_at : Setup → Past → ℕ → List ℕ
+names_at setup past n = if is_submittable setup past n then names_within (commands_at past n) else []
+
+-- An encoder is open from its creation, valid or not, to its first finish, accepted or refused, or its drop.
+abbrev pub is_open : Setup → Past → ℕ → Bool
+is_open setup past n = option_map_or is_encoder (info_at past n) false && (not (has_finished setup past n) && not (is_dropped setup past n))
+
+-- what object n says of holders
+abbrev pub holds_of : Setup → Past → ℕ → Holds
+holds_of setup past n = record { dropped = dropped_at setup past n; opened = is_open setup past n; names = names_at setup past n; refers = refers_at past n }
+
+-- whether object n is held
+unfoldable pub is_held : Setup → Past → ℕ → Bool
+is_held setup past n = is_held_in (holds_of setup past) (count past) n
+
+-- The same as the least relation: an object is held where it was made and is not dropped; where a held object refers to it,
+-- being valid; where a pending command buffer names it; and where an encoder that was made before its drop is open.
+pub data Held (setup : Setup) (past : Past) : ℕ → Type 0 where
+  undropped : {n : ℕ} → n < count past → is_dropped setup past n ≡ false → Held setup past n
+  referred : {m n : ℕ} → Held setup past m → is_among (refers_at past m) n ≡ true → Held setup past n
+  pending : {b n : ℕ} → n < count past → b < count past → is_submittable setup past b ≡ true → is_among (names_within (commands_at past b)) n ≡ true → Held setup past n
+  awaited : {e k n : ℕ} → n < count past → dropped_at setup past n ≡ Some k → e < k → is_open setup past e ≡ true → Held setup past n

@@ -1,0 +1,29 @@
+use Rattle.std.proofs.Common.{rules, arith}
+use Rattle.wg_holders.specs.Tokens.{IsTidy}
+use Rattle.wg_holders.proofs.QueueLemmas.{drops_ended}
+use Rattle.wg_holders.proofs.OwnLemmas.{owned_ended, owned_moved, living_ended}
+use Rattle.wg_holders.proofs.HeldLemmas.{falls_view}
+use Rattle.wg_holders.proofs.Holders.ended.Goals as goal
+
+pub close-requires-clause-drops : goal.close-requires-clause-drops
+close-requires-clause-drops c = rw c.as_slice.ensures.value (drops_ended c.args.encoder _ _ _ c.mark_ended.ensures.notes c.self.invariant.tidy.drops)
+
+pub invariant_of-self : goal.invariant_of-self
+invariant_of-self c =
+    let same = living_ended c.args.encoder _ _ c.mark_ended.ensures.notes in
+    record {
+      tidy = rw (← c.as_slice.ensures.value) c.close.ensures.tidy;
+      owned = owned_moved _ _ _ _ _ _ c.close.ensures.moves (owned_ended c.args.encoder _ _ _ _ _ c.mark_ended.ensures.notes c.self.invariant.owned);
+      marks_fit = search rules;
+      names_fit = search rules;
+      opened_fit = search rules;
+      awaited_fit = omega (arith, same);
+      counts_fit = search rules;
+    }
+
+pub returns-clause-falls : goal.returns-clause-falls
+returns-clause-falls c =
+    let tidy : IsTidy c.mark_ended.new.marks.items c.close.new.opened.items c.close.new.awaited.items = rw (← c.as_slice.ensures.value) c.close.ensures.tidy in
+    falls_view _ _ _ _ _ _ _ _ _ _ _ _ _ c.self.view_is c.self.invariant.tidy c.self.invariant.owned tidy
+    (owned_moved _ _ _ _ _ _ c.close.ensures.moves (owned_ended c.args.encoder _ _ _ _ _ c.mark_ended.ensures.notes c.self.invariant.owned))
+    c.close.ensures.moves.falls

@@ -1,0 +1,7 @@
+pub mod Sums
+pub mod MarkLemmas
+pub mod MoveLemmas
+pub mod QueueLemmas
+pub mod OwnLemmas
+pub mod HeldLemmas
+pub mod StepLemmas

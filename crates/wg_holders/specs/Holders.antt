@@ -1,0 +1,80 @@
+-- Who holds which objects.
+use Rattle.std.specs.Prelude.{◌≡◌, ℕ, ◌<◌, Bool, true, false, not, ◌&&◌, ◌||◌, List, [], ◌∷◌, ◌++◌, length, Some, None, is_some, slice_index_or, if◌then◌else◌}
+use Rattle.wg_model.specs.Holding.{Holds, is_among, is_held_in}
+use Rattle.wg_holders.specs.declared.marks.Mark.{Mark}
+use Rattle.wg_holders.specs.declared.marks.Links.{Links}
+
+-- what was noted of each object by number; the objects that a valid command buffer names; those to which a valid object refers
+pub record Holdings : Type 0 where
+  pub marks : List Mark
+  pub names : List (List ℕ)
+  pub refers : List (List ℕ)
+
+abbrev pub no_holdings : Holdings
+no_holdings = record { marks = []; names = []; refers = [] }
+
+-- with which objects fell since that list was cleared, and for how many more objects and holds there is room
+pub record HoldersValue : Type 0 where
+  pub holdings : Holdings
+  pub fallen : List ℕ
+  pub spare : ℕ
+  pub room : ℕ
+
+abbrev pub new_mark : Bool → Mark
+new_mark encoder = record { encoder = encoder; ended = false; consumed = false; dropped = None }
+
+abbrev pub no_mark : Mark
+no_mark = new_mark false
+
+abbrev pub mark_at : List Mark → ℕ → Mark
+mark_at marks n = slice_index_or marks n no_mark
+
+abbrev pub list_at : List (List ℕ) → ℕ → List ℕ
+list_at lists n = slice_index_or lists n []
+
+-- An encoder is open until it ends or is dropped.
+abbrev pub is_open : Mark → Bool
+is_open mark = mark.encoder && (not mark.ended && not (is_some mark.dropped))
+
+-- A command buffer holds what it names until it is consumed or dropped.
+abbrev pub is_unspent : Mark → Bool
+is_unspent mark = not mark.consumed && not (is_some mark.dropped)
+
+-- what object n says of holders
+abbrev pub holds_at : Holdings → ℕ → Holds
+holds_at h n = record {
+  dropped = (mark_at h.marks n).dropped;
+  opened = is_open (mark_at h.marks n);
+  names = if is_unspent (mark_at h.marks n) then list_at h.names n else [];
+  refers = list_at h.refers n;
+}
+
+-- whether object n is held
+unfoldable pub is_held : Holdings → ℕ → Bool
+is_held h n = is_held_in (holds_at h) (length h.marks) n
+
+-- with one object more
+abbrev pub with_made : Bool → Links → Holdings → Holdings
+with_made encoder links h = record { marks = h.marks ++ new_mark encoder ∷ []; names = h.names ++ links.names ∷ []; refers = h.refers ++ links.refers ∷ [] }
+
+abbrev pub with_ended : Bool → Mark → Mark
+with_ended b mark = record mark { ended = b || mark.ended }
+
+abbrev pub with_consumed : Bool → Mark → Mark
+with_consumed b mark = record mark { consumed = b || mark.consumed }
+
+-- dropped when there were so many objects
+abbrev pub with_dropped : ℕ → Bool → Mark → Mark
+with_dropped k b mark = record mark { dropped = if b then Some k else mark.dropped }
+
+-- holdings and what a note makes of their marks, by number
+pub record Marks (note : ℕ → Mark → Mark) (old new : Holdings) : Type 0 where
+  pub len : length new.marks ≡ length old.marks
+  pub each : (n : ℕ) → n < length old.marks → mark_at new.marks n ≡ note n (mark_at old.marks n)
+  pub names : new.names ≡ old.names
+  pub refers : new.refers ≡ old.refers
+
+-- what fell is listed, and nothing that was not held is held
+pub record Falls (old new : HoldersValue) : Type 0 where
+  pub listed : (n : ℕ) → is_among new.fallen n ≡ is_among old.fallen n || (is_held old.holdings n && not (is_held new.holdings n))
+  pub falls : (n : ℕ) → is_held new.holdings n ≡ true → is_held old.holdings n ≡ true

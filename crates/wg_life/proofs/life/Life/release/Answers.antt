@@ -1,0 +1,31 @@
+use Rattle.std.proofs.Common.{◌≡◌, ℕ, List, ◌++◌, ◌∙◌, ap, map, rules}
+use Rattle.wg_orders.specs.Trace.{free}
+use Rattle.wg_types.specs.declared.steps.Sort.{Sort}
+use Rattle.wg_life.specs.Lives.{releases}
+use Rattle.wg_life.specs.Waits.{freed, IsGone}
+use Rattle.wg_life.proofs.Gone.{gone_released, freed_releases}
+use Rattle.wg_life.proofs.Kept.{within_by}
+use Rattle.wg_life.proofs.life.Life.release.Goals as goal
+
+pub invariant_of-self : goal.invariant_of-self
+invariant_of-self c = record {
+  tidy = rw c.as_slice.ensures.value at c.release.ensures.tidy;
+  marks = gone_released c.args.completed _ _ _ _ (rw c.as_slice.ensures.value at c.release.ensures.notes) c.self.invariant.marks;
+  none_fell = c.self.invariant.none_fell;
+  kept = c.release.ensures.kept;
+  within = within_by _ _ _ _ _ c.release.ensures.less.bytes c.self.invariant.kept c.release.ensures.kept c.self.invariant.within;
+  none_due = c.release.ensures.none;
+  rows_fit = search rules;
+  gone_fit = search rules;
+  listed_fit = search rules;
+  due_fit = search rules;
+  live_fit = c.release.ensures.less.places _ c.self.invariant.live_fit;
+  holders_fit = c.self.invariant.holders_fit;
+}
+
+pub returns-clause-items : goal.returns-clause-items
+returns-clause-items c =
+    let marks : IsGone c.args.self.now.rows c.args.self.now.holdings c.self.inside.gone.items = rw (← c.self.view_is) c.self.invariant.marks in
+    let same : freed c.args.self.now.rows c.self.inside.gone.items c.args.completed ≡ releases c.args.self.now c.args.completed = freed_releases c.args.self.now _ _ marks in
+    let items : c.release.new.trace.items ≡ c.args.trace.now.items ++ map free (freed c.args.self.now.rows c.self.inside.gone.items c.args.completed) = rw (← c.self.view_is, ← c.as_slice.ensures.value) c.release.ensures.items in
+    items ∙ ap (λ (list : List (ℕ × Sort)). c.args.trace.now.items ++ map free list) same

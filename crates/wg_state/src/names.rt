@@ -1,0 +1,158 @@
+//! What an event makes: its memory, and the objects to which it refers and which it names.
+ghost use Rattle.std.specs.Prelude.{◌≡◌, ◌<◌, ◌^◌, ◌∷◌, ◌++◌, [], None, map, true, OnOk, IfOk, if◌then◌else◌};
+ghost use Rattle.wg_types.specs.Commands.{named};
+ghost use Rattle.wg_model.specs.Memory.{bytes_of};
+ghost use Rattle.wg_model.specs.Recorded.{names_within};
+ghost use Rattle.wg_history.specs.Objects.{sort_of_info};
+ghost use Rattle.wg_history.specs.Held.{refers_of};
+ghost use Rattle.wg_history.specs.Entries.{recorded_by};
+ghost use Rattle.wg_history.specs.Budget.{bytes_made};
+ghost use Rattle.wg_state.specs.Rows.{memory_of, made_by, links_of};
+
+use crate::infos::is_encoder;
+use std::alloc::Global;
+use wg_formats::{bytes_of, no_texture};
+use wg_history::NoMemory;
+use wg_history::events::Event;
+use wg_holders::Links;
+use wg_life::{Made, Resource};
+use wg_types::commands::{Command, On};
+use wg_types::handles::{Handle, Info};
+use wg_types::items::Items;
+use wg_types::steps::Sort;
+
+/// The sort of an object that has memory.
+fn sort_of(info: &Info) -> Option<Sort>
+    ensures { result ≡ sort_of_info info.now }
+{
+    match info {
+        Info::Buffer(_) => Some(Sort::Buffer),
+        Info::Texture(_) => Some(Sort::Texture),
+        Info::View(_) | Info::Encoder | Info::CommandBuffer => None,
+    }
+}
+
+/// The memory of an object, if that has such and is valid.
+fn memory_of(info: &Info, valid: bool) -> Option<Resource>
+    requires { valid ≡ true → bytes_of info.now < 2 ^ 64 }
+    ensures { result ≡ (if valid then memory_of info.now else None) }
+{
+    if !valid {
+        return None;
+    }
+    let sort = sort_of(info)?;
+    let bytes = bytes_of(info)?;
+    Some(Resource { sort, bytes })
+}
+
+/// The objects to which an object refers, if it is valid: a view refers to its texture.
+fn refers_of(alloc: Global, info: &Info, valid: bool) -> Result<Items<u64>, NoMemory>
+    ensures { IfOk result (λ refers. refers ≡ (if valid then refers_of info.now else [])) }
+{
+    let mut refers = Items::new(alloc);
+    if !valid {
+        return Ok(refers);
+    }
+    if let Info::View(view) = info {
+        refers.push(view.texture.number)?;
+    }
+    Ok(refers)
+}
+
+/// Adds an object's number to a list.
+fn push_name(names: &mut Vec<u64>, object: &Handle) -> Result<(), NoMemory>
+    ensures { OnOk result (names.new.items ≡ names.old.items ++ object.now.reference.number ∷ []) }
+{
+    names.push(object.reference().number)?;
+    Ok(())
+}
+
+/// Adds the numbers of the objects that a command names to a list.
+fn push_named(names: &mut Vec<u64>, command: &Command) -> Result<(), NoMemory>
+    ensures { OnOk result (names.new.items ≡ names.old.items ++ map (λ object. object.0.reference.number) (named command.now)) }
+{
+    match command {
+        Command::CopyBufferToBuffer { source, target, .. } => {
+            push_name(names, source)?;
+            push_name(names, target)
+        }
+        Command::CopyBufferToTexture {
+            buffer,
+            texture,
+            ..
+        }
+        | Command::CopyTextureToBuffer {
+            buffer,
+            texture,
+            ..
+        } => {
+            push_name(names, buffer)?;
+            push_name(names, texture)
+        }
+        Command::CopyTextureToTexture { source, target, .. } => {
+            push_name(names, source)?;
+            push_name(names, target)
+        }
+        Command::ClearBuffer { buffer, .. } => push_name(names, buffer),
+        Command::BeginComputePass
+        | Command::PushDebugGroup
+        | Command::PopDebugGroup
+        | Command::End => Ok(()),
+    }
+}
+
+/// The numbers of the objects that recorded commands name, in the order of the commands.
+fn names_within(alloc: Global, commands: &[(On, Command)]) -> Result<Vec<u64>, NoMemory>
+    ensures { IfOk result (λ names. names.items ≡ names_within commands.now) }
+{
+    let mut names = Vec::new(alloc);
+    for kept in commands {
+        push_named(&mut names, &kept.1)?;
+    }
+    Ok(names)
+}
+
+/// The objects that the object which an event makes names, if it is a valid command buffer.
+fn names_of(alloc: Global, event: &Event, valid: bool) -> Result<Items<u64>, NoMemory>
+    ensures { IfOk result (λ names. names ≡ (if valid then names_within (recorded_by event.now) else [])) }
+{
+    if !valid {
+        return Ok(Items::new(alloc));
+    }
+    let names = names_within(alloc, event.recorded())?;
+    Ok(Items::from_vec(names))
+}
+
+/// The object that an event makes, if it makes one. That of a valid one has its memory, of which the bytes
+/// fit into 64 bits.
+pub fn made_by(alloc: Global, event: &Event, valid: bool) -> Result<Option<Made>, NoMemory>
+    requires { valid ≡ true → bytes_made event.now < 2 ^ 64 }
+    ensures { IfOk result (λ made. made ≡ made_by event.now valid) }
+{
+    let Some(info) = event.info_made(no_texture()) else {
+        return Ok(None);
+    };
+    let resource = memory_of(&info, valid);
+    let refers = refers_of(alloc, &info, valid)?;
+    let names = names_of(alloc, event, valid)?;
+    Ok(Some(Made {
+        resource,
+        encoder: is_encoder(&info),
+        links: Links { refers, names },
+    }))
+}
+
+/// How many objects the object that is made refers to and names.
+pub fn links_of(made: &Option<Made>) -> Result<u64, NoMemory>
+    ensures { IfOk result (λ links. links ≡ links_of made.now) }
+{
+    let Some(made) = made else {
+        return Ok(0);
+    };
+    let refers = made.links.refers.as_slice().len() as u64;
+    let names = made.links.names.as_slice().len() as u64;
+    match refers.checked_add(names) {
+        Some(links) => Ok(links),
+        None => Err(NoMemory),
+    }
+}
