@@ -4,7 +4,7 @@ ghost use Rattle.std.specs.List.{list_any};
 ghost use Rattle.wg_model.specs.Rules.{first_unmet};
 ghost use Rattle.wg_core.specs.Plans.{use_rules, IsMapInRange};
 ghost use Rattle.wg_state.specs.Uses.{uses_of, is_sort, is_used_as};
-ghost use Rattle.wg_history.specs.Objects.{is_own, is_command_buffer};
+ghost use Rattle.wg_history.specs.Objects.{is_own, is_command_buffer, made_info};
 ghost use Rattle.wg_model.specs.Commands.{no_texture};
 ghost use Rattle.wg_access.specs.Ranges.{IsInRange};
 ghost use Rattle.wg_history.specs.Entries.{effects_of, submitted, written};
@@ -13,7 +13,7 @@ ghost use Rattle.wg_history.specs.FirstRules.{first_rule, create_buffer_rule, cr
 ghost use Rattle.wg_history.specs.Budget.{bytes_made};
 ghost use Rattle.wg_model.specs.Memory.{texture_bytes};
 
-use crate::uses;
+use crate::{group_rules, uses};
 use std::alloc::Global;
 use std::collections::BTreeSet;
 use wg_buffers::{check_create as check_buffer, check_map};
@@ -24,7 +24,7 @@ use wg_history::NoMemory;
 use wg_history::events::Event;
 use wg_state::{State, Used};
 use wg_textures::{check_create as check_texture, check_view};
-use wg_types::handles::{BufferInfo, ObjRef};
+use wg_types::handles::{BufferInfo, Info, ObjRef};
 use wg_types::steps::Sort;
 use wg_types::textures::{DataLayout, TextureInfo, TextureSpot, ViewDesc};
 
@@ -365,9 +365,15 @@ fn submit(alloc: Global, state: &State, buffers: &[ObjRef]) -> Result<Ruled, NoM
     Ok(Ruled { rule, uses })
 }
 
-/// The first unmet rule of an event, which one that meets all its rules has not. A recording call that
+/// The first unmet rule of an event that makes this, which one that meets all its rules has not. A recording call that
 /// came after the end of its encoder or pass always has rule 14.
-pub fn first_rule(alloc: Global, state: &State, event: &Event) -> Result<Ruled, NoMemory>
+pub fn first_rule(
+    alloc: Global,
+    state: &State,
+    event: &Event,
+    made: &Option<Info>,
+) -> Result<Ruled, NoMemory>
+    requires made { made.now ≡ made_info (reverse state.now.history) event.now }
     ensures rule { IfOk result (λ ruled. ruled.rule ≡ first_rule state.now.setup (reverse state.now.history) event.now) }
     ensures uses { IfOk result (λ ruled. IsNone ruled.rule → ruled.uses.items ≡ uses_of (reverse state.now.history) (submitted event.now)) }
     ensures range { IfOk result (λ ruled. IsNone ruled.rule → IfSome (written (λ _. no_texture) event.now) IsInRange) }
@@ -378,6 +384,16 @@ pub fn first_rule(alloc: Global, state: &State, event: &Event) -> Result<Ruled, 
         Event::CreateBuffer { info } => create_buffer(state, info),
         Event::CreateTexture { info } => create_texture(state, info),
         Event::CreateView { texture, desc } => create_view(state, *texture, desc),
+        Event::CreateBindGroupLayout { info } => group_rules::create_bind_group_layout(state, info),
+        Event::CreatePipelineLayout { layouts } => {
+            group_rules::create_pipeline_layout(state, layouts.as_slice(), made)
+        }
+        Event::CreateBindGroup { layout, entries } => {
+            group_rules::create_bind_group(state, *layout, entries.as_slice(), made)
+        }
+        Event::CreateComputePipeline { layout, iface } => {
+            group_rules::create_compute_pipeline(state, *layout, iface, made)
+        }
         Event::Finish { encoder, recording } => finish(state, *encoder, recording),
         Event::Late { .. } => Some(14),
         Event::Submit { buffers } => return submit(alloc, state, buffers.as_slice()),
@@ -402,7 +418,8 @@ pub fn first_rule(alloc: Global, state: &State, event: &Event) -> Result<Ruled, 
             size,
         } => map_async(state, *buffer, *mode, *offset, *size),
         Event::Unmap { buffer } => unmap(state, *buffer),
-        Event::CreateEncoder
+        Event::CreateSampler { .. }
+        | Event::CreateEncoder
         | Event::Complete { .. }
         | Event::PushErrorScope { .. }
         | Event::PopErrorScope

@@ -9,6 +9,9 @@ use wg_types::items::Items;
 use wg_types::replies::{Answer, Caught, Fault, FaultKind};
 use wg_types::steps::{Item, Sort};
 
+// Each test makes its device in one function and asks it in another, that borrows it: so its drop,
+// which is dear to prove, stands at one way out of the test.
+
 /// The object of this number of the device with serial 1.
 fn own(number: u64) -> ObjRef {
     ObjRef { device: 1, number }
@@ -23,69 +26,95 @@ fn uncaptured(rule: u16) -> Option<Fault> {
     })
 }
 
-#[test]
-fn each_call_is_answered(rt: HostRuntime) -> Result<(), Fail> {
-    let mut core = Core::new(rt.alloc(), 1_000_000, 1);
-    let buffer = BufferInfo {
-        size: 16,
-        usage: 8,
-        mapped: false,
-    };
-    let write = |buffer, offset, size| Event::WriteBuffer {
+/// The answer of an event that makes an object.
+fn made(number: u64, valid: bool) -> Answer {
+    Answer::Made { number, valid }
+}
+
+/// Asks one event, and compares what is replied; no promise settles.
+fn ask(core: &mut Core, event: Event, answer: Answer, fault: Option<Fault>) -> Result<(), Fail> {
+    let reply = core.step(0, event).ok().ok_or("no memory")?;
+    if reply.answer != answer {
+        return Err(Fail::new("the answer differs"));
+    }
+    if reply.fault != fault {
+        return Err(Fail::new("the fault differs"));
+    }
+    if !reply.settled.as_slice().is_empty() {
+        return Err(Fail::new("a promise settled"));
+    }
+    Ok(())
+}
+
+/// A createBuffer of 16 bytes with these usages.
+fn create(usage: u32) -> Event {
+    Event::CreateBuffer {
+        info: BufferInfo {
+            size: 16,
+            usage,
+            mapped: false,
+        },
+    }
+}
+
+/// A writeBuffer at the start of a buffer.
+fn write(buffer: ObjRef, size: u64) -> Event {
+    Event::WriteBuffer {
         buffer,
-        offset,
+        offset: 0,
         size,
-    };
+    }
+}
+
+/// A destroy.
+fn destroy(object: ObjRef) -> Event {
+    Event::Destroy { object }
+}
+
+/// A finish of an encoder.
+fn finish(encoder: ObjRef, recording: Recording) -> Event {
+    Event::Finish { encoder, recording }
+}
+
+/// The calls on buffers, one after another.
+fn ask_calls(core: &mut Core) -> Result<(), Fail> {
     let other_device = ObjRef {
         device: 2,
         number: 0,
     };
-    let made = Answer::Made {
-        number: 0,
-        valid: true,
-    };
-    let cases = [
-        (Event::CreateBuffer { info: buffer }, made, None),
-        (write(own(0), 0, 16), Answer::Queued(1), None),
-        (write(own(0), 0, 0), Answer::Queued(2), None),
-        (write(other_device, 0, 4), Answer::Plain, uncaptured(10)),
-        (
-            Event::Destroy {
-                object: other_device,
-            },
-            Answer::Plain,
-            uncaptured(10),
-        ),
-        (
-            Event::Destroy { object: own(1) },
-            Answer::Plain,
-            uncaptured(10),
-        ),
-        (Event::Destroy { object: own(0) }, Answer::Plain, None),
-        (write(own(0), 0, 4), Answer::Plain, uncaptured(203)),
-        (Event::Complete { op: 3 }, Answer::BadCompletion, None),
-        (Event::Complete { op: 2 }, Answer::Plain, None),
-        (Event::Complete { op: 2 }, Answer::BadCompletion, None),
-    ];
-    for (event, answer, fault) in cases {
-        let reply = core.step(0, event).ok().ok_or("no memory")?;
-        assert_eq!(rt; reply.answer, answer);
-        assert_eq!(rt; reply.fault, fault);
-        assert!(rt; reply.settled.as_slice().is_empty());
-    }
-    assert_eq!(rt; core.history().len(), 11);
-    assert_eq!(rt; core.trace().len(), 2);
-    assert!(rt; matches!(&core.trace()[0], Item::Step(_)));
-    assert!(rt;
-        matches!(
-            &core.trace()[1],
+    ask(core, create(8), made(0, true), None)?;
+    ask(core, write(own(0), 16), Answer::Queued(1), None)?;
+    ask(core, write(own(0), 0), Answer::Queued(2), None)?;
+    ask(core, write(other_device, 4), Answer::Plain, uncaptured(10))?;
+    ask(core, destroy(other_device), Answer::Plain, uncaptured(10))?;
+    ask(core, destroy(own(1)), Answer::Plain, uncaptured(10))?;
+    ask(core, destroy(own(0)), Answer::Plain, None)?;
+    ask(core, write(own(0), 4), Answer::Plain, uncaptured(203))?;
+    let complete = |op| Event::Complete { op };
+    ask(core, complete(3), Answer::BadCompletion, None)?;
+    ask(core, complete(2), Answer::Plain, None)?;
+    ask(core, complete(2), Answer::BadCompletion, None)
+}
+
+/// Whether a trace is of one step, and then of the release of the buffer with number 0.
+fn is_step_and_release(trace: &[Item]) -> bool {
+    trace.len() == 2
+        && matches!(&trace[0], Item::Step(_))
+        && matches!(
+            &trace[1],
             Item::Free {
                 object: 0,
                 sort: Sort::Buffer
             }
         )
-    );
-    Ok(())
+}
+
+#[test]
+fn each_call_is_answered(rt: HostRuntime) -> Result<(), Fail> {
+    let mut core = Core::new(rt.alloc(), 1_000_000, 1);
+    let asked = ask_calls(&mut core);
+    assert!(rt; core.history().len() == 11 && is_step_and_release(core.trace()));
+    asked
 }
 
 /// A handle of a buffer of the device with serial 1, with these usages and 16 bytes.
@@ -121,79 +150,50 @@ fn empty(alloc: Global) -> Recording {
     Recorder::new(alloc, 1).take()
 }
 
-/// A submit of the objects with these numbers.
-fn submit(alloc: Global, numbers: &[u64]) -> Result<Event, Fail> {
+/// A submit of the object with this number.
+fn submit(alloc: Global, number: u64) -> Result<Event, Fail> {
     let mut buffers = Items::new(alloc);
-    for number in numbers {
-        buffers.push(own(*number))?;
-    }
+    buffers.push(own(number))?;
     Ok(Event::Submit { buffers })
 }
 
-/// The answer and the rule of an event.
-fn answer(core: &mut Core, event: Event) -> Result<(Answer, Option<u16>), Fail> {
-    let reply = core.step(0, event).ok().ok_or("no memory")?;
-    Ok((reply.answer, reply.fault.map(|fault| fault.rule)))
+/// Finishes and submits whose references no script can have.
+fn ask_references(core: &mut Core, alloc: Global) -> Result<(), Fail> {
+    let forged = copy(alloc, handle(alloc, 1, 4)?, handle(alloc, 0, 8)?)?;
+    let unmade = finish(own(2), empty(alloc));
+    ask(core, unmade, made(0, false), uncaptured(10))?;
+    ask(core, create(12), made(1, true), None)?;
+    ask(core, Event::CreateEncoder, made(2, true), None)?;
+    let first = finish(own(2), empty(alloc));
+    ask(core, first, made(3, true), None)?;
+    let second = finish(own(2), empty(alloc));
+    ask(core, second, made(4, false), uncaptured(180))?;
+    ask(core, Event::CreateEncoder, made(5, true), None)?;
+    ask(core, finish(own(5), forged), made(6, false), uncaptured(11))?;
+    ask(core, submit(alloc, 3)?, Answer::Queued(1), None)?;
+    ask(core, submit(alloc, 3)?, Answer::Plain, uncaptured(190))
 }
 
 #[test]
 fn references_that_no_script_has(rt: HostRuntime) -> Result<(), Fail> {
     let alloc = rt.alloc();
-    let made = |number, valid| Answer::Made { number, valid };
-    let finish = |encoder, recording| Event::Finish { encoder, recording };
-    let buffer = BufferInfo {
-        size: 16,
-        usage: 12,
-        mapped: false,
-    };
-    let forged = copy(alloc, handle(alloc, 1, 4)?, handle(alloc, 0, 8)?)?;
-    let cases = [
-        (finish(own(2), empty(alloc)), made(0, false), Some(10)),
-        (Event::CreateBuffer { info: buffer }, made(1, true), None),
-        (Event::CreateEncoder, made(2, true), None),
-        (finish(own(2), empty(alloc)), made(3, true), None),
-        (finish(own(2), empty(alloc)), made(4, false), Some(180)),
-        (Event::CreateEncoder, made(5, true), None),
-        (finish(own(5), forged), made(6, false), Some(11)),
-        (submit(alloc, &[3])?, Answer::Queued(1), None),
-        (submit(alloc, &[3])?, Answer::Plain, Some(190)),
-    ];
     let mut core = Core::new(alloc, 1_000_000, 1);
-    for (event, expected, rule) in cases {
-        let found = answer(&mut core, event)?;
-        assert_eq!(rt; found.0, expected);
-        assert_eq!(rt; found.1, rule);
-    }
-    Ok(())
+    ask_references(&mut core, alloc)
+}
+
+/// Destroys of objects of another device, and of one that was never made.
+fn ask_of_another_device(core: &mut Core) -> Result<(), Fail> {
+    let unknown = ObjRef {
+        device: 2,
+        number: 1,
+    };
+    ask(core, create(8), made(0, true), None)?;
+    ask(core, destroy(own(0)), Answer::Plain, uncaptured(10))?;
+    ask(core, destroy(unknown), Answer::Plain, uncaptured(10))
 }
 
 #[test]
 fn references_of_another_device(rt: HostRuntime) -> Result<(), Fail> {
     let mut core = Core::new(rt.alloc(), 100, 2);
-    let info = BufferInfo {
-        size: 16,
-        usage: 8,
-        mapped: false,
-    };
-    let found = answer(&mut core, Event::CreateBuffer { info })?;
-    assert_eq!(rt;
-        found.0,
-        Answer::Made {
-            number: 0,
-            valid: true
-        }
-    );
-    let unknown = ObjRef {
-        device: 2,
-        number: 1,
-    };
-    for object in [own(0), unknown] {
-        let reply = core
-            .step(0, Event::Destroy { object })
-            .ok()
-            .ok_or("no memory")?;
-        assert_eq!(rt; reply.answer, Answer::Plain);
-        assert_eq!(rt; reply.fault, uncaptured(10));
-    }
-    Ok(())
+    ask_of_another_device(&mut core)
 }

@@ -5,7 +5,7 @@ use Rattle.std.proofs.lemmas.List.{get_or-set_same, get_or-set_other, get_or_app
 use Rattle.wg_model.specs.Holding.{Node, nobody, is_among, is_held_among}
 use Rattle.wg_counts.specs.Counts.{own_at, refers_in, node_at, counted_below, is_counted, Owns}
 use Rattle.wg_counts.specs.Kept.{count_at, is_alive, times, sum_alive, references, living, AreHolders, GoBack, AreWithin, IsKept, HaveFallen}
-use Rattle.wg_counts.proofs.Holding.{held_below, held_cases, held_own, held_other}
+use Rattle.wg_model.proofs.Holding.{held_inside, among_cases, among_own, among_other}
 use Rattle.wg_counts.proofs.Sums.{sum_same, sum_weights, sum_some, alive_set, times_here, times_other, times_le, among_times, times_among}
 
 pub length-counted_below : (own : List ℕ) (refers : List (List ℕ)) (m : ℕ) → length (counted_below own refers m) ≡ m
@@ -51,17 +51,17 @@ held_upto own refers counts nodes (suc fuel) n are back len roots lists le lt =
         let was = are.each n in
         let some : 0 < count_at counts n = ltb-true 0 (count_at counts n) e in
         elim (cases_lt 0 (own n)) [
-          | inl own_some ↦ held_own nodes n (roots n lt ∙ lt-ltb 0 (own n) own_some)
+          | inl own_some ↦ among_own nodes n (omega (arith, lt, len)) (roots n lt ∙ lt-ltb 0 (own n) own_some)
           | inr none ↦ (
               let found = referrer_of (is_alive counts) refers n (length counts) (omega (arith, was, some, none)) in
               let after : n < found.k = back.back found.k n found.to in
-              held_other nodes found.k n after ((rest found.k after found.lt).0 found.is) (ap (λ list. is_among list n) (lists found.k found.lt) ∙ found.to))
+              among_other nodes found.k n after ((rest found.k after found.lt).0 found.is) (ap (λ list. is_among list n) (lists found.k found.lt) ∙ found.to))
         ]
 
     here : ((m : ℕ) → n < m → m < length counts → (is_alive counts m ≡ true → is_held_among nodes m ≡ true) × (is_held_among nodes m ≡ true → is_alive counts m ≡ true)) → is_held_among nodes n ≡ true → is_alive counts n ≡ true
     here rest e =
         let was = are.each n in
-        elim (held_cases nodes n e) [
+        elim (among_cases nodes n e) [
           | inl root ↦ (let some : 0 < own n = ltb-true 0 (own n) (sym (roots n lt) ∙ root) in lt-ltb 0 (count_at counts n) (omega (arith, was, some)))
           | inr holder ↦ (
               let after = holder.after in
@@ -77,7 +77,7 @@ counts_held own refers counts n kept = elim (cases_lt n (length counts)) [
   | inl lt ↦ (let both = held_upto (own_at own) (refers_in refers) counts nodes (length counts) n kept.holders kept.back len roots lists (omega arith) lt in
       by_values (is_alive counts n) (is_held_among nodes n) both.0 both.1)
   | inr past ↦ (let none : count_at counts n ≡ 0 = get_or_past counts n 0 past in
-      ap (nat_lt 0) none ∙ sym (false_from_ne_true (is_held_among nodes n) (λ e. let lt = held_below nodes n e in absurd (omega (arith, lt, len, past)))))
+      ap (nat_lt 0) none ∙ sym (false_from_ne_true (is_held_among nodes n) (λ e. let lt = held_inside nodes n e in absurd (omega (arith, lt, len, past)))))
 ]
   where
     by_values : (a b : Bool) → (a ≡ true → b ≡ true) → (b ≡ true → a ≡ true) → a ≡ b

@@ -1,4 +1,3 @@
 pub mod Ending
-pub mod Holding
 pub mod Keeping
 pub mod Sums

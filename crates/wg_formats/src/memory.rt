@@ -42,6 +42,13 @@ pub fn bytes_of(info: &Info) -> Option<u64>
     match info {
         Info::Buffer(info) => Some(info.size),
         Info::Texture(info) => texture_bytes(info),
-        Info::View(_) | Info::Encoder | Info::CommandBuffer => Some(0),
+        Info::View(_)
+        | Info::Sampler(_)
+        | Info::GroupLayout(_)
+        | Info::PipelineLayout(_)
+        | Info::Group(_)
+        | Info::Compute(_)
+        | Info::Encoder
+        | Info::CommandBuffer => Some(0),
     }
 }

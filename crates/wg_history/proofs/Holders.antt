@@ -8,8 +8,7 @@ use Rattle.wg_types.specs.Handles.{HandleValue}
 use Rattle.wg_types.specs.declared.commands.On.{On}
 use Rattle.wg_types.specs.Commands.{Command, named}
 use Rattle.wg_types.specs.declared.wanted.Wanted.{Wanted}
-use Rattle.wg_types.specs.declared.textures.TextureInfo.{TextureInfo}
-use Rattle.wg_model.specs.Commands.{no_texture}
+use Rattle.wg_types.specs.declared.handles.Info.{Info}
 use Rattle.wg_model.specs.Rules.{first_unmet, AreMet}
 use Rattle.wg_model.specs.Walk.{Verdict}
 use Rattle.wg_model.specs.Recorded.{wants_resource, numbered, names_within, resources, uses_resource}
@@ -17,17 +16,18 @@ use Rattle.wg_model.specs.Holding.{is_among, any_below, is_named_in, is_awaited_
 use Rattle.wg_model.proofs.Unmet.{all_met}
 use Rattle.wg_model.proofs.NamedLemmas.{any_resources}
 use Rattle.wg_model.proofs.Holding.{below_from, below_to, held_within, held_cases, root_held, referred_held}
-use Rattle.wg_history.specs.Entries.{Setup, Event, CreateView, Finish, Drop, effects_of, recorded_by, Entry, Past}
-use Rattle.wg_history.specs.Objects.{ObjRef, is_making, count, maker, info_made, known_textures, info_at, is_own, is_any, is_valid, is_made_valid, is_encoder, commands_at}
+use Rattle.wg_history.specs.Entries.{Setup, Event, Finish, Drop, effects_of, recorded_by, Entry, Past}
+use Rattle.wg_history.specs.Objects.{ObjRef, is_making, count, maker, info_at, is_own, is_any, is_valid, is_made_valid, is_encoder, commands_at}
 use Rattle.wg_history.specs.Operations.{submit_uses}
-use Rattle.wg_history.specs.Rules.{drop_list, drops, dropped_at, is_dropped, is_consumed, consumes, has_finished, ends_encoder, is_genuine, may_name, any_barred, create_view_list, create_view_rule, encoder_rules, recording_rules, finish_rule, listed_rules}
+use Rattle.wg_history.specs.Rules.{drop_list, drops, dropped_at, is_dropped, is_consumed, consumes, has_finished, ends_encoder, is_genuine, may_name, any_barred, encoder_rules, recording_rules, finish_rule, listed_rules}
 use Rattle.wg_history.specs.Held.{refers_made, refers_at, is_submittable, names_at, is_open, holds_of, is_held}
 use Rattle.wg_history.specs.Loss.{is_lost}
 use Rattle.wg_history.specs.FirstRules.{first_rule}
 use Rattle.wg_history.specs.Answers.{answer_by, IsRun}
 use Rattle.wg_history.proofs.Runs.{newest}
 use Rattle.wg_history.proofs.Tests.{not_true, was_not, fails, any_grows, neither}
-use Rattle.wg_history.proofs.Makers.{maker_stays, maker_new, count_grows, own_below, made_met}
+use Rattle.wg_history.proofs.Named.{object_refers}
+use Rattle.wg_history.proofs.Makers.{maker_stays, info_stays, maker_new, count_grows, own_below, made_met}
 
 -- whether a pending command buffer names object n, whether an open encoder awaits it, and whether it is a root
 abbrev pub is_named : Setup → Past → ℕ → Bool
@@ -129,19 +129,8 @@ submittable_then setup entry older b lt e =
     and_from (is_valid older b) _ (ap (λ (o : Option Entry). option_map_or (λ entry. is_made_valid entry.reply.answer) o false) (sym (maker_stays older entry b lt)) ∙ valid)
     (and_from (not (is_consumed setup older b)) (not (is_dropped setup older b)) (ap not (was_not (consumes setup older entry.event b) (is_consumed setup older b) (not_true (is_consumed setup (entry ∷ older) b) ends.0))) (ap not (undropped_then setup entry older b (not_true (is_dropped setup (entry ∷ older) b) ends.1))))
 
-encoder_info : (textures : ObjRef → TextureInfo) (event : Event) → option_map_or is_encoder (info_made textures event) false ≡ option_map_or is_encoder (info_made (λ _. no_texture) event) false
-encoder_info textures (CreateView texture desc) = refl
-encoder_info textures _ = refl
-
-encoder_at : (textures : ObjRef → TextureInfo) (o : Option Entry) → option_map_or is_encoder (option_and_then (λ entry. info_made textures entry.event) o) false ≡ option_map_or is_encoder (option_and_then (λ entry. info_made (λ _. no_texture) entry.event) o) false
-encoder_at textures None = refl
-encoder_at textures (Some entry) = encoder_info textures entry.event
-
 pub encoder_same : (entry : Entry) (older : Past) (n : ℕ) → n < count older → option_map_or is_encoder (info_at (entry ∷ older) n) false ≡ option_map_or is_encoder (info_at older n) false
-encoder_same entry older n lt =
-    encoder_at (known_textures (entry ∷ older)) (maker (entry ∷ older) n)
-    ∙ (ap (λ (o : Option Entry). option_map_or is_encoder (option_and_then (λ entry. info_made (λ _. no_texture) entry.event) o) false) (maker_stays older entry n lt)
-    ∙ sym (encoder_at (known_textures older) (maker older n)))
+encoder_same entry older n lt = ap (λ (o : Option Info). option_map_or is_encoder o false) (info_stays older entry n lt)
 
 pub open_then : (setup : Setup) (entry : Entry) (older : Past) (e : ℕ) → e < count older → is_open setup (entry ∷ older) e ≡ true → is_open setup older e ≡ true
 open_then setup entry older n lt e =
@@ -151,19 +140,6 @@ open_then setup entry older n lt e =
     (and_from (not (has_finished setup older n)) (not (is_dropped setup older n)) (ap not (was_not (ends_encoder setup older entry.event n) (has_finished setup older n) (not_true (has_finished setup (entry ∷ older) n) ends.0))) (ap not (undropped_then setup entry older n (not_true (is_dropped setup (entry ∷ older) n) ends.1))))
 
 -- What an object refers to, or names, when it is made.
-
--- A view refers to a texture that was made, and was not dropped.
-pub view_refers : (setup : Setup) (older : Past) (event : Event) (n : ℕ) → is_made_valid (answer_by older (effects_of event).form (not (is_lost older) && is_none (first_rule setup older event))) ≡ true → is_among (refers_made event) n ≡ true → (n < count older) × (is_dropped setup older n ≡ false)
-unfolding create_view_rule
-view_refers setup older (CreateView texture desc) n made refers =
-    let met = all_met (create_view_list setup older texture desc) (and_parts (not (is_lost older)) (is_none (create_view_rule setup older texture desc)) made).1 in
-    let same : texture.number ≡ n = elim (or_cases (texture.number == n) false refers) [
-      | inl here ↦ eqb-true texture.number n here
-      | inr none ↦ absurd (true≢false (sym none))
-    ] in
-    let lt : texture.number < count older = own_below setup older _ texture met.0 in
-    (omega (arith, lt, same), ap (is_dropped setup older) (sym same) ∙ not_true (is_dropped setup older texture.number) met.1.0)
-view_refers setup older _ n made refers = absurd (true≢false (sym refers))
 
 -- whether commands name object n, over the handles that they name
 any_numbered : (objects : List (HandleValue × Wanted)) (n : ℕ) → is_among (map (λ (object : HandleValue × Wanted). object.0.reference.number) objects) n ≡ list_any (λ (object : HandleValue × Wanted). object.0.reference.number == n) objects
@@ -285,7 +261,7 @@ falls_upto setup entry older (suc fuel) n run le lt e =
     ]
   where
     by_valid : (setup : Setup) (entry : Entry) (older : Past) (n : ℕ) → IsRun setup (entry ∷ older) → n < count older → (b : Bool) → is_made_valid entry.reply.answer ≡ b → is_among (if b then refers_made entry.event else []) n ≡ true → is_held setup older n ≡ true
-    by_valid setup entry older n run lt true valid refers = undropped_held setup older n lt (view_refers setup older entry.event n (made_met setup entry older (newest setup entry older run) valid) refers).1
+    by_valid setup entry older n run lt true valid refers = undropped_held setup older n lt (object_refers setup older entry.event n (made_met setup entry older (newest setup entry older run) valid) refers).1
     by_valid setup entry older n run lt false valid refers = absurd (true≢false (sym refers))
 
 pub held_falls : (setup : Setup) (entry : Entry) (older : Past) (n : ℕ) → IsRun setup (entry ∷ older) → n < count older → is_held setup (entry ∷ older) n ≡ true → is_held setup older n ≡ true

@@ -1,4 +1,4 @@
--- The tests of infos tell whether they are equal.
+-- The tests of buffers, textures and views tell whether they are equal.
 use Rattle.std.proofs.Common.{◌≡◌, ℕ, ◌==◌, Bool, true, false, ◌&&◌, List, refl, sym, ap, ◌∙◌, eqb-true, eq-eqb, if◌then◌else◌, bytes_eq}
 use Rattle.std.specs.Prelude.{Decides}
 use Rattle.std.proofs.lemmas.Bool.Decides.{Decides-and, Decides-like}
@@ -17,14 +17,13 @@ use Rattle.wg_types.specs.declared.textures.TextureInfo.{TextureInfo}
 use Rattle.wg_types.specs.declared.textures.ViewInfo.{ViewInfo}
 use Rattle.wg_types.specs.declared.handles.ObjRef.{ObjRef}
 use Rattle.wg_types.specs.declared.handles.BufferInfo.{BufferInfo}
-use Rattle.wg_types.specs.declared.handles.Info.TheVariants.{Buffer, Texture, View, Encoder, CommandBuffer}
-use Rattle.wg_history.specs.Infos.{same_bool, same_buffer, SameInfoIs}
+use Rattle.wg_model.specs.Equality.{same_bool, same_reference, same_buffer}
 
 -- Numbers, and words by their numbers.
-numbers_tell : (a b : ℕ) → Decides (a == b) (a ≡ b)
+pub numbers_tell : (a b : ℕ) → Decides (a == b) (a ≡ b)
 numbers_tell a b = (eqb-true a b, eq-eqb a b)
 
-words_tell : {X : Type 0} (number : X → ℕ) (back : ℕ → X) → ((x : X) → back (number x) ≡ x) → (a b : X) → Decides (number a == number b) (a ≡ b)
+pub words_tell : {X : Type 0} (number : X → ℕ) (back : ℕ → X) → ((x : X) → back (number x) ≡ x) → (a b : X) → Decides (number a == number b) (a ≡ b)
 words_tell number back is a b = (λ e. sym (is a) ∙ (ap back (eqb-true (number a) (number b) e) ∙ is b), λ e. eq-eqb (number a) (number b) (ap number e))
 
 abbrev format_at : ℕ → Format
@@ -46,7 +45,7 @@ format_back Depth24PlusStencil8 = refl
 format_back Depth32Float = refl
 format_back Stencil8 = refl
 
-formats_tell : (a b : Format) → Decides (same_format a b) (a ≡ b)
+pub formats_tell : (a b : Format) → Decides (same_format a b) (a ≡ b)
 formats_tell a b = words_tell format_number format_at format_back a b
 
 abbrev texture_dim_at : ℕ → TextureDim
@@ -76,7 +75,10 @@ aspect_word_back All = refl
 aspect_word_back DepthOnly = refl
 aspect_word_back StencilOnly = refl
 
-bools_tell : (a b : Bool) → Decides (same_bool a b) (a ≡ b)
+pub view_dims_tell : (a b : ViewDim) → Decides (view_dim_number a == view_dim_number b) (a ≡ b)
+view_dims_tell a b = words_tell view_dim_number view_dim_at view_dim_back a b
+
+pub bools_tell : (a b : Bool) → Decides (same_bool a b) (a ≡ b)
 bools_tell true true = (λ e. refl, λ e. refl)
 bools_tell true false = (λ e. absurd (cc), λ e. absurd (cc))
 bools_tell false true = (λ e. absurd (cc), λ e. absurd (cc))
@@ -138,7 +140,7 @@ reference_made device number = record { device = device; number = number }
 reference_like : (a b : ObjRef) → (a.device ≡ b.device) × (a.number ≡ b.number) → a ≡ b
 reference_like a b h = ap (λ x. reference_made x a.number) h.0 ∙ ap (λ x. reference_made b.device x) h.1
 
-references_tell : (a b : ObjRef) → Decides (a.device == b.device && a.number == b.number) (a ≡ b)
+pub references_tell : (a b : ObjRef) → Decides (same_reference a b) (a ≡ b)
 references_tell a b =
     Decides-like (a.device == b.device && a.number == b.number) (reference_like a b) (λ e. (ap (λ x. x.device) e, ap (λ x. x.number) e))
     (Decides-and (a.device == b.device) (a.number == b.number) (numbers_tell a.device b.device) (numbers_tell a.number b.number))
@@ -173,18 +175,9 @@ views_tell a b =
     (Decides-and _ (aspect_word_number a.aspect == aspect_word_number b.aspect)
     (Decides-and _ (view_dim_number a.dim == view_dim_number b.dim)
     (Decides-and (a.texture.device == b.texture.device && a.texture.number == b.texture.number) (same_texture a.texture_info b.texture_info) (references_tell a.texture b.texture) (textures_tell a.texture_info b.texture_info))
-    (words_tell view_dim_number view_dim_at view_dim_back a.dim b.dim))
+    (view_dims_tell a.dim b.dim))
     (words_tell aspect_word_number aspect_word_at aspect_word_back a.aspect b.aspect))
     (numbers_tell a.base_mip b.base_mip))
     (numbers_tell a.mips b.mips))
     (numbers_tell a.base_layer b.base_layer))
     (numbers_tell a.layers b.layers))
-
--- Infos.
-pub infos_tell : SameInfoIs
-infos_tell (Buffer a) (Buffer b) = let d = buffers_tell a b in (λ e. ap Buffer (d.0 e), λ e. d.1 (cc))
-infos_tell (Texture a) (Texture b) = let d = textures_tell a b in (λ e. ap Texture (d.0 e), λ e. d.1 (cc))
-infos_tell (View a) (View b) = let d = views_tell a b in (λ e. ap View (d.0 e), λ e. d.1 (cc))
-infos_tell Encoder Encoder = (λ e. refl, λ e. refl)
-infos_tell CommandBuffer CommandBuffer = (λ e. refl, λ e. refl)
-infos_tell _ _ = (λ e. absurd (cc), λ e. absurd (cc))

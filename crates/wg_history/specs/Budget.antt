@@ -4,12 +4,12 @@ use Rattle.std.specs.Option.{option_map_or}
 use Rattle.wg_model.specs.Commands.{no_texture}
 use Rattle.wg_model.specs.Memory.{bytes_of}
 use Rattle.wg_history.specs.Entries.{Setup, Event, Past}
-use Rattle.wg_history.specs.Objects.{count, maker, info_made, resource_at}
+use Rattle.wg_history.specs.Objects.{count, maker, info_made, unknown, resource_at}
 use Rattle.wg_history.specs.Releases.{is_released}
 
 -- the bytes of the object that an event makes
 abbrev pub bytes_made : Event → ℕ
-bytes_made event = option_map_or bytes_of (info_made (λ _. no_texture) event) 0
+bytes_made event = option_map_or bytes_of (info_made unknown event) 0
 
 abbrev pub bytes_at : Past → ℕ → ℕ
 bytes_at past n = option_map_or (λ entry. bytes_made entry.event) (maker past n) 0

@@ -6,8 +6,9 @@ use Rattle.wg_model.specs.Rules.{Rule, first_unmet}
 use Rattle.wg_model.specs.Buffers.{create_buffer_rules}
 use Rattle.wg_model.specs.Textures.{create_texture_rules}
 use Rattle.wg_model.specs.Memory.{texture_bytes}
-use Rattle.wg_history.specs.Entries.{Setup, Event, CreateBuffer, CreateTexture, CreateView, CreateEncoder, Finish, Late, Submit, WriteBuffer, WriteTexture, Destroy, Drop, Complete, PushErrorScope, PopErrorScope, Lose, WorkDone, MapAsync, Unmap, Past}
+use Rattle.wg_history.specs.Entries.{Setup, Event, CreateBuffer, CreateTexture, CreateView, CreateSampler, CreateBindGroupLayout, CreatePipelineLayout, CreateBindGroup, CreateComputePipeline, CreateEncoder, Finish, Late, Submit, WriteBuffer, WriteTexture, Destroy, Drop, Complete, PushErrorScope, PopErrorScope, Lose, WorkDone, MapAsync, Unmap, Past}
 use Rattle.wg_history.specs.Rules.{create_view_rule, destroy_rule, drop_rule, unmap_rule, map_async_rule, write_buffer_rule, write_texture_rule, finish_rule, submit_rule}
+use Rattle.wg_history.specs.GroupRules.{create_bind_group_layout_rule, create_pipeline_layout_rule, create_bind_group_rule, create_compute_pipeline_rule}
 use Rattle.wg_history.specs.Budget.{live_bytes}
 
 -- 13 what is live before the event and the new bytes are within the budget
@@ -28,6 +29,11 @@ abbrev pub first_rule : Setup → Past → Event → Option ℕ
 first_rule setup past (CreateBuffer info) = create_buffer_rule setup past info
 first_rule setup past (CreateTexture info) = create_texture_rule setup past info
 first_rule setup past (CreateView texture desc) = create_view_rule setup past texture desc
+first_rule setup past (CreateSampler kind) = None
+first_rule setup past (CreateBindGroupLayout info) = create_bind_group_layout_rule setup info
+first_rule setup past (CreatePipelineLayout layouts) = create_pipeline_layout_rule setup past layouts
+first_rule setup past (CreateBindGroup layout entries) = create_bind_group_rule setup past layout entries
+first_rule setup past (CreateComputePipeline layout iface) = create_compute_pipeline_rule setup past layout iface
 first_rule setup past CreateEncoder = None
 first_rule setup past (Finish encoder recording) = finish_rule setup past encoder recording
 first_rule setup past (Late encoder) = Some 14

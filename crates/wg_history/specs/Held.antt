@@ -1,26 +1,41 @@
 -- Which objects are held (WebGPU, "Internal Objects"): the least relation, and the same as a test.
-use Rattle.std.specs.Prelude.{◌≡◌, ℕ, ◌<◌, Bool, true, false, not, ◌&&◌, List, [], ◌∷◌, Some, if◌then◌else◌}
+use Rattle.std.specs.Prelude.{◌≡◌, ℕ, ◌<◌, Bool, true, false, not, ◌&&◌, List, [], ◌∷◌, map, Some, if◌then◌else◌}
 use Rattle.std.specs.Option.{option_map_or}
 use Rattle.wg_model.specs.Holding.{Holds, is_among, is_held_in}
 use Rattle.wg_model.specs.Recorded.{names_within}
 use Rattle.wg_types.specs.declared.handles.Info.{Info}
-use Rattle.wg_types.specs.declared.handles.Info.TheVariants.{Buffer, Texture, View, Encoder, CommandBuffer}
+use Rattle.wg_types.specs.declared.handles.Info.TheVariants.{Buffer, Texture, View, Sampler, GroupLayout, PipelineLayout, Group, Compute, Encoder, CommandBuffer}
+use Rattle.wg_types.specs.declared.bindings.BoundResource.{BoundResource}
+use Rattle.wg_types.specs.declared.bindings.BoundResource.TheVariants.{Buffer as BoundBuffer, View as BoundView, Sampler as BoundSampler}
+use Rattle.wg_types.specs.declared.bindings.BoundEntry.{BoundEntry}
+use Rattle.wg_types.specs.declared.handles.ObjRef.{ObjRef}
 use Rattle.wg_history.specs.Entries.{Setup, Event, Past}
-use Rattle.wg_model.specs.Commands.{no_texture}
-use Rattle.wg_history.specs.Objects.{count, maker, info_made, info_at, is_valid, is_encoder, commands_at}
+use Rattle.wg_history.specs.Objects.{count, maker, info_made, unknown, info_at, is_valid, is_encoder, commands_at}
 use Rattle.wg_history.specs.Rules.{dropped_at, is_dropped, is_consumed, has_finished}
 
--- the objects to which one of this info refers, if it is valid: a view refers to its texture
+-- the object that an entry of a bind group binds
+abbrev pub resource_number : BoundResource → ℕ
+resource_number (BoundBuffer buffer info offset size) = buffer.number
+resource_number (BoundView view info) = view.number
+resource_number (BoundSampler sampler info) = sampler.number
+
+-- The objects to which one of this info refers, if it is valid: a view to its texture; a pipeline layout to the layouts of its
+-- groups; a bind group to its layout and to what it binds; a pipeline to its layout.
 abbrev pub refers_of : Info → List ℕ
 refers_of (View info) = info.texture.number ∷ []
 refers_of (Buffer info) = []
 refers_of (Texture info) = []
+refers_of (Sampler known) = []
+refers_of (GroupLayout info) = []
+refers_of (PipelineLayout info) = map (λ (layout : ObjRef). layout.number) info.layouts
+refers_of (Group info) = info.layout.number ∷ map (λ (entry : BoundEntry). resource_number entry.resource) info.entries
+refers_of (Compute info) = info.layout.number ∷ []
 refers_of Encoder = []
 refers_of CommandBuffer = []
 
 -- the objects to which one that an event makes refers, if it is valid
 abbrev pub refers_made : Event → List ℕ
-refers_made event = option_map_or refers_of (info_made (λ _. no_texture) event) []
+refers_made event = option_map_or refers_of (info_made unknown event) []
 
 abbrev pub refers_at : Past → ℕ → List ℕ
 refers_at past n = if is_valid past n then option_map_or (λ entry. refers_made entry.event) (maker past n) [] else []

@@ -12,13 +12,13 @@ use Rattle.wg_model.specs.Rules.{Rule, first_unmet, or_else}
 use Rattle.wg_model.specs.Buffers.{write_buffer_rules, map_rules}
 use Rattle.wg_model.specs.Textures.{create_view_rules}
 use Rattle.wg_model.specs.TexelCopies.{write_texture_rules}
-use Rattle.wg_model.specs.Commands.{named, no_buffer, no_texture}
+use Rattle.wg_model.specs.Commands.{named, no_buffer}
 use Rattle.wg_model.specs.Scopes.{first_clash}
 use Rattle.wg_model.specs.Walk.{Verdict, ScopesOf, open_pass, encoder_depth}
 use Rattle.wg_model.specs.Recorded.{buffers_of, textures_of, any_named}
 use Rattle.wg_encoder.specs.Recorders.{RecordingValue}
 use Rattle.wg_history.specs.Entries.{Setup, Event, effects_of, submitted, Entry, Past}
-use Rattle.wg_history.specs.Objects.{ObjRef, is_making, count, info_made, is_made_valid, is_own, is_valid, info_at, is_any, is_buffer, is_texture, is_encoder, is_command_buffer, has_memory, buffer_at, texture_or_none_at, commands_at}
+use Rattle.wg_history.specs.Objects.{ObjRef, is_making, count, info_made, unknown, is_made_valid, is_own, is_valid, info_at, is_any, is_buffer, is_texture, is_encoder, is_command_buffer, has_memory, buffer_at, texture_or_none_at, commands_at}
 use Rattle.wg_types.specs.declared.handles.Info.{Info}
 use Rattle.wg_types.specs.declared.handles.Info.TheVariants.{Buffer}
 use Rattle.wg_types.specs.declared.mappings.Mapping.{Mapping}
@@ -28,7 +28,8 @@ use Rattle.wg_types.specs.declared.replies.Settlement.{Settlement}
 use Rattle.wg_types.specs.declared.replies.How.{How}
 use Rattle.wg_types.specs.declared.replies.How.TheVariants.{Mapped, Done, Aborted, Rejected, Null, Error}
 use Rattle.wg_history.specs.Loss.{Awaited, mapping, work, Wait, promised, awaiting, is_pending}
-use Rattle.wg_history.specs.Infos.{same_kind, same_info, same_bool}
+use Rattle.wg_model.specs.Equality.{same_bool}
+use Rattle.wg_history.specs.Infos.{same_kind, same_info}
 
 -- drop: 10 the object is one of this device, of any kind, valid or not; 11 it was not dropped before
 abbrev pub drop_list : Bool → Setup → Past → ObjRef → List Rule
@@ -90,7 +91,7 @@ mapped_with answer (Some (Buffer info)) = if info.mapped && is_made_valid answer
 mapped_with answer _ = None
 
 abbrev pub mapped_made : Entry → Option Mapping
-mapped_made entry = mapped_with entry.reply.answer (info_made (λ _. no_texture) entry.event)
+mapped_made entry = mapped_with entry.reply.answer (info_made unknown entry.event)
 
 abbrev pub is_mapped_how : How → Bool
 is_mapped_how Mapped = true

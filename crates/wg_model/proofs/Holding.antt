@@ -46,21 +46,21 @@ all_at nodes n lt =
     let e : 0 + n ≡ n = omega arith in
     let h = held_at nodes 0 n lt in rw e at h
 
-held_inside : (nodes : List Node) (n : ℕ) → is_held_among nodes n ≡ true → n < length nodes
+pub held_inside : (nodes : List Node) (n : ℕ) → is_held_among nodes n ≡ true → n < length nodes
 held_inside nodes n e = elim (cases_lt n (length nodes)) [
   | inl lt ↦ lt
   | inr ge ↦ (let le : length (all_held nodes) ≤ n = omega (arith, length-with_holders nodes 0) in
       absurd (false≢true (sym (ap (λ (x : Node). x.held) (get_or_past (all_held nodes) n nobody le)) ∙ e)))
 ]
 
-record HolderAmong (nodes : List Node) (n : ℕ) : Type 0 where
-  m : ℕ
-  after : n < m
-  inside : m < length nodes
-  held : is_held_among nodes m ≡ true
-  refers : is_among (get_or nodes m nobody).refers n ≡ true
+pub record HolderAmong (nodes : List Node) (n : ℕ) : Type 0 where
+  pub m : ℕ
+  pub after : n < m
+  pub inside : m < length nodes
+  pub held : is_held_among nodes m ≡ true
+  pub refers : is_among (get_or nodes m nobody).refers n ≡ true
 
-among_cases : (nodes : List Node) (n : ℕ) → is_held_among nodes n ≡ true → ((get_or nodes n nobody).held ≡ true) ⊎ HolderAmong nodes n
+pub among_cases : (nodes : List Node) (n : ℕ) → is_held_among nodes n ≡ true → ((get_or nodes n nobody).held ≡ true) ⊎ HolderAmong nodes n
 among_cases nodes n e =
     let lt = held_inside nodes n e in
     let here = sym (ap (λ (x : Node). x.held) (all_at nodes n lt)) ∙ e in
@@ -83,10 +83,10 @@ among_cases nodes n e =
           }))
     ]
 
-among_own : (nodes : List Node) (n : ℕ) → n < length nodes → (get_or nodes n nobody).held ≡ true → is_held_among nodes n ≡ true
+pub among_own : (nodes : List Node) (n : ℕ) → n < length nodes → (get_or nodes n nobody).held ≡ true → is_held_among nodes n ≡ true
 among_own nodes n lt own = ap (λ (x : Node). x.held) (all_at nodes n lt) ∙ or_left _ _ own
 
-among_other : (nodes : List Node) (m n : ℕ) → n < m → is_held_among nodes m ≡ true → is_among (get_or nodes m nobody).refers n ≡ true → is_held_among nodes n ≡ true
+pub among_other : (nodes : List Node) (m n : ℕ) → n < m → is_held_among nodes m ≡ true → is_among (get_or nodes m nobody).refers n ≡ true → is_held_among nodes n ≡ true
 among_other nodes m n less is refers =
     let lt = held_inside nodes m is in
     let here : n < length nodes = omega (arith, lt, less) in

@@ -9,6 +9,10 @@ use Rattle.wg_types.specs.declared.wanted.Kind.{Kind}
 use Rattle.wg_types.specs.declared.wanted.Wanted.{Wanted}
 use Rattle.wg_types.specs.declared.wanted.Wanted.TheVariants as wanted
 use Rattle.wg_types.specs.Refs.{all_wanted}
+use Rattle.wg_types.specs.Bindings.{resource_named, entries_named, map_resource, map_entry}
+use Rattle.wg_types.specs.declared.bindings.ResourceOf.{ResourceOf}
+use Rattle.wg_types.specs.declared.bindings.ResourceOf.TheVariants.{Buffer, View, Sampler}
+use Rattle.wg_types.specs.declared.bindings.GroupEntryOf.{GroupEntryOf}
 use Rattle.wg_types.specs.Commands.{named, map_refs}
 use Rattle.wg_types.specs.declared.commands.CommandOf.{CommandOf}
 use Rattle.wg_types.specs.Requests.{kind_made, named as asked_of, map_refs as map_asked}
@@ -36,8 +40,17 @@ all_named : {R S : Type 0} (f : R → S) (want : Wanted) (xs : List R) → all_w
 all_named f want [] = refl
 all_named f want (x ∷ xs) = ap (λ rest. (f x, want) ∷ rest) (all_named f want xs)
 
+resource_mapped : {R S : Type 0} (f : R → S) (r : ResourceOf R) → resource_named (map_resource f r) ≡ other f (resource_named r)
+resource_mapped f (Buffer buffer offset size) = refl
+resource_mapped f (View view) = refl
+resource_mapped f (Sampler sampler) = refl
+
+entries_mapped : {R S : Type 0} (f : R → S) (xs : List (GroupEntryOf R)) → entries_named (map (map_entry f) xs) ≡ map (other f) (entries_named xs)
+entries_mapped f [] = refl
+entries_mapped f (x ∷ xs) = ap₂ (λ a b. a ∷ b) (resource_mapped f x.resource) (entries_mapped f xs)
+
 request_named : {R S : Type 0} (f : R → S) (request : RequestOf R) → asked_of (map_asked f request) ≡ map (other f) (asked_of request)
-request_named f request = grind (arith, all_named)
+request_named f request = grind (arith, all_named, entries_mapped)
 
 request_kind : {R S : Type 0} (f : R → S) (request : RequestOf R) → kind_made (map_asked f request) ≡ kind_made request
 request_kind f request = grind arith

@@ -16,7 +16,7 @@ use Rattle.wg_types.specs.Wanted.{admits}
 use Rattle.wg_types.specs.Commands.{named, map_refs}
 use Rattle.wg_types.specs.Requests.{kind_made, named as asked_of}
 use Rattle.wg_types.specs.declared.requests.RequestOf.{RequestOf}
-use Rattle.wg_types.specs.declared.requests.RequestOf.TheVariants.{CreateBuffer, CreateTexture, CreateView, CreateEncoder, Finish, Submit, WriteBuffer, WriteTexture, Destroy, Drop, Complete, PushErrorScope, PopErrorScope, Lose, WorkDone, MapAsync, Unmap}
+use Rattle.wg_types.specs.declared.requests.RequestOf.TheVariants.{CreateBuffer, CreateTexture, CreateView, CreateSampler, CreateBindGroupLayout, CreatePipelineLayout, CreateBindGroup, CreateComputePipeline, CreateEncoder, Finish, Submit, WriteBuffer, WriteTexture, Destroy, Drop, Complete, PushErrorScope, PopErrorScope, Lose, WorkDone, MapAsync, Unmap}
 use Rattle.wg_encoder.specs.Recorders.{RecorderValue, after_take, is_late}
 use Rattle.wg_types.specs.declared.commands.On.TheVariants.{Encoder}
 use Rattle.wg_history.specs.declared.events.Setup.{Setup}
@@ -88,6 +88,11 @@ request_unborn made n (Finish encoder) below all =
 request_unborn made n (CreateBuffer known) below all = refl
 request_unborn made n (CreateTexture known) below all = refl
 request_unborn made n (CreateView texture asked) below all = refl
+request_unborn made n (CreateSampler known) below all = refl
+request_unborn made n (CreateBindGroupLayout known) below all = refl
+request_unborn made n (CreatePipelineLayout layouts) below all = refl
+request_unborn made n (CreateBindGroup layout entries) below all = refl
+request_unborn made n (CreateComputePipeline layout iface) below all = refl
 request_unborn made n CreateEncoder below all = refl
 request_unborn made n (Submit buffers) below all = refl
 request_unborn made n (WriteBuffer buffer offset size) below all = refl
@@ -150,6 +155,11 @@ request_length : (setup : Setup) (state : Played) (request : RequestOf ℕ) (slo
 request_length setup state (CreateBuffer known) slot = length-append state.objects _
 request_length setup state (CreateTexture known) slot = length-append state.objects _
 request_length setup state (CreateView texture asked) slot = length-append state.objects _
+request_length setup state (CreateSampler known) slot = length-append state.objects _
+request_length setup state (CreateBindGroupLayout known) slot = length-append state.objects _
+request_length setup state (CreatePipelineLayout layouts) slot = length-append state.objects _
+request_length setup state (CreateBindGroup layout entries) slot = length-append state.objects _
+request_length setup state (CreateComputePipeline layout iface) slot = length-append state.objects _
 request_length setup state CreateEncoder slot = length-append state.objects _
 request_length setup state (Finish encoder) slot = length-append (taken_on state.objects encoder) _ ∙ ap (λ n. n + 1) (length_with state.objects encoder (λ r. record r { commands = []; takes = after_take r.takes }))
 request_length setup state (Submit buffers) slot = omega arith
@@ -192,6 +202,11 @@ encoder_new setup state CreateEncoder slot e = late_new state.objects _
 encoder_new setup state (CreateBuffer known) slot e = absurd (cc)
 encoder_new setup state (CreateTexture known) slot e = absurd (cc)
 encoder_new setup state (CreateView texture asked) slot e = absurd (cc)
+encoder_new setup state (CreateSampler known) slot e = absurd (cc)
+encoder_new setup state (CreateBindGroupLayout known) slot e = absurd (cc)
+encoder_new setup state (CreatePipelineLayout layouts) slot e = absurd (cc)
+encoder_new setup state (CreateBindGroup layout entries) slot e = absurd (cc)
+encoder_new setup state (CreateComputePipeline layout iface) slot e = absurd (cc)
 encoder_new setup state (Finish encoder) slot e = absurd (cc)
 encoder_new setup state (Submit buffers) slot e = absurd (cc)
 encoder_new setup state (WriteBuffer buffer offset size) slot e = absurd (cc)
@@ -221,6 +236,11 @@ is_encoder : (k : Kind) → admits wanted.Encoder k ≡ true → k ≡ kind.Enco
 is_encoder kind.Buffer e = absurd (cc)
 is_encoder kind.Texture e = absurd (cc)
 is_encoder kind.View e = absurd (cc)
+is_encoder kind.Sampler e = absurd (cc)
+is_encoder kind.GroupLayout e = absurd (cc)
+is_encoder kind.PipelineLayout e = absurd (cc)
+is_encoder kind.Group e = absurd (cc)
+is_encoder kind.Compute e = absurd (cc)
 is_encoder kind.Encoder e = refl
 is_encoder kind.CommandBuffer e = absurd (cc)
 

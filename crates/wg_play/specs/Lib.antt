@@ -1,3 +1,4 @@
 pub mod Objects
 pub mod Play
 pub mod Late
+pub mod Infos

@@ -1,21 +1,22 @@
 -- What the slots of a script stand for on a device, and which event each call of the device is.
-use Rattle.std.specs.Prelude.{ℕ, List, [], map, Option, Some, None, unwrap_or, option_and_then, option_map, slice_get, slice_set, if◌then◌else◌, Bool, true, false}
+use Rattle.std.specs.Prelude.{ℕ, List, [], map, Option, Some, None, option_and_then, option_map, slice_get, slice_set, if◌then◌else◌, Bool, true, false}
 use Rattle.std.specs.Option.{option_map_or}
 use Rattle.wg_types.specs.Handles.{HandleValue}
 use Rattle.wg_types.specs.declared.handles.ObjRef.{ObjRef}
 use Rattle.wg_types.specs.declared.handles.Info.{Info}
 use Rattle.wg_types.specs.declared.handles.Info.TheVariants as info
 use Rattle.wg_types.specs.declared.textures.TextureInfo.{TextureInfo}
+use Rattle.wg_types.specs.declared.textures.ViewAsked.{ViewAsked}
+use Rattle.wg_types.specs.declared.textures.ViewDesc.{ViewDesc}
 use Rattle.wg_types.specs.declared.commands.On.TheVariants.{Encoder}
 use Rattle.wg_types.specs.Commands.{Command}
-use Rattle.wg_types.specs.Refs.{first_of}
-use Rattle.wg_types.specs.Requests.{named}
+use Rattle.wg_types.specs.Bindings.{map_entry}
 use Rattle.wg_types.specs.declared.requests.RequestOf.{RequestOf}
-use Rattle.wg_types.specs.declared.requests.RequestOf.TheVariants.{CreateBuffer, CreateTexture, CreateView, CreateEncoder, Finish, Submit, WriteBuffer, WriteTexture, Destroy, Drop, Complete, PushErrorScope, PopErrorScope, Lose, WorkDone, MapAsync, Unmap}
+use Rattle.wg_types.specs.declared.requests.RequestOf.TheVariants.{CreateBuffer, CreateTexture, CreateView, CreateSampler, CreateBindGroupLayout, CreatePipelineLayout, CreateBindGroup, CreateComputePipeline, CreateEncoder, Finish, Submit, WriteBuffer, WriteTexture, Destroy, Drop, Complete, PushErrorScope, PopErrorScope, Lose, WorkDone, MapAsync, Unmap}
 use Rattle.wg_model.specs.Commands.{texture_of, no_texture, size_or_rest}
+use Rattle.wg_model.specs.Making.{view_made, pipeline_layout_made, group_made, compute_made}
 use Rattle.wg_model.specs.Views.{view_of}
 use Rattle.wg_encoder.specs.Recorders.{RecorderValue, RecordingValue, is_late, recorded, after_take}
-use Rattle.wg_history.specs.Objects.{info_made}
 use Rattle.wg_history.specs.declared.events.Event.{Event}
 use Rattle.wg_history.specs.declared.events.Event.TheVariants as event
 use Rattle.wg_play.specs.declared.objects.Object.{Object}
@@ -30,6 +31,10 @@ handle_at objects slot = option_map_or (λ object. object.handle) (slice_get obj
 
 abbrev pub reference_at : List Object → ℕ → ObjRef
 reference_at objects slot = (handle_at objects slot).reference
+
+-- what is known of the object of a slot, if there is one
+abbrev pub knows_at : List Object → ℕ → Option Info
+knows_at objects slot = option_map (λ object. object.handle.info) (slice_get objects slot)
 
 -- the recorder of an encoder
 abbrev pub recorder_at : List Object → ℕ → Option RecorderValue
@@ -60,6 +65,10 @@ taken_on objects slot = with_recorder objects slot (λ recorder. record recorder
 abbrev pub known_texture : HandleValue → TextureInfo
 known_texture texture = if texture.valid then texture_of texture else no_texture
 
+-- what is asked of a view of the texture of a slot, with the parts that are left out
+abbrev pub view_asked : List Object → ℕ → ViewAsked → ViewDesc
+view_asked objects texture asked = view_of (known_texture (handle_at objects texture)) asked.dim asked.aspect asked.base_mip asked.mips asked.base_layer asked.layers
+
 -- a size in a buffer, or what remains of it from the offset on where none is given, which of an invalid one is nothing
 abbrev pub size_at : List Object → ℕ → ℕ → Option ℕ → ℕ
 size_at objects buffer offset size = size_or_rest (handle_at objects buffer) offset size
@@ -68,7 +77,12 @@ size_at objects buffer offset size = size_or_rest (handle_at objects buffer) off
 abbrev pub event_asked : List Object → RequestOf ℕ → Event
 event_asked objects (CreateBuffer known) = event.CreateBuffer known
 event_asked objects (CreateTexture known) = event.CreateTexture known
-event_asked objects (CreateView texture asked) = event.CreateView (reference_at objects texture) (view_of (known_texture (handle_at objects texture)) asked.dim asked.aspect asked.base_mip asked.mips asked.base_layer asked.layers)
+event_asked objects (CreateView texture asked) = event.CreateView (reference_at objects texture) (view_asked objects texture asked)
+event_asked objects (CreateSampler known) = event.CreateSampler known
+event_asked objects (CreateBindGroupLayout known) = event.CreateBindGroupLayout known
+event_asked objects (CreatePipelineLayout layouts) = event.CreatePipelineLayout (map (reference_at objects) layouts)
+event_asked objects (CreateBindGroup layout entries) = event.CreateBindGroup (reference_at objects layout) (map (map_entry (reference_at objects)) entries)
+event_asked objects (CreateComputePipeline layout iface) = event.CreateComputePipeline (reference_at objects layout) iface
 event_asked objects CreateEncoder = event.CreateEncoder
 event_asked objects (Finish on) = event.Finish (reference_at objects on) (taken_from objects on)
 event_asked objects (Submit buffers) = event.Submit (map (reference_at objects) buffers)
@@ -90,6 +104,11 @@ ended_by (Finish encoder) = Some encoder
 ended_by (CreateBuffer known) = None
 ended_by (CreateTexture known) = None
 ended_by (CreateView texture asked) = None
+ended_by (CreateSampler known) = None
+ended_by (CreateBindGroupLayout known) = None
+ended_by (CreatePipelineLayout layouts) = None
+ended_by (CreateBindGroup layout entries) = None
+ended_by (CreateComputePipeline layout iface) = None
 ended_by CreateEncoder = None
 ended_by (Submit buffers) = None
 ended_by (WriteBuffer buffer offset size) = None
@@ -108,19 +127,46 @@ ended_by (Unmap buffer) = None
 abbrev pub objects_taken : List Object → RequestOf ℕ → List Object
 objects_taken objects request = option_map_or (taken_on objects) (ended_by request) objects
 
--- what is known of the object that a call of the device names first, if that is a texture
-abbrev pub texture_named : List Object → RequestOf ℕ → TextureInfo
-texture_named objects request = unwrap_or (first_of (λ slot. Some (texture_of (handle_at objects slot.0))) (named request)) no_texture
+-- What is known of the object that a call of the device makes, by what the handles of those that it names know. It carries along
+-- what is known of these.
+abbrev pub info_asked : List Object → RequestOf ℕ → Option Info
+info_asked objects (CreateBuffer known) = Some (info.Buffer known)
+info_asked objects (CreateTexture known) = Some (info.Texture known)
+info_asked objects (CreateView texture asked) = Some (info.View (view_made (reference_at objects) (knows_at objects) texture (view_asked objects texture asked)))
+info_asked objects (CreateSampler known) = Some (info.Sampler known)
+info_asked objects (CreateBindGroupLayout known) = Some (info.GroupLayout known)
+info_asked objects (CreatePipelineLayout layouts) = Some (info.PipelineLayout (pipeline_layout_made (reference_at objects) (knows_at objects) layouts))
+info_asked objects (CreateBindGroup layout entries) = Some (info.Group (group_made (reference_at objects) (knows_at objects) layout entries))
+info_asked objects (CreateComputePipeline layout iface) = Some (info.Compute (compute_made (reference_at objects) (knows_at objects) layout iface))
+info_asked objects CreateEncoder = Some info.Encoder
+info_asked objects (Finish encoder) = Some info.CommandBuffer
+info_asked objects (Submit buffers) = None
+info_asked objects (WriteBuffer buffer offset size) = None
+info_asked objects (WriteTexture texture spot layout size data_size) = None
+info_asked objects (Destroy object) = None
+info_asked objects (Drop object) = None
+info_asked objects (Complete op) = None
+info_asked objects (PushErrorScope filter) = None
+info_asked objects PopErrorScope = None
+info_asked objects Lose = None
+info_asked objects WorkDone = None
+info_asked objects (MapAsync buffer mode offset size) = None
+info_asked objects (Unmap buffer) = None
 
--- what is known of the object that a call of the device makes, if it makes one
+-- what is known of the object that a call of the device makes, if it makes one that has a slot
 abbrev pub known_made : List Object → RequestOf ℕ → Option ℕ → Option Info
-known_made objects request made = option_and_then (λ slot. info_made (λ texture. texture_named objects request) (event_asked objects request)) made
+known_made objects request made = option_and_then (λ slot. info_asked objects request) made
 
 abbrev pub recorder_for : ObjRef → Info → Option RecorderValue
 recorder_for encoder info.Encoder = Some (record { device = encoder.device; encoder = Some encoder; commands = []; takes = 0; passes = 0 })
 recorder_for encoder (info.Buffer known) = None
 recorder_for encoder (info.Texture known) = None
 recorder_for encoder (info.View known) = None
+recorder_for encoder (info.Sampler known) = None
+recorder_for encoder (info.GroupLayout known) = None
+recorder_for encoder (info.PipelineLayout known) = None
+recorder_for encoder (info.Group known) = None
+recorder_for encoder (info.Compute known) = None
 recorder_for encoder info.CommandBuffer = None
 
 -- an object that was made, an encoder with a recorder that has kept nothing

@@ -1,24 +1,27 @@
-//! Which command or event each call of a script is.
-ghost use Rattle.std.specs.Prelude.{◌≡◌, Some, IfOk, OnOk, OnErr};
+//! Which command or event each call of a script is, and what is known of the object that it makes.
+ghost use Rattle.std.specs.Prelude.{◌≡◌, true, IfOk, OnOk, OnErr};
+ghost use Rattle.std.specs.Option.{is_some};
 ghost use Rattle.wg_types.specs.Commands.{map_refs};
-ghost use Rattle.wg_model.specs.Commands.{texture_of};
-ghost use Rattle.wg_model.specs.Views.{view_of};
-ghost use Rattle.wg_play.specs.Objects.{handle_at, reference_at, known_texture, event_asked, objects_taken, texture_named, known_made};
+ghost use Rattle.wg_types.specs.Requests.{kind_made};
+ghost use Rattle.wg_history.specs.Entries.{effects_of};
+ghost use Rattle.wg_history.specs.declared.events.Form.TheVariants.{Queue};
+ghost use Rattle.wg_play.specs.Objects.{handle_at, reference_at, knows_at, view_asked, event_asked, objects_taken, info_asked};
 
 use crate::objects::{
-    Object, handle_at, known_texture_at, reference_at, size_at, take_on, texture_at,
+    Object, handle_at, info_at, known_texture_at, reference_at, size_at, take_on,
 };
 use std::alloc::Global;
 use wg_entry::NoMemory;
-use wg_formats::no_texture;
+use wg_groups::making::{compute_made, group_made, pipeline_layout_made, view_made};
 use wg_history::events::Event;
 use wg_textures::{Asked, view_of};
+use wg_types::bindings::map_entries;
 use wg_types::commands::{Command, CommandOf};
 use wg_types::handles::{Handle, Info, ObjRef};
-use wg_types::refs::{self, Ask, Find};
+use wg_types::refs::{self, Find, Known};
 use wg_types::requests::RequestOf;
-use wg_types::textures::{TextureInfo, ViewAsked, ViewDesc};
-use wg_types::wanted::Wanted;
+use wg_types::shared::Shared;
+use wg_types::textures::{ViewAsked, ViewDesc};
 
 /// The handles that slots stand for.
 #[derive(Drop)]
@@ -49,17 +52,17 @@ impl Find<u32, ObjRef> for References<'_> {
     }
 }
 
-/// What is known of textures.
+/// What is known of the objects of slots.
 #[derive(Drop)]
-struct Textures<'a> {
+struct Infos<'a> {
     objects: &'a [Object],
 }
 
-impl Ask<u32, TextureInfo> for Textures<'_> {
-    ghost asks = { λ asked slot. Some (texture_of (handle_at asked.objects.now slot.0)) };
+impl Known<u32> for Infos<'_> {
+    ghost knows = { λ known. knows_at known.objects.now };
 
-    fn ask(&self, object: &u32, _wanted: Wanted) -> Option<TextureInfo> {
-        Some(texture_at(self.objects, *object))
+    fn info(&self, object: &u32) -> Option<&Info> {
+        info_at(self.objects, *object)
     }
 }
 
@@ -76,7 +79,7 @@ pub fn command_of(
 
 /// What is asked of a view of the texture of a slot, with the parts that are left out.
 fn view_asked(objects: &[Object], texture: u32, asked: ViewAsked) -> ViewDesc
-    ensures { result ≡ view_of (known_texture (handle_at objects.now texture)) asked.dim asked.aspect asked.base_mip asked.mips asked.base_layer asked.layers }
+    ensures { result ≡ view_asked objects.now texture asked }
 {
     let known = known_texture_at(objects, texture);
     let asked = Asked {
@@ -90,12 +93,13 @@ fn view_asked(objects: &[Object], texture: u32, asked: ViewAsked) -> ViewDesc
     view_of(&known, asked)
 }
 
-/// The event that a call of the device is. A finish takes what its encoder's recorder has kept.
-pub fn event_asked(
+/// The event that a call is that makes an object.
+fn making_asked(
     alloc: Global,
     objects: &mut Vec<Object>,
     request: &RequestOf<u32>,
 ) -> Result<Event, NoMemory>
+    requires { is_some (kind_made request.now) ≡ true }
     ensures event { IfOk result (λ event. event ≡ event_asked objects.old.items request.now) }
     ensures taken { OnOk result (objects.new.items ≡ objects_taken objects.old.items request.now) }
     ensures unchanged { OnErr result (objects.new.items ≡ objects.old.items) }
@@ -107,15 +111,43 @@ pub fn event_asked(
             texture: reference_at(objects, *texture),
             desc: view_asked(objects, *texture, *asked),
         }),
+        RequestOf::CreateSampler { kind } => Ok(Event::CreateSampler { kind: *kind }),
+        RequestOf::CreateBindGroupLayout { info } => Ok(Event::CreateBindGroupLayout {
+            info: info.share()?,
+        }),
+        RequestOf::CreatePipelineLayout { layouts } => Ok(Event::CreatePipelineLayout {
+            layouts: refs::map_items(alloc, &References { objects }, layouts.as_slice())?,
+        }),
+        RequestOf::CreateBindGroup { layout, entries } => Ok(Event::CreateBindGroup {
+            layout: reference_at(objects, *layout),
+            entries: map_entries(alloc, &References { objects }, entries.as_slice())?,
+        }),
+        RequestOf::CreateComputePipeline { layout, iface } => Ok(Event::CreateComputePipeline {
+            layout: reference_at(objects, *layout),
+            iface: iface.share()?,
+        }),
         RequestOf::CreateEncoder => Ok(Event::CreateEncoder),
         RequestOf::Finish { encoder } => Ok(Event::Finish {
             encoder: reference_at(objects, *encoder),
             recording: take_on(alloc, objects, *encoder),
         }),
-        RequestOf::Submit { buffers } => {
-            let buffers = refs::map_items(alloc, &References { objects }, buffers.as_slice())?;
-            Ok(Event::Submit { buffers })
-        }
+        _ => unreachable!(),
+    }
+}
+
+/// The event that a call of the queue is.
+fn queue_asked(
+    alloc: Global,
+    objects: &[Object],
+    request: &RequestOf<u32>,
+) -> Result<Event, NoMemory>
+    requires { (effects_of (event_asked objects.now request.now)).form ≡ Queue }
+    ensures { IfOk result (λ event. event ≡ event_asked objects.now request.now) }
+{
+    match request {
+        RequestOf::Submit { buffers } => Ok(Event::Submit {
+            buffers: refs::map_items(alloc, &References { objects }, buffers.as_slice())?,
+        }),
         RequestOf::WriteBuffer {
             buffer,
             offset,
@@ -138,6 +170,33 @@ pub fn event_asked(
             size: *size,
             data_size: *data_size,
         }),
+        _ => unreachable!(),
+    }
+}
+
+/// The event that a call of the device is. A finish takes what its encoder's recorder has kept.
+pub fn event_asked(
+    alloc: Global,
+    objects: &mut Vec<Object>,
+    request: &RequestOf<u32>,
+) -> Result<Event, NoMemory>
+    ensures event { IfOk result (λ event. event ≡ event_asked objects.old.items request.now) }
+    ensures taken { OnOk result (objects.new.items ≡ objects_taken objects.old.items request.now) }
+    ensures unchanged { OnErr result (objects.new.items ≡ objects.old.items) }
+{
+    match request {
+        RequestOf::CreateBuffer { .. }
+        | RequestOf::CreateTexture { .. }
+        | RequestOf::CreateView { .. }
+        | RequestOf::CreateSampler { .. }
+        | RequestOf::CreateBindGroupLayout { .. }
+        | RequestOf::CreatePipelineLayout { .. }
+        | RequestOf::CreateBindGroup { .. }
+        | RequestOf::CreateComputePipeline { .. }
+        | RequestOf::CreateEncoder
+        | RequestOf::Finish { .. } => making_asked(alloc, objects, request),
+        RequestOf::Submit { .. } | RequestOf::WriteBuffer { .. } | RequestOf::WriteTexture { .. } =>
+            queue_asked(alloc, objects, request),
         RequestOf::Destroy { object } => Ok(Event::Destroy {
             object: reference_at(objects, *object),
         }),
@@ -166,12 +225,50 @@ pub fn event_asked(
     }
 }
 
-/// What is known of the object that a call of the device names first, if that is a texture.
-pub fn texture_named(objects: &[Object], request: &RequestOf<u32>) -> TextureInfo
-    ensures { result ≡ texture_named objects.now request.now }
+/// What is known of the object that a call of the device makes, if it makes one. It takes memory for the
+/// lists of what a pipeline layout or a bind group is made of.
+pub fn info_asked(
+    alloc: Global,
+    objects: &[Object],
+    request: &RequestOf<u32>,
+) -> Result<Option<Info>, NoMemory>
+    ensures { IfOk result (λ info. info ≡ info_asked objects.now request.now) }
 {
-    match request.first(&Textures { objects }) {
-        Some(texture) => texture,
-        None => no_texture(),
-    }
+    let find = References { objects };
+    let known = Infos { objects };
+    let info = match request {
+        RequestOf::CreateBuffer { info } => Info::Buffer(*info),
+        RequestOf::CreateTexture { info } => Info::Texture(*info),
+        RequestOf::CreateView { texture, asked } => {
+            let desc = view_asked(objects, *texture, *asked);
+            Info::View(view_made(&find, &known, texture, &desc)?)
+        }
+        RequestOf::CreateSampler { kind } => Info::Sampler(*kind),
+        RequestOf::CreateBindGroupLayout { info } => Info::GroupLayout(info.share()?),
+        RequestOf::CreatePipelineLayout { layouts } => {
+            let info = pipeline_layout_made(alloc, &find, &known, layouts.as_slice())?;
+            Info::PipelineLayout(Shared::new(alloc, info)?)
+        }
+        RequestOf::CreateBindGroup { layout, entries } => {
+            Info::Group(group_made(alloc, &find, &known, layout, entries.as_slice())?)
+        }
+        RequestOf::CreateComputePipeline { layout, iface } => {
+            Info::Compute(compute_made(alloc, &find, &known, layout, iface)?)
+        }
+        RequestOf::CreateEncoder => Info::Encoder,
+        RequestOf::Finish { .. } => Info::CommandBuffer,
+        RequestOf::Submit { .. }
+        | RequestOf::WriteBuffer { .. }
+        | RequestOf::WriteTexture { .. }
+        | RequestOf::Destroy { .. }
+        | RequestOf::Drop { .. }
+        | RequestOf::Complete { .. }
+        | RequestOf::PushErrorScope { .. }
+        | RequestOf::PopErrorScope
+        | RequestOf::Lose
+        | RequestOf::WorkDone
+        | RequestOf::MapAsync { .. }
+        | RequestOf::Unmap { .. } => return Ok(None),
+    };
+    Ok(Some(info))
 }

@@ -1,11 +1,10 @@
 //! The objects that the calls of a script have made, by their slots.
-ghost use Rattle.std.specs.Prelude.{◌≡◌, true, [], option_map, slice_get, IfOk, OnOk, OnErr};
+ghost use Rattle.std.specs.Prelude.{◌≡◌, true, [], option_map, slice_get, option_copied, IfOk, OnOk, OnErr};
 ghost use Rattle.std.specs.Arc.{arc_value};
 ghost use Rattle.std.specs.Option.{option_map_or};
 ghost use Rattle.wg_types.specs.declared.commands.On.TheVariants.{Encoder};
-ghost use Rattle.wg_model.specs.Commands.{texture_of};
 ghost use Rattle.wg_encoder.specs.Recorders.{is_late, noted, recorded, after_take};
-ghost use Rattle.wg_play.specs.Objects.{handle_at, reference_at, known_texture, size_at, changed, is_late_on, recorded_on, taken_from, taken_on, recorder_for, object_of};
+ghost use Rattle.wg_play.specs.Objects.{handle_at, reference_at, knows_at, known_texture, size_at, changed, is_late_on, recorded_on, taken_from, taken_on, recorder_for, object_of};
 
 use std::alloc::Global;
 use std::sync::Arc;
@@ -59,13 +58,13 @@ pub fn size_at(objects: &[Object], slot: u32, offset: u64, size: Option<u64>) ->
     }
 }
 
-/// What is known of the texture of a slot.
-pub fn texture_at(objects: &[Object], slot: u32) -> TextureInfo
-    ensures { result ≡ texture_of (handle_at objects.now slot) }
+/// What is known of the object of a slot, if there is one.
+pub fn info_at(objects: &[Object], slot: u32) -> Option<&Info>
+    ensures { option_copied result ≡ knows_at objects.now slot }
 {
     match objects.get(slot as usize) {
-        Some(object) => texture_of(&object.handle),
-        None => no_texture(),
+        Some(object) => Some(object.handle.info()),
+        None => None,
     }
 }
 
@@ -140,7 +139,15 @@ fn recorder_for(alloc: Global, reference: ObjRef, valid: bool, info: &Info) -> O
             recorder.open(reference, valid);
             Some(recorder)
         }
-        Info::Buffer(_) | Info::Texture(_) | Info::View(_) | Info::CommandBuffer => None,
+        Info::Buffer(_)
+        | Info::Texture(_)
+        | Info::View(_)
+        | Info::Sampler(_)
+        | Info::GroupLayout(_)
+        | Info::PipelineLayout(_)
+        | Info::Group(_)
+        | Info::Compute(_)
+        | Info::CommandBuffer => None,
     }
 }
 

@@ -1,6 +1,6 @@
 -- Which call an object is, or the first script rule that it breaks: for each call that is built, its
--- keys, and what each holds, in the order in which they are read. Calls on textures have definitions
--- of their own.
+-- keys, and what each holds, in the order in which they are read. Calls on textures and on bindings have
+-- definitions of their own.
 use Rattle.std.specs.Prelude.{ℕ, List, [], ◌∷◌, false, codes, Option, Some, None, option_and_then, Result, Err}
 use Rattle.serde_json.specs.Data.{Data}
 use Rattle.serde_json.specs.Find.{get, as_str}
@@ -9,6 +9,7 @@ use Rattle.wg_script.specs.Lists.{names_at}
 use Rattle.wg_script.specs.Words.{word_at}
 use Rattle.wg_script.specs.Readers.{Reader, gives, need, may, ◌▹◌, read_by}
 use Rattle.wg_script.specs.TextureCalls.{create_texture_of, create_view_of, write_texture_of, copy_buffer_to_texture_of, copy_texture_to_buffer_of, copy_texture_to_texture_of}
+use Rattle.wg_script.specs.BindingCalls.{create_sampler_of, create_group_layout_of, create_pipeline_layout_of, create_group_of, create_compute_of}
 use Rattle.wg_types.specs.Words.{word_of}
 use Rattle.wg_types.specs.declared.words.Word.{Word}
 use Rattle.wg_types.specs.declared.words.Word.TheVariants as word
@@ -158,6 +159,11 @@ abbrev pub call_as : Word → Data → Result Call ℕ
 call_as word.CreateBuffer d = create_buffer_of d
 call_as word.CreateTexture d = create_texture_of d
 call_as word.CreateView d = create_view_of d
+call_as word.CreateSampler d = create_sampler_of d
+call_as word.CreateBindGroupLayout d = create_group_layout_of d
+call_as word.CreatePipelineLayout d = create_pipeline_layout_of d
+call_as word.CreateBindGroup d = create_group_of d
+call_as word.CreateComputePipeline d = create_compute_of d
 call_as word.CreateEncoder d = create_encoder_of d
 call_as word.Finish d = finish_of d
 call_as word.Submit d = submit_of d
@@ -179,11 +185,6 @@ call_as word.CopyTextureToTexture d = copy_texture_to_texture_of d
 call_as word.ClearBuffer d = clear_buffer_of d
 call_as word.PushDebugGroup d = push_debug_group_of d
 call_as word.PopDebugGroup d = pop_debug_group_of d
-call_as word.CreateSampler d = Err 13
-call_as word.CreateBindGroupLayout d = Err 13
-call_as word.CreatePipelineLayout d = Err 13
-call_as word.CreateBindGroup d = Err 13
-call_as word.CreateComputePipeline d = Err 13
 call_as word.CreateRenderPipeline d = Err 13
 call_as word.CreateQuerySet d = Err 13
 call_as word.CreateBundleEncoder d = Err 13

@@ -3,7 +3,7 @@ use Rattle.std.specs.Prelude.{ℕ, List, [], ◌∷◌, ◌++◌, codes, Option,
 use Rattle.serde_json.specs.Data.{Data}
 use Rattle.serde_json.specs.Find.{get}
 use Rattle.wg_script.specs.Giving.{◌>>=◌}
-use Rattle.wg_script.specs.Values.{check_keys}
+use Rattle.wg_script.specs.Values.{check_keys, check_inner}
 
 pub record Reader (X : Type 0) : Type 0 where
   pub needed : List (List ℕ)
@@ -25,6 +25,10 @@ need key value before = record { needed = before.needed ++ key ∷ []; optional 
 abbrev pub may : {X Y : Type 0} → List ℕ → (Option Data → Result X ℕ) → Reader (X → Y) → Reader Y
 may key value before = record { needed = before.needed; optional = before.optional ++ key ∷ []; read = then_read before.read (λ d. value (get key d)) }
 
+-- one more key that is needed, whose value was read before
+abbrev pub has : {X : Type 0} → List ℕ → Reader X → Reader X
+has key before = record { needed = before.needed ++ key ∷ []; optional = before.optional; read = before.read }
+
 -- the keys of another reader, for what it gives
 abbrev pub all_of : {X Y : Type 0} → Reader X → Reader (X → Y) → Reader Y
 all_of part before = record { needed = before.needed ++ part.needed; optional = before.optional ++ part.optional; read = then_read before.read part.read }
@@ -36,3 +40,7 @@ x ▹ f = f x
 -- a call with just these keys and that of its word, and what they give
 abbrev pub read_by : {X : Type 0} → Reader X → Data → Result X ℕ
 read_by reader d = check_keys (codes "do" ∷ reader.needed) reader.optional d >>= λ fine. reader.read d
+
+-- an object inside a call with just these keys, and what they give
+abbrev pub inner_by : {X : Type 0} → Reader X → Data → Result X ℕ
+inner_by reader d = check_inner reader.needed reader.optional d >>= λ fine. reader.read d

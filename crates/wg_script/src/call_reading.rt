@@ -1,13 +1,17 @@
-//! Reads a call: a function for each call that is built, with its keys. Those of calls on textures stand
-//! in a file of their own.
+//! Reads a call: a function for each call that is built, with its keys. Those of calls on textures and on
+//! bindings stand in files of their own.
 ghost use Rattle.std.specs.Prelude.{◌≡◌};
 ghost use Rattle.serde_json.specs.View.{view};
 ghost use Rattle.wg_script.specs.Giving.{Gives};
 ghost use Rattle.wg_script.specs.Calls.{call_of, call_as, create_buffer_of, create_encoder_of, finish_of, submit_of, write_buffer_of, destroy_of, drop_of, complete_of, push_error_scope_of, keyless_of, pop_error_scope_of, work_done_of, lose_of, map_async_of, unmap_of, copy_buffer_to_buffer_of, clear_buffer_of, bare_of, push_debug_group_of, pop_debug_group_of};
 
+use crate::binding_calls::{
+    create_bind_group, create_bind_group_layout, create_compute_pipeline, create_pipeline_layout,
+    create_sampler,
+};
 use crate::calling::{asking, making, recording};
 use crate::calls::Call;
-use crate::lists::names_at;
+use crate::lists::list_at;
 use crate::name::Name;
 use crate::texture_calls::{
     copy_buffer_to_texture, copy_texture_to_buffer, copy_texture_to_texture, create_texture,
@@ -69,7 +73,7 @@ fn submit(alloc: Global, call: &Value) -> Result<Call, Refusal>
     ensures { Gives result (submit_of (view call.now)) }
 {
     reading!(call:
-        need buffers = names_at(alloc, "buffers");
+        need buffers = list_at(alloc, "buffers");
         => asking(RequestOf::Submit { buffers }))
 }
 
@@ -226,6 +230,11 @@ fn call_as(alloc: Global, word: Word, call: &Value) -> Result<Call, Refusal>
         Word::CreateBuffer => create_buffer(alloc, call),
         Word::CreateTexture => create_texture(alloc, call),
         Word::CreateView => create_view(alloc, call),
+        Word::CreateSampler => create_sampler(alloc, call),
+        Word::CreateBindGroupLayout => create_bind_group_layout(alloc, call),
+        Word::CreatePipelineLayout => create_pipeline_layout(alloc, call),
+        Word::CreateBindGroup => create_bind_group(alloc, call),
+        Word::CreateComputePipeline => create_compute_pipeline(alloc, call),
         Word::CreateEncoder => create_encoder(alloc, call),
         Word::Finish => finish(alloc, call),
         Word::Submit => submit(alloc, call),
@@ -247,12 +256,7 @@ fn call_as(alloc: Global, word: Word, call: &Value) -> Result<Call, Refusal>
         Word::ClearBuffer => clear_buffer(alloc, call),
         Word::PushDebugGroup => push_debug_group(alloc, call),
         Word::PopDebugGroup => pop_debug_group(alloc, call),
-        Word::CreateSampler
-        | Word::CreateBindGroupLayout
-        | Word::CreatePipelineLayout
-        | Word::CreateBindGroup
-        | Word::CreateComputePipeline
-        | Word::CreateRenderPipeline
+        Word::CreateRenderPipeline
         | Word::CreateQuerySet
         | Word::CreateBundleEncoder
         | Word::BeginComputePass

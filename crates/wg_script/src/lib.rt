@@ -1,6 +1,9 @@
 //! The first reading of a script: from bytes to calls, or the first rule that the bytes break.
 #![tactic(auto)]
 
+mod binding_calls;
+mod binding_entries;
+mod binding_words;
 mod call_reading;
 mod calling;
 mod calls;
@@ -15,7 +18,7 @@ mod words;
 
 pub use calls::{BoundCall, Call, CallOf};
 pub use draft::{BoundLane, BoundPhase, Draft, Lane, Phase, Phases, Place, Script, ScriptFault};
-pub use name::{Name, Names};
+pub use name::Name;
 pub use reading::read;
 pub use wg_entry::NoMemory;
 

@@ -1,5 +1,4 @@
 pub mod MadeLemmas
-pub mod KnownLemmas
 pub mod Places
 pub mod NoteLemmas
 pub mod LeftLemmas

@@ -18,7 +18,7 @@ use Rattle.wg_model.proofs.Unmet.{all_met}
 use Rattle.wg_model.proofs.Sparing.{or_first, or_second}
 use Rattle.wg_history.specs.declared.events.Setup.{Setup}
 use Rattle.wg_history.specs.declared.events.Event.{Event}
-use Rattle.wg_history.specs.declared.events.Event.TheVariants.{CreateBuffer, CreateTexture, CreateView, CreateEncoder, Finish, Complete, WorkDone, PopErrorScope, Lose, MapAsync, Unmap, Destroy}
+use Rattle.wg_history.specs.declared.events.Event.TheVariants.{Complete, WorkDone, PopErrorScope, Lose, MapAsync, Unmap, Destroy}
 use Rattle.wg_history.specs.declared.events.Form.TheVariants.{Promise as Promising}
 use Rattle.wg_history.specs.declared.events.Promise.TheVariants.{WorkDone as ForWork, Map as ForMap}
 use Rattle.wg_history.specs.Entries.{effects_of, Entry, Past}
@@ -36,7 +36,7 @@ use Rattle.wg_maps.proofs.TableLemmas.{get_inserted, get_removed}
 use Rattle.wg_state.specs.Rows.{is_at}
 use Rattle.wg_state.specs.Waits.{map_in, map_waits}
 use Rattle.wg_state.specs.Mapped.{AreMapsOf, is_mapping, made_in, mapped_in, settled_in, unmapped_in, maps_after, keeps_map, IsFree, FitsIn}
-use Rattle.wg_state.proofs.LeftLemmas.{left_complete, left_unmap, left_destroy, left_lose, left_pop, left_work, left_map, left_other}
+use Rattle.wg_state.proofs.LeftLemmas.{left_complete, left_unmap, left_destroy, left_lose, left_pop, left_work, left_map}
 
 -- the pending maps of what is left
 
@@ -254,6 +254,20 @@ made_maps setup older entry maps run are making none own stays o made = record {
     by_same : (n : ℕ) (b : Bool) → (count older == n) ≡ b → table.get (made_in o (count older) maps).mapped n ≡ (if count older == n then o else mapped_at setup older n)
     by_same n b e = got o n b e ∙ ap (λ b. if b then o else mapped_at setup older n) (sym e)
 
+-- an event that at most makes an object
+other_maps : (setup : Setup) (older : Past) (entry : Entry) (old new : MapsValue) → IsRun setup older → AreMapsOf setup older old → entry.reply.settled ≡ [] → promised older (effects_of entry.event).form ≡ [] → ((n : ℕ) → unmaps setup older entry.event n ≡ false)
+    → new ≡ (if is_making entry.event then made_in (mapped_made entry) (count older) old else old) → AreMapsOf setup (entry ∷ older) new
+other_maps setup older entry old new run are none own stays e = by_making (is_making entry.event) refl
+  where
+    nothing : awaiting (entry ∷ older) ≡ awaiting older
+    nothing = ap₂ (λ (settled : List Settlement) (ws : List Wait). unsettled settled (awaiting older ++ ws)) none own ∙ (unsettled_none (awaiting older ++ []) ∙ append-nil (awaiting older))
+
+    by_making : (b : Bool) → is_making entry.event ≡ b → AreMapsOf setup (entry ∷ older) new
+    by_making true making = subst (λ (x : MapsValue). AreMapsOf setup (entry ∷ older) x) (sym (e ∙ ap (λ b. if b then made_in (mapped_made entry) (count older) old else old) making))
+        (made_maps setup older entry old run are making none own stays (mapped_made entry) refl)
+    by_making false plain = subst (λ (x : MapsValue). AreMapsOf setup (entry ∷ older) x) (sym (e ∙ ap (λ b. if b then made_in (mapped_made entry) (count older) old else old) plain))
+        (same_maps setup older entry old are (λ p. ap (λ (settled : List Settlement). settles_mapped settled p) none) plain stays (ap map_waits nothing))
+
 -- maps that are asked for
 
 map_idle : (setup : Setup) (past : Past) (buffer : ObjRef) (mode offset size : ℕ) → is_none (map_async_rule setup past buffer mode offset size) ≡ true → is_busy setup past buffer.number ≡ false
@@ -328,12 +342,7 @@ maps_event setup older who WorkDone maps run are =
 maps_event setup older who PopErrorScope maps run are =
     same_maps setup older (told setup older who PopErrorScope) maps are (one_free (length older) (pop_how (is_lost older) (scopes_of older)) (pop_free (is_lost older) (scopes_of older))) refl (λ n. refl) (ap map_waits (left_pop setup older))
 maps_event setup older who (MapAsync buffer mode offset size) maps run are = asked_maps setup older who buffer mode offset size maps are
-maps_event setup older who (CreateBuffer info) maps run are = made_maps setup older (told setup older who (CreateBuffer info)) maps run are refl refl refl (λ n. refl) (mapped_made (told setup older who (CreateBuffer info))) refl
-maps_event setup older who (CreateTexture info) maps run are = made_maps setup older (told setup older who (CreateTexture info)) maps run are refl refl refl (λ n. refl) None refl
-maps_event setup older who (CreateView texture desc) maps run are = made_maps setup older (told setup older who (CreateView texture desc)) maps run are refl refl refl (λ n. refl) None refl
-maps_event setup older who CreateEncoder maps run are = made_maps setup older (told setup older who CreateEncoder) maps run are refl refl refl (λ n. refl) None refl
-maps_event setup older who (Finish encoder recording) maps run are = made_maps setup older (told setup older who (Finish encoder recording)) maps run are refl refl refl (λ n. refl) None refl
-maps_event setup older who event maps run are = same_maps setup older (told setup older who event) maps are free_none refl (λ n. refl) (ap map_waits (left_other setup older event refl refl))
+maps_event setup older who event maps run are = other_maps setup older (told setup older who event) maps (maps_after setup older (told setup older who event) maps) run are refl refl (λ n. refl) refl
 
 -- The mappings after an entry are those of the past with it.
 pub maps_next : (setup : Setup) (entry : Entry) (older : Past) (old new : MapsValue) → IsRun setup older → entry.reply ≡ reply_to setup older entry.event → AreMapsOf setup older old → new ≡ record (maps_after setup older entry old) { spare = new.spare } → AreMapsOf setup (entry ∷ older) new

@@ -1,5 +1,5 @@
 -- Objects by their numbers: what is kept of them, and the places of their entries.
-use Rattle.std.proofs.Common.{◌≡◌, ℕ, ◌+◌, ◌<◌, ◌≤◌, List, [], ◌∷◌, ◌++◌, length, reverse, get_or, Bool, true, false, ◌&&◌, ◌==◌, Option, Some, None, slice_get, is_some, zero, suc, inl, inr, refl, ap, sym, ◌∙◌, arith, if◌then◌else◌}
+use Rattle.std.proofs.Common.{◌≡◌, ℕ, ◌+◌, ◌<◌, ◌≤◌, List, [], ◌∷◌, ◌++◌, length, reverse, get_or, Bool, true, false, ◌&&◌, ◌==◌, Option, Some, None, slice_get, is_some, zero, suc, inl, inr, refl, ap, ap₂, sym, ◌∙◌, arith, if◌then◌else◌}
 use Rattle.std.proofs.lemmas.Bool.{cases_lt, eq-eqb, and_from}
 use Rattle.std.proofs.lemmas.Bool.Decides.{nat_tests}
 use Rattle.std.proofs.lemmas.List.{reverse-append, reverse-reverse, length-reverse, length_push}
@@ -7,12 +7,12 @@ use Rattle.std.proofs.lemmas.Option.{slice_get_within, slice_get_read}
 use Rattle.std.specs.Option.{option_map_or, option_map}
 use Rattle.wg_types.specs.declared.handles.Info.{Info}
 use Rattle.wg_history.specs.Entries.{Entry, Past}
-use Rattle.wg_history.specs.Objects.{is_making, count, maker, known_textures, made_info, is_valid, is_made_valid}
+use Rattle.wg_history.specs.Objects.{is_making, count, maker, known_in, made_info, info_at, is_valid, is_made_valid}
 use Rattle.wg_history.proofs.Released.{maker_below}
-use Rattle.wg_history.proofs.Makers.{maker_stays, older_le}
+use Rattle.wg_history.proofs.Makers.{maker_stays, info_stays, older_le}
 use Rattle.wg_hub.specs.declared.Made.{Made}
 use Rattle.wg_hub.specs.Hubs.{info_in, valid_at}
-use Rattle.wg_state.specs.Books.{longer, made_by, objects_of, places_of, known_at}
+use Rattle.wg_state.specs.Books.{longer, made_by, objects_of, places_of}
 use Rattle.wg_state.proofs.MadeLemmas.{making_info}
 
 -- how many objects there are
@@ -23,11 +23,11 @@ length_next of_info (Some info) making xs c m e = rw m (length_push xs (of_info 
 
 objects_len : (past : Past) → length (objects_of past) ≡ count past
 objects_len [] = refl
-objects_len (entry ∷ older) = length_next (made_by entry) (made_info older entry.event) (is_making entry.event) (objects_of older) (count older) (making_info (known_textures older) entry.event) (objects_len older)
+objects_len (entry ∷ older) = length_next (made_by entry) (made_info older entry.event) (is_making entry.event) (objects_of older) (count older) (making_info (known_in older) entry.event) (objects_len older)
 
 places_len : (past : Past) → length (places_of past) ≡ count past
 places_len [] = refl
-places_len (entry ∷ older) = length_next (λ _. length older) (made_info older entry.event) (is_making entry.event) (places_of older) (count older) (making_info (known_textures older) entry.event) (places_len older)
+places_len (entry ∷ older) = length_next (λ _. length older) (made_info older entry.event) (is_making entry.event) (places_of older) (count older) (making_info (known_in older) entry.event) (places_len older)
 
 pub length_objects : (history : List Entry) (objects : List Made) → objects ≡ objects_of (reverse history) → length objects ≡ count (reverse history)
 length_objects history objects e = ap length e ∙ objects_len (reverse history)
@@ -72,22 +72,37 @@ none_at (x ∷ xs) (suc n) le = none_at xs n (omega (arith, le))
 
 -- what was known of an object when it was made
 
-older_test : (b : Bool) (c n : ℕ) → n < c → (b && c == n) ≡ false
-older_test true c n lt = grind (arith, nat_tests, lt)
-older_test false c n lt = refl
-
 later_test : (b : Bool) (c n : ℕ) → (if b then c + 1 else c) ≤ n → (b && c == n) ≡ false
 later_test true c n le = grind (arith, nat_tests, le)
 later_test false c n le = refl
 
-known_stays : (past : Past) (entry : Entry) (n : ℕ) → n < count past → known_at (entry ∷ past) n ≡ known_at past n
-known_stays past entry n lt = ap (λ b. if b then made_info past entry.event else known_at past n) (older_test (is_making entry.event) (count past) n lt)
+pub info_none : (past : Past) (n : ℕ) → count past ≤ n → info_at past n ≡ None
+info_none [] n le = refl
+info_none (entry ∷ older) n le =
+    ap (λ b. if b then made_info older entry.event else info_at older n) (later_test (is_making entry.event) (count older) n le)
+    ∙ info_none older n (older_le (is_making entry.event) (count older) n le)
 
-known_none : (past : Past) (n : ℕ) → count past ≤ n → known_at past n ≡ None
-known_none [] n le = refl
-known_none (entry ∷ older) n le =
-    ap (λ b. if b then made_info older entry.event else known_at older n) (later_test (is_making entry.event) (count older) n le)
-    ∙ known_none older n (older_le (is_making entry.event) (count older) n le)
+-- What is known of an object that an entry makes is known of it after that.
+pub info_here : (entry : Entry) (older : Past) → is_making entry.event ≡ true → info_at (entry ∷ older) (count older) ≡ made_info older entry.event
+info_here entry older making =
+    ap (λ b. if b then made_info older entry.event else info_at older (count older)) (and_from (is_making entry.event) (count older == count older) making (eq-eqb (count older) (count older) refl))
+
+-- What is kept, after one more entry.
+
+next_past : (history more : List Entry) (entry : Entry) → more ≡ history ++ entry ∷ [] → entry ∷ reverse history ≡ reverse more
+next_past history more entry items = sym (ap (λ (es : List Entry). reverse es) items ∙ reverse-append history (entry ∷ []))
+
+pub next_objects : (history more : List Entry) (entry : Entry) (made : Option Info) (old new : List Made) → made ≡ made_info (reverse history) entry.event → more ≡ history ++ entry ∷ []
+    → old ≡ objects_of (reverse history) → new ≡ longer (made_by entry) made old → new ≡ objects_of (reverse more)
+next_objects history more entry made old new is items before grows =
+    grows ∙ (ap₂ (longer (made_by entry)) is before ∙ ap objects_of (next_past history more entry items))
+
+pub next_places : (history more : List Entry) (entry : Entry) (made : Option Info) (number : ℕ) (old new : List ℕ) → made ≡ made_info (reverse history) entry.event → more ≡ history ++ entry ∷ []
+    → number ≡ length history → old ≡ places_of (reverse history) → new ≡ longer (λ _. number) made old → new ≡ places_of (reverse more)
+next_places history more entry made number old new is items at before grows =
+    grows
+    ∙ (ap (λ (n : ℕ). longer (λ _. n) made old) (at ∙ sym (length-reverse history))
+    ∙ (ap₂ (longer (λ _. length (reverse history))) is before ∙ ap places_of (next_past history more entry items)))
 
 -- Object n is kept, and stands at a place.
 record StandsAt (past : Past) (n : ℕ) : Type 0 where
@@ -98,7 +113,7 @@ record StandsAt (past : Past) (n : ℕ) : Type 0 where
   placed : slice_get (places_of past) n ≡ Some place
   here : slice_get (reverse past) place ≡ Some entry
   made : maker past n ≡ Some entry
-  known : known_at past n ≡ Some info
+  known : info_at past n ≡ Some info
 
 stands_later : (entry : Entry) (older : Past) (n : ℕ) → n < count older → StandsAt older n → StandsAt (entry ∷ older) n
 stands_later entry older n lt s = record {
@@ -109,7 +124,7 @@ stands_later entry older n lt s = record {
   placed = get_before (λ _. length older) (made_info older entry.event) (places_of older) n s.place s.placed;
   here = rw (reverse-append (entry ∷ []) older) (get_left (reverse older) (entry ∷ []) s.place s.entry s.here);
   made = maker_stays older entry n lt ∙ s.made;
-  known = known_stays older entry n lt ∙ s.known;
+  known = info_stays older entry n lt ∙ s.known;
 }
 
 stands_new : (entry : Entry) (older : Past) (n : ℕ) (info : Info) → is_making entry.event ≡ true → made_info older entry.event ≡ Some info → n ≡ count older → StandsAt (entry ∷ older) n
@@ -123,7 +138,7 @@ stands_new entry older n info making makes e =
       placed = get_new (λ _. length older) (made_info older entry.event) info (places_of older) n makes (e ∙ sym (places_len older));
       here = rw (reverse-append (entry ∷ []) older) (get_end (reverse older) entry (length older) (sym (length-reverse older)));
       made = ap (λ b. if b then Some entry else maker older n) new;
-      known = ap (λ b. if b then made_info older entry.event else known_at older n) new ∙ makes;
+      known = ap (λ b. if b then made_info older entry.event else info_at older n) new ∙ makes;
     }
 
 stands_at : (past : Past) (n : ℕ) → n < count past → StandsAt past n
@@ -132,7 +147,7 @@ stands_at (entry ∷ older) n lt = by_info (made_info older entry.event) refl (i
   where
     by_info : (o : Option Info) → made_info older entry.event ≡ o → (b : Bool) → is_making entry.event ≡ b → n < (if b then count older + 1 else count older) → (n < count older → StandsAt older n) → StandsAt (entry ∷ older) n
     by_info o makes false making less before = stands_later entry older n less (before less)
-    by_info None makes true making less before = absurd (let e : true ≡ false = sym making ∙ (making_info (known_textures older) entry.event ∙ ap is_some makes) in cc)
+    by_info None makes true making less before = absurd (let e : true ≡ false = sym making ∙ (making_info (known_in older) entry.event ∙ ap is_some makes) in cc)
     by_info (Some info) makes true making less before = elim (cases_lt n (count older)) [
       | inl below ↦ stands_later entry older n below (before below)
       | inr more ↦ stands_new entry older n info making makes (omega (arith, less, more))
@@ -149,11 +164,11 @@ no_place : (history : List Entry) (places : List ℕ) (n : ℕ) → places ≡ p
 no_place history places n are le = none_at places n (let len = length_places history places are in omega (arith, len, le))
 
 -- what was known of an object
-pub known_is : (history : List Entry) (objects : List Made) (n : ℕ) → objects ≡ objects_of (reverse history) → info_in objects n ≡ known_at (reverse history) n
+pub known_is : (history : List Entry) (objects : List Made) (n : ℕ) → objects ≡ objects_of (reverse history) → info_in objects n ≡ info_at (reverse history) n
 known_is history objects n are = elim (cases_lt n (count (reverse history))) [
   | inl less ↦ (let s : StandsAt (reverse history) n = stands_at (reverse history) n less in
       ap (λ (o : Option Made). option_map (λ (made : Made). made.info) o) (ap (λ ms. slice_get ms n) are ∙ s.at) ∙ sym s.known)
-  | inr past ↦ ap (λ (o : Option Made). option_map (λ (made : Made). made.info) o) (no_object history objects n are past) ∙ sym (known_none (reverse history) n past)
+  | inr past ↦ ap (λ (o : Option Made). option_map (λ (made : Made). made.info) o) (no_object history objects n are past) ∙ sym (info_none (reverse history) n past)
 ]
 
 -- whether an object is valid

@@ -1,7 +1,6 @@
 //! A history with its objects.
-ghost use Rattle.std.specs.Prelude.{◌≡◌, ◌+◌, ◌-◌, ◌^◌, ◌<◌, ◌≤◌, ◌∷◌, ◌++◌, [], true, length, reverse, slice_get, option_copied, OnOk};
+ghost use Rattle.std.specs.Prelude.{◌≡◌, ◌+◌, ◌-◌, ◌^◌, ◌<◌, ◌≤◌, ◌∷◌, ◌++◌, [], length, reverse, slice_get, option_copied, OnOk, IfOk};
 ghost use Rattle.wg_history.specs.Objects.{count, maker, made_info, info_at, texture_at, texture_or_none_at, is_valid, is_made_valid};
-ghost use Rattle.wg_state.specs.Books.{known_at, is_back};
 
 use std::alloc::Global;
 use std::marker::Model;
@@ -9,7 +8,8 @@ use wg_formats::no_texture;
 use wg_history::NoMemory;
 use wg_history::events::{Entry, Event};
 use wg_hub::{Hub, Made};
-use wg_types::handles::Info;
+use wg_types::handles::{Info, ObjRef};
+use wg_types::refs::Known;
 use wg_types::replies::Answer;
 use wg_types::textures::TextureInfo;
 
@@ -24,8 +24,8 @@ pub struct Book {
 }
 
 impl Model for Book {
-    ghost use Rattle.std.specs.Prelude.{◌≡◌, ◌+◌, ◌≤◌, true, reverse, vec_len, vec_capacity};
-    ghost use Rattle.wg_state.specs.Books.{BookValue, objects_of, places_of, all_back};
+    ghost use Rattle.std.specs.Prelude.{◌≡◌, ◌+◌, ◌≤◌, reverse, vec_len, vec_capacity};
+    ghost use Rattle.wg_state.specs.Books.{BookValue, objects_of, places_of};
 
     ghost Value = { BookValue };
 
@@ -34,7 +34,6 @@ impl Model for Book {
     ghost invariant = { λ b. record {
       objects_are : b.hub.objects ≡ objects_of (reverse b.entries.items);
       places_are : b.places.items ≡ places_of (reverse b.entries.items);
-      back : all_back (reverse b.entries.items) ≡ true;
       entries_fit : vec_len b.entries + b.spare ≤ vec_capacity b.entries;
       places_fit : vec_len b.places + b.spare ≤ vec_capacity b.places;
       objects_fit : b.spare ≤ b.hub.spare;
@@ -91,14 +90,13 @@ impl Book {
         Ok(())
     }
 
-    /// Adds an entry in room that there is. A view that it makes valid is of a texture that was made
-    /// before.
-    pub fn add(&mut self, entry: Entry)
+    /// Adds an entry in room that there is, with what is known of the object that it makes.
+    pub fn add(&mut self, entry: Entry, made: Option<Info>)
         requires room { 0 < self.old.spare }
-        requires back { is_back (reverse self.old.entries) entry ≡ true }
+        requires made { made ≡ made_info (reverse self.old.entries) entry.event }
         ensures { self.new ≡ record { device = self.old.device; entries = self.old.entries ++ entry ∷ []; spare = self.old.spare - 1 } }
     {
-        if let Some(info) = self.info_made(&entry.event) {
+        if let Some(info) = made {
             let valid = is_made_valid(entry.reply.answer);
             let _ = self.hub.add(Made { info, valid });
             self.places.push_reserved(self.entries.len());
@@ -129,23 +127,31 @@ impl Book {
         self.hub.valid(number)
     }
 
-    /// What was known of the object when it was made, which for a valid one is what is known of it.
+    /// What is known of the object: what was known of it when it was made.
     pub fn info(&self, number: u64) -> Option<&Info>
-        ensures known { option_copied result ≡ known_at (reverse self.now.entries) number }
-        ensures valid { is_valid (reverse self.now.entries) number ≡ true → option_copied result ≡ info_at (reverse self.now.entries) number }
+        ensures { option_copied result ≡ info_at (reverse self.now.entries) number }
     {
         self.hub.info(number)
     }
 
     /// What is known of the object, if it is a texture.
-    #[tactic(auto, using(crate::proofs::KnownLemmas::texture_known))]
     pub fn texture(&self, number: u64) -> Option<TextureInfo>
         ensures { result ≡ texture_at (reverse self.now.entries) number }
     {
         match self.info(number) {
             Some(Info::Texture(info)) => Some(*info),
-            Some(Info::Buffer(_) | Info::View(_) | Info::Encoder | Info::CommandBuffer) | None =>
-                None,
+            Some(
+                Info::Buffer(_)
+                | Info::View(_)
+                | Info::Sampler(_)
+                | Info::GroupLayout(_)
+                | Info::PipelineLayout(_)
+                | Info::Group(_)
+                | Info::Compute(_)
+                | Info::Encoder
+                | Info::CommandBuffer,
+            )
+            | None => None,
         }
     }
 
@@ -159,32 +165,12 @@ impl Book {
         }
     }
 
-    /// What is known of the object that an event makes.
-    fn info_made(&self, event: &Event) -> Option<Info>
-        ensures { result ≡ made_info (reverse self.now.entries) event.now }
+    /// What is known of the object that an event makes. It takes memory for the lists of what a pipeline
+    /// layout or a bind group is made of.
+    pub fn info_made(&self, alloc: Global, event: &Event) -> Result<Option<Info>, NoMemory>
+        ensures { IfOk result (λ made. made ≡ made_info (reverse self.now.entries) event.now) }
     {
-        match event {
-            Event::CreateView { texture, .. } => {
-                event.info_made(self.texture_or_none(texture.number))
-            }
-            Event::CreateBuffer { .. }
-            | Event::CreateTexture { .. }
-            | Event::CreateEncoder
-            | Event::Finish { .. }
-            | Event::Late { .. }
-            | Event::Submit { .. }
-            | Event::WriteBuffer { .. }
-            | Event::WriteTexture { .. }
-            | Event::Destroy { .. }
-            | Event::Drop { .. }
-            | Event::Complete { .. }
-            | Event::PushErrorScope { .. }
-            | Event::PopErrorScope
-            | Event::Lose
-            | Event::WorkDone
-            | Event::MapAsync { .. }
-            | Event::Unmap { .. } => event.info_made(no_texture()),
-        }
+        event.info_made(alloc, self)
     }
 
     /// The entry that made the object of this number.
@@ -195,5 +181,17 @@ impl Book {
             return None;
         };
         Some(&self.entries[place])
+    }
+}
+
+/// What a history says of the objects of its device, by their numbers.
+impl Known<ObjRef> for Book {
+    ghost use Rattle.std.specs.Prelude.{reverse};
+    ghost use Rattle.wg_history.specs.Objects.{info_at};
+
+    ghost knows = { λ book object. info_at (reverse book.entries) object.number };
+
+    fn info(&self, object: &ObjRef) -> Option<&Info> {
+        self.info(object.number)
     }
 }

@@ -16,9 +16,8 @@ mod uses;
 pub use book::{Book, is_made_valid};
 pub use look::{
     buffer_at, commands_at, is_genuine, is_own_command_buffer, is_own_encoder, is_own_object,
-    is_own_resource, own_buffer, own_texture, texture_at, texture_or_none_at,
+    is_own_resource, is_own_wanted, own_buffer, own_texture, texture_at, texture_or_none_at,
 };
-pub use names::made_by;
 pub use notes::op_of;
 pub use state::State;
 pub use uses::{Used, uses_of};

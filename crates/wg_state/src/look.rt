@@ -1,10 +1,11 @@
 //! What a history says of its objects.
-ghost use Rattle.std.specs.Prelude.{◌≡◌, ◌≤◌, ◌==◌, reverse, option_copied, length, is_some, IfSome, Some, not, true, false, ◌&&◌, if◌then◌else◌};
+ghost use Rattle.std.specs.Prelude.{◌≡◌, ◌≤◌, ◌==◌, reverse, option_copied, length, is_some, IfSome, Some, None, not, true, false, ◌&&◌, if◌then◌else◌};
 ghost use Rattle.std.specs.Option.{option_map_or};
-ghost use Rattle.wg_history.specs.Infos.{same_bool, same_kind, same_info};
+ghost use Rattle.wg_history.specs.Infos.{same_kind, same_info};
 ghost use Rattle.wg_history.specs.Objects.{info_at, buffer_at, texture_at, texture_or_none_at, commands_at, is_valid, is_own, is_any, is_buffer, is_texture, is_encoder, is_command_buffer, has_memory};
 ghost use Rattle.wg_history.specs.Rules.{is_genuine};
-ghost use Rattle.wg_state.specs.Books.{own_known};
+ghost use Rattle.wg_types.specs.Wanted.{admits};
+ghost use Rattle.wg_types.specs.Kinds.{kind_of};
 
 use crate::book::Book;
 use crate::infos::{has_memory, is_command_buffer, is_encoder, same_info, same_kind};
@@ -12,10 +13,11 @@ use wg_history::events::Setup;
 use wg_types::commands::{Command, On};
 use wg_types::handles::{BufferInfo, Handle, Info, ObjRef};
 use wg_types::textures::TextureInfo;
+use wg_types::wanted::Wanted;
 
-/// What was known of an object of this device when it was made.
+/// What is known of an object of this device.
 fn own_info(setup: Setup, book: &Book, object: ObjRef) -> Option<&Info>
-    ensures { option_copied result ≡ own_known setup (reverse book.now.entries) object }
+    ensures { option_copied result ≡ (if object.device == setup.serial then info_at (reverse book.now.entries) object.number else None) }
 {
     if object.device != setup.serial {
         return None;
@@ -24,13 +26,23 @@ fn own_info(setup: Setup, book: &Book, object: ObjRef) -> Option<&Info>
 }
 
 /// What is known of the object, if it is a buffer.
-#[tactic(auto, using(crate::proofs::KnownLemmas::buffer_known))]
 pub fn buffer_at(book: &Book, number: u64) -> Option<BufferInfo>
     ensures { result ≡ buffer_at (reverse book.now.entries) number }
 {
     match book.info(number) {
         Some(Info::Buffer(info)) => Some(*info),
-        Some(Info::Texture(_) | Info::View(_) | Info::Encoder | Info::CommandBuffer) | None => None,
+        Some(
+            Info::Texture(_)
+            | Info::View(_)
+            | Info::Sampler(_)
+            | Info::GroupLayout(_)
+            | Info::PipelineLayout(_)
+            | Info::Group(_)
+            | Info::Compute(_)
+            | Info::Encoder
+            | Info::CommandBuffer,
+        )
+        | None => None,
     }
 }
 
@@ -107,6 +119,16 @@ pub fn is_own_command_buffer(setup: Setup, book: &Book, object: ObjRef) -> bool
     is_command_buffer(info)
 }
 
+/// Whether the object is one of this device, valid or not, of a kind that the place which names it admits.
+pub fn is_own_wanted(setup: Setup, book: &Book, object: ObjRef, wanted: Wanted) -> bool
+    ensures { result ≡ is_own setup (reverse book.now.entries) (λ known. admits wanted (kind_of known)) object }
+{
+    let Some(info) = own_info(setup, book, object) else {
+        return false;
+    };
+    wanted.admits(info.kind())
+}
+
 /// The commands of the object, if it is a command buffer.
 pub fn commands_at(book: &Book, number: u64) -> &[(On, Command)]
     ensures { result.now ≡ commands_at (reverse book.now.entries) number }
@@ -127,9 +149,9 @@ fn is_own_like(setup: Setup, book: &Book, object: ObjRef, info: &Info) -> bool
     same_kind(info, known)
 }
 
-/// Whether this is what is known of the object, if that is valid.
+/// Whether this is what is known of the object.
 fn is_known_as(book: &Book, number: u64, info: &Info) -> bool
-    ensures { is_valid (reverse book.now.entries) number ≡ true → result ≡ option_map_or (same_info info.now) (info_at (reverse book.now.entries) number) false }
+    ensures { result ≡ option_map_or (same_info info.now) (info_at (reverse book.now.entries) number) false }
 {
     let Some(known) = book.info(number) else {
         return false;

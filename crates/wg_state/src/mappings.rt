@@ -2,10 +2,10 @@
 ghost use Rattle.std.specs.Prelude.{◌≡◌, ◌+◌, ◌<◌, ◌≤◌, ◌^◌, nat_le, length, reverse, true, false, [], Some, unwrap_or};
 ghost use Rattle.wg_model.specs.Commands.{no_buffer};
 ghost use Rattle.wg_history.specs.Entries.{effects_of};
-ghost use Rattle.wg_history.specs.Objects.{count, buffer_at};
+ghost use Rattle.wg_history.specs.Objects.{count, buffer_at, made_info};
 ghost use Rattle.wg_history.specs.Operations.{last_use};
 ghost use Rattle.wg_history.specs.Loss.{asked_mapping};
-ghost use Rattle.wg_history.specs.Rules.{mapped_made, is_mapped_how};
+ghost use Rattle.wg_history.specs.Rules.{mapped_with, is_mapped_how};
 ghost use Rattle.wg_life.specs.Lives.{row_at};
 ghost use Rattle.wg_maps.specs.Mappings.{state_of};
 ghost use Rattle.wg_state.specs.Rows.{AreDropsOf};
@@ -14,7 +14,6 @@ ghost use Rattle.wg_state.specs.Mapped.{is_mapping, made_in, keeps_map, mapped_i
 use crate::book::Book;
 use crate::look;
 use crate::notes::{destroyed_by, is_dropped};
-use wg_formats::no_texture;
 use wg_history::events::{Entry, Event, Form, Promise, Setup};
 use wg_life::Life;
 use wg_maps::Maps;
@@ -60,14 +59,14 @@ fn asked(room: u64, mode: u32, offset: u64, size: u64) -> Option<Mapping>
     })
 }
 
-/// How an entry's buffer is mapped at its creation, if it is.
-fn mapped_made(entry: &Entry) -> Option<Mapping>
-    ensures { result ≡ mapped_made entry.now }
+/// How the object of which this is known is mapped at its creation, if it is.
+fn mapped_made(answer: Answer, made: &Option<Info>) -> Option<Mapping>
+    ensures { result ≡ mapped_with answer made.now }
 {
-    let Answer::Made { valid: true, .. } = entry.reply.answer else {
+    let Answer::Made { valid: true, .. } = answer else {
         return None;
     };
-    match entry.event.info_made(no_texture()) {
+    match made {
         Some(Info::Buffer(info)) => {
             if !info.mapped {
                 return None;
@@ -78,7 +77,18 @@ fn mapped_made(entry: &Entry) -> Option<Mapping>
                 hi: info.size,
             })
         }
-        Some(Info::Texture(_) | Info::View(_) | Info::Encoder | Info::CommandBuffer) | None => None,
+        Some(
+            Info::Texture(_)
+            | Info::View(_)
+            | Info::Sampler(_)
+            | Info::GroupLayout(_)
+            | Info::PipelineLayout(_)
+            | Info::Group(_)
+            | Info::Compute(_)
+            | Info::Encoder
+            | Info::CommandBuffer,
+        )
+        | None => None,
     }
 }
 
@@ -177,8 +187,17 @@ fn end(loses: bool, number: Option<u64>, maps: &mut Maps)
     unmap(number, maps);
 }
 
-/// Notes what an entry says of how buffers are mapped.
-pub fn note_maps(setup: Setup, book: &Book, life: &Life, entry: &Entry, maps: &mut Maps)
+/// Notes what an entry, which makes an object of which this is known, says of how buffers are mapped.
+#[tactic(auto, using(crate::proofs::MadeLemmas::mapped_any))]
+pub fn note_maps(
+    setup: Setup,
+    book: &Book,
+    life: &Life,
+    entry: &Entry,
+    info: &Option<Info>,
+    maps: &mut Maps,
+)
+    requires info { info.now ≡ made_info (reverse book.now.entries) entry.now.event }
     requires place { 0 < maps.old.spare }
     requires fits { FitsIn (reverse book.now.entries) (effects_of entry.now.event).form entry.now.reply.settled maps.old }
     requires drops { AreDropsOf setup (reverse book.now.entries) life.now.holdings.marks }
@@ -188,7 +207,7 @@ pub fn note_maps(setup: Setup, book: &Book, life: &Life, entry: &Entry, maps: &m
 {
     let effects = entry.event.effects();
     match effects.form {
-        Form::Making => make(book.count(), mapped_made(entry), maps),
+        Form::Making => make(book.count(), mapped_made(entry.reply.answer, info), maps),
         Form::Promise(
             Promise::Map {
                 buffer,

@@ -1,23 +1,24 @@
 //! What an event makes: its memory, and the objects to which it refers and which it names.
-ghost use Rattle.std.specs.Prelude.{◌≡◌, ◌<◌, ◌^◌, ◌∷◌, ◌++◌, [], None, map, true, OnOk, IfOk, if◌then◌else◌};
+ghost use Rattle.std.specs.Prelude.{◌≡◌, ◌<◌, ◌^◌, ◌∷◌, ◌++◌, [], None, map, true, OnOk, IfOk, option_map, if◌then◌else◌};
+ghost use Rattle.std.specs.Option.{option_map_or};
 ghost use Rattle.wg_types.specs.Commands.{named};
 ghost use Rattle.wg_model.specs.Memory.{bytes_of};
 ghost use Rattle.wg_model.specs.Recorded.{names_within};
 ghost use Rattle.wg_history.specs.Objects.{sort_of_info};
-ghost use Rattle.wg_history.specs.Held.{refers_of};
+ghost use Rattle.wg_history.specs.Held.{refers_of, resource_number};
 ghost use Rattle.wg_history.specs.Entries.{recorded_by};
-ghost use Rattle.wg_history.specs.Budget.{bytes_made};
-ghost use Rattle.wg_state.specs.Rows.{memory_of, made_by, links_of};
+ghost use Rattle.wg_state.specs.Rows.{memory_of, object_made, links_of};
 
 use crate::infos::is_encoder;
 use std::alloc::Global;
-use wg_formats::{bytes_of, no_texture};
+use wg_formats::bytes_of;
 use wg_history::NoMemory;
 use wg_history::events::Event;
 use wg_holders::Links;
 use wg_life::{Made, Resource};
+use wg_types::bindings::{BoundEntry, BoundResource};
 use wg_types::commands::{Command, On};
-use wg_types::handles::{Handle, Info};
+use wg_types::handles::{Handle, Info, ObjRef};
 use wg_types::items::Items;
 use wg_types::steps::Sort;
 
@@ -28,7 +29,14 @@ fn sort_of(info: &Info) -> Option<Sort>
     match info {
         Info::Buffer(_) => Some(Sort::Buffer),
         Info::Texture(_) => Some(Sort::Texture),
-        Info::View(_) | Info::Encoder | Info::CommandBuffer => None,
+        Info::View(_)
+        | Info::Sampler(_)
+        | Info::GroupLayout(_)
+        | Info::PipelineLayout(_)
+        | Info::Group(_)
+        | Info::Compute(_)
+        | Info::Encoder
+        | Info::CommandBuffer => None,
     }
 }
 
@@ -45,18 +53,67 @@ fn memory_of(info: &Info, valid: bool) -> Option<Resource>
     Some(Resource { sort, bytes })
 }
 
-/// The objects to which an object refers, if it is valid: a view refers to its texture.
+/// Adds the numbers of objects to a list.
+fn push_numbers(numbers: &mut Vec<u64>, objects: &[ObjRef]) -> Result<(), NoMemory>
+    ensures { OnOk result (numbers.new.items ≡ numbers.old.items ++ map (λ object. object.number) objects.now) }
+{
+    for object in objects {
+        numbers.push(object.number)?;
+    }
+    Ok(())
+}
+
+/// The number of the object that an entry of a bind group binds.
+fn resource_number(resource: BoundResource) -> u64
+    ensures { result ≡ resource_number resource }
+{
+    match resource {
+        BoundResource::Buffer { buffer, .. } => buffer.number,
+        BoundResource::View { view, .. } => view.number,
+        BoundResource::Sampler { sampler, .. } => sampler.number,
+    }
+}
+
+/// Adds the numbers of the objects that a bind group binds to a list.
+fn push_bound(numbers: &mut Vec<u64>, entries: &[BoundEntry]) -> Result<(), NoMemory>
+    ensures { OnOk result (numbers.new.items ≡ numbers.old.items ++ map (λ entry. resource_number entry.resource) entries.now) }
+{
+    for entry in entries {
+        numbers.push(resource_number(entry.resource))?;
+    }
+    Ok(())
+}
+
+/// Adds the numbers of the objects to which an object refers to a list.
+fn push_refers(numbers: &mut Vec<u64>, info: &Info) -> Result<(), NoMemory>
+    ensures { OnOk result (numbers.new.items ≡ numbers.old.items ++ refers_of info.now) }
+{
+    match info {
+        Info::View(view) => push_numbers(numbers, &[view.texture]),
+        Info::PipelineLayout(layout) => push_numbers(numbers, layout.get().layouts.as_slice()),
+        Info::Group(group) => {
+            push_numbers(numbers, &[group.layout])?;
+            push_bound(numbers, group.entries.as_slice())
+        }
+        Info::Compute(pipeline) => push_numbers(numbers, &[pipeline.layout]),
+        Info::Buffer(_)
+        | Info::Texture(_)
+        | Info::Sampler(_)
+        | Info::GroupLayout(_)
+        | Info::Encoder
+        | Info::CommandBuffer => Ok(()),
+    }
+}
+
+/// The objects to which an object refers, if it is valid.
 fn refers_of(alloc: Global, info: &Info, valid: bool) -> Result<Items<u64>, NoMemory>
     ensures { IfOk result (λ refers. refers ≡ (if valid then refers_of info.now else [])) }
 {
-    let mut refers = Items::new(alloc);
-    if !valid {
-        return Ok(refers);
+    let mut refers = Vec::new(alloc);
+    if valid {
+        push_refers(&mut refers, info)?;
     }
-    if let Info::View(view) = info {
-        refers.push(view.texture.number)?;
-    }
-    Ok(refers)
+    Ok(Items::from_vec(refers))
 }
 
 /// Adds an object's number to a list.
@@ -123,21 +180,26 @@ fn names_of(alloc: Global, event: &Event, valid: bool) -> Result<Items<u64>, NoM
     Ok(Items::from_vec(names))
 }
 
-/// The object that an event makes, if it makes one. That of a valid one has its memory, of which the bytes
-/// fit into 64 bits.
-pub fn made_by(alloc: Global, event: &Event, valid: bool) -> Result<Option<Made>, NoMemory>
-    requires { valid ≡ true → bytes_made event.now < 2 ^ 64 }
-    ensures { IfOk result (λ made. made ≡ made_by event.now valid) }
+/// The object that an event makes, of which this is known, if it makes one. That of a valid one has its
+/// memory, of which the bytes fit into 64 bits.
+pub fn made_by(
+    alloc: Global,
+    event: &Event,
+    info: &Option<Info>,
+    valid: bool,
+) -> Result<Option<Made>, NoMemory>
+    requires { valid ≡ true → option_map_or bytes_of info.now 0 < 2 ^ 64 }
+    ensures { IfOk result (λ made. made ≡ option_map (object_made event.now valid) info.now) }
 {
-    let Some(info) = event.info_made(no_texture()) else {
+    let Some(info) = info else {
         return Ok(None);
     };
-    let resource = memory_of(&info, valid);
-    let refers = refers_of(alloc, &info, valid)?;
+    let resource = memory_of(info, valid);
+    let refers = refers_of(alloc, info, valid)?;
     let names = names_of(alloc, event, valid)?;
     Ok(Some(Made {
         resource,
-        encoder: is_encoder(&info),
+        encoder: is_encoder(info),
         links: Links { refers, names },
     }))
 }

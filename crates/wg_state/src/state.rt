@@ -1,11 +1,11 @@
 //! A history with all that is kept beside it.
-ghost use Rattle.std.specs.Prelude.{◌≡◌, ◌+◌, ◌-◌, ◌^◌, ◌<◌, ◌≤◌, ◌∷◌, ◌++◌, [], map, filter, nat_le, is_some, not, length, reverse, vec_len, vec_capacity, OnOk, IfOk, Some, None, ◌||◌, ◌==◌, if◌then◌else◌};
+ghost use Rattle.std.specs.Prelude.{◌≡◌, true, ◌+◌, ◌-◌, ◌^◌, ◌<◌, ◌≤◌, ◌∷◌, ◌++◌, [], map, filter, nat_le, is_some, not, length, reverse, vec_len, vec_capacity, OnOk, IfOk, Some, None, ◌||◌, ◌==◌, if◌then◌else◌};
 ghost use Rattle.wg_orders.specs.Trace.{free};
 ghost use Rattle.wg_history.specs.Operations.{issued, completed, last_use};
 ghost use Rattle.wg_model.specs.ErrorScopes.{deliver, pop_how};
 ghost use Rattle.wg_history.specs.Loss.{is_lost, scopes_of, awaiting, is_map_of, is_pending};
-ghost use Rattle.wg_history.specs.Budget.{live_bytes};
-ghost use Rattle.wg_history.specs.Objects.{is_made_valid};
+ghost use Rattle.wg_history.specs.Budget.{live_bytes, bytes_made};
+ghost use Rattle.wg_history.specs.Objects.{is_made_valid, made_info};
 ghost use Rattle.wg_history.specs.Rules.{has_finished, is_consumed, is_destroyed, is_dropped, may_name, is_busy, mapped_at};
 ghost use Rattle.wg_history.specs.Answers.{Run, reply_to, settle_all, kept_how, ended_how, is_kept};
 ghost use Rattle.wg_history.specs.Releases.{freed};
@@ -15,7 +15,7 @@ ghost use Rattle.wg_state.specs.Waits.{map_waits};
 
 use crate::book::Book;
 use crate::mappings::{is_mapping, note_maps};
-use crate::names::links_of;
+use crate::names::{self, links_of};
 use crate::notes::{grow, note_entry};
 use crate::queues::note_queue;
 use crate::scopes::note_errors;
@@ -25,10 +25,11 @@ use std::alloc::Global;
 use std::marker::Model;
 use wg_errors::Errors;
 use wg_history::NoMemory;
-use wg_history::events::{Entry, Setup};
+use wg_history::events::{Entry, Event, Setup};
 use wg_life::{Life, Made};
 use wg_maps::Maps;
 use wg_queue::Queue;
+use wg_types::handles::Info;
 use wg_types::mappings::{Mapping, PendingMap};
 use wg_types::replies::{Caught, FaultKind, How, Settlements};
 use wg_types::steps::Item;
@@ -43,11 +44,12 @@ struct Kept {
 }
 
 /// Notes an entry that comes after a history in what is kept beside that, and adds its releases to a
-/// trace.
+/// trace. It makes the object of which this is known, if it makes one.
 fn note(
     setup: Setup,
     book: &Book,
     entry: &Entry,
+    info: &Option<Info>,
     made: Option<Made>,
     uses: &[Used],
     kept: &mut Kept,
@@ -56,6 +58,7 @@ fn note(
     requires run { Run setup book.now.entries }
     requires answers { entry.now.reply ≡ reply_to setup (reverse book.now.entries) entry.now.event }
     requires used { AreUsed (reverse book.now.entries) entry.now.reply.answer entry.now.event uses.now }
+    requires info { info.now ≡ made_info (reverse book.now.entries) entry.now.event }
     requires made { made ≡ made_by entry.now.event (is_made_valid entry.now.reply.answer) }
     requires links { links_of made < kept.old.life.room }
     requires kept { IsKept setup (reverse book.now.entries) kept.old.life kept.old.queue kept.old.errors kept.old.maps }
@@ -72,7 +75,7 @@ fn note(
     ensures errors_spare { kept.old.errors.spare ≤ kept.new.errors.spare + 1 }
     ensures maps_spare { kept.old.maps.spare ≤ kept.new.maps.spare + 1 }
 {
-    note_maps(setup, book, &kept.life, entry, &mut kept.maps);
+    note_maps(setup, book, &kept.life, entry, info, &mut kept.maps);
     grow(made, &mut kept.life);
     note_entry(setup, book, entry, uses, &mut kept.life);
     note_queue(book.entries().len() as u64, entry, &mut kept.queue);
@@ -298,6 +301,30 @@ impl State {
         self.kept.life.row(number).last
     }
 
+    /// What is known of the object that an event makes. It takes memory for the lists of what a pipeline
+    /// layout or a bind group is made of.
+    pub fn info_made(&self, alloc: Global, event: &Event) -> Result<Option<Info>, NoMemory>
+        ensures { IfOk result (λ made. made ≡ made_info (reverse self.now.history) event.now) }
+    {
+        self.book.info_made(alloc, event)
+    }
+
+    /// The object that an event makes, of which this is known, if it makes one. That of a valid one has its
+    /// memory, of which the bytes fit into 64 bits.
+    pub fn made_by(
+        &self,
+        alloc: Global,
+        event: &Event,
+        info: &Option<Info>,
+        valid: bool,
+    ) -> Result<Option<Made>, NoMemory>
+        requires info { info.now ≡ made_info (reverse self.now.history) event.now }
+        requires bytes { valid ≡ true → bytes_made event.now < 2 ^ 64 }
+        ensures { IfOk result (λ made. made ≡ made_by event.now valid) }
+    {
+        names::made_by(alloc, event, info, valid)
+    }
+
     /// Makes room for one entry more, which makes this object, if it makes one.
     pub fn reserve(&mut self, made: &Option<Made>) -> Result<(), NoMemory>
         ensures setup { self.new.setup ≡ self.old.setup }
@@ -315,11 +342,19 @@ impl State {
         Ok(())
     }
 
-    /// Adds an entry, which makes this object, if it makes one, and of which the operation uses these, and
-    /// its releases to a trace, in room that there is.
-    pub fn add(&mut self, entry: Entry, made: Option<Made>, uses: &[Used], trace: &mut Vec<Item>)
+    /// Adds an entry, which makes this object, of which this is known, if it makes one, and of which the
+    /// operation uses these, and its releases to a trace, in room that there is.
+    pub fn add(
+        &mut self,
+        entry: Entry,
+        info: Option<Info>,
+        made: Option<Made>,
+        uses: &[Used],
+        trace: &mut Vec<Item>,
+    )
         requires answers { entry.reply ≡ reply_to self.old.setup (reverse self.old.history) entry.event }
         requires used { AreUsed (reverse self.old.history) entry.reply.answer entry.event uses.now }
+        requires info { info ≡ made_info (reverse self.old.history) entry.event }
         requires made { made ≡ made_by entry.event (is_made_valid entry.reply.answer) }
         requires place { 0 < self.old.spare }
         requires links { links_of made < self.old.room }
@@ -333,12 +368,13 @@ impl State {
             self.setup,
             &self.book,
             &entry,
+            &info,
             made,
             uses,
             &mut self.kept,
             trace,
         );
-        self.book.add(entry);
+        self.book.add(entry, info);
         self.spare -= 1;
     }
 }

@@ -1,18 +1,24 @@
 -- What calls of a device name and make.
 use Rattle.std.specs.Prelude.{List, [], ◌∷◌, map, Option, Some, None}
+use Rattle.wg_types.specs.Bindings.{entries_named, map_entry}
 use Rattle.wg_types.specs.Refs.{all_wanted}
 use Rattle.wg_types.specs.declared.wanted.Kind.{Kind}
 use Rattle.wg_types.specs.declared.wanted.Kind.TheVariants as kind
 use Rattle.wg_types.specs.declared.wanted.Wanted.{Wanted}
 use Rattle.wg_types.specs.declared.wanted.Wanted.TheVariants as wanted
 pub use Rattle.wg_types.specs.declared.requests.RequestOf.{RequestOf}
-use Rattle.wg_types.specs.declared.requests.RequestOf.TheVariants.{CreateBuffer, CreateTexture, CreateView, CreateEncoder, Finish, Submit, WriteBuffer, WriteTexture, Destroy, Drop, Complete, PushErrorScope, PopErrorScope, Lose, WorkDone, MapAsync, Unmap}
+use Rattle.wg_types.specs.declared.requests.RequestOf.TheVariants.{CreateBuffer, CreateTexture, CreateView, CreateSampler, CreateBindGroupLayout, CreatePipelineLayout, CreateBindGroup, CreateComputePipeline, CreateEncoder, Finish, Submit, WriteBuffer, WriteTexture, Destroy, Drop, Complete, PushErrorScope, PopErrorScope, Lose, WorkDone, MapAsync, Unmap}
 
 -- the kind of the object that a call makes, if it makes one
 abbrev pub kind_made : {R : Type 0} → RequestOf R → Option Kind
 kind_made (CreateBuffer info) = Some kind.Buffer
 kind_made (CreateTexture info) = Some kind.Texture
 kind_made (CreateView texture asked) = Some kind.View
+kind_made (CreateSampler known) = Some kind.Sampler
+kind_made (CreateBindGroupLayout info) = Some kind.GroupLayout
+kind_made (CreatePipelineLayout layouts) = Some kind.PipelineLayout
+kind_made (CreateBindGroup layout entries) = Some kind.Group
+kind_made (CreateComputePipeline layout iface) = Some kind.Compute
 kind_made CreateEncoder = Some kind.Encoder
 kind_made (Finish encoder) = Some kind.CommandBuffer
 kind_made (Submit buffers) = None
@@ -33,6 +39,11 @@ abbrev pub named : {R : Type 0} → RequestOf R → List (R × Wanted)
 named (CreateBuffer info) = []
 named (CreateTexture info) = []
 named (CreateView texture asked) = (texture, wanted.Texture) ∷ []
+named (CreateSampler known) = []
+named (CreateBindGroupLayout info) = []
+named (CreatePipelineLayout layouts) = all_wanted wanted.GroupLayout layouts
+named (CreateBindGroup layout entries) = (layout, wanted.GroupLayout) ∷ entries_named entries
+named (CreateComputePipeline layout iface) = (layout, wanted.PipelineLayout) ∷ []
 named CreateEncoder = []
 named (Finish encoder) = (encoder, wanted.Encoder) ∷ []
 named (Submit buffers) = all_wanted wanted.CommandBuffer buffers
@@ -53,6 +64,11 @@ abbrev pub map_refs : {R S : Type 0} → (R → S) → RequestOf R → RequestOf
 map_refs f (CreateBuffer info) = CreateBuffer info
 map_refs f (CreateTexture info) = CreateTexture info
 map_refs f (CreateView texture asked) = CreateView (f texture) asked
+map_refs f (CreateSampler known) = CreateSampler known
+map_refs f (CreateBindGroupLayout info) = CreateBindGroupLayout info
+map_refs f (CreatePipelineLayout layouts) = CreatePipelineLayout (map f layouts)
+map_refs f (CreateBindGroup layout entries) = CreateBindGroup (f layout) (map (map_entry f) entries)
+map_refs f (CreateComputePipeline layout iface) = CreateComputePipeline (f layout) iface
 map_refs f CreateEncoder = CreateEncoder
 map_refs f (Finish encoder) = Finish (f encoder)
 map_refs f (Submit buffers) = Submit (map f buffers)

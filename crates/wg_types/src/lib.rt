@@ -1,8 +1,10 @@
-//! Plain data: objects and what is known of them, parts and cells of memory, steps, traces, replies.
+//! Plain data: objects and what is known of them, bindings, parts and cells of memory, steps, traces, replies.
 #![tactic(auto)]
 
+pub mod bindings;
 pub mod commands;
 pub mod formats;
+pub mod groups;
 pub mod handles;
 pub mod items;
 pub mod limits;
@@ -12,6 +14,7 @@ pub mod refs;
 pub mod replies;
 pub mod requests;
 pub mod same;
+pub mod shared;
 pub mod steps;
 pub mod textures;
 pub mod usages;

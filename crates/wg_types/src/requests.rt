@@ -4,10 +4,13 @@ ghost use Rattle.wg_types.specs.Refs.{first_of};
 ghost use Rattle.wg_types.specs.Requests.{named, kind_made, map_refs};
 
 use crate::NoMemory;
+use crate::bindings::{GroupEntryOf, SamplerKind, each_entry, map_entries};
+use crate::groups::{GroupLayoutInfo, Interface};
 use crate::handles::BufferInfo;
 use crate::items::Items;
 use crate::refs::{self, Ask, Find};
 use crate::replies::Filter;
+use crate::shared::Shared;
 use crate::textures::{DataLayout, TextureInfo, TextureSpot, ViewAsked};
 use crate::wanted::{Kind, Wanted};
 use std::alloc::Global;
@@ -24,6 +27,23 @@ pub enum RequestOf<R> {
     CreateView {
         texture: R,
         asked: ViewAsked,
+    },
+    CreateSampler {
+        kind: SamplerKind,
+    },
+    CreateBindGroupLayout {
+        info: Shared<GroupLayoutInfo>,
+    },
+    CreatePipelineLayout {
+        layouts: Items<R>,
+    },
+    CreateBindGroup {
+        layout: R,
+        entries: Items<GroupEntryOf<R>>,
+    },
+    CreateComputePipeline {
+        layout: R,
+        iface: Shared<Interface>,
     },
     CreateEncoder,
     Finish {
@@ -79,6 +99,11 @@ impl<R> RequestOf<R> {
             RequestOf::CreateBuffer { .. } => Some(Kind::Buffer),
             RequestOf::CreateTexture { .. } => Some(Kind::Texture),
             RequestOf::CreateView { .. } => Some(Kind::View),
+            RequestOf::CreateSampler { .. } => Some(Kind::Sampler),
+            RequestOf::CreateBindGroupLayout { .. } => Some(Kind::GroupLayout),
+            RequestOf::CreatePipelineLayout { .. } => Some(Kind::PipelineLayout),
+            RequestOf::CreateBindGroup { .. } => Some(Kind::Group),
+            RequestOf::CreateComputePipeline { .. } => Some(Kind::Compute),
             RequestOf::CreateEncoder => Some(Kind::Encoder),
             RequestOf::Finish { .. } => Some(Kind::CommandBuffer),
             RequestOf::Submit { .. }
@@ -102,6 +127,18 @@ impl<R> RequestOf<R> {
     {
         match self {
             RequestOf::CreateView { texture, .. } => asked.ask(texture, Wanted::Texture),
+            RequestOf::CreatePipelineLayout { layouts } => {
+                refs::each(asked, layouts.as_slice(), Wanted::GroupLayout)
+            }
+            RequestOf::CreateBindGroup { layout, entries } => {
+                if let Some(found) = asked.ask(layout, Wanted::GroupLayout) {
+                    return Some(found);
+                }
+                each_entry(asked, entries.as_slice())
+            }
+            RequestOf::CreateComputePipeline { layout, .. } => {
+                asked.ask(layout, Wanted::PipelineLayout)
+            }
             RequestOf::Finish { encoder } => asked.ask(encoder, Wanted::Encoder),
             RequestOf::Submit { buffers } => {
                 refs::each(asked, buffers.as_slice(), Wanted::CommandBuffer)
@@ -114,6 +151,8 @@ impl<R> RequestOf<R> {
             RequestOf::Drop { object } => asked.ask(object, Wanted::Object),
             RequestOf::CreateBuffer { .. }
             | RequestOf::CreateTexture { .. }
+            | RequestOf::CreateSampler { .. }
+            | RequestOf::CreateBindGroupLayout { .. }
             | RequestOf::CreateEncoder
             | RequestOf::Complete { .. }
             | RequestOf::PushErrorScope { .. }
@@ -138,6 +177,23 @@ impl<R> RequestOf<R> {
                 texture: find.find(texture)?,
                 asked: *asked,
             }),
+            RequestOf::CreateSampler { kind } => Ok(RequestOf::CreateSampler { kind: *kind }),
+            RequestOf::CreateBindGroupLayout { info } => Ok(RequestOf::CreateBindGroupLayout {
+                info: info.share()?,
+            }),
+            RequestOf::CreatePipelineLayout { layouts } => Ok(RequestOf::CreatePipelineLayout {
+                layouts: refs::map_items(alloc, find, layouts.as_slice())?,
+            }),
+            RequestOf::CreateBindGroup { layout, entries } => Ok(RequestOf::CreateBindGroup {
+                layout: find.find(layout)?,
+                entries: map_entries(alloc, find, entries.as_slice())?,
+            }),
+            RequestOf::CreateComputePipeline { layout, iface } => {
+                Ok(RequestOf::CreateComputePipeline {
+                    layout: find.find(layout)?,
+                    iface: iface.share()?,
+                })
+            }
             RequestOf::CreateEncoder => Ok(RequestOf::CreateEncoder),
             RequestOf::Finish { encoder } => Ok(RequestOf::Finish {
                 encoder: find.find(encoder)?,

@@ -1,4 +1,4 @@
-use Rattle.wg_history.proofs.InfoLaws.{infos_tell}
+use Rattle.wg_history.proofs.BindingLaws.{infos_tell}
 use Rattle.wg_history.proofs.laws.same_infos.Goals as goal
 
 pub returns : goal.returns

@@ -1,0 +1,223 @@
+-- The tests of what is bound, and of infos, tell whether they are equal.
+use Rattle.std.proofs.Common.{◌≡◌, ℕ, ◌==◌, Bool, true, false, ◌&&◌, List, [], ◌∷◌, refl, ap, ap₂, ◌∙◌, if◌then◌else◌}
+use Rattle.std.specs.Prelude.{Decides}
+use Rattle.std.proofs.lemmas.Bool.{and_parts, and_from}
+use Rattle.std.proofs.lemmas.Bool.Decides.{Decides-and, Decides-like}
+use Rattle.wg_types.specs.Formats.{same_format}
+use Rattle.wg_types.specs.Textures.{same_view}
+use Rattle.wg_types.specs.declared.handles.ObjRef.{ObjRef}
+use Rattle.wg_types.specs.declared.handles.BufferInfo.{BufferInfo}
+use Rattle.wg_types.specs.declared.textures.ViewInfo.{ViewInfo}
+use Rattle.wg_types.specs.declared.textures.ViewDim.{ViewDim}
+use Rattle.wg_types.specs.declared.formats.Format.{Format}
+use Rattle.wg_types.specs.declared.formats.SampleType.{SampleType}
+use Rattle.wg_types.specs.declared.formats.SampleType.TheVariants as sample_type
+use Rattle.wg_types.specs.declared.bindings.BufferBinding.{BufferBinding}
+use Rattle.wg_types.specs.declared.bindings.BufferBinding.TheVariants.{Uniform, Storage, ReadOnlyStorage}
+use Rattle.wg_types.specs.declared.bindings.SamplerKind.{SamplerKind}
+use Rattle.wg_types.specs.declared.bindings.SamplerKind.TheVariants.{Filtering, NonFiltering, Comparison}
+use Rattle.wg_types.specs.declared.bindings.StorageAccess.{StorageAccess}
+use Rattle.wg_types.specs.declared.bindings.StorageAccess.TheVariants.{ReadOnly, WriteOnly, ReadWrite}
+use Rattle.wg_types.specs.declared.bindings.Stage.{Stage}
+use Rattle.wg_types.specs.declared.bindings.Stage.TheVariants as stage
+use Rattle.wg_types.specs.declared.bindings.BindingKind.{BindingKind}
+use Rattle.wg_types.specs.declared.bindings.BindingKind.TheVariants as binding
+use Rattle.wg_types.specs.declared.bindings.LayoutEntry.{LayoutEntry}
+use Rattle.wg_types.specs.declared.bindings.IfaceEntry.{IfaceEntry}
+use Rattle.wg_types.specs.declared.bindings.BoundResource.{BoundResource}
+use Rattle.wg_types.specs.declared.bindings.BoundResource.TheVariants as bound
+use Rattle.wg_types.specs.declared.bindings.BoundEntry.{BoundEntry}
+use Rattle.wg_types.specs.declared.groups.GroupLayoutInfo.{GroupLayoutInfo}
+use Rattle.wg_types.specs.declared.groups.PipelineLayoutInfo.{PipelineLayoutInfo}
+use Rattle.wg_types.specs.declared.groups.GroupInfo.{GroupInfo}
+use Rattle.wg_types.specs.declared.groups.Interface.{Interface}
+use Rattle.wg_types.specs.declared.groups.ComputeInfo.{ComputeInfo}
+use Rattle.wg_types.specs.declared.handles.Info.TheVariants.{Buffer, Texture, View, Sampler, GroupLayout, PipelineLayout, Group, Compute, Encoder, CommandBuffer}
+use Rattle.wg_model.specs.Equality.{same_bool, same_list, same_reference, same_buffer, sample_number, buffer_binding_number, sampler_number, access_number, stage_number, same_view_dim, same_sample, same_buffer_binding, same_sampler, same_access, same_stage, same_binding_kind, same_layout_entry, same_iface_entry, same_bound_resource, same_bound_entry, same_group_layout, same_pipeline_layout, same_group, same_compute}
+use Rattle.wg_history.specs.Infos.{SameInfoIs}
+use Rattle.wg_history.proofs.InfoLaws.{numbers_tell, words_tell, formats_tell, view_dims_tell, bools_tell, buffers_tell, textures_tell, references_tell, views_tell}
+
+-- Lists, where their items are told apart.
+lists_tell : {X : Type 0} (same : X → X → Bool) → ((x y : X) → Decides (same x y) (x ≡ y)) → (xs ys : List X) → Decides (same_list same xs ys) (xs ≡ ys)
+lists_tell same tell [] [] = (λ e. refl, λ e. refl)
+lists_tell same tell [] (y ∷ ys) = (λ e. absurd (cc), λ e. absurd (cc))
+lists_tell same tell (x ∷ xs) [] = (λ e. absurd (cc), λ e. absurd (cc))
+lists_tell same tell (x ∷ xs) (y ∷ ys) =
+    let first = tell x y in
+    let rest = lists_tell same tell xs ys in
+    (λ e. ap₂ ◌∷◌ (first.0 (and_parts (same x y) (same_list same xs ys) e).0) (rest.0 (and_parts (same x y) (same_list same xs ys) e).1), λ e. and_from (same x y) (same_list same xs ys) (first.1 (cc)) (rest.1 (cc)))
+
+-- Words.
+abbrev sample_at : ℕ → SampleType
+sample_at n = if n == 0 then sample_type.Float else if n == 1 then sample_type.UnfilterableFloat else if n == 2 then sample_type.Depth else if n == 3 then sample_type.Sint else sample_type.Uint
+
+sample_back : (s : SampleType) → sample_at (sample_number s) ≡ s
+sample_back sample_type.Float = refl
+sample_back sample_type.UnfilterableFloat = refl
+sample_back sample_type.Depth = refl
+sample_back sample_type.Sint = refl
+sample_back sample_type.Uint = refl
+
+samples_tell : (a b : SampleType) → Decides (same_sample a b) (a ≡ b)
+samples_tell a b = words_tell sample_number sample_at sample_back a b
+
+abbrev buffer_binding_at : ℕ → BufferBinding
+buffer_binding_at n = if n == 0 then Uniform else if n == 1 then Storage else ReadOnlyStorage
+
+buffer_binding_back : (b : BufferBinding) → buffer_binding_at (buffer_binding_number b) ≡ b
+buffer_binding_back Uniform = refl
+buffer_binding_back Storage = refl
+buffer_binding_back ReadOnlyStorage = refl
+
+buffer_bindings_tell : (a b : BufferBinding) → Decides (same_buffer_binding a b) (a ≡ b)
+buffer_bindings_tell a b = words_tell buffer_binding_number buffer_binding_at buffer_binding_back a b
+
+abbrev sampler_at : ℕ → SamplerKind
+sampler_at n = if n == 0 then Filtering else if n == 1 then NonFiltering else Comparison
+
+sampler_back : (k : SamplerKind) → sampler_at (sampler_number k) ≡ k
+sampler_back Filtering = refl
+sampler_back NonFiltering = refl
+sampler_back Comparison = refl
+
+samplers_tell : (a b : SamplerKind) → Decides (same_sampler a b) (a ≡ b)
+samplers_tell a b = words_tell sampler_number sampler_at sampler_back a b
+
+abbrev access_at : ℕ → StorageAccess
+access_at n = if n == 0 then ReadOnly else if n == 1 then WriteOnly else ReadWrite
+
+access_back : (a : StorageAccess) → access_at (access_number a) ≡ a
+access_back ReadOnly = refl
+access_back WriteOnly = refl
+access_back ReadWrite = refl
+
+accesses_tell : (a b : StorageAccess) → Decides (same_access a b) (a ≡ b)
+accesses_tell a b = words_tell access_number access_at access_back a b
+
+abbrev stage_at : ℕ → Stage
+stage_at n = if n == 0 then stage.Vertex else if n == 1 then stage.Fragment else stage.Compute
+
+stage_back : (s : Stage) → stage_at (stage_number s) ≡ s
+stage_back stage.Vertex = refl
+stage_back stage.Fragment = refl
+stage_back stage.Compute = refl
+
+stages_tell : (a b : Stage) → Decides (same_stage a b) (a ≡ b)
+stages_tell a b = words_tell stage_number stage_at stage_back a b
+
+-- Constructors and records of some parts.
+like_two : {A B X : Type 0} (f : A → B → X) (a c : A) (b d : B) → (a ≡ c) × (b ≡ d) → f a b ≡ f c d
+like_two f a c b d h = ap₂ f h.0 h.1
+
+like_three : {A B C X : Type 0} (f : A → B → C → X) (a p : A) (b q : B) (c r : C) → ((a ≡ p) × (b ≡ q)) × (c ≡ r) → f a b c ≡ f p q r
+like_three f a p b q c r h = ap (λ x. f x b c) h.0.0 ∙ (ap (λ x. f p x c) h.0.1 ∙ ap (λ x. f p q x) h.1)
+
+like_four : {A B C D X : Type 0} (f : A → B → C → D → X) (a p : A) (b q : B) (c r : C) (d s : D) → (((a ≡ p) × (b ≡ q)) × (c ≡ r)) × (d ≡ s) → f a b c d ≡ f p q r s
+like_four f a p b q c r d s h = ap (λ x. f x b c d) h.0.0.0 ∙ (ap (λ x. f p x c d) h.0.0.1 ∙ (ap (λ x. f p q x d) h.0.1 ∙ ap (λ x. f p q r x) h.1))
+
+-- Kinds of bindings.
+binding_kinds_tell : (a b : BindingKind) → Decides (same_binding_kind a b) (a ≡ b)
+binding_kinds_tell (binding.Buffer a moves_a least_a) (binding.Buffer b moves_b least_b) =
+    Decides-like _ (like_three binding.Buffer a b moves_a moves_b least_a least_b) (λ e. ((cc, cc), cc))
+    (Decides-and _ (least_a == least_b) (Decides-and (same_buffer_binding a b) (same_bool moves_a moves_b) (buffer_bindings_tell a b) (bools_tell moves_a moves_b)) (numbers_tell least_a least_b))
+binding_kinds_tell (binding.Sampler a) (binding.Sampler b) = let d = samplers_tell a b in (λ e. ap binding.Sampler (d.0 e), λ e. d.1 (cc))
+binding_kinds_tell (binding.Texture a dim_a multi_a) (binding.Texture b dim_b multi_b) =
+    Decides-like _ (like_three binding.Texture a b dim_a dim_b multi_a multi_b) (λ e. ((cc, cc), cc))
+    (Decides-and _ (same_bool multi_a multi_b) (Decides-and (same_sample a b) (same_view_dim dim_a dim_b) (samples_tell a b) (view_dims_tell dim_a dim_b)) (bools_tell multi_a multi_b))
+binding_kinds_tell (binding.StorageTexture a format_a dim_a) (binding.StorageTexture b format_b dim_b) =
+    Decides-like _ (like_three binding.StorageTexture a b format_a format_b dim_a dim_b) (λ e. ((cc, cc), cc))
+    (Decides-and _ (same_view_dim dim_a dim_b) (Decides-and (same_access a b) (same_format format_a format_b) (accesses_tell a b) (formats_tell format_a format_b)) (view_dims_tell dim_a dim_b))
+binding_kinds_tell _ _ = (λ e. absurd (cc), λ e. absurd (cc))
+
+-- Entries.
+abbrev layout_entry_made : ℕ → ℕ → BindingKind → LayoutEntry
+layout_entry_made n visibility kind = record { binding = n; visibility = visibility; kind = kind }
+
+layout_entries_tell : (a b : LayoutEntry) → Decides (same_layout_entry a b) (a ≡ b)
+layout_entries_tell a b =
+    Decides-like _ (like_three layout_entry_made a.binding b.binding a.visibility b.visibility a.kind b.kind) (λ e. ((ap (λ (x : LayoutEntry). x.binding) e, ap (λ (x : LayoutEntry). x.visibility) e), ap (λ (x : LayoutEntry). x.kind) e))
+    (Decides-and _ (same_binding_kind a.kind b.kind) (Decides-and (a.binding == b.binding) (a.visibility == b.visibility) (numbers_tell a.binding b.binding) (numbers_tell a.visibility b.visibility)) (binding_kinds_tell a.kind b.kind))
+
+abbrev iface_entry_made : ℕ → ℕ → Stage → BindingKind → IfaceEntry
+iface_entry_made group n stage kind = record { group = group; binding = n; stage = stage; kind = kind }
+
+iface_entries_tell : (a b : IfaceEntry) → Decides (same_iface_entry a b) (a ≡ b)
+iface_entries_tell a b =
+    Decides-like _ (like_four iface_entry_made a.group b.group a.binding b.binding a.stage b.stage a.kind b.kind)
+    (λ e. (((ap (λ (x : IfaceEntry). x.group) e, ap (λ (x : IfaceEntry). x.binding) e), ap (λ (x : IfaceEntry). x.stage) e), ap (λ (x : IfaceEntry). x.kind) e))
+    (Decides-and _ (same_binding_kind a.kind b.kind)
+    (Decides-and _ (same_stage a.stage b.stage)
+    (Decides-and (a.group == b.group) (a.binding == b.binding) (numbers_tell a.group b.group) (numbers_tell a.binding b.binding))
+    (stages_tell a.stage b.stage))
+    (binding_kinds_tell a.kind b.kind))
+
+resources_tell : (a b : BoundResource) → Decides (same_bound_resource a b) (a ≡ b)
+resources_tell (bound.Buffer a info_a at_a size_a) (bound.Buffer b info_b at_b size_b) =
+    Decides-like _ (like_four bound.Buffer a b info_a info_b at_a at_b size_a size_b) (λ e. (((cc, cc), cc), cc))
+    (Decides-and _ (size_a == size_b)
+    (Decides-and _ (at_a == at_b)
+    (Decides-and (same_reference a b) (same_buffer info_a info_b) (references_tell a b) (buffers_tell info_a info_b))
+    (numbers_tell at_a at_b))
+    (numbers_tell size_a size_b))
+resources_tell (bound.View a info_a) (bound.View b info_b) =
+    Decides-like _ (like_two bound.View a b info_a info_b) (λ e. (cc, cc)) (Decides-and (same_reference a b) (same_view info_a info_b) (references_tell a b) (views_tell info_a info_b))
+resources_tell (bound.Sampler a info_a) (bound.Sampler b info_b) =
+    Decides-like _ (like_two bound.Sampler a b info_a info_b) (λ e. (cc, cc)) (Decides-and (same_reference a b) (same_sampler info_a info_b) (references_tell a b) (samplers_tell info_a info_b))
+resources_tell _ _ = (λ e. absurd (cc), λ e. absurd (cc))
+
+abbrev bound_entry_made : ℕ → BoundResource → BoundEntry
+bound_entry_made n resource = record { binding = n; resource = resource }
+
+bound_entries_tell : (a b : BoundEntry) → Decides (same_bound_entry a b) (a ≡ b)
+bound_entries_tell a b =
+    Decides-like _ (like_two bound_entry_made a.binding b.binding a.resource b.resource) (λ e. (ap (λ (x : BoundEntry). x.binding) e, ap (λ (x : BoundEntry). x.resource) e))
+    (Decides-and (a.binding == b.binding) (same_bound_resource a.resource b.resource) (numbers_tell a.binding b.binding) (resources_tell a.resource b.resource))
+
+-- Layouts, groups and pipelines.
+abbrev group_layout_made : List LayoutEntry → GroupLayoutInfo
+group_layout_made entries = record { entries = entries }
+
+group_layouts_tell : (a b : GroupLayoutInfo) → Decides (same_group_layout a b) (a ≡ b)
+group_layouts_tell a b = let d = lists_tell same_layout_entry layout_entries_tell a.entries b.entries in (λ e. ap group_layout_made (d.0 e), λ e. d.1 (ap (λ (x : GroupLayoutInfo). x.entries) e))
+
+abbrev pipeline_layout_made : List ObjRef → List GroupLayoutInfo → PipelineLayoutInfo
+pipeline_layout_made layouts layouts_info = record { layouts = layouts; layouts_info = layouts_info }
+
+pipeline_layouts_tell : (a b : PipelineLayoutInfo) → Decides (same_pipeline_layout a b) (a ≡ b)
+pipeline_layouts_tell a b =
+    Decides-like _ (like_two pipeline_layout_made a.layouts b.layouts a.layouts_info b.layouts_info) (λ e. (ap (λ (x : PipelineLayoutInfo). x.layouts) e, ap (λ (x : PipelineLayoutInfo). x.layouts_info) e))
+    (Decides-and (same_list same_reference a.layouts b.layouts) (same_list same_group_layout a.layouts_info b.layouts_info) (lists_tell same_reference references_tell a.layouts b.layouts) (lists_tell same_group_layout group_layouts_tell a.layouts_info b.layouts_info))
+
+abbrev group_made : ObjRef → GroupLayoutInfo → List BoundEntry → GroupInfo
+group_made layout layout_info entries = record { layout = layout; layout_info = layout_info; entries = entries }
+
+groups_tell : (a b : GroupInfo) → Decides (same_group a b) (a ≡ b)
+groups_tell a b =
+    Decides-like _ (like_three group_made a.layout b.layout a.layout_info b.layout_info a.entries b.entries) (λ e. ((ap (λ (x : GroupInfo). x.layout) e, ap (λ (x : GroupInfo). x.layout_info) e), ap (λ (x : GroupInfo). x.entries) e))
+    (Decides-and _ (same_list same_bound_entry a.entries b.entries)
+    (Decides-and (same_reference a.layout b.layout) (same_group_layout a.layout_info b.layout_info) (references_tell a.layout b.layout) (group_layouts_tell a.layout_info b.layout_info))
+    (lists_tell same_bound_entry bound_entries_tell a.entries b.entries))
+
+abbrev compute_made : ObjRef → PipelineLayoutInfo → List IfaceEntry → ComputeInfo
+compute_made layout layout_info entries = record { layout = layout; layout_info = layout_info; iface = record { entries = entries } }
+
+computes_tell : (a b : ComputeInfo) → Decides (same_compute a b) (a ≡ b)
+computes_tell a b =
+    Decides-like _ (like_three compute_made a.layout b.layout a.layout_info b.layout_info a.iface.entries b.iface.entries) (λ e. ((ap (λ (x : ComputeInfo). x.layout) e, ap (λ (x : ComputeInfo). x.layout_info) e), ap (λ (x : ComputeInfo). x.iface.entries) e))
+    (Decides-and _ (same_list same_iface_entry a.iface.entries b.iface.entries)
+    (Decides-and (same_reference a.layout b.layout) (same_pipeline_layout a.layout_info b.layout_info) (references_tell a.layout b.layout) (pipeline_layouts_tell a.layout_info b.layout_info))
+    (lists_tell same_iface_entry iface_entries_tell a.iface.entries b.iface.entries))
+
+-- Infos.
+pub infos_tell : SameInfoIs
+infos_tell (Buffer a) (Buffer b) = let d = buffers_tell a b in (λ e. ap Buffer (d.0 e), λ e. d.1 (cc))
+infos_tell (Texture a) (Texture b) = let d = textures_tell a b in (λ e. ap Texture (d.0 e), λ e. d.1 (cc))
+infos_tell (View a) (View b) = let d = views_tell a b in (λ e. ap View (d.0 e), λ e. d.1 (cc))
+infos_tell (Sampler a) (Sampler b) = let d = samplers_tell a b in (λ e. ap Sampler (d.0 e), λ e. d.1 (cc))
+infos_tell (GroupLayout a) (GroupLayout b) = let d = group_layouts_tell a b in (λ e. ap GroupLayout (d.0 e), λ e. d.1 (cc))
+infos_tell (PipelineLayout a) (PipelineLayout b) = let d = pipeline_layouts_tell a b in (λ e. ap PipelineLayout (d.0 e), λ e. d.1 (cc))
+infos_tell (Group a) (Group b) = let d = groups_tell a b in (λ e. ap Group (d.0 e), λ e. d.1 (cc))
+infos_tell (Compute a) (Compute b) = let d = computes_tell a b in (λ e. ap Compute (d.0 e), λ e. d.1 (cc))
+infos_tell Encoder Encoder = (λ e. refl, λ e. refl)
+infos_tell CommandBuffer CommandBuffer = (λ e. refl, λ e. refl)
+infos_tell _ _ = (λ e. absurd (cc), λ e. absurd (cc))

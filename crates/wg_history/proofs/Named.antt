@@ -1,0 +1,90 @@
+-- What the rules on named objects tell of those to which the object that is made refers.
+use Rattle.std.proofs.Common.{◌≡◌, ℕ, ◌<◌, List, [], ◌∷◌, ◌++◌, map, Bool, true, false, not, ◌&&◌, ◌||◌, ◌==◌, is_none, refl, ap, ap₂, sym, ◌∙◌, arith, true≢false, inl, inr}
+use Rattle.std.specs.List.{list_any}
+use Rattle.std.proofs.lemmas.Bool.{and_parts, or_cases, eqb-true}
+use Rattle.wg_types.specs.Refs.{all_wanted}
+use Rattle.wg_types.specs.Bindings.{resource_named, entries_named}
+use Rattle.wg_types.specs.declared.wanted.Wanted.{Wanted}
+use Rattle.wg_types.specs.declared.wanted.Wanted.TheVariants as wanted
+use Rattle.wg_types.specs.declared.bindings.ResourceOf.{ResourceOf}
+use Rattle.wg_types.specs.declared.bindings.ResourceOf.TheVariants.{Buffer, View, Sampler}
+use Rattle.wg_types.specs.declared.bindings.GroupEntryOf.{GroupEntryOf}
+use Rattle.wg_types.specs.declared.bindings.BoundEntry.{BoundEntry}
+use Rattle.wg_model.specs.Rules.{Rule, AreMet}
+use Rattle.wg_model.specs.Holding.{is_among}
+use Rattle.wg_model.specs.Layouts.{pipeline_layout_rules}
+use Rattle.wg_model.specs.Groups.{group_rules}
+use Rattle.wg_model.specs.Pipelines.{compute_rules}
+use Rattle.wg_model.specs.Making.{bound_resource, bound_entry, pipeline_layout_made, group_made, compute_made}
+use Rattle.wg_model.proofs.Unmet.{all_met}
+use Rattle.wg_history.specs.Entries.{Setup, Event, CreateView, CreatePipelineLayout, CreateBindGroup, CreateComputePipeline, effects_of, Past}
+use Rattle.wg_history.specs.Objects.{ObjRef, count, unknown, known_in, is_made_valid}
+use Rattle.wg_history.specs.Rules.{is_dropped, create_view_list, create_view_rule}
+use Rattle.wg_history.specs.GroupRules.{named_rules, group_named, create_pipeline_layout_rule, create_bind_group_rule, create_compute_pipeline_rule}
+use Rattle.wg_history.specs.Held.{resource_number, refers_made}
+use Rattle.wg_history.specs.Loss.{is_lost}
+use Rattle.wg_history.specs.FirstRules.{first_rule}
+use Rattle.wg_history.specs.Answers.{answer_by}
+use Rattle.wg_history.proofs.Tests.{not_true, met_before}
+use Rattle.wg_history.proofs.Makers.{own_below}
+
+-- whether one of named objects has number n
+abbrev pub names_one : List (ObjRef × Wanted) → ℕ → Bool
+names_one objects n = list_any (λ (object : ObjRef × Wanted). object.0.number == n) objects
+
+-- An object that was made, and is not dropped.
+abbrev pub IsThere : Setup → Past → ℕ → Type 0
+IsThere setup past n = (n < count past) × (is_dropped setup past n ≡ false)
+
+named_met : (setup : Setup) (past : Past) (objects : List (ObjRef × Wanted)) (n : ℕ) → AreMet (named_rules setup past objects) → names_one objects n ≡ true → IsThere setup past n
+named_met setup past [] n met e = absurd (true≢false (sym e))
+named_met setup past (object ∷ objects) n met e = elim (or_cases (object.0.number == n) (names_one objects n) e) [
+  | inl here ↦ (
+      let same = eqb-true object.0.number n here in
+      let lt : object.0.number < count past = own_below setup past _ object.0 met.0 in
+      (omega (arith, lt, same), ap (is_dropped setup past) (sym same) ∙ not_true (is_dropped setup past object.0.number) met.1.0))
+  | inr later ↦ named_met setup past objects n met.1.1.1 later
+]
+
+-- To what an object refers is among those that its event names.
+
+layouts_among : (layouts : List ObjRef) (n : ℕ) → is_among (map (λ (layout : ObjRef). layout.number) (map (λ (r : ObjRef). r) layouts)) n ≡ names_one (all_wanted wanted.GroupLayout layouts) n
+layouts_among [] n = refl
+layouts_among (layout ∷ layouts) n = ap (λ b. layout.number == n || b) (layouts_among layouts n)
+
+resource_same : (resource : ResourceOf ObjRef) → resource_number (bound_resource (λ r. r) unknown resource) ≡ (resource_named resource).0.number
+resource_same (Buffer buffer offset size) = refl
+resource_same (View view) = refl
+resource_same (Sampler sampler) = refl
+
+entries_among : (entries : List (GroupEntryOf ObjRef)) (n : ℕ) → is_among (map (λ (entry : BoundEntry). resource_number entry.resource) (map (bound_entry (λ r. r) unknown) entries)) n ≡ names_one (entries_named entries) n
+entries_among [] n = refl
+entries_among (entry ∷ entries) n = ap₂ (λ m b. m == n || b) (resource_same entry.resource) (entries_among entries n)
+
+-- What a valid object refers to when it is made was made, and was not dropped.
+pub object_refers : (setup : Setup) (older : Past) (event : Event) (n : ℕ) → is_made_valid (answer_by older (effects_of event).form (not (is_lost older) && is_none (first_rule setup older event))) ≡ true → is_among (refers_made event) n ≡ true → IsThere setup older n
+unfolding create_view_rule create_pipeline_layout_rule create_bind_group_rule create_compute_pipeline_rule
+object_refers setup older (CreateView texture desc) n made refers =
+    let met = all_met (create_view_list setup older texture desc) (and_parts (not (is_lost older)) (is_none (create_view_rule setup older texture desc)) made).1 in
+    let same : texture.number ≡ n = elim (or_cases (texture.number == n) false refers) [
+      | inl here ↦ eqb-true texture.number n here
+      | inr none ↦ absurd (true≢false (sym none))
+    ] in
+    let lt : texture.number < count older = own_below setup older _ texture met.0 in
+    (omega (arith, lt, same), ap (is_dropped setup older) (sym same) ∙ not_true (is_dropped setup older texture.number) met.1.0)
+object_refers setup older (CreatePipelineLayout layouts) n made refers =
+    let rules : List Rule = named_rules setup older (all_wanted wanted.GroupLayout layouts) in
+    let more : List Rule = pipeline_layout_rules setup.limits (pipeline_layout_made (λ r. r) (known_in older) layouts).layouts_info in
+    let met = all_met (rules ++ more) (and_parts (not (is_lost older)) (is_none (create_pipeline_layout_rule setup older layouts)) made).1 in
+    named_met setup older (all_wanted wanted.GroupLayout layouts) n (met_before rules more met) (sym (layouts_among layouts n) ∙ refers)
+object_refers setup older (CreateBindGroup layout entries) n made refers =
+    let rules : List Rule = named_rules setup older (group_named layout entries) in
+    let more : List Rule = group_rules setup.limits (group_made (λ r. r) (known_in older) layout entries).layout_info.entries (group_made (λ r. r) (known_in older) layout entries).entries in
+    let met = all_met (rules ++ more) (and_parts (not (is_lost older)) (is_none (create_bind_group_rule setup older layout entries)) made).1 in
+    named_met setup older (group_named layout entries) n (met_before rules more met) (ap (λ b. layout.number == n || b) (sym (entries_among entries n)) ∙ refers)
+object_refers setup older (CreateComputePipeline layout iface) n made refers =
+    let rules : List Rule = named_rules setup older ((layout, wanted.PipelineLayout) ∷ []) in
+    let more : List Rule = compute_rules (compute_made (λ r. r) (known_in older) layout iface).layout_info.layouts_info iface.entries in
+    let met = all_met (rules ++ more) (and_parts (not (is_lost older)) (is_none (create_compute_pipeline_rule setup older layout iface)) made).1 in
+    named_met setup older ((layout, wanted.PipelineLayout) ∷ []) n (met_before rules more met) refers
+object_refers setup older _ n made refers = absurd (true≢false (sym refers))

@@ -1,0 +1,54 @@
+-- The first unmet rule of an event that makes a bind group, a layout or a pipeline.
+use Rattle.std.specs.Prelude.{ℕ, not, List, [], ◌∷◌, ◌++◌, Option}
+use Rattle.wg_types.specs.Wanted.{admits}
+use Rattle.wg_types.specs.Kinds.{kind_of}
+use Rattle.wg_types.specs.Refs.{all_wanted}
+use Rattle.wg_types.specs.Bindings.{entries_named}
+use Rattle.wg_types.specs.declared.wanted.Wanted.{Wanted}
+use Rattle.wg_types.specs.declared.wanted.Wanted.TheVariants as wanted
+use Rattle.wg_types.specs.declared.bindings.GroupEntryOf.{GroupEntryOf}
+use Rattle.wg_types.specs.declared.groups.GroupLayoutInfo.{GroupLayoutInfo}
+use Rattle.wg_types.specs.declared.groups.Interface.{Interface}
+use Rattle.wg_model.specs.Rules.{Rule, first_unmet}
+use Rattle.wg_model.specs.Layouts.{group_layout_rules, pipeline_layout_rules}
+use Rattle.wg_model.specs.Groups.{group_rules}
+use Rattle.wg_model.specs.Pipelines.{compute_rules}
+use Rattle.wg_model.specs.Making.{pipeline_layout_made, group_made, compute_made}
+use Rattle.wg_history.specs.Entries.{Setup, Past}
+use Rattle.wg_history.specs.Objects.{ObjRef, known_in, is_own, is_valid}
+use Rattle.wg_history.specs.Rules.{is_dropped}
+
+-- The rules on each object that an event names, one object after another: 10 it is one of this device, of the kind that is
+-- wanted; 11 it is not dropped; 12 it is valid.
+abbrev pub named_rules : Setup → Past → List (ObjRef × Wanted) → List Rule
+named_rules setup past [] = []
+named_rules setup past (object ∷ objects) =
+    (10, is_own setup past (λ known. admits object.1 (kind_of known)) object.0)
+    ∷ ((11, not (is_dropped setup past object.0.number))
+    ∷ ((12, is_valid past object.0.number)
+    ∷ named_rules setup past objects))
+
+-- createBindGroupLayout names no object.
+unfoldable pub create_bind_group_layout_rule : Setup → GroupLayoutInfo → Option ℕ
+create_bind_group_layout_rule setup info = first_unmet (group_layout_rules setup.limits info.entries)
+
+-- createPipelineLayout: the layouts that it names, then the rules by what is known of them
+unfoldable pub create_pipeline_layout_rule : Setup → Past → List ObjRef → Option ℕ
+create_pipeline_layout_rule setup past layouts =
+    first_unmet (named_rules setup past (all_wanted wanted.GroupLayout layouts)
+    ++ pipeline_layout_rules setup.limits (pipeline_layout_made (λ r. r) (known_in past) layouts).layouts_info)
+
+-- createBindGroup: the layout, then what the entries bind, then the rules by what is known of these
+abbrev pub group_named : ObjRef → List (GroupEntryOf ObjRef) → List (ObjRef × Wanted)
+group_named layout entries = (layout, wanted.GroupLayout) ∷ entries_named entries
+
+unfoldable pub create_bind_group_rule : Setup → Past → ObjRef → List (GroupEntryOf ObjRef) → Option ℕ
+create_bind_group_rule setup past layout entries =
+    first_unmet (named_rules setup past (group_named layout entries)
+    ++ group_rules setup.limits (group_made (λ r. r) (known_in past) layout entries).layout_info.entries (group_made (λ r. r) (known_in past) layout entries).entries)
+
+-- createComputePipeline: the layout, then the rules by what is known of it
+unfoldable pub create_compute_pipeline_rule : Setup → Past → ObjRef → Interface → Option ℕ
+create_compute_pipeline_rule setup past layout iface =
+    first_unmet (named_rules setup past ((layout, wanted.PipelineLayout) ∷ [])
+    ++ compute_rules (compute_made (λ r. r) (known_in past) layout iface).layout_info.layouts_info iface.entries)

@@ -1,0 +1,153 @@
+//! When two bind group layouts are equivalent.
+ghost use Rattle.std.specs.Prelude.{◌≡◌, ◌∷◌, [], MatchOption};
+ghost use Rattle.std.specs.List.{list_all};
+ghost use Rattle.wg_types.specs.declared.bindings.LayoutEntry.{LayoutEntry};
+ghost use Rattle.wg_types.specs.Formats.{same_format};
+ghost use Rattle.wg_model.specs.Equality.{same_sample, same_view_dim, same_binding_kind, same_list, same_layout_entry, of_binding, equivalent};
+
+use wg_types::bindings::{BindingKind, LayoutEntry};
+use wg_types::formats::{Format, SampleType};
+use wg_types::groups::GroupLayoutInfo;
+use wg_types::textures::ViewDim;
+
+fn same_sample(a: SampleType, b: SampleType) -> bool
+    ensures { result ≡ same_sample a b }
+{
+    a == b
+}
+
+fn same_dim(a: ViewDim, b: ViewDim) -> bool
+    ensures { result ≡ same_view_dim a b }
+{
+    a == b
+}
+
+fn same_format(a: Format, b: Format) -> bool
+    ensures { result ≡ same_format a b }
+{
+    a == b
+}
+
+fn same_kind(a: BindingKind, b: BindingKind) -> bool
+    ensures { result ≡ same_binding_kind a b }
+{
+    match (a, b) {
+        (
+            BindingKind::Buffer {
+                binding: a,
+                dynamic: moves_a,
+                min_size: least_a,
+            },
+            BindingKind::Buffer {
+                binding: b,
+                dynamic: moves_b,
+                min_size: least_b,
+            },
+        ) => a == b && moves_a == moves_b && least_a == least_b,
+        (BindingKind::Sampler { sampler_type: a }, BindingKind::Sampler { sampler_type: b }) => {
+            a == b
+        }
+        (
+            BindingKind::Texture {
+                sample: a,
+                dim: dim_a,
+                multi: multi_a,
+            },
+            BindingKind::Texture {
+                sample: b,
+                dim: dim_b,
+                multi: multi_b,
+            },
+        ) => same_sample(a, b) && same_dim(dim_a, dim_b) && multi_a == multi_b,
+        (
+            BindingKind::StorageTexture {
+                access: a,
+                format: format_a,
+                dim: dim_a,
+            },
+            BindingKind::StorageTexture {
+                access: b,
+                format: format_b,
+                dim: dim_b,
+            },
+        ) => a == b && same_format(format_a, format_b) && same_dim(dim_a, dim_b),
+        _ => false,
+    }
+}
+
+fn same_entry(a: &LayoutEntry, b: &LayoutEntry) -> bool
+    ensures { result ≡ same_layout_entry a.now b.now }
+{
+    a.binding == b.binding && a.visibility == b.visibility && same_kind(a.kind, b.kind)
+}
+
+/// The first entry of a binding, and those after it.
+fn split_at(entries: &[LayoutEntry], binding: u32) -> Option<(LayoutEntry, &[LayoutEntry])>
+    ensures { MatchOption result (of_binding binding entries.now ≡ []) (λ found. of_binding binding entries.now ≡ found.0 ∷ of_binding binding found.1.now) }
+{
+    for (i, entry) in entries.iter().enumerate() {
+        if entry.binding == binding {
+            return Some((*entry, &entries[i + 1..]));
+        }
+    }
+    None
+}
+
+/// Whether two layouts have the same entries of a binding.
+fn same_of(a: &[LayoutEntry], b: &[LayoutEntry], binding: u32) -> bool
+    ensures { result ≡ same_list same_layout_entry (of_binding binding a.now) (of_binding binding b.now) }
+{
+    let mut rest = b;
+    for entry in a {
+        if entry.binding == binding {
+            let Some((other, after)) = split_at(rest, binding) else {
+                return false;
+            };
+            if !same_entry(entry, &other) {
+                return false;
+            }
+            rest = after;
+        }
+    }
+    split_at(rest, binding).is_none()
+}
+
+/// Whether two layouts have the same entries of each binding of the first.
+fn same_of_each(a: &[LayoutEntry], b: &[LayoutEntry]) -> bool
+    ensures { result ≡ list_all (λ (entry : LayoutEntry). same_list same_layout_entry (of_binding entry.binding a.now) (of_binding entry.binding b.now)) a.now }
+{
+    for entry in a {
+        if !same_of(a, b, entry.binding) {
+            return false;
+        }
+    }
+    true
+}
+
+/// Whether two layouts have the same entries in the same order.
+fn same_entries(a: &[LayoutEntry], b: &[LayoutEntry]) -> bool
+    ensures { result ≡ same_list same_layout_entry a.now b.now }
+{
+    let mut rest = b;
+    for entry in a {
+        let Some((other, after)) = rest.split_first() else {
+            return false;
+        };
+        if !same_entry(entry, other) {
+            return false;
+        }
+        rest = after;
+    }
+    rest.is_empty()
+}
+
+/// Whether two layouts have the same entries, in whatever order their bindings are (WebGPU,
+/// "group-equivalent"). It takes time linear in the entries where they are in the same order.
+#[tactic(auto, using(crate::proofs::InOrder::equivalent_in_order))]
+pub fn equivalent(a: &GroupLayoutInfo, b: &GroupLayoutInfo) -> bool
+    ensures { result ≡ equivalent a.now.entries b.now.entries }
+{
+    let a = a.entries.as_slice();
+    let b = b.entries.as_slice();
+    same_entries(a, b) || a.len() == b.len() && same_of_each(a, b)
+}

@@ -1,0 +1,134 @@
+-- When what is bound is the same, which is to say equal.
+use Rattle.std.specs.Prelude.{ℕ, Bool, true, false, not, ◌&&◌, ◌==◌, List, [], ◌∷◌, length, if◌then◌else◌}
+use Rattle.std.specs.List.{list_all}
+use Rattle.wg_types.specs.Formats.{same_format}
+use Rattle.wg_types.specs.Textures.{view_dim_number, same_view}
+use Rattle.wg_types.specs.declared.handles.ObjRef.{ObjRef}
+use Rattle.wg_types.specs.declared.handles.BufferInfo.{BufferInfo}
+use Rattle.wg_types.specs.declared.textures.ViewDim.{ViewDim}
+use Rattle.wg_types.specs.declared.formats.SampleType.{SampleType}
+use Rattle.wg_types.specs.declared.formats.SampleType.TheVariants as sample_type
+use Rattle.wg_types.specs.declared.bindings.BufferBinding.{BufferBinding}
+use Rattle.wg_types.specs.declared.bindings.BufferBinding.TheVariants.{Uniform, Storage, ReadOnlyStorage}
+use Rattle.wg_types.specs.declared.bindings.SamplerKind.{SamplerKind}
+use Rattle.wg_types.specs.declared.bindings.SamplerKind.TheVariants.{Filtering, NonFiltering, Comparison}
+use Rattle.wg_types.specs.declared.bindings.StorageAccess.{StorageAccess}
+use Rattle.wg_types.specs.declared.bindings.StorageAccess.TheVariants.{ReadOnly, WriteOnly, ReadWrite}
+use Rattle.wg_types.specs.declared.bindings.Stage.{Stage}
+use Rattle.wg_types.specs.declared.bindings.Stage.TheVariants.{Vertex, Fragment, Compute}
+use Rattle.wg_types.specs.declared.bindings.BindingKind.{BindingKind}
+use Rattle.wg_types.specs.declared.bindings.BindingKind.TheVariants.{Buffer, Sampler, Texture, StorageTexture}
+use Rattle.wg_types.specs.declared.bindings.LayoutEntry.{LayoutEntry}
+use Rattle.wg_types.specs.declared.bindings.IfaceEntry.{IfaceEntry}
+use Rattle.wg_types.specs.declared.bindings.BoundResource.{BoundResource}
+use Rattle.wg_types.specs.declared.bindings.BoundResource.TheVariants.{Buffer as BoundBuffer, View as BoundView, Sampler as BoundSampler}
+use Rattle.wg_types.specs.declared.bindings.BoundEntry.{BoundEntry}
+use Rattle.wg_types.specs.declared.groups.GroupLayoutInfo.{GroupLayoutInfo}
+use Rattle.wg_types.specs.declared.groups.PipelineLayoutInfo.{PipelineLayoutInfo}
+use Rattle.wg_types.specs.declared.groups.GroupInfo.{GroupInfo}
+use Rattle.wg_types.specs.declared.groups.ComputeInfo.{ComputeInfo}
+
+abbrev pub same_bool : Bool → Bool → Bool
+same_bool a b = if a then b else not b
+
+-- whether two lists are of equal length, and the same place by place
+abbrev pub same_list : {X : Type 0} → (X → X → Bool) → List X → List X → Bool
+same_list same [] [] = true
+same_list same [] (y ∷ ys) = false
+same_list same (x ∷ xs) [] = false
+same_list same (x ∷ xs) (y ∷ ys) = same x y && same_list same xs ys
+
+abbrev pub same_reference : ObjRef → ObjRef → Bool
+same_reference a b = a.device == b.device && a.number == b.number
+
+abbrev pub same_buffer : BufferInfo → BufferInfo → Bool
+same_buffer a b = a.size == b.size && a.usage == b.usage && same_bool a.mapped b.mapped
+
+-- the place of a word among those of its sort
+abbrev pub sample_number : SampleType → ℕ
+sample_number sample_type.Float = 0
+sample_number sample_type.UnfilterableFloat = 1
+sample_number sample_type.Depth = 2
+sample_number sample_type.Sint = 3
+sample_number sample_type.Uint = 4
+
+abbrev pub buffer_binding_number : BufferBinding → ℕ
+buffer_binding_number Uniform = 0
+buffer_binding_number Storage = 1
+buffer_binding_number ReadOnlyStorage = 2
+
+abbrev pub sampler_number : SamplerKind → ℕ
+sampler_number Filtering = 0
+sampler_number NonFiltering = 1
+sampler_number Comparison = 2
+
+abbrev pub access_number : StorageAccess → ℕ
+access_number ReadOnly = 0
+access_number WriteOnly = 1
+access_number ReadWrite = 2
+
+abbrev pub stage_number : Stage → ℕ
+stage_number Vertex = 0
+stage_number Fragment = 1
+stage_number Compute = 2
+
+abbrev pub same_view_dim : ViewDim → ViewDim → Bool
+same_view_dim a b = view_dim_number a == view_dim_number b
+
+abbrev pub same_sample : SampleType → SampleType → Bool
+same_sample a b = sample_number a == sample_number b
+
+abbrev pub same_buffer_binding : BufferBinding → BufferBinding → Bool
+same_buffer_binding a b = buffer_binding_number a == buffer_binding_number b
+
+abbrev pub same_sampler : SamplerKind → SamplerKind → Bool
+same_sampler a b = sampler_number a == sampler_number b
+
+abbrev pub same_access : StorageAccess → StorageAccess → Bool
+same_access a b = access_number a == access_number b
+
+abbrev pub same_stage : Stage → Stage → Bool
+same_stage a b = stage_number a == stage_number b
+
+abbrev pub same_binding_kind : BindingKind → BindingKind → Bool
+same_binding_kind (Buffer a moves_a least_a) (Buffer b moves_b least_b) = same_buffer_binding a b && same_bool moves_a moves_b && least_a == least_b
+same_binding_kind (Sampler a) (Sampler b) = same_sampler a b
+same_binding_kind (Texture a dim_a multi_a) (Texture b dim_b multi_b) = same_sample a b && same_view_dim dim_a dim_b && same_bool multi_a multi_b
+same_binding_kind (StorageTexture a format_a dim_a) (StorageTexture b format_b dim_b) = same_access a b && same_format format_a format_b && same_view_dim dim_a dim_b
+same_binding_kind _ _ = false
+
+abbrev pub same_layout_entry : LayoutEntry → LayoutEntry → Bool
+same_layout_entry a b = a.binding == b.binding && a.visibility == b.visibility && same_binding_kind a.kind b.kind
+
+abbrev pub same_iface_entry : IfaceEntry → IfaceEntry → Bool
+same_iface_entry a b = a.group == b.group && a.binding == b.binding && same_stage a.stage b.stage && same_binding_kind a.kind b.kind
+
+abbrev pub same_bound_resource : BoundResource → BoundResource → Bool
+same_bound_resource (BoundBuffer a info_a at_a size_a) (BoundBuffer b info_b at_b size_b) = same_reference a b && same_buffer info_a info_b && at_a == at_b && size_a == size_b
+same_bound_resource (BoundView a info_a) (BoundView b info_b) = same_reference a b && same_view info_a info_b
+same_bound_resource (BoundSampler a info_a) (BoundSampler b info_b) = same_reference a b && same_sampler info_a info_b
+same_bound_resource _ _ = false
+
+abbrev pub same_bound_entry : BoundEntry → BoundEntry → Bool
+same_bound_entry a b = a.binding == b.binding && same_bound_resource a.resource b.resource
+
+abbrev pub same_group_layout : GroupLayoutInfo → GroupLayoutInfo → Bool
+same_group_layout a b = same_list same_layout_entry a.entries b.entries
+
+abbrev pub same_pipeline_layout : PipelineLayoutInfo → PipelineLayoutInfo → Bool
+same_pipeline_layout a b = same_list same_reference a.layouts b.layouts && same_list same_group_layout a.layouts_info b.layouts_info
+
+abbrev pub same_group : GroupInfo → GroupInfo → Bool
+same_group a b = same_reference a.layout b.layout && same_group_layout a.layout_info b.layout_info && same_list same_bound_entry a.entries b.entries
+
+abbrev pub same_compute : ComputeInfo → ComputeInfo → Bool
+same_compute a b = same_reference a.layout b.layout && same_pipeline_layout a.layout_info b.layout_info && same_list same_iface_entry a.iface.entries b.iface.entries
+
+-- the entries of one binding
+abbrev pub of_binding : ℕ → List LayoutEntry → List LayoutEntry
+of_binding n [] = []
+of_binding n (entry ∷ entries) = if entry.binding == n then entry ∷ of_binding n entries else of_binding n entries
+
+-- whether two layouts have the same entries, sorted by their bindings: as many, and of each binding the same
+abbrev pub equivalent : List LayoutEntry → List LayoutEntry → Bool
+equivalent a b = length a == length b && list_all (λ (entry : LayoutEntry). same_list same_layout_entry (of_binding entry.binding a) (of_binding entry.binding b)) a

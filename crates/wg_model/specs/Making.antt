@@ -1,0 +1,95 @@
+-- What is known of the objects that calls make of others: by what these are known as.
+use Rattle.std.specs.Prelude.{◌-◌, map, List, [], Option, unwrap_or}
+use Rattle.std.specs.Option.{option_map_or}
+use Rattle.wg_types.specs.declared.handles.ObjRef.{ObjRef}
+use Rattle.wg_types.specs.declared.handles.BufferInfo.{BufferInfo}
+use Rattle.wg_types.specs.declared.handles.Info.{Info}
+use Rattle.wg_types.specs.declared.handles.Info.TheVariants as info
+use Rattle.wg_types.specs.declared.textures.AspectWord.TheVariants.{All}
+use Rattle.wg_types.specs.declared.textures.ViewDim.TheVariants.{Two}
+use Rattle.wg_types.specs.declared.textures.TextureInfo.{TextureInfo}
+use Rattle.wg_types.specs.declared.textures.ViewDesc.{ViewDesc}
+use Rattle.wg_types.specs.declared.textures.ViewInfo.{ViewInfo}
+use Rattle.wg_types.specs.declared.bindings.SamplerKind.{SamplerKind}
+use Rattle.wg_types.specs.declared.bindings.SamplerKind.TheVariants.{Filtering}
+use Rattle.wg_types.specs.declared.bindings.ResourceOf.{ResourceOf}
+use Rattle.wg_types.specs.declared.bindings.ResourceOf.TheVariants.{Buffer, View, Sampler}
+use Rattle.wg_types.specs.declared.bindings.GroupEntryOf.{GroupEntryOf}
+use Rattle.wg_types.specs.declared.bindings.BoundResource.{BoundResource}
+use Rattle.wg_types.specs.declared.bindings.BoundResource.TheVariants.{Buffer as BoundBuffer, View as BoundView, Sampler as BoundSampler}
+use Rattle.wg_types.specs.declared.bindings.BoundEntry.{BoundEntry}
+use Rattle.wg_types.specs.declared.groups.GroupLayoutInfo.{GroupLayoutInfo}
+use Rattle.wg_types.specs.declared.groups.PipelineLayoutInfo.{PipelineLayoutInfo}
+use Rattle.wg_types.specs.declared.groups.GroupInfo.{GroupInfo}
+use Rattle.wg_types.specs.declared.groups.Interface.{Interface}
+use Rattle.wg_types.specs.declared.groups.ComputeInfo.{ComputeInfo}
+use Rattle.wg_model.specs.Commands.{no_buffer, buffer_or_none, no_texture, texture_or_none}
+use Rattle.wg_model.specs.Views.{view_info}
+
+-- What stands for what is known of an object that is of another kind or none, which rule 10 refuses before it counts.
+abbrev pub no_view : ViewInfo
+no_view = record { texture = record { device = 0; number = 0 }; texture_info = no_texture; dim = Two; aspect = All; base_mip = 0; mips = 0; base_layer = 0; layers = 0 }
+
+abbrev pub no_group_layout : GroupLayoutInfo
+no_group_layout = record { entries = [] }
+
+abbrev pub no_pipeline_layout : PipelineLayoutInfo
+no_pipeline_layout = record { layouts = []; layouts_info = [] }
+
+abbrev pub as_view : Info → ViewInfo
+as_view (info.View known) = known
+as_view _ = no_view
+
+abbrev pub as_sampler : Info → SamplerKind
+as_sampler (info.Sampler known) = known
+as_sampler _ = Filtering
+
+abbrev pub as_group_layout : Info → GroupLayoutInfo
+as_group_layout (info.GroupLayout known) = known
+as_group_layout _ = no_group_layout
+
+abbrev pub as_pipeline_layout : Info → PipelineLayoutInfo
+as_pipeline_layout (info.PipelineLayout known) = known
+as_pipeline_layout _ = no_pipeline_layout
+
+-- what is known of an object, read as that of a kind
+abbrev pub known_buffer : Option Info → BufferInfo
+known_buffer known = option_map_or buffer_or_none known no_buffer
+
+abbrev pub known_texture : Option Info → TextureInfo
+known_texture known = option_map_or texture_or_none known no_texture
+
+abbrev pub known_view : Option Info → ViewInfo
+known_view known = option_map_or as_view known no_view
+
+abbrev pub known_sampler : Option Info → SamplerKind
+known_sampler known = option_map_or as_sampler known Filtering
+
+abbrev pub known_group_layout : Option Info → GroupLayoutInfo
+known_group_layout known = option_map_or as_group_layout known no_group_layout
+
+abbrev pub known_pipeline_layout : Option Info → PipelineLayoutInfo
+known_pipeline_layout known = option_map_or as_pipeline_layout known no_pipeline_layout
+
+-- Below, references stand for the objects that a call names, and of some objects something is known.
+
+-- what an entry of a bind group binds: of a buffer what remains from the offset on where no size is given
+abbrev pub bound_resource : {R : Type 0} → (R → ObjRef) → (R → Option Info) → ResourceOf R → BoundResource
+bound_resource reference known (Buffer buffer offset size) = BoundBuffer (reference buffer) (known_buffer (known buffer)) offset (unwrap_or size ((known_buffer (known buffer)).size - offset))
+bound_resource reference known (View view) = BoundView (reference view) (known_view (known view))
+bound_resource reference known (Sampler sampler) = BoundSampler (reference sampler) (known_sampler (known sampler))
+
+abbrev pub bound_entry : {R : Type 0} → (R → ObjRef) → (R → Option Info) → GroupEntryOf R → BoundEntry
+bound_entry reference known entry = record { binding = entry.binding; resource = bound_resource reference known entry.resource }
+
+abbrev pub view_made : {R : Type 0} → (R → ObjRef) → (R → Option Info) → R → ViewDesc → ViewInfo
+view_made reference known texture desc = view_info (known_texture (known texture)) (reference texture) desc
+
+abbrev pub pipeline_layout_made : {R : Type 0} → (R → ObjRef) → (R → Option Info) → List R → PipelineLayoutInfo
+pipeline_layout_made reference known layouts = record { layouts = map reference layouts; layouts_info = map (λ layout. known_group_layout (known layout)) layouts }
+
+abbrev pub group_made : {R : Type 0} → (R → ObjRef) → (R → Option Info) → R → List (GroupEntryOf R) → GroupInfo
+group_made reference known layout entries = record { layout = reference layout; layout_info = known_group_layout (known layout); entries = map (bound_entry reference known) entries }
+
+abbrev pub compute_made : {R : Type 0} → (R → ObjRef) → (R → Option Info) → R → Interface → ComputeInfo
+compute_made reference known layout iface = record { layout = reference layout; layout_info = known_pipeline_layout (known layout); iface = iface }

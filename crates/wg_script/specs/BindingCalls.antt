@@ -1,0 +1,73 @@
+-- The calls on samplers, layouts, bind groups and compute pipelines: for each its keys, and what each
+-- holds, in the order in which they are read.
+use Rattle.std.specs.Prelude.{ℕ, List, Bool, false, bytes_eq, codes, if◌then◌else◌, Option, Some, None, option_and_then, Result, Ok, Err, ⊤}
+use Rattle.serde_json.specs.Data.{Data}
+use Rattle.serde_json.specs.Find.{get, as_str}
+use Rattle.wg_types.specs.declared.bindings.SamplerKind.TheVariants.{Filtering}
+use Rattle.wg_types.specs.declared.requests.RequestOf.TheVariants.{CreateSampler, CreateBindGroupLayout, CreatePipelineLayout, CreateBindGroup, CreateComputePipeline}
+use Rattle.wg_script.specs.Giving.{◌>>=◌}
+use Rattle.wg_script.specs.Values.{name_at}
+use Rattle.wg_script.specs.Lists.{list_at, list_or_empty, names_at}
+use Rattle.wg_script.specs.Words.{word_or}
+use Rattle.wg_script.specs.BindingWords.{sampler_words}
+use Rattle.wg_script.specs.BindingEntries.{layout_entry_of, iface_entry_of, group_entry_of}
+use Rattle.wg_script.specs.CallOf.{Call}
+use Rattle.wg_script.specs.Calling.{making}
+use Rattle.wg_script.specs.Readers.{Reader, gives, need, may, ◌▹◌, read_by}
+
+-- createSampler
+abbrev pub create_sampler_keys : Reader Call
+create_sampler_keys = gives (λ kind made. making (CreateSampler kind) made)
+    ▹ may (codes "kind") (word_or sampler_words Filtering)
+    ▹ need (codes "as") name_at
+
+unfoldable pub create_sampler_of : Data → Result Call ℕ
+create_sampler_of d = read_by create_sampler_keys d
+
+-- createBindGroupLayout
+abbrev pub create_group_layout_keys : Reader Call
+create_group_layout_keys = gives (λ entries made. making (CreateBindGroupLayout (record { entries = entries })) made)
+    ▹ need (codes "entries") (list_at layout_entry_of)
+    ▹ need (codes "as") name_at
+
+unfoldable pub create_group_layout_of : Data → Result Call ℕ
+create_group_layout_of d = read_by create_group_layout_keys d
+
+-- createPipelineLayout
+abbrev pub create_pipeline_layout_keys : Reader Call
+create_pipeline_layout_keys = gives (λ layouts made. making (CreatePipelineLayout layouts) made)
+    ▹ need (codes "layouts") names_at
+    ▹ need (codes "as") name_at
+
+unfoldable pub create_pipeline_layout_of : Data → Result Call ℕ
+create_pipeline_layout_of d = read_by create_pipeline_layout_keys d
+
+-- createBindGroup
+abbrev pub create_group_keys : Reader Call
+create_group_keys = gives (λ layout entries made. making (CreateBindGroup layout entries) made)
+    ▹ need (codes "layout") name_at
+    ▹ need (codes "entries") (list_at group_entry_of)
+    ▹ need (codes "as") name_at
+
+unfoldable pub create_group_of : Data → Result Call ℕ
+create_group_of d = read_by create_group_keys d
+
+-- ---- pipelines
+
+abbrev pub is_auto : Option (List ℕ) → Bool
+is_auto None = false
+is_auto (Some s) = bytes_eq s (codes "auto")
+
+-- script rule 13: the pipeline is to derive its layout, which is not built yet
+abbrev pub check_layout_built : Data → Result ⊤ ℕ
+check_layout_built d = if is_auto (option_and_then as_str (get (codes "layout") d)) then Err 13 else Ok tt
+
+-- createComputePipeline
+abbrev pub create_compute_keys : Reader Call
+create_compute_keys = gives (λ layout entries made. making (CreateComputePipeline layout (record { entries = entries })) made)
+    ▹ need (codes "layout") name_at
+    ▹ may (codes "iface") (list_or_empty iface_entry_of)
+    ▹ need (codes "as") name_at
+
+unfoldable pub create_compute_of : Data → Result Call ℕ
+create_compute_of d = check_layout_built d >>= λ fine. read_by create_compute_keys d

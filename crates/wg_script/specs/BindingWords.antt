@@ -1,0 +1,28 @@
+-- The words of bindings: of their kinds, of samplers, of what is sampled, and of how storage textures are accessed.
+use Rattle.std.specs.Prelude.{ℕ, List, [], ◌∷◌, codes}
+use Rattle.wg_types.specs.declared.bindings.BufferBinding.TheVariants as buffer
+use Rattle.wg_types.specs.declared.bindings.SamplerKind.{SamplerKind}
+use Rattle.wg_types.specs.declared.bindings.SamplerKind.TheVariants as sampler
+use Rattle.wg_types.specs.declared.bindings.StorageAccess.{StorageAccess}
+use Rattle.wg_types.specs.declared.bindings.StorageAccess.TheVariants as access
+use Rattle.wg_types.specs.declared.formats.SampleType.{SampleType}
+use Rattle.wg_types.specs.declared.formats.SampleType.TheVariants as sample
+use Rattle.wg_script.specs.declared.binding_words.KindWord.{KindWord}
+use Rattle.wg_script.specs.declared.binding_words.KindWord.TheVariants as kind
+
+abbrev pub kind_words : List (List ℕ × KindWord)
+kind_words =
+    (codes "uniform", kind.Buffer buffer.Uniform) ∷ (codes "storage", kind.Buffer buffer.Storage)
+    ∷ (codes "read-only-storage", kind.Buffer buffer.ReadOnlyStorage) ∷ (codes "sampler", kind.Sampler)
+    ∷ (codes "texture", kind.Texture) ∷ (codes "storage-texture", kind.StorageTexture) ∷ []
+
+abbrev pub sampler_words : List (List ℕ × SamplerKind)
+sampler_words = (codes "filtering", sampler.Filtering) ∷ (codes "non-filtering", sampler.NonFiltering) ∷ (codes "comparison", sampler.Comparison) ∷ []
+
+abbrev pub sample_words : List (List ℕ × SampleType)
+sample_words =
+    (codes "float", sample.Float) ∷ (codes "unfilterable-float", sample.UnfilterableFloat) ∷ (codes "depth", sample.Depth)
+    ∷ (codes "sint", sample.Sint) ∷ (codes "uint", sample.Uint) ∷ []
+
+abbrev pub access_words : List (List ℕ × StorageAccess)
+access_words = (codes "read-only", access.ReadOnly) ∷ (codes "write-only", access.WriteOnly) ∷ (codes "read-write", access.ReadWrite) ∷ []
