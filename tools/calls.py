@@ -10,6 +10,8 @@ WORDS = TABLE["words"]
 LATER = {word for words in TABLE["later"].values() for word in words}
 BEGINS = set(TABLE["passes"]["begin"])
 END = TABLE["passes"]["end"]
+OBJECTS = TABLE["objects"]
+FORMS = TABLE["forms"]
 
 
 class Key:
@@ -40,6 +42,8 @@ class Key:
             return f"the name of {either(self.kinds())}"
         if self.sort == "names":
             return f"a list of at most 1024 names, each of {either(self.kinds())}"
+        if self.sort == "objects":
+            return f"a list of at most 1024 objects, each {OBJECTS[self.detail]['said']}"
         if self.sort == "new":
             return "a new name, of 1 to 64 letters, digits and _"
         return "a value"
@@ -54,6 +58,32 @@ def keys_of(word):
     if word not in CALLS:
         return None
     return {name: Key(text) for name, text in CALLS[word]["keys"].items()}
+
+
+def form_key(sort):
+    """The key of a sort of objects whose word tells the form of one, or None where the form is told by which key is there."""
+    found = [name for name, text in OBJECTS[sort]["keys"].items() if text == f"word {OBJECTS[sort]['forms']}"]
+    return found[0] if found else None
+
+
+def form_of(sort, item):
+    """The form of an object in a list of a call, a word that tells its further keys, or None where it has none."""
+    forms, by = FORMS[OBJECTS[sort]["forms"]], form_key(sort)
+    if by is None:
+        return next((form for form in forms if item.member(form) is not None), None)
+    value = item.member(by)
+    return value.what if value is not None and value.kind == "string" and value.what in forms else None
+
+
+def keys_of_object(sort, item):
+    """The keys of an object in a list of a call: those of its sort, and those of its form if it has one."""
+    further = FORMS[OBJECTS[sort]["forms"]].get(form_of(sort, item), {})
+    return {name: Key(text) for name, text in {**OBJECTS[sort]["keys"], **further}.items()}
+
+
+def unbuilt(word):
+    """The strings that a call is not built for yet, by their keys."""
+    return CALLS.get(word, {}).get("unbuilt", {})
 
 
 def is_known(word):

@@ -12,6 +12,9 @@ from report import NotReport, Release, Report, count, summary
 from scopes import Scopes
 
 ANSWERS = {"plain": "done", "bad": "bad: what is complete already, or was never queued, was said to be complete", "promise": "a promise"}
+# The rules that set a call beside the entries of layouts, and the kinds of layouts.
+OF_LAYOUTS = {141, 142, *range(150, 158), 160}
+LAYOUTS = ("bind group layout", "pipeline layout")
 ACCESSES = {
     "read": "reads",
     "write": "writes",
@@ -124,14 +127,25 @@ class Explained:
         """What the report itself tells of why a rule is broken."""
         if entry.word == "late":
             self.ended(call)
+        names = list(dict.fromkeys(name.what for _, name in call.names()))
         if number == 12:
-            for _, name in call.names():
-                self.invalid(name.what)
+            for name in names:
+                self.invalid(name)
         if number == culprit.DROPPED:
-            self.before(call, {name.what for _, name in call.names()}, ("drop",))
+            self.before(call, set(names), ("drop",))
+        if number in OF_LAYOUTS:
+            self.layouts(names)
         if number in (180, 190, 192, 193, 203, 210, 225):
             self.before(call, self.reached(call), {180: ("finish",), 190: ("submit",)}.get(number, ("destroy",)))
             self.say(*[f"    {line}" for line in self.scopes.maps.of_fault(entry, sorted(self.reached(call)))])
+
+    def layouts(self, names):
+        """Where the layouts among some names were made, and those that a pipeline layout among them has."""
+        for name in names:
+            maker = self.beside.script.made.get(name)
+            if maker is not None and calls.makes(maker.word) in LAYOUTS:
+                self.say(f"    {name}: {maker.word} at {self.beside.script.where(maker)}")
+                self.layouts(list(dict.fromkeys(inner.what for _, inner in maker.names())))
 
     def invalid(self, name):
         maker = self.beside.object_of(name)

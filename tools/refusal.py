@@ -127,28 +127,43 @@ def not_built(refusal, text, call, top):
     do = call.member("do")
     if do is not None and do.what in calls.LATER:
         return refusal.at(do.start, f"the call {do.what}", "a call that is built: this one is not built yet")
+    for name, word in calls.unbuilt(do.what if do is not None else None).items():
+        value = call.member(name)
+        if value is not None and value.kind == "string" and value.what == word:
+            return refusal.at(value.start, f"the word {quoted(word)} under {name}", f"{calls.keys_of(do.what)[name].expected()}: this word is not built yet")
     return refusal
 
 
 def keys_of_call(refusal, text, call, top):
     word = call.member("do").what
     keys = calls.keys_of(word)
-    if keys is None:
-        return refusal
-    told = [name + (" (may be left out)" if key.may_be_left_out else "") for name, key in keys.items()]
-    has = "has the keys " + ", ".join(told) if told else "has the key do alone"
-    for key, _ in call.what:
-        if key.what != "do" and key.what not in keys:
-            return refusal.at(key.start, f"the key {quoted(key.what)}", f"no such key: {word} {has}", near(key.what, keys))
-    for name, key in keys.items():
-        if call.member(name) is None and not key.may_be_left_out:
-            return refusal.at(call.start, f"no key {name}", f"the key {name}: {key.expected()}")
+    if keys is not None:
+        wrong_keys(refusal, call, word, keys, {"do"})
     return refusal
 
 
+def wrong_keys(refusal, value, word, keys, others=()):
+    """Whether a call, or an object in it, has a key that it may not have, or lacks one that it needs."""
+    told = [name + (" (may be left out)" if key.may_be_left_out else "") for name, key in keys.items()]
+    has = "has the keys " + ", ".join(told) if told else "has the key do alone"
+    for key, _ in value.what:
+        if key.what not in keys and key.what not in others:
+            return refusal.at(key.start, f"the key {quoted(key.what)}", f"no such key: {word} {has}", near(key.what, keys))
+    for name, key in keys.items():
+        if value.member(name) is None and not key.may_be_left_out:
+            return refusal.at(value.start, f"no key {name}", f"the key {name}: {key.expected()}")
+    return None
+
+
 def values_of_call(refusal, text, call, top):
-    for name, key in (calls.keys_of(call.member("do").what) or {}).items():
-        value = call.member(name)
+    wrong_values(refusal, text, call, calls.keys_of(call.member("do").what) or {})
+    return refusal
+
+
+def wrong_values(refusal, text, owner, keys):
+    """Whether a value of a call, or of an object in it, is not what its key's values have to be."""
+    for name, key in keys.items():
+        value = owner.member(name)
         wrong = wrong_in(value, key) if value is not None else None
         if wrong is not None:
             found = shown(text.of(wrong))
@@ -156,7 +171,27 @@ def values_of_call(refusal, text, call, top):
                 found = f"a list of {len(value.what)}"
             hint = near(wrong.what, calls.WORDS[key.detail]) if key.sort == "word" and wrong.kind == "string" else None
             return refusal.at(wrong.start, f"{found} under {name}", key.expected(), hint)
-    return refusal
+        for item in value.what if value is not None and key.sort == "objects" else []:
+            if wrong_object(refusal, text, item, key.detail):
+                return refusal
+    return None
+
+
+def wrong_object(refusal, text, item, sort):
+    """Whether an object in a list of a call has wrong keys or values. Its form is looked at first, since its keys hang on that."""
+    said, by, forms = calls.OBJECTS[sort]["said"], calls.form_key(sort), calls.FORMS[calls.OBJECTS[sort]["forms"]]
+    form = calls.form_of(sort, item)
+    if form is None and by is None:
+        return refusal.at(item.start, "none of the keys " + ", ".join(forms), f"one of them: {said} has just one")
+    if form is None:
+        kind = calls.Key(calls.OBJECTS[sort]["keys"][by])
+        value = item.member(by)
+        if value is None:
+            return refusal.at(item.start, f"no key {by}", f"the key {by}: {kind.expected()}")
+        hint = near(value.what, forms) if value.kind == "string" else None
+        return refusal.at(value.start, f"{shown(text.of(value))} under {by}", kind.expected(), hint)
+    keys = calls.keys_of_object(sort, item)
+    return wrong_keys(refusal, item, f"{said} with {f'a {form}' if by is None else f'the {by} {form}'}", keys) or wrong_values(refusal, text, item, keys)
 
 
 def wrong_in(value, key):
@@ -171,10 +206,10 @@ def wrong_in(value, key):
         return None if value.kind in ("true", "false") else value
     if key.sort == "word":
         return None if value.kind == "string" and value.what in calls.WORDS[key.detail] else value
-    if key.sort == "names":
+    if key.sort in ("names", "objects"):
         if value.kind != "list" or len(value.what) > 1024:
             return value
-        return next((item for item in value.what if item.kind != "string"), None)
+        return next((item for item in value.what if item.kind != ("string" if key.sort == "names" else "object")), None)
     return None if value.kind == "string" else value
 
 
@@ -195,11 +230,9 @@ def used_names(refusal, text, call, top):
     """The first name of the call that is unknown, of a wrong kind or of another lane's encoder, by the rule."""
     script = scripts.Script(text, top)
     user = next(each for each in script.calls if each.place == refusal.place)
-    keys = calls.keys_of(user.word) or {}
-    for key, value in user.names():
+    for key, value, kinds in user.wanted_names():
         maker = script.made.get(value.what)
         is_visible = maker is not None and sees(user, maker)
-        kinds = keys[key].kinds()
         if refusal.rule == 10 and not is_visible:
             wanted = f"the name of {calls.either(kinds)} that an earlier call gave"
             return refusal.at(value.start, f"the name {quoted(value.what)} under {key}", wanted, unseen(script, user, value.what, maker))

@@ -15,16 +15,11 @@ class Call:
 
     def names(self):
         """The names that the call uses, in the order of its table's keys: pairs of key and name."""
-        found = []
-        for key, wanted in (calls.keys_of(self.word) or {}).items():
-            value = self.value.member(key)
-            if value is None:
-                continue
-            if wanted.sort == "name" and value.kind == "string":
-                found.append((key, value))
-            if wanted.sort == "names" and value.kind == "list":
-                found += [(key, item) for item in value.what if item.kind == "string"]
-        return found
+        return [(key, value) for key, value, _ in self.wanted_names()]
+
+    def wanted_names(self):
+        """The same, each with the kinds of object that it may stand for."""
+        return names_in(self.value, calls.keys_of(self.word) or {})
 
     def number(self, key, otherwise=None):
         value = self.value.member(key)
@@ -38,6 +33,23 @@ class Call:
         if size.kind == "list":
             return any(item.what == "0" for item in size.what)
         return size.what == "0"
+
+
+def names_in(value, keys):
+    """The names that a call or an object in it uses, in the order of its table's keys: each with its key and the kinds that will do."""
+    found = []
+    for key, wanted in keys.items():
+        member = value.member(key)
+        if member is None:
+            continue
+        if wanted.sort == "name" and member.kind == "string":
+            found.append((key, member, wanted.kinds()))
+        if wanted.sort == "names" and member.kind == "list":
+            found += [(key, item, wanted.kinds()) for item in member.what if item.kind == "string"]
+        if wanted.sort == "objects" and member.kind == "list":
+            items = [item for item in member.what if item.kind == "object"]
+            found += [name for item in items for name in names_in(item, calls.keys_of_object(wanted.detail, item))]
+    return found
 
 
 def string_of(value, key):

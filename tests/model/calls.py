@@ -4,7 +4,7 @@ A key is a tuple of its name, the sort of its value, and the value that it has w
 uses stand in the order in which script rules 10 and 11 look at them.
 """
 
-from formats import ASPECT_WORDS, FORMATS, TEXTURE_DIMS, VIEW_DIMS
+from formats import ACCESS_WORDS, ASPECT_WORDS, FORMATS, SAMPLE_WORDS, TEXTURE_DIMS, VIEW_DIMS
 from scopes import FILTERS
 
 NEEDED = object()
@@ -20,8 +20,19 @@ NAME = "name that is given"
 BUFFER = ("name", ("buffer",))
 TEXTURE = ("name", ("texture",))
 ENCODER = ("name", ("encoder",))
+VIEW = ("name", ("view",))
+SAMPLER = ("name", ("sampler",))
+GROUP_LAYOUT = ("name", ("bind group layout",))
+GROUP_LAYOUTS = ("names", ("bind group layout",))
+PIPELINE_LAYOUT = ("name", ("pipeline layout",))
 RESOURCE = ("name", ("buffer", "texture"))
-OBJECT = ("name", ("buffer", "texture", "view", "encoder", "command buffer"))
+OBJECT = (
+    "name",
+    (
+        "buffer", "texture", "view", "sampler", "bind group layout", "pipeline layout", "bind group", "compute pipeline", "encoder",
+        "command buffer",
+    ),
+)
 COMMAND_BUFFERS = ("names", ("command buffer",))
 
 
@@ -36,6 +47,51 @@ SPOT = [("texture", TEXTURE, NEEDED), ("mip", WORD32, 0), ("origin", THREE, ORIG
 ON = ("on", ENCODER, NEEDED)
 AS = ("as", NAME, NEEDED)
 
+SAMPLER_WORDS = ("filtering", "non-filtering", "comparison")
+BUFFER_KEYS = [("dynamic", FLAG, False), ("minSize", WHOLE, 0)]
+
+# The further keys that an entry of a layout or an interface has, by its kind.
+KIND_KEYS = {
+    "uniform": BUFFER_KEYS,
+    "storage": BUFFER_KEYS,
+    "read-only-storage": BUFFER_KEYS,
+    "sampler": [("type", word(SAMPLER_WORDS), "filtering")],
+    "texture": [("sample", word(SAMPLE_WORDS), "float"), ("dim", word(VIEW_DIMS), "2d"), ("multi", FLAG, False)],
+    "storage-texture": [("access", word(ACCESS_WORDS), "write-only"), ("format", word(FORMATS), NEEDED), ("dim", word(VIEW_DIMS), "2d")],
+}
+KIND = ("kind", word(KIND_KEYS), NEEDED)
+
+# The further keys that an entry of a bind group has, by the one of these keys that it has.
+BOUND_KEYS = {
+    "buffer": [("buffer", BUFFER, NEEDED), ("offset", WHOLE, 0), ("size", WHOLE, None)],
+    "view": [("view", VIEW, NEEDED)],
+    "sampler": [("sampler", SAMPLER, NEEDED)],
+}
+
+
+def layout_entry_keys(item):
+    return [("binding", WORD32, NEEDED), ("visibility", WORD32, NEEDED), KIND, *KIND_KEYS[item["kind"]]]
+
+
+def iface_entry_keys(item):
+    return [("group", WORD32, NEEDED), ("binding", WORD32, NEEDED), KIND, *KIND_KEYS[item["kind"]]]
+
+
+def group_entry_keys(item):
+    return [("binding", WORD32, NEEDED), *BOUND_KEYS[bound_by(item)]]
+
+
+def bound_by(item):
+    """What an entry of a bind group binds: a buffer, a view or a sampler. One that has none of these keys lacks a buffer."""
+    return next((key for key in BOUND_KEYS if key in item), "buffer")
+
+
+# Sorts of values that are lists of objects: which keys an object has. What has to be known of it for that, its kind, is tested
+# before.
+LAYOUT_ENTRIES = ("objects", layout_entry_keys)
+IFACE_ENTRIES = ("objects", iface_entry_keys)
+GROUP_ENTRIES = ("objects", group_entry_keys)
+
 CALLS = {
     "createBuffer": [("size", WHOLE, NEEDED), ("usage", WORD32, NEEDED), ("mapped", FLAG, False), AS],
     "createTexture": [
@@ -46,6 +102,11 @@ CALLS = {
         ("texture", TEXTURE, NEEDED), ("dim", word(VIEW_DIMS), None), ("aspect", word(ASPECT_WORDS), "all"), ("baseMip", WORD32, 0),
         ("mips", WORD32, None), ("baseLayer", WORD32, 0), ("layers", WORD32, None), AS,
     ],
+    "createSampler": [("kind", word(SAMPLER_WORDS), "filtering"), AS],
+    "createBindGroupLayout": [("entries", LAYOUT_ENTRIES, NEEDED), AS],
+    "createPipelineLayout": [("layouts", GROUP_LAYOUTS, NEEDED), AS],
+    "createBindGroup": [("layout", GROUP_LAYOUT, NEEDED), ("entries", GROUP_ENTRIES, NEEDED), AS],
+    "createComputePipeline": [("layout", PIPELINE_LAYOUT, NEEDED), ("iface", IFACE_ENTRIES, ()), AS],
     "createEncoder": [AS],
     "finish": [ON, AS],
     "submit": [("buffers", COMMAND_BUFFERS, NEEDED)],
@@ -77,8 +138,7 @@ CALLS = {
 
 # The calls that are known and not built yet.
 UNBUILT = set("""
-    createSampler createBindGroupLayout createPipelineLayout createBindGroup createComputePipeline createRenderPipeline createQuerySet
-    createBundleEncoder beginComputePass beginRenderPass end finishBundle resolveQuerySet setPipeline setBindGroup
+    createRenderPipeline createQuerySet createBundleEncoder beginComputePass beginRenderPass end finishBundle resolveQuerySet setPipeline setBindGroup
     setVertexBuffer setIndexBuffer dispatch dispatchIndirect beginOcclusionQuery endOcclusionQuery executeBundles draw drawIndexed
     drawIndirect drawIndexedIndirect createCanvas configureCanvas currentTexture present
 """.split())
@@ -98,10 +158,21 @@ WAITING = {"mapAsync", "workDone"}
 
 # What a call makes.
 MADE = {
-    "createBuffer": "buffer", "createTexture": "texture", "createView": "view", "createEncoder": "encoder", "finish": "command buffer",
+    "createBuffer": "buffer", "createTexture": "texture", "createView": "view", "createSampler": "sampler",
+    "createBindGroupLayout": "bind group layout", "createPipelineLayout": "pipeline layout", "createBindGroup": "bind group",
+    "createComputePipeline": "compute pipeline", "createEncoder": "encoder", "finish": "command buffer",
 }
 
 
 def name_keys(do):
-    """The keys of a call whose values are names that it uses, in order, each with what they may stand for."""
-    return [(key, sort[1]) for key, sort, _ in CALLS[do] if sort[0] in ("name", "names")]
+    """The keys of a call whose values use names, in order, each with its sort."""
+    return [(key, sort) for key, sort, _ in CALLS[do] if sort[0] in ("name", "names", "objects")]
+
+
+def names_in(sort, value):
+    """The names that a value uses, in order, each with what it may stand for."""
+    if sort[0] == "name":
+        return [(value, sort[1])]
+    if sort[0] == "names":
+        return [(name, sort[1]) for name in value]
+    return [found for item in value for key, inner, _ in sort[1](item) if inner[0] == "name" for found in names_in(inner, item[key])]

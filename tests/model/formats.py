@@ -3,6 +3,8 @@
 ASPECT_WORDS = ("all", "depth-only", "stencil-only")
 TEXTURE_DIMS = ("1d", "2d", "3d")
 VIEW_DIMS = ("1d", "2d", "2d-array", "cube", "cube-array", "3d")
+SAMPLE_WORDS = ("float", "unfilterable-float", "depth", "sint", "uint")
+ACCESS_WORDS = ("read-only", "write-only", "read-write")
 
 # The aspects in the order in which they are printed.
 ASPECTS = ("color", "depth", "stencil")
@@ -26,6 +28,22 @@ FORMATS = {
     "depth32float": (DEPTH, False, True),
     "stencil8": (STENCIL, False, True),
 }
+
+# As what the color aspect of each format is sampled; a depth aspect is sampled as depth, and a stencil aspect as uint.
+COLOR_SAMPLED = {
+    "r8unorm": "float",
+    "rg8unorm": "float",
+    "rgba8unorm": "float",
+    "rgba8unorm-srgb": "float",
+    "bgra8unorm": "float",
+    "rgba16float": "float",
+    "r32float": "unfilterable-float",
+    "rgba32float": "unfilterable-float",
+    "r32uint": "uint",
+}
+
+# The formats that shaders may both read and write as storage; all that are accessed as storage may be read, or written.
+READ_WRITE = ("r32uint", "r32float")
 
 # The bytes that a texel takes in the memory of a device, for each format, in all of its aspects together.
 MEMORY_OF_TEXEL = {
@@ -72,6 +90,16 @@ def aspects_of(format):
 
 def has_storage_access(format):
     return FORMATS[format][1]
+
+
+def has_access(format, access):
+    """The format can be accessed as storage in one of the three ways."""
+    return format in READ_WRITE if access == "read-write" else has_storage_access(format)
+
+
+def sampled_as(format, aspect):
+    """As what an aspect is sampled."""
+    return {"color": COLOR_SAMPLED.get(format), "depth": "depth", "stencil": "uint"}[aspect]
 
 
 def may_have_four_samples(format):

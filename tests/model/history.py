@@ -5,7 +5,11 @@ they were made.
 """
 
 import memory
-from calls import RECORDING, WAITING, name_keys
+from calls import RECORDING, WAITING, name_keys, names_in
+
+
+# The calls that make an object which refers to all that they name.
+REFERRING = {"createView", "createPipelineLayout", "createBindGroup", "createComputePipeline"}
 
 
 class Played:
@@ -42,6 +46,13 @@ class Played:
         """The object that this call made is valid exactly where no rule is unmet and the device was not lost before."""
         return self.is_met and not self.on_lost
 
+    def referred(self):
+        """The objects that the call names, in the order of its keys."""
+        found = []
+        for value in self.uses.values():
+            found += value if type(value) is list else [value]
+        return found
+
 
 class History:
     def __init__(self, budget):
@@ -51,11 +62,11 @@ class History:
         self.names = {}
 
     def uses_of(self, call):
-        """The objects that the names of a call stand for, key by key; of a list of names, a list."""
+        """The objects that the names of a call stand for, key by key; of a list, be it of names or of objects, a list."""
         uses = {}
-        for key, _ in name_keys(call["do"]):
-            value = call[key]
-            uses[key] = [self.names[name] for name in value] if type(value) is list else self.names[value]
+        for key, sort in name_keys(call["do"]):
+            found = [self.names[name] for name, _ in names_in(sort, call[key])]
+            uses[key] = found[0] if sort[0] == "name" else found
         return uses
 
     def entries(self):
@@ -113,11 +124,12 @@ class History:
     def holds(self, other, thing):
         """Whether an object holds one that was dropped.
 
-        A valid view that is itself held holds its texture; a valid command buffer that is neither consumed nor dropped holds what
-        it names; and an encoder that is open, valid or not, holds all that was dropped since it was made.
+        A valid object that is itself held holds what it refers to: a view its texture, a pipeline layout its bind group layouts, a
+        bind group its layout and what it binds, a compute pipeline its layout. A valid command buffer that is neither consumed nor
+        dropped holds what it names; and an encoder that is open, valid or not, holds all that was dropped since it was made.
         """
-        if other.do == "createView":
-            return other.uses["texture"] is thing and other.is_valid and self.is_held(other)
+        if other.do in REFERRING:
+            return thing in other.referred() and other.is_valid and self.is_held(other)
         if other.do == "finish":
             return other.is_valid and not self.is_consumed(other) and not self.is_dropped(other) and thing in self.resources_of([other])
         return other.do == "createEncoder" and self.is_open(other) and not self.was_dropped_before(thing, other)

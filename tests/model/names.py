@@ -6,7 +6,7 @@ the items of a list one after another, then the name that it gives.
 
 import re
 
-from calls import MADE, name_keys
+from calls import MADE, name_keys, names_in
 from script import ask
 
 WELL_FORMED = re.compile(r"[A-Za-z0-9_]{1,64}")
@@ -16,9 +16,8 @@ def bind(calls):
     """Refuses a script whose names break a rule."""
     given = []
     for place, call in calls:
-        for key, kinds in name_keys(call["do"]):
-            used = call[key] if type(call[key]) is list else [call[key]]
-            for name in used:
+        for key, sort in name_keys(call["do"]):
+            for name, kinds in names_in(sort, call[key]):
                 ask_used(place, name, kinds, given)
         if "as" in call:
             ask(9, "form", WELL_FORMED.fullmatch(call["as"]) is not None, place)

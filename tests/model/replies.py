@@ -2,13 +2,14 @@
 
 import buffers
 import copies
+import groups
 import maps
 import memory
 import promises
 import recording
 import scopes
 import textures
-from calls import MADE, PROMISING, QUEUED, RECORDING
+from calls import MADE, PROMISING, QUEUED, RECORDING, bound_by
 from history import History, Played
 from rules import first_unmet, note
 
@@ -107,6 +108,16 @@ def rules_of(history, played):
         texture = uses["texture"]
         view = textures.view_of(call, texture.call, texture.is_valid)
         return of_object(history, "texture", texture, textures.view_rules(view, texture.call))
+    if played.do == "createBindGroupLayout":
+        return groups.layout_rules(call["entries"])
+    if played.do == "createPipelineLayout":
+        layouts = [layout.call["entries"] for layout in uses["layouts"]]
+        return of_objects(history, [("layout", layout) for layout in uses["layouts"]], groups.pipeline_layout_rules(layouts))
+    if played.do == "createBindGroup":
+        return bind_group_rules(history, call, uses)
+    if played.do == "createComputePipeline":
+        layouts = [layout.call["entries"] for layout in uses["layout"].uses["layouts"]]
+        return of_object(history, "layout", uses["layout"], groups.pipeline_rules(layouts, call["iface"]))
     if played.do == "writeBuffer":
         return of_object(history, "target", uses["buffer"], write_buffer_rules(history, call, uses["buffer"]))
     if played.do == "writeTexture":
@@ -142,6 +153,21 @@ def of_object(history, what, thing, further_rules):
     yield from further_rules
 
 
+def of_objects(history, named, further_rules):
+    """The same of several objects one after another, given as pairs of a word and an object."""
+    for what, thing in named:
+        yield from of_object(history, what, thing, [])
+    yield from further_rules
+
+
+def bind_group_rules(history, call, uses):
+    """The rules of createBindGroup: its layout and what its entries bind, and then its own. That something that is bound is
+    destroyed or mapped breaks none."""
+    bound = list(zip(call["entries"], uses["entries"]))
+    named = [("layout", uses["layout"])] + [(bound_by(entry), thing) for entry, thing in bound]
+    return of_objects(history, named, groups.group_rules(uses["layout"].call["entries"], bound))
+
+
 def write_buffer_rules(history, call, buffer):
     yield from buffers.write_rules(call, buffer.call)
     yield from maps.idle_rules(history, 203, buffer)
@@ -166,8 +192,7 @@ def finish_rules(history, encoder):
 
 def submit_rules(history, command_buffers):
     """The rules of each command buffer in turn, then those of all."""
-    for command_buffer in command_buffers:
-        yield from of_object(history, "command buffer", command_buffer, [])
+    yield from of_objects(history, [("command buffer", one) for one in command_buffers], [])
     yield 190, "consumed", not any(history.is_consumed(one) for one in command_buffers)
     yield 191, "named twice", len(set(command_buffers)) == len(command_buffers)
     resources = history.resources_of(command_buffers)

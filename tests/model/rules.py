@@ -17,6 +17,12 @@ def note(call, number, what, is_met):
     (met if is_met else unmet)[(call, number, what)] += 1
 
 
+def at_most(number, what, count, most):
+    """A triple that asks for a count of at most some limit. Just as many has a part of its own, so that it is told how often a
+    script came up to the limit."""
+    return number, f"just the most of {what}" if count == most else what, count <= most
+
+
 def first_unmet(call, triples):
     """The number of the first rule that is unmet, or None."""
     for number, what, is_met in triples:

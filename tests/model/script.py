@@ -5,7 +5,7 @@ is gone through in order, and of each call 5, 6, 13, 7 and 8 are tested.
 """
 
 import json_text
-from calls import CALLS, FLAG, NAME, NEEDED, THREE, UNBUILT, WHOLE, WORD32
+from calls import CALLS, FLAG, KIND, NAME, NEEDED, THREE, UNBUILT, WHOLE, WORD32, group_entry_keys
 from rules import note
 
 MOST_BYTES = 4_194_304
@@ -82,35 +82,60 @@ def read_call(place, call):
     do = call.get("do")
     ask(6, "word", type(do) is str and (do in CALLS or do in UNBUILT), place)
     ask(13, "call", do in CALLS, place)
+    if do == "createComputePipeline":
+        ask(13, "auto", call.get("layout") != "auto", place)
     keys = CALLS[do]
     ask(7, "unknown key", set(call) <= {"do"} | {key for key, _, _ in keys}, place)
     ask(7, "missing key", all(key in call for key, _, default in keys if default is NEEDED), place)
-    for key, sort, _ in keys:
-        if key in call:
-            ask_value(place, sort, call[key])
-    return {"do": do} | {key: call.get(key, default) for key, _, default in keys}
+    return {"do": do} | read_values(place, "", call, keys)
 
 
-def ask_value(place, sort, value):
-    """Rule 8: the value is of the sort that its key has."""
+def read_values(place, where, value, keys):
+    """The values of a call, or of an object in a list of it, one key after another."""
+    return {key: read_value(place, where, sort, value[key]) if key in value else default for key, sort, default in keys}
+
+
+def read_value(place, where, sort, value):
+    """Rule 8: the value is of the sort that its key has. The objects of a list get all their keys."""
     if sort == WHOLE:
-        ask(8, "whole number", is_whole(value, GREATEST_WHOLE), place)
+        ask(8, f"whole number{where}", is_whole(value, GREATEST_WHOLE), place)
     elif sort == WORD32:
-        ask(8, "number of 32 bits", is_whole(value, GREATEST_WORD32), place)
+        ask(8, f"number of 32 bits{where}", is_whole(value, GREATEST_WORD32), place)
     elif sort == FLAG:
-        ask(8, "flag", type(value) is bool, place)
+        ask(8, f"flag{where}", type(value) is bool, place)
     elif sort == THREE:
         ask(8, "list", type(value) is list, place)
         ask(8, "three items", len(value) == 3, place)
         ask(8, "three numbers", all(is_whole(item, GREATEST_WORD32) for item in value), place)
     elif sort == NAME or sort[0] == "name":
-        ask(8, "name", type(value) is str, place)
-    elif sort[0] == "names":
-        ask(8, "list", type(value) is list, place)
-        ask(8, "items", len(value) <= MOST_ITEMS, place)
-        ask(8, "names", all(type(item) is str for item in value), place)
+        ask(8, f"name{where}", type(value) is str, place)
+    elif sort[0] == "word":
+        ask(8, f"word{where}", type(value) is str and value in sort[1], place)
     else:
-        ask(8, "word", type(value) is str and value in sort[1], place)
+        return read_list(place, sort, value)
+    return value
+
+
+def read_list(place, sort, value):
+    """A list of names, or of objects."""
+    ask(8, f"list of {sort[0]}", type(value) is list, place)
+    ask(8, f"items, {sort[0]}", len(value) <= MOST_ITEMS, place)
+    if sort[0] == "names":
+        ask(8, "names", all(type(item) is str for item in value), place)
+        return value
+    return [read_item(place, sort[1], item) for item in value]
+
+
+def read_item(place, keys_of, item):
+    """An object of a list, which breaks rule 8 alone. Where its keys hang on its kind, that is looked at first."""
+    ask(8, "object", type(item) is dict, place)
+    if keys_of is not group_entry_keys:
+        ask(8, "missing kind", "kind" in item, place)
+        read_value(place, " in an object", KIND[1], item["kind"])
+    keys = keys_of(item)
+    ask(8, "unknown key in an object", set(item) <= {key for key, _, _ in keys}, place)
+    ask(8, "missing key in an object", all(key in item for key, _, default in keys if default is NEEDED), place)
+    return read_values(place, " in an object", item, keys)
 
 
 def is_whole(value, greatest):

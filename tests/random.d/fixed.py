@@ -27,6 +27,28 @@ def submitted(count):
     return script([{"do": "submit", "buffers": ["c"] * count}])
 
 
+def bound(count, more=0):
+    """A layout of so many samplers that no stage sees, and a bind group of it; with more items the layout is refused."""
+    entries = [{"binding": binding, "visibility": 0, "kind": "sampler"} for binding in range(count)]
+    made = [{"do": "createBindGroupLayout", "as": "l", "entries": entries + entries[:more]}, {"do": "createSampler", "as": "s"}]
+    return script(made + [{"do": "createBindGroup", "as": "g", "layout": "l", "entries": [{"binding": n, "sampler": "s"} for n in range(count)]}])
+
+
+def interface(count):
+    """A pipeline that uses one binding so many times, of a layout that has it in its last group."""
+    entry = {"binding": 999, "kind": "storage-texture", "format": "r32uint", "access": "read-write", "dim": "3d"}
+    layouts = [
+        {"do": "createBindGroupLayout", "as": "none", "entries": []},
+        {"do": "createBindGroupLayout", "as": "one", "entries": [entry | {"visibility": 4}]},
+        {"do": "createPipelineLayout", "as": "l", "layouts": ["none", "none", "none", "one"]},
+    ]
+    return script(layouts + [{"do": "createComputePipeline", "as": "p", "layout": "l", "iface": [entry | {"group": 3}] * count}])
+
+
+def many_layouts(count):
+    return script([{"do": "createBindGroupLayout", "as": "n", "entries": []}, {"do": "createPipelineLayout", "as": "l", "layouts": ["n"] * count}])
+
+
 def all_layers():
     """A texture of all mip levels and layers, written layer by layer in one level, and then whole."""
     calls = [{"do": "createTexture", "as": "t", "size": [4, 4, 256], "usage": 3, "format": "r8unorm", "mips": 3}]
@@ -55,4 +77,12 @@ FIXED = {
     "letters-past-the-limit": lambda: named(65),
     "phases-past-the-limit": lambda: json.dumps({"budget": 1, "phases": [[]] * 1025}).encode(),
     "all-layers": all_layers,
+    "bindings-at-the-limit": lambda: bound(1000),
+    "bindings-past-the-limit": lambda: bound(1001),
+    "items-at-the-limit-of-entries": lambda: bound(1000, 24),
+    "items-past-the-limit-of-entries": lambda: bound(1000, 25),
+    "interface-at-the-limit": lambda: interface(1024),
+    "interface-past-the-limit": lambda: interface(1025),
+    "layouts-at-the-limit": lambda: many_layouts(1024),
+    "layouts-past-the-limit": lambda: many_layouts(1025),
 }

@@ -1,17 +1,18 @@
 """Scripts that break a rule of scripts: good ones with one or two changes to calls, names, the top, or the text itself."""
 
+import grouping
 import worlds
 from json_forms import Pairs, Raw, text_of
 
 WORD_LIMIT, WHOLE_LIMIT = 2**32 - 1, 2**53 - 1
 UNBUILT = """
-createSampler createBindGroupLayout createPipelineLayout createBindGroup createComputePipeline createRenderPipeline createQuerySet
-createBundleEncoder beginComputePass beginRenderPass end finishBundle
+createRenderPipeline createQuerySet createBundleEncoder beginComputePass beginRenderPass end finishBundle
 resolveQuerySet setPipeline setBindGroup setVertexBuffer setIndexBuffer dispatch dispatchIndirect beginOcclusionQuery endOcclusionQuery
 executeBundles draw drawIndexed drawIndirect drawIndexedIndirect createCanvas configureCanvas currentTexture present
 """.split()
 UNKNOWN = ["", "createbuffer", "CreateBuffer", "createBuffer ", "getBindGroupLayout", "setViewport", "copy", "createBuffer\0", "é", "Lose", "onSubmittedWorkDone"]
-NAME_KEYS = {"buffer", "texture", "source", "target", "on", "object"}
+NAME_KEYS = {"buffer", "texture", "source", "target", "on", "object", "layout", "view", "sampler"}
+OBJECT_LISTS = ["entries", "iface"]
 NUMBERS = [
     "0", "1", "-1", "-0", "1.0", "1.5", "1e3", "1E3", "1e-3", "0e400", "0.0e999999", "4294967295", "4294967296", "9007199254740991",
     "9007199254740992", "18446744073709551615", "18446744073709551616", "18446744073709551617", "99999999999999999999", "-9007199254740992",
@@ -29,10 +30,12 @@ GOOD_NAMES = ["a" * 64, "_", "0", "9" * 64, "Z_z9", "do", "as"]
 
 def malformed(random):
     """The bytes of a script with one or two faults, the first of which is what the answer tells."""
-    calls = worlds.mixed(random, random.choice([3, 12, 30]))
+    length = random.choice([3, 12, 30])
+    has_objects = random.random() < 0.6
+    calls = grouping.groups(random)[1][:length] if has_objects else worlds.mixed(random, length)
     top = {"budget": random.choice([0, 1, 1000000, WHOLE_LIMIT]), "phases": [[calls]]}
     for _ in range(random.choice([1, 1, 1, 2, 2, 3])):
-        top = random.choices([of_call, of_names, of_top, same], [10, 6, 3, 1])[0](random, top, calls)
+        top = random.choices([of_call, of_names, of_top, same], [14, 5, 2, 1] if has_objects else [10, 6, 3, 1])[0](random, top, calls)
     text = text_of(top, random)
     if random.random() < 0.15:
         text = of_text(random, text)
@@ -51,15 +54,38 @@ def any_call(random, calls):
 
 
 def of_call(random, top, calls):
-    """One call, or one value of it, is spoiled."""
-    at = any_call(random, calls)
+    """One call, or one value of it, or an object in it, is spoiled."""
+    places = [at for at, call in enumerate(calls) if isinstance(call, dict) and any(call.get(key) for key in OBJECT_LISTS)]
+    at = random.choice(places) if places and random.random() < 0.8 else any_call(random, calls)
     if at is not None:
         call = dict(calls[at])
         calls[at] = call
+        if random.random() < 0.04:
+            calls[at] = automatic(random, call)
+            return top
+        if random.random() < 0.8 and spoil_object(random, call):
+            return top
         changed = random.choices(CALL_CHANGES, CALL_WEIGHTS)[0](random, call)
         if changed is not None:
             calls[at] = changed
     return top
+
+
+def spoil_object(random, call):
+    """Spoils an object in a list of a call, if there is one."""
+    lists = [key for key in OBJECT_LISTS if isinstance(call.get(key), list) and call[key]]
+    if not lists:
+        return False
+    key = random.choice(lists)
+    items = list(call[key])
+    at = random.randrange(len(items))
+    if not isinstance(items[at], dict):
+        return False
+    item = dict(items[at])
+    changed = random.choices(OBJECT_CHANGES, OBJECT_WEIGHTS)[0](random, item)
+    items[at] = item if changed is None else changed
+    call[key] = items
+    return True
 
 
 def any_key(random, call):
@@ -98,9 +124,10 @@ def other_item(random, call):
 
 
 def long_list(random, call):
-    for key in ("buffers", "size"):
+    entry = {"binding": 0, "visibility": 0, "kind": "sampler"}
+    for key, item in (("buffers", "x"), ("layouts", "x"), ("entries", entry), ("iface", entry), ("size", 1)):
         if key in call:
-            call[key] = ["x"] * random.choice([1024, 1025]) if key == "buffers" else [1] * 1025
+            call[key] = [item] * random.choice([1024, 1025])
 
 
 def key_gone(random, call):
@@ -108,16 +135,21 @@ def key_gone(random, call):
 
 
 def key_more(random, call):
-    call[random.choice(["x", "", "DO", "label", "mapped", "size", "usage", "as", "filter", "op", "queries", "depthSlice", "limits", "mode"])] = random.choice(VALUES)
+    call[random.choice(MORE_KEYS)] = random.choice(VALUES)
 
 
+MORE_KEYS = [
+    "x", "", "DO", "label", "mapped", "size", "usage", "as", "filter", "op", "queries", "depthSlice", "limits", "mode", "kind", "layout", "iface",
+    "binding", "visibility", "group", "type", "dynamic", "minSize", "sample", "multi", "access", "buffer", "offset", "view", "sampler", "do",
+]
 WRONG_WORDS = [
+    "Filtering", "filtering", "nonfiltering", "storage", "readonly-storage", "write", "read-write", "sampled", "unfilterable", "sint", "auto",
     "", "2D", "all", "cube", "2d", "3d-array", "rgba8", "rgba8unorm-SRGB", "depth-only", "color", "Validation", "out-of-memory ", "outofmemory", "internal", None,
 ]
 
 
 def other_word(random, call):
-    words = [key for key in ("format", "dim", "aspect", "filter") if key in call]
+    words = [key for key in ("format", "dim", "aspect", "filter", "kind", "type", "sample", "access") if key in call]
     if words:
         call[random.choice(words)] = random.choice(WRONG_WORDS)
 
@@ -134,6 +166,24 @@ def mapped(random, call):
     """A buffer whose key `mapped` is of the right type or not; nothing else of it may be wrong."""
     made = {"do": "createBuffer", "size": 4, "usage": 8, "as": "m", "mapped": random.choice([True, True, 1, "true", None, False])}
     return made | random.choice([{}, {"x": 1}, {"size": None}, {"usage": -1}, {"do": "createView"}])
+
+
+def automatic(random, call):
+    """A layout of the name `auto`, which only a pipeline may not use, with something else wrong or not."""
+    made = {"do": random.choice(["createComputePipeline", "createComputePipeline", "createBindGroup"]), "layout": "auto", "as": "m"}
+    made |= random.choice([{"iface": []}, {"entries": []}])
+    return made | random.choice([{}, {}, {"x": 1}, {"as": None}, {"layout": ["auto"]}, {"layout": "Auto"}])
+
+
+def other_kind(random, entry):
+    """An object with other keys than its kind has, or with another kind than its keys are for."""
+    change = random.randrange(3)
+    if change == 0 and "kind" in entry:
+        entry["kind"] = random.choice(["uniform", "storage", "read-only-storage", "sampler", "texture", "storage-texture"])
+    elif change == 1:
+        entry.update(random.choice([{"buffer": "b"}, {"view": "v"}, {"sampler": "s"}, {"offset": 0}, {"size": 4}, {"format": "r32float"}]))
+    else:
+        entry.update(random.choice([{"dynamic": True}, {"minSize": 4}, {"type": "filtering"}, {"sample": "float"}, {"multi": False}, {"access": "read-only"}]))
 
 
 def no_object(random, call):
@@ -153,6 +203,8 @@ CALL_CHANGES = [
     repeated,
 ]
 CALL_WEIGHTS = [4, 4, 3, 4, 2, 4, 3, 3, 2, 3, 3, 2, 3]
+OBJECT_CHANGES = [other_value, other_number, border_number, key_gone, key_more, other_word, other_kind, no_object, repeated]
+OBJECT_WEIGHTS = [3, 3, 4, 7, 3, 4, 5, 2, 2]
 
 
 def of_names(random, top, calls):
@@ -164,6 +216,11 @@ def of_names(random, top, calls):
     names = [other["as"] for other in calls if isinstance(other, dict) and isinstance(other.get("as"), str)] or ["x"]
     used = [key for key in call if key in NAME_KEYS]
     change = random.randrange(5)
+    bound = [entry for entry in call.get("entries", []) if isinstance(entry, dict) and NAME_KEYS & set(entry)] if isinstance(call.get("entries"), list) else []
+    if bound and random.random() < 0.5:
+        rename_bound(random, call, random.choice(bound), names)
+        calls[at] = call
+        return top
     if change == 0 and "as" in call:
         call["as"] = random.choice(BAD_NAMES + GOOD_NAMES)
     elif change == 1 and "as" in call:
@@ -172,14 +229,22 @@ def of_names(random, top, calls):
         call[random.choice(used)] = random.choice(names)
     elif change == 3 and used:
         call[random.choice(used)] = random.choice(["unknown", "", "é", "a" * 65, names[0].upper(), names[0] + " "])
-    elif call.get("buffers"):
-        call["buffers"] = call["buffers"] + [random.choice(names + ["unknown"])]
+    elif isinstance(call.get("buffers", call.get("layouts")), list):
+        key = "buffers" if "buffers" in call else "layouts"
+        call[key] = call[key] + [random.choice(names + ["unknown"])]
     else:
         other = random.randrange(len(calls))
         calls[at], calls[other] = calls[other], calls[at]
         return top
     calls[at] = call
     return top
+
+
+def rename_bound(random, call, entry, names):
+    """What an entry of a bind group binds has another name."""
+    key = random.choice(sorted(NAME_KEYS & set(entry)))
+    other = entry | {key: random.choice([random.choice(names), "unknown", call.get("as", "x")])}
+    call["entries"] = [other if each is entry else each for each in call["entries"]]
 
 
 def of_top(random, top, calls):

@@ -40,6 +40,11 @@ class World:
         self.buffers = []
         self.textures = []
         self.views = []
+        self.samplers = []
+        self.group_layouts = []
+        self.pipeline_layouts = []
+        self.groups = []
+        self.pipelines = []
         self.encoders = []
         self.command_buffers = []
 
@@ -82,6 +87,11 @@ class World:
         call = good_texture(self.random, **wanted)
         if not good:
             self.spoil(TEXTURE_FAULTS, call)
+        return self.texture_as(good, call)
+
+    def texture_as(self, good, call):
+        """Makes a texture of a call that has all its keys but for `do`."""
+        call = {"do": "createTexture"} | call
         usual = {"dim": "2d", "mips": 1, "samples": 1}
         told = {key: value for key, value in call.items() if usual.get(key) != value or self.random.random() < 0.5}
         thing = self.make("t", told, good)
@@ -141,7 +151,8 @@ class World:
         thing.dropped_at = thing.dropped_at or len(self.calls)
 
     def everything(self):
-        return self.buffers + self.textures + self.views + self.encoders + self.command_buffers
+        bound = self.samplers + self.group_layouts + self.pipeline_layouts + self.groups + self.pipelines
+        return self.buffers + self.textures + self.views + bound + self.encoders + self.command_buffers
 
     def complete(self, number):
         self.add({"do": "complete", "op": number})

@@ -1,0 +1,197 @@
+"""The rules of what is bound: bind group layouts, pipeline layouts, bind groups and compute pipelines.
+
+An entry of a layout, of an interface or of a bind group is the dictionary that the script has, with all of its keys. An entry
+of a bind group goes with the object that it binds.
+"""
+
+import buffers
+import formats
+import textures
+from calls import bound_by
+from rules import at_most
+
+VERTEX, FRAGMENT, COMPUTE = 1, 2, 4
+STAGES = {"vertex": VERTEX, "fragment": FRAGMENT, "compute": COMPUTE}
+ALL_STAGES = VERTEX | FRAGMENT | COMPUTE
+UNIFORM, STORAGE = 64, 128
+
+BINDINGS = 1000
+MOST_LAYOUTS = 4
+ALIGNMENT = 256
+STORAGE_KINDS = ("storage", "read-only-storage")
+
+# What a stage may see: the kinds that are counted together, and how many there may be.
+SEEN_LIMITS = {
+    "textures": (("texture",), 16),
+    "samplers": (("sampler",), 16),
+    "storage buffers": (STORAGE_KINDS, 8),
+    "storage textures": (("storage-texture",), 4),
+    "uniform buffers": (("uniform",), 12),
+}
+
+# How many buffers may be dynamic, whatever stages see them.
+DYNAMIC_LIMITS = {"uniform buffers": (("uniform",), 8), "storage buffers": (STORAGE_KINDS, 4)}
+
+# Of each kind of buffer the usage that is asked for, and the greatest size that may be bound.
+BUFFER_KINDS = {"uniform": (UNIFORM, 65_536), "storage": (STORAGE, 134_217_728), "read-only-storage": (STORAGE, 134_217_728)}
+
+# What has to be bound for each kind.
+WANTED = {
+    "uniform": "buffer", "storage": "buffer", "read-only-storage": "buffer", "sampler": "sampler", "texture": "view",
+    "storage-texture": "view",
+}
+
+# What is sampled as one of these will also do for another sample type than its own.
+ALSO_SAMPLED = {("float", "unfilterable-float"), ("depth", "unfilterable-float")}
+
+
+def layout_rules(entries):
+    """The rules of createBindGroupLayout."""
+    bindings = [entry["binding"] for entry in entries]
+    yield 130, "bindings", len(set(bindings)) == len(bindings)
+    for binding in bindings:
+        yield at_most(131, "binding", binding, BINDINGS - 1)
+    for entry in entries:
+        yield at_most(132, "visibility", entry["visibility"], ALL_STAGES)
+    for entry in entries:
+        if entry["visibility"] & VERTEX:
+            yield 133, written_what(entry), not is_written(entry)
+    for entry in entries:
+        if entry["kind"] == "texture" and entry["multi"]:
+            yield 134, f"dimension {entry['dim']}", entry["dim"] == "2d"
+            yield 134, f"sample type {entry['sample']}", entry["sample"] != "float"
+    for entry in entries:
+        if entry["kind"] == "storage-texture":
+            yield 135, "dimension of a storage texture" if is_flat(entry) else entry["dim"], is_flat(entry)
+            yield 135, f"{entry['access']} access", formats.has_access(entry["format"], entry["access"])
+    yield from seen_rules(136, entries)
+    yield from dynamic_rules(137, entries)
+
+
+def is_written(entry):
+    """Shaders may write a storage buffer that is not only read, and a storage texture that is not only read."""
+    return entry["kind"] == "storage" or entry["kind"] == "storage-texture" and entry["access"] != "read-only"
+
+
+def written_what(entry):
+    """What the vertex stage sees, for the counts: those kinds of which some may not be seen there, or any other."""
+    if entry["kind"] == "storage-texture":
+        return f"storage texture, {entry['access']}"
+    return entry["kind"] if entry["kind"] in STORAGE_KINDS else "any of the others"
+
+
+def is_flat(entry):
+    return entry["dim"] not in ("cube", "cube-array")
+
+
+def seen_rules(number, entries):
+    """Rules 136 and 141: what each stage sees of each sort."""
+    for stage, bit in STAGES.items():
+        for sort, (kinds, most) in SEEN_LIMITS.items():
+            count = sum(entry["kind"] in kinds and entry["visibility"] & bit != 0 for entry in entries)
+            yield at_most(number, f"{stage} {sort}", count, most)
+
+
+def dynamic_rules(number, entries):
+    """Rules 137 and 142: what is dynamic of each sort."""
+    for sort, (kinds, most) in DYNAMIC_LIMITS.items():
+        count = sum(entry["kind"] in kinds and entry["dynamic"] for entry in entries)
+        yield at_most(number, f"dynamic {sort}", count, most)
+
+
+def pipeline_layout_rules(layouts):
+    """The rules of createPipelineLayout on the entries of its layouts, after those on each layout."""
+    yield at_most(140, "layouts", len(layouts), MOST_LAYOUTS)
+    entries = [entry for layout in layouts for entry in layout]
+    yield from seen_rules(141, entries)
+    yield from dynamic_rules(142, entries)
+
+
+def group_rules(layout, bound):
+    """The rules of createBindGroup on the entries of its layout, and on pairs of an entry and what it binds, after those on each
+    object."""
+    wanted = {entry["binding"]: entry for entry in layout}
+    bindings = [entry["binding"] for entry, _ in bound]
+    yield 150, "each binding is there", set(wanted) <= set(bindings)
+    yield 150, "no binding twice", len(set(bindings)) == len(bindings)
+    yield 150, "bindings are the layout's", set(bindings) <= set(wanted)
+    together = [(wanted[entry["binding"]], entry, thing) for entry, thing in bound]
+    for asked, entry, _ in together:
+        yield 151, asked["kind"], bound_by(entry) == WANTED[asked["kind"]]
+    in_buffers = [(asked, thing.call, *range_of(entry, thing)) for asked, entry, thing in together if asked["kind"] in BUFFER_KINDS]
+    yield from buffer_rules(in_buffers)
+    yield from view_rules([(asked, thing) for asked, _, thing in together if asked["kind"] in ("texture", "storage-texture")])
+    for asked, _, thing in together:
+        if asked["kind"] == "sampler":
+            yield 157, f"{asked['type']}", takes_sampler(asked["type"], thing.call["kind"])
+
+
+def range_of(entry, buffer):
+    """The offset and the size of what is bound of a buffer; a size that is left out is what remains, and then has no number of
+    its own."""
+    if entry["size"] is None:
+        return entry["offset"], buffers.rest(buffer.call, buffer.is_valid, entry["offset"]), "size left out"
+    return entry["offset"], entry["size"], "size"
+
+
+def buffer_rules(in_buffers):
+    """Rules 152, 153 and 154, on what is asked, a buffer, an offset, a size, and a word for the size."""
+    for asked, buffer, _, _, _ in in_buffers:
+        yield 152, asked["kind"], buffer["usage"] & BUFFER_KINDS[asked["kind"]][0] != 0
+    for _, buffer, offset, size, word in in_buffers:
+        yield 153, "offset", offset % ALIGNMENT == 0
+        yield 153, f"{word} is not 0", size != 0
+        yield 153, "just the end of the range" if offset + size == buffer["size"] else "range", buffers.fits(buffer, offset, size)
+    for asked, _, _, size, word in in_buffers:
+        yield at_most(154, f"{asked['kind']} {word}", size, BUFFER_KINDS[asked["kind"]][1])
+        if asked["kind"] in STORAGE_KINDS:
+            yield 154, f"{asked['kind']} {word}, a multiple of 4", size % 4 == 0
+        if asked["minSize"] > 0:
+            yield 154, f"just the least of {word}" if size == asked["minSize"] else f"least {word}", size >= asked["minSize"]
+
+
+def view_rules(bound):
+    """Rules 155 and 156, on pairs of what is asked and a view."""
+    told = [(asked, textures.view_of(view.call, view.uses["texture"].call, True), view.uses["texture"].call) for asked, view in bound]
+    for asked, view, texture in told:
+        if asked["kind"] == "texture":
+            yield from sampled_rules(asked, view, texture)
+    for asked, view, texture in told:
+        if asked["kind"] == "storage-texture":
+            yield 156, "STORAGE_BINDING", texture["usage"] & textures.STORAGE_BINDING != 0
+            yield 156, "one mip", view["mips"] == 1
+            yield 156, "format", texture["format"] == asked["format"]
+            yield 156, f"dimension {asked['dim']}", view["dim"] == asked["dim"]
+
+
+def sampled_rules(asked, view, texture):
+    """Rule 155: what a view has to be that is sampled."""
+    yield 155, "TEXTURE_BINDING", texture["usage"] & textures.TEXTURE_BINDING != 0
+    aspects = formats.named_aspects(texture["format"], view["aspect"])
+    yield 155, "one aspect", len(aspects) == 1
+    sampled = formats.sampled_as(texture["format"], aspects[0])
+    yield 155, f"{asked['sample']} of {sampled}", takes_sample(asked["sample"], sampled)
+    yield 155, f"dimension {asked['dim']}", view["dim"] == asked["dim"]
+    yield 155, "multi" if asked["multi"] else "not multi", (texture["samples"] == 4) == asked["multi"]
+
+
+def takes_sample(asked, sampled):
+    return asked == sampled or (sampled, asked) in ALSO_SAMPLED
+
+
+def takes_sampler(asked, kind):
+    """A sampler is of the kind that is asked for; one that does not filter will do for one that does."""
+    return kind == asked or (kind, asked) == ("non-filtering", "filtering")
+
+
+def pipeline_rules(layouts, iface):
+    """The own rule of createComputePipeline, on the entries of the layouts of its layout."""
+    for used in iface:
+        yield 160, "group", used["group"] < len(layouts)
+        found = [entry for entry in layouts[used["group"]] if entry["binding"] == used["binding"]]
+        yield 160, "binding", found != []
+        yield 160, "visible", found[0]["visibility"] & COMPUTE != 0
+        yield 160, "kind", found[0]["kind"] == used["kind"]
+        for key in ("type", "sample", "dim", "multi", "access", "format"):
+            if key in used:
+                yield 160, f"{key} of {used['kind']}", found[0][key] == used[key]
