@@ -26,7 +26,7 @@ SAMPLED = {
 
 # Formats that will not do for a sample type.
 NOT_SAMPLED = {
-    "float": UNFILTERABLE * 3 + UINTS + STENCILS + DEPTHS,
+    "float": UNFILTERABLE * 6 + UINTS + STENCILS + DEPTHS,
     "unfilterable-float": UINTS + STENCILS,
     "depth": UINTS + STENCILS + FLOATS + UNFILTERABLE,
     "uint": FLOATS + UNFILTERABLE + DEPTHS,

@@ -10,7 +10,7 @@ from commands import clear_buffer, copy_buffer, write_buffer
 from world import World
 from worlds import complete, last_before_loss, maps, scope
 
-BUDGETS = [2**53 - 1] * 12 + [2_000_000, 40_000, 2_000]
+BUDGETS = [2**53 - 1] * 18 + [2_000_000, 40_000, 2_000]
 
 
 def groups(random):

@@ -186,6 +186,20 @@ def other_kind(random, entry):
         entry.update(random.choice([{"dynamic": True}, {"minSize": 4}, {"type": "filtering"}, {"sample": "float"}, {"multi": False}, {"access": "read-only"}]))
 
 
+def needed_gone(random, entry):
+    """An object without a key that it needs."""
+    needed = [key for key in ("format", "kind", "group", "binding", "visibility", "buffer", "view", "sampler") if key in entry]
+    if needed:
+        del entry[needed[0] if random.random() < 0.3 else random.choice(needed)]
+
+
+def past_word(random, entry):
+    """A number of 32 bits that is one too great."""
+    numbers = [key for key in ("group", "binding", "visibility") if key in entry]
+    if numbers:
+        entry[random.choice(numbers)] = WORD_LIMIT + 1
+
+
 def no_object(random, call):
     return random.choice([None, 5, "createBuffer", [], [call], True, 1.5])
 
@@ -203,48 +217,63 @@ CALL_CHANGES = [
     repeated,
 ]
 CALL_WEIGHTS = [4, 4, 3, 4, 2, 4, 3, 3, 2, 3, 3, 2, 3]
-OBJECT_CHANGES = [other_value, other_number, border_number, key_gone, key_more, other_word, other_kind, no_object, repeated]
-OBJECT_WEIGHTS = [3, 3, 4, 7, 3, 4, 5, 2, 2]
+OBJECT_CHANGES = [
+    other_value, other_number, border_number, past_word, key_gone, needed_gone, key_more, other_word, other_kind, no_object, repeated,
+]
+OBJECT_WEIGHTS = [3, 3, 2, 5, 1, 6, 3, 4, 5, 2, 2]
+
+
+def given_by(calls):
+    return [call["as"] for call in calls if isinstance(call, dict) and isinstance(call.get("as"), str)]
+
+
+def bound_in(call):
+    """The entries of a call that bind something."""
+    entries = call.get("entries")
+    return [entry for entry in entries if isinstance(entry, dict) and NAME_KEYS & set(entry)] if isinstance(entries, list) else []
+
+
+def uses_names(call):
+    return isinstance(call, dict) and (NAME_KEYS & set(call) or call.get("buffers") or call.get("layouts") or bound_in(call))
 
 
 def of_names(random, top, calls):
     """A name is malformed, given twice, unknown, of a wrong kind, or used before it is given."""
-    at = any_call(random, calls)
+    users = [at for at, call in enumerate(calls) if uses_names(call)]
+    at = random.choice(users) if users and random.random() < 0.6 else any_call(random, calls)
     if at is None:
         return top
     call = dict(calls[at])
-    names = [other["as"] for other in calls if isinstance(other, dict) and isinstance(other.get("as"), str)] or ["x"]
+    earlier, names = given_by(calls[:at]), given_by(calls) or ["x"]
+    other = random.choice(earlier if earlier and random.random() < 0.7 else names)
     used = [key for key in call if key in NAME_KEYS]
     change = random.randrange(5)
-    bound = [entry for entry in call.get("entries", []) if isinstance(entry, dict) and NAME_KEYS & set(entry)] if isinstance(call.get("entries"), list) else []
-    if bound and random.random() < 0.5:
-        rename_bound(random, call, random.choice(bound), names)
-        calls[at] = call
-        return top
-    if change == 0 and "as" in call:
+    if bound_in(call) and random.random() < 0.5:
+        rename_bound(random, call, random.choice(bound_in(call)), other)
+    elif change == 0 and "as" in call:
         call["as"] = random.choice(BAD_NAMES + GOOD_NAMES)
     elif change == 1 and "as" in call:
-        call["as"] = random.choice(names)
+        call["as"] = other
     elif change == 2 and used:
-        call[random.choice(used)] = random.choice(names)
+        call[random.choice(used)] = other
     elif change == 3 and used:
         call[random.choice(used)] = random.choice(["unknown", "", "é", "a" * 65, names[0].upper(), names[0] + " "])
     elif isinstance(call.get("buffers", call.get("layouts")), list):
         key = "buffers" if "buffers" in call else "layouts"
-        call[key] = call[key] + [random.choice(names + ["unknown"])]
+        call[key] = call[key] + [random.choice([other, other, "unknown"])]
     else:
-        other = random.randrange(len(calls))
-        calls[at], calls[other] = calls[other], calls[at]
+        place = random.randrange(len(calls))
+        calls[at], calls[place] = calls[place], calls[at]
         return top
     calls[at] = call
     return top
 
 
-def rename_bound(random, call, entry, names):
+def rename_bound(random, call, entry, other):
     """What an entry of a bind group binds has another name."""
     key = random.choice(sorted(NAME_KEYS & set(entry)))
-    other = entry | {key: random.choice([random.choice(names), "unknown", call.get("as", "x")])}
-    call["entries"] = [other if each is entry else each for each in call["entries"]]
+    renamed = entry | {key: random.choice([other, other, "unknown", call.get("as", "x")])}
+    call["entries"] = [renamed if each is entry else each for each in call["entries"]]
 
 
 def of_top(random, top, calls):
