@@ -1,15 +1,14 @@
 //! The rules of new bind groups.
 ghost use Rattle.std.specs.Prelude.{◌≡◌, ◌==◌, count_by, is_some};
-ghost use Rattle.std.specs.List.{list_all};
+ghost use Rattle.std.specs.List.{list_all, zip};
 ghost use Rattle.wg_types.specs.declared.bindings.LayoutEntry.{LayoutEntry as Asked};
 ghost use Rattle.wg_types.specs.declared.bindings.BoundEntry.{BoundEntry as Bound};
 ghost use Rattle.wg_types.specs.Bindings.{entry_of};
-ghost use Rattle.wg_model.specs.Groups.{are_matched, each_fits, sort_fits, usage_fits, range_fits, size_fits, view_fits, storage_view_fits, sampler_fits, group_rules};
+ghost use Rattle.wg_model.specs.Groups.{are_matched, each_fits, group_rules};
 ghost use Rattle.wg_model.specs.Rules.{first_unmet};
+ghost use Rattle.wg_groups.specs.Tests.{passes, aligned_from};
 
-use crate::fits::{
-    range_fits, sampler_fits, size_fits, sort_fits, storage_view_fits, usage_fits, view_fits,
-};
+use crate::fits::{Test, passes};
 use wg_types::bindings::{BoundEntry, LayoutEntry, entry_of};
 use wg_types::groups::GroupLayoutInfo;
 use wg_types::limits::Limits;
@@ -42,84 +41,67 @@ fn each_is_asked(layout: &[LayoutEntry], entries: &[BoundEntry]) -> bool
         .all(|entry| entry_of(layout, entry.binding).is_some())
 }
 
+/// Whether the entries name the bindings of a layout in its order, and these ascend, so that no binding
+/// has to be looked up.
+fn are_aligned(layout: &[LayoutEntry], entries: &[BoundEntry]) -> bool
+    ensures { result ≡ aligned_from 0 layout.now entries.now }
+{
+    let mut least = 0;
+    let mut rest = entries;
+    for asked in layout {
+        let Some((entry, after)) = rest.split_first() else {
+            return false;
+        };
+        if u64::from(asked.binding) < least || asked.binding != entry.binding {
+            return false;
+        }
+        least = u64::from(asked.binding) + 1;
+        rest = after;
+    }
+    rest.is_empty()
+}
+
 /// Whether the entries name each binding of a layout once, and no other.
-fn are_matched(layout: &[LayoutEntry], entries: &[BoundEntry]) -> bool
+#[tactic(auto, using(crate::proofs::Aligned::aligned_matched))]
+fn are_matched(layout: &[LayoutEntry], entries: &[BoundEntry], aligned: bool) -> bool
+    requires { aligned ≡ aligned_from 0 layout.now entries.now }
     ensures { result ≡ are_matched layout.now entries.now }
 {
-    each_is_named_once(layout, entries) && each_is_asked(layout, entries)
+    aligned || each_is_named_once(layout, entries) && each_is_asked(layout, entries)
 }
 
-/// Whether each entry that is asked for holds a buffer, sampler or view as its kind asks.
-fn sorts_fit(layout: &[LayoutEntry], entries: &[BoundEntry]) -> bool
-    ensures { result ≡ each_fits sort_fits layout.now entries.now }
+/// Whether each entry passes a test of what the layout has in its place.
+fn all_pass_in_place(
+    test: Test,
+    limits: &Limits,
+    layout: &[LayoutEntry],
+    entries: &[BoundEntry],
+) -> bool
+    ensures { result ≡ list_all (λ (pair : Asked × Bound). passes test limits.now pair.0.kind pair.1.resource) (zip layout.now entries.now) }
 {
-    entries.iter().all(|entry| {
-        entry_of(layout, entry.binding).is_none_or(|asked| sort_fits(asked.kind, entry.resource))
-    })
+    layout
+        .iter()
+        .zip(entries)
+        .all(|(asked, entry)| passes(test, limits, asked, entry))
 }
 
-/// Whether each buffer that is asked for has the usage that its kind asks for.
-fn usages_fit(layout: &[LayoutEntry], entries: &[BoundEntry]) -> bool
-    ensures { result ≡ each_fits usage_fits layout.now entries.now }
+/// Whether each entry that is asked for passes a test of what is asked.
+#[tactic(auto, using(crate::proofs::Aligned::fits_in_place))]
+fn all_pass(
+    test: Test,
+    limits: &Limits,
+    layout: &[LayoutEntry],
+    entries: &[BoundEntry],
+    aligned: bool,
+) -> bool
+    requires { aligned ≡ aligned_from 0 layout.now entries.now }
+    ensures { result ≡ each_fits (passes test limits.now) layout.now entries.now }
 {
+    if aligned {
+        return all_pass_in_place(test, limits, layout, entries);
+    }
     entries.iter().all(|entry| {
-        entry_of(layout, entry.binding).is_none_or(|asked| usage_fits(asked.kind, entry.resource))
-    })
-}
-
-/// Whether each range that is asked for is aligned, is not empty, and is one of its buffer.
-fn ranges_fit(limits: &Limits, layout: &[LayoutEntry], entries: &[BoundEntry]) -> bool
-    ensures { result ≡ each_fits (range_fits limits.now) layout.now entries.now }
-{
-    entries.iter().all(|entry| {
-        entry_of(layout, entry.binding).is_none_or(|asked| range_fits(
-            limits,
-            asked.kind,
-            entry.resource,
-        ))
-    })
-}
-
-/// Whether each range that is asked for has a size as its kind and the limits ask.
-fn sizes_fit(limits: &Limits, layout: &[LayoutEntry], entries: &[BoundEntry]) -> bool
-    ensures { result ≡ each_fits (size_fits limits.now) layout.now entries.now }
-{
-    entries.iter().all(|entry| {
-        entry_of(layout, entry.binding).is_none_or(|asked| size_fits(
-            limits,
-            asked.kind,
-            entry.resource,
-        ))
-    })
-}
-
-/// Whether each view that is asked for may be sampled as its kind asks.
-fn views_fit(layout: &[LayoutEntry], entries: &[BoundEntry]) -> bool
-    ensures { result ≡ each_fits view_fits layout.now entries.now }
-{
-    entries.iter().all(|entry| {
-        entry_of(layout, entry.binding).is_none_or(|asked| view_fits(asked.kind, entry.resource))
-    })
-}
-
-/// Whether each view that is asked for may be used as storage as its kind asks.
-fn storage_views_fit(layout: &[LayoutEntry], entries: &[BoundEntry]) -> bool
-    ensures { result ≡ each_fits storage_view_fits layout.now entries.now }
-{
-    entries.iter().all(|entry| {
-        entry_of(layout, entry.binding).is_none_or(|asked| storage_view_fits(
-            asked.kind,
-            entry.resource,
-        ))
-    })
-}
-
-/// Whether each sampler that is asked for is of a kind that will do.
-fn samplers_fit(layout: &[LayoutEntry], entries: &[BoundEntry]) -> bool
-    ensures { result ≡ each_fits sampler_fits layout.now entries.now }
-{
-    entries.iter().all(|entry| {
-        entry_of(layout, entry.binding).is_none_or(|asked| sampler_fits(asked.kind, entry.resource))
+        entry_of(layout, entry.binding).is_none_or(|asked| passes(test, limits, &asked, entry))
     })
 }
 
@@ -127,35 +109,37 @@ fn samplers_fit(layout: &[LayoutEntry], entries: &[BoundEntry]) -> bool
 fn check_entries(layout: &[LayoutEntry], entries: &[BoundEntry], limits: &Limits) -> Option<u16>
     ensures { result ≡ first_unmet (group_rules limits.now layout.now entries.now) }
 {
-    if !are_matched(layout, entries) {
+    let aligned = are_aligned(layout, entries);
+    if !are_matched(layout, entries, aligned) {
         return Some(150);
     }
-    if !sorts_fit(layout, entries) {
+    if !all_pass(Test::Sort, limits, layout, entries, aligned) {
         return Some(151);
     }
-    if !usages_fit(layout, entries) {
+    if !all_pass(Test::Usage, limits, layout, entries, aligned) {
         return Some(152);
     }
-    if !ranges_fit(limits, layout, entries) {
+    if !all_pass(Test::Range, limits, layout, entries, aligned) {
         return Some(153);
     }
-    if !sizes_fit(limits, layout, entries) {
+    if !all_pass(Test::Size, limits, layout, entries, aligned) {
         return Some(154);
     }
-    if !views_fit(layout, entries) {
+    if !all_pass(Test::View, limits, layout, entries, aligned) {
         return Some(155);
     }
-    if !storage_views_fit(layout, entries) {
+    if !all_pass(Test::StorageView, limits, layout, entries, aligned) {
         return Some(156);
     }
-    if !samplers_fit(layout, entries) {
+    if !all_pass(Test::Sampler, limits, layout, entries, aligned) {
         return Some(157);
     }
     None
 }
 
 /// The number of the first unmet rule of createBindGroup (WebGPU, "Bind Group Creation"), of those that
-/// the layout, the entries and the limits tell; none where the group may be made.
+/// the layout, the entries and the limits tell; none where the group may be made. It takes time linear
+/// in the entries where the bindings of the layout ascend and the entries name them in the same order.
 pub fn check_group(layout: &GroupLayoutInfo, entries: &[BoundEntry], limits: &Limits) -> Option<u16>
     ensures { result ≡ first_unmet (group_rules limits.now layout.now.entries entries.now) }
 {

@@ -5,9 +5,12 @@ ghost use Rattle.wg_model.specs.Layouts.{is_uniform_binding};
 ghost use Rattle.wg_model.specs.Equality.{same_view_dim};
 ghost use Rattle.wg_types.specs.Formats.{same_format};
 ghost use Rattle.wg_model.specs.Groups.{sort_fits, usage_asked, usage_fits, is_multiple, alignment_asked, size_limit, range_fits, size_fits, takes_sample, view_sampled, view_fits, storage_view_fits, takes_sampler, sampler_fits};
+ghost use Rattle.wg_groups.specs.Tests.{passes};
 
 use wg_formats::named_aspects;
-use wg_types::bindings::{BindingKind, BoundResource, BufferBinding, SamplerKind};
+use wg_types::bindings::{
+    BindingKind, BoundEntry, BoundResource, BufferBinding, LayoutEntry, SamplerKind,
+};
 use wg_types::formats::{Format, SampleType};
 use wg_types::limits::Limits;
 use wg_types::textures::{ViewDim, ViewInfo};
@@ -21,6 +24,18 @@ const STORAGE: u32 = 128;
 const TEXTURE_BINDING: u32 = 4;
 
 const STORAGE_BINDING: u32 = 8;
+
+/// The tests of what a binding holds.
+#[derive(Clone, Copy)]
+pub enum Test {
+    Sort,
+    Usage,
+    Range,
+    Size,
+    View,
+    StorageView,
+    Sampler,
+}
 
 /// Whether a usage has a bit.
 fn has_usage(usage: u32, bit: u32) -> bool
@@ -54,7 +69,7 @@ fn same_format(a: Format, b: Format) -> bool
 }
 
 /// Whether a buffer, sampler or view is held as the kind asks.
-pub fn sort_fits(asked: BindingKind, resource: BoundResource) -> bool
+fn sort_fits(asked: BindingKind, resource: BoundResource) -> bool
     ensures { result ≡ sort_fits asked resource }
 {
     match (asked, resource) {
@@ -77,7 +92,7 @@ fn usage_asked(binding: BufferBinding) -> u32
 }
 
 /// Whether a buffer has the usage that the kind asks for.
-pub fn usage_fits(asked: BindingKind, resource: BoundResource) -> bool
+fn usage_fits(asked: BindingKind, resource: BoundResource) -> bool
     ensures { result ≡ usage_fits asked resource }
 {
     match (asked, resource) {
@@ -118,7 +133,7 @@ fn size_limit(limits: &Limits, binding: BufferBinding) -> u64
 }
 
 /// Whether the offset of a range is aligned, the range is not empty, and the buffer has it.
-pub fn range_fits(limits: &Limits, asked: BindingKind, resource: BoundResource) -> bool
+fn range_fits(limits: &Limits, asked: BindingKind, resource: BoundResource) -> bool
     ensures { result ≡ range_fits limits.now asked resource }
 {
     match (asked, resource) {
@@ -141,7 +156,7 @@ pub fn range_fits(limits: &Limits, asked: BindingKind, resource: BoundResource) 
 
 /// Whether the size of a range is neither above the limit nor below what is asked, and that of a
 /// storage buffer a multiple of 4.
-pub fn size_fits(limits: &Limits, asked: BindingKind, resource: BoundResource) -> bool
+fn size_fits(limits: &Limits, asked: BindingKind, resource: BoundResource) -> bool
     ensures { result ≡ size_fits limits.now asked resource }
 {
     match (asked, resource) {
@@ -190,7 +205,7 @@ fn view_sampled(info: ViewInfo) -> Option<SampleType>
 }
 
 /// Whether a view may be sampled as the kind asks.
-pub fn view_fits(asked: BindingKind, resource: BoundResource) -> bool
+fn view_fits(asked: BindingKind, resource: BoundResource) -> bool
     ensures { result ≡ view_fits asked resource }
 {
     match (asked, resource) {
@@ -208,7 +223,7 @@ pub fn view_fits(asked: BindingKind, resource: BoundResource) -> bool
 }
 
 /// Whether a view may be used as storage as the kind asks.
-pub fn storage_view_fits(asked: BindingKind, resource: BoundResource) -> bool
+fn storage_view_fits(asked: BindingKind, resource: BoundResource) -> bool
     ensures { result ≡ storage_view_fits asked resource }
 {
     match (asked, resource) {
@@ -236,7 +251,7 @@ fn takes_sampler(asked: SamplerKind, sampler: SamplerKind) -> bool
 }
 
 /// Whether a sampler is of a kind that the kind of binding takes.
-pub fn sampler_fits(asked: BindingKind, resource: BoundResource) -> bool
+fn sampler_fits(asked: BindingKind, resource: BoundResource) -> bool
     ensures { result ≡ sampler_fits asked resource }
 {
     match (asked, resource) {
@@ -244,5 +259,20 @@ pub fn sampler_fits(asked: BindingKind, resource: BoundResource) -> bool
             takes_sampler(sampler_type, sampler_info)
         }
         _ => true,
+    }
+}
+
+/// Whether what an entry binds passes a test of what is asked for.
+pub fn passes(test: Test, limits: &Limits, asked: &LayoutEntry, entry: &BoundEntry) -> bool
+    ensures { result ≡ passes test limits.now asked.now.kind entry.now.resource }
+{
+    match test {
+        Test::Sort => sort_fits(asked.kind, entry.resource),
+        Test::Usage => usage_fits(asked.kind, entry.resource),
+        Test::Range => range_fits(limits, asked.kind, entry.resource),
+        Test::Size => size_fits(limits, asked.kind, entry.resource),
+        Test::View => view_fits(asked.kind, entry.resource),
+        Test::StorageView => storage_view_fits(asked.kind, entry.resource),
+        Test::Sampler => sampler_fits(asked.kind, entry.resource),
     }
 }

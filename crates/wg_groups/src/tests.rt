@@ -1,4 +1,4 @@
-//! What calls make where there is memory, and the rules of groups with one entry.
+//! What calls make where there is memory, and the rules of groups.
 ghost use Rattle.std.specs.Prelude.{◌≡◌, slice_get};
 
 use crate::check_group;
@@ -254,6 +254,45 @@ fn sampled(sample: SampleType) -> BindingKind {
         dim: ViewDim::Two,
         multi: false,
     }
+}
+
+/// 16 bytes of a buffer of this usage.
+fn bound(binding: u32, usage: u32) -> BoundEntry {
+    BoundEntry {
+        binding,
+        resource: range(usage, 0, 16),
+    }
+}
+
+#[test]
+fn bindings_are_named_in_any_order(rt: HostRuntime) -> Result<(), Fail> {
+    let mut entries = Items::new(rt.alloc());
+    for binding in [2, 5, 9] {
+        entries.push(LayoutEntry {
+            binding,
+            visibility: 4,
+            kind: buffer(BufferBinding::Uniform),
+        })?;
+    }
+    let layout = GroupLayoutInfo { entries };
+    let [two, five, nine] = [bound(2, 64), bound(5, 64), bound(9, 64)];
+    let storage = bound(9, 128);
+    assert_eq!(rt; check_group(&layout, &[two, five, nine], &limits()), None);
+    assert_eq!(rt; check_group(&layout, &[nine, two, five], &limits()), None);
+    assert_eq!(rt;
+        check_group(&layout, &[two, five, storage], &limits()),
+        Some(152)
+    );
+    assert_eq!(rt;
+        check_group(&layout, &[storage, two, five], &limits()),
+        Some(152)
+    );
+    assert_eq!(rt; check_group(&layout, &[two, five], &limits()), Some(150));
+    assert_eq!(rt;
+        check_group(&layout, &[two, five, nine, nine], &limits()),
+        Some(150)
+    );
+    Ok(())
 }
 
 #[rattlefmt::skip]
