@@ -1,5 +1,5 @@
 -- The sets of a step, and the changes of its parts.
-use Rattle.std.proofs.Common.{◌≡◌, ℕ, ◌<◌, List, [], ◌∷◌, Bool, true, false, ◌&&◌, Option, Some, None, refl, ap, ap₂, sym, ◌∙◌, arith, bit_or, if◌then◌else◌, nat_lt, nat_le, ◌≤◌}
+use Rattle.std.proofs.Common.{◌≡◌, ℕ, ◌<◌, List, [], ◌∷◌, ◌++◌, Bool, true, false, ◌&&◌, Option, Some, None, refl, ap, ap₂, sym, ◌∙◌, arith, bit_or, if◌then◌else◌, nat_lt, nat_le, ◌≤◌}
 use Rattle.std.specs.Option.{option_or, option_and_then, option_map_or}
 use Rattle.std.proofs.lemmas.Bool.{and_parts, leb-true, ltb-true}
 use Rattle.std.proofs.lemmas.Bool.Decides.{nat_tests}
@@ -8,7 +8,7 @@ use Rattle.wg_rows.specs.Runs.{aspect_number, Buffer, Subresource, QuerySet, Buf
 use Rattle.wg_rows.specs.Uses.{same_set, Usages, row_set, with_usage}
 use Rattle.wg_rows.specs.Rows.{in_range, list_eq, Sort, Spot, covers_spot, Apart, After, EachRow}
 use Rattle.wg_rows.specs.Cut.{value_at, cut, inside, gaps, choose, put_all}
-use Rattle.wg_rows.specs.Sets.{both_sets, UseRow, union_row, sets, SetsAre as SetsOf, SetsTell}
+use Rattle.wg_rows.specs.Sets.{both_sets, UseRow, union_row, with_use, with_uses, sets, SetsAre as SetsOf, SetsTell, SetsJoin}
 use Rattle.wg_rows.proofs.Told.{uses_tell}
 use Rattle.wg_rows.proofs.Cut.{Clips, cut_apart}
 use Rattle.wg_rows.proofs.Values.{has_at, cut_value, inside_value, Loose, apart_loose, inside_loose, choose_value, choose_loose, AreFree, all_put, gaps_are}
@@ -92,6 +92,17 @@ union_is r rows full a = (result.0, value)
 
     value : (spot : Spot) → value_at part_sort spot (union_row r rows) ≡ (if covers_spot part_sort r.0 spot then Some (with_usage r.1 (value_at part_sort spot rows)) else value_at part_sort spot rows)
     value spot = result.1 spot ∙ (ap₂ option_or (left.1 spot) (first_value spot) ∙ by_all (covers_spot part_sort r.0 spot) (value_at part_sort spot rows))
+
+pub with_use_apart : (r : UseRow) (rows : List UseRow) → Apart part_sort rows → Apart part_sort (with_use r rows)
+with_use_apart r rows a = by_full (is_full r.0) refl
+  where
+    by_full : (b : Bool) → is_full r.0 ≡ b → Apart part_sort (if b then union_row r rows else rows)
+    by_full true e = (union_is r rows e a).0
+    by_full false e = a
+
+pub with_uses_apart : (more rows : List UseRow) → Apart part_sort rows → Apart part_sort (with_uses more rows)
+with_uses_apart [] rows a = a
+with_uses_apart (r ∷ more) rows a = with_use_apart r (with_uses more rows) (with_uses_apart more rows a)
 
 -- The sets of a step are in printed form, and are the sets of its parts.
 abbrev pub SetsAre : List UseRow → Type 0
@@ -184,3 +195,36 @@ sets_tell xs ys h = rows_unique part_sort same_set uses_tell (sets xs) (sets ys)
 
 pub or_assoc : (x a b : ℕ) → bit_or (bit_or x a) b ≡ bit_or x (bit_or a b)
 or_assoc x a b = same_from_bits (bit_or (bit_or x a) b) (bit_or x (bit_or a b)) (λ i. omega (arith, bit_at_or (bit_or x a) b i, bit_at_or x a i, bit_at_or x (bit_or a b) i, bit_at_or a b i))
+
+-- Uses that are added to the sets of others make the sets of both.
+over_sets : (xs ys : List UseRow) → with_uses xs (sets ys) ≡ sets (xs ++ ys)
+over_sets [] ys = refl
+over_sets (x ∷ xs) ys = ap (with_use x) (over_sets xs ys)
+
+pub over_none : (xs : List UseRow) → with_uses xs [] ≡ sets xs
+over_none [] = refl
+over_none (x ∷ xs) = ap (with_use x) (over_none xs)
+
+-- the set of a part in two lists
+abbrev both_options : Option Usages → Option Usages → Option Usages
+both_options None o = o
+both_options (Some a) o = Some (with_usage a o)
+
+union_assoc : (x : Usages) (a b : Option Usages) → with_usage x (both_options a b) ≡ with_usage (with_usage x a) b
+union_assoc x None b = refl
+union_assoc x (Some a) None = refl
+union_assoc x (Some a) (Some b) = ap (λ n. record { 0 = n }) (sym (or_assoc x.0 a.0 b.0))
+
+joined_set : (p : Part) (xs ys : List UseRow) → row_set p (xs ++ ys) ≡ both_options (row_set p xs) (row_set p ys)
+joined_set p [] ys = refl
+joined_set p (x ∷ xs) ys = by_cover (covers_part x.0 p) (joined_set p xs ys)
+  where
+    by_cover : (b : Bool) → row_set p (xs ++ ys) ≡ both_options (row_set p xs) (row_set p ys) → (if b then Some (with_usage x.1 (row_set p (xs ++ ys))) else row_set p (xs ++ ys)) ≡ both_options (if b then Some (with_usage x.1 (row_set p xs)) else row_set p xs) (row_set p ys)
+    by_cover true h = ap Some (ap (with_usage x.1) h ∙ union_assoc x.1 (row_set p xs) (row_set p ys))
+    by_cover false h = h
+
+merged_sets : (xs ys : List UseRow) → with_uses (sets xs) (sets ys) ≡ sets (xs ++ ys)
+merged_sets xs ys = over_sets (sets xs) ys ∙ sets_tell (sets xs ++ ys) (xs ++ ys) (λ p. joined_set p (sets xs) ys ∙ (ap (λ o. both_options o (row_set p ys)) (sets_row p xs) ∙ sym (joined_set p xs ys)))
+
+pub sets_join : SetsJoin
+sets_join = record { uses = over_sets; rows = merged_sets }

@@ -10,7 +10,7 @@ pub mod uses;
 
 ghost use Rattle.wg_rows.specs.Laws.{CellsLie, KeepsPrinted, PrintsRows};
 ghost use Rattle.wg_rows.specs.Runs.{cell_sort, part_sort};
-ghost use Rattle.wg_rows.specs.Sets.{SetsAre, SetsTell};
+ghost use Rattle.wg_rows.specs.Sets.{SetsAre, SetsJoin, SetsTell};
 ghost use Rattle.wg_rows.specs.Uses.{
   AccessesPrinted,
   BarsPrinted,
@@ -45,10 +45,11 @@ pub fn keeps_printed()
 {}
 
 /// The sets of uses are one row for parts that are used alike, by the union of their uses, and are told
-/// by the unions alone.
+/// by the unions alone. Uses added to the sets of others, or put together with them, have the same sets.
 pub fn sets_of_uses()
     ensures are { SetsAre }
     ensures tell { SetsTell }
+    ensures join { SetsJoin }
 {}
 
 /// The cells of a run lie in the parts that the run lies in.

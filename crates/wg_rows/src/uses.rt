@@ -2,7 +2,7 @@
 ghost use Rattle.std.specs.Prelude.{◌≡◌, IfOk, Some};
 ghost use Rattle.wg_rows.specs.Cut.{choose};
 ghost use Rattle.wg_rows.specs.Order.{is_after, is_first, are_apart};
-ghost use Rattle.wg_rows.specs.Sets.{both_sets, union_row, sets};
+ghost use Rattle.wg_rows.specs.Sets.{both_sets, union_row, with_use, with_uses, sets};
 
 use crate::part_runs::{line_before, part_hi, part_lo, same_line};
 use crate::rows::{cut, gaps, inside, printed, put_all};
@@ -43,6 +43,41 @@ fn union_row(
     put_all(alloc, more, left.as_slice())
 }
 
+/// Rows with one more use. A use with an empty run adds nothing.
+pub fn with_use(
+    alloc: Global,
+    rows: &[(PartRun, Usages)],
+    row: (PartRun, Usages),
+) -> Result<Vec<(PartRun, Usages)>, NoMemory>
+    ensures { IfOk result (λ v. v.items ≡ with_use row rows.now) }
+{
+    if part_lo(row.0) < part_hi(row.0) {
+        return union_row(alloc, rows, row);
+    }
+    let held = Vec::from_slice(alloc, rows)?;
+    Ok(held)
+}
+
+/// Rows with more uses, the last of which is added first.
+pub fn with_uses(
+    alloc: Global,
+    rows: &[(PartRun, Usages)],
+    more: &[(PartRun, Usages)],
+) -> Result<Vec<(PartRun, Usages)>, NoMemory>
+    ensures { IfOk result (λ v. v.items ≡ with_uses more.now rows.now) }
+{
+    let mut out = Vec::from_slice(alloc, rows)?;
+    let mut i = more.len();
+    while i > 0 {
+        i -= 1;
+        let row = more[i];
+        if part_lo(row.0) < part_hi(row.0) {
+            out = union_row(alloc, out.as_slice(), row)?;
+        }
+    }
+    Ok(out)
+}
+
 /// Whether a row stands behind another, and cannot be joined with it.
 fn is_after(row: (PartRun, Usages), other: (PartRun, Usages)) -> bool
     ensures { result ≡ is_after row other }
@@ -80,7 +115,7 @@ fn are_apart(rows: &[(PartRun, Usages)]) -> bool
 
 /// The sets of the parts of uses, in printed form. Uses in that form, as those of most steps are,
 /// are only looked through. Where no two uses share a part in different ways, they are printed.
-#[tactic(auto, using(crate::proofs::Order::sets_same, crate::proofs::SetsPrinted::printed_sets))]
+#[tactic(auto, using(crate::proofs::Order::sets_same, crate::proofs::Sets::over_none, crate::proofs::SetsPrinted::printed_sets))]
 pub fn sets(alloc: Global, uses: &[(PartRun, Usages)]) -> Result<Vec<(PartRun, Usages)>, NoMemory>
     ensures { IfOk result (λ v. v.items ≡ sets uses.now) }
 {
@@ -92,14 +127,5 @@ pub fn sets(alloc: Global, uses: &[(PartRun, Usages)]) -> Result<Vec<(PartRun, U
     if are_apart(rows.as_slice()) {
         return Ok(rows);
     }
-    let mut out = Vec::new(alloc);
-    let mut i = uses.len();
-    while i > 0 {
-        i -= 1;
-        let row = uses[i];
-        if part_lo(row.0) < part_hi(row.0) {
-            out = union_row(alloc, out.as_slice(), row)?;
-        }
-    }
-    Ok(out)
+    with_uses(alloc, &[], uses)
 }
