@@ -1,29 +1,30 @@
-//! The steps of queue writes, host accesses and recorded commands, with uses and accesses as they are printed.
+//! What commands do, as deeds, and the steps of queue writes, host accesses and deeds, with uses and
+//! accesses as they are printed.
 #![tactic(auto)]
 
+mod deeds;
+mod done;
 mod touches;
 mod touching;
 
-ghost use Rattle.std.specs.Prelude.{◌≡◌, ℕ, Some, Option, option_to_list, slice_get, IfOk, IfSome};
+ghost use Rattle.std.specs.Prelude.{◌≡◌, Some, Option, map, IfOk, IfSome};
 ghost use Rattle.wg_orders.specs.Steps.{Step};
-ghost use Rattle.wg_model.specs.Walk.{PassSoFar};
-ghost use Rattle.wg_model.specs.Recorded.{StepsOf, encoder_steps, steps_at, write_step, host_usage, host_kind, host_name, host_touches, host_step, touching};
+ghost use Rattle.wg_model.specs.Touches.{placed, touching};
+ghost use Rattle.wg_model.specs.Recorded.{write_step, host_usage, host_kind, host_name, host_touches, host_step};
 ghost use Rattle.wg_model.specs.StepLaws.{IsOwnStep};
 ghost use Rattle.wg_access.specs.Ranges.{IsInRange};
 
+pub use deeds::encoder_deed;
+pub use done::Done;
 use std::alloc::Global;
-use touches::{
-    Touches, buffer_to_buffer_touches, buffer_to_texture_touches, copied_to, end_of, range_touches,
-    texture_to_buffer_touches, texture_to_texture_touches,
-};
-use touching::touching;
-use wg_formats::{has_no_texel, size_or_rest, texture_of, whole_spot};
+use touches::{copied_to, range_touches};
+pub use touching::deed_of;
+use wg_formats::has_no_texel;
 use wg_types::NoMemory;
-use wg_types::commands::{Command, On};
 use wg_types::items::Items;
 use wg_types::mappings::{MapMode, Mapping};
 use wg_types::parts::{Cells, Kind};
-use wg_types::steps::{QueueWrite, Step, StepName, StepPlace, Steps};
+use wg_types::steps::{Deed, QueueWrite, Step, StepName, StepPlace, Steps, Touches};
 use wg_types::usages::Usages;
 
 /// The step that touches these, of which there is one.
@@ -35,141 +36,42 @@ fn one_step(
 ) -> Result<Option<Step>, NoMemory>
     ensures { IfOk result (λ step. step ≡ Some (touching place name touches)) }
 {
-    let step = touching(alloc, place, name, touches.as_slice())?;
-    Ok(Some(step))
+    let Deed {
+        name,
+        uses,
+        accesses,
+    } = deed_of(alloc, name, touches.as_slice())?;
+    Ok(Some(Step {
+        place,
+        name,
+        uses,
+        accesses,
+    }))
 }
 
-/// The step of a command on an encoder, if it makes one.
-#[tactic(auto, unfolding(wg_model::specs::Recorded::encoder_steps))]
-fn command_step(
-    alloc: Global,
-    place: StepPlace,
-    command: &Command,
-) -> Result<Option<Step>, NoMemory>
-    ensures { IfOk result (λ step. option_to_list step ≡ encoder_steps place command.now) }
+/// One deed at a place, copied.
+fn copied(place: StepPlace, deed: &Deed) -> Result<Step, NoMemory>
+    ensures { IfOk result (λ step. step ≡ placed place deed.now) }
 {
-    match command {
-        Command::CopyBufferToBuffer {
-            source,
-            source_offset,
-            target,
-            target_offset,
-            size,
-        } => {
-            if *size == 0 {
-                return Ok(None);
-            }
-            let from = (source.reference().number, *source_offset);
-            let to = (target.reference().number, *target_offset);
-            let touches = buffer_to_buffer_touches(alloc, from, to, *size)?;
-            return one_step(alloc, place, StepName::CopyBufferToBuffer, touches);
-        }
-        Command::CopyBufferToTexture {
-            buffer,
-            layout,
-            texture,
-            spot,
-            size,
-        } => {
-            if has_no_texel(*size) {
-                return Ok(None);
-            }
-            let from = buffer.reference().number;
-            let to = texture.reference().number;
-            let info = texture_of(texture);
-            let touches = buffer_to_texture_touches(alloc, from, layout, to, &info, spot, *size)?;
-            return one_step(alloc, place, StepName::CopyBufferToTexture, touches);
-        }
-        Command::CopyTextureToBuffer {
-            buffer,
-            layout,
-            texture,
-            spot,
-            size,
-        } => {
-            if has_no_texel(*size) {
-                return Ok(None);
-            }
-            let from = texture.reference().number;
-            let to = buffer.reference().number;
-            let info = texture_of(texture);
-            let touches = texture_to_buffer_touches(alloc, to, layout, from, &info, spot, *size)?;
-            return one_step(alloc, place, StepName::CopyTextureToBuffer, touches);
-        }
-        Command::CopyTextureToTexture {
-            source,
-            source_mip,
-            source_origin,
-            target,
-            target_mip,
-            target_origin,
-            size,
-        } => {
-            if has_no_texel(*size) {
-                return Ok(None);
-            }
-            let touches = texture_to_texture_touches(
-                alloc,
-                source.reference().number,
-                &texture_of(source),
-                &whole_spot(*source_mip, *source_origin),
-                target.reference().number,
-                &texture_of(target),
-                &whole_spot(*target_mip, *target_origin),
-                *size,
-            )?;
-            return one_step(alloc, place, StepName::CopyTextureToTexture, touches);
-        }
-        Command::ClearBuffer {
-            buffer,
-            offset,
-            size,
-        } => {
-            let size = size_or_rest(buffer, *offset, *size);
-            if size == 0 {
-                return Ok(None);
-            }
-            let end = end_of(*offset, size)?;
-            let touches = range_touches(alloc, buffer.reference().number, *offset, end)?;
-            return one_step(alloc, place, StepName::ClearBuffer, touches);
-        }
-        Command::BeginComputePass
-        | Command::PushDebugGroup
-        | Command::PopDebugGroup
-        | Command::End => return Ok(None),
-    }
+    let uses = deed.uses.clone()?;
+    let accesses = deed.accesses.clone()?;
+    Ok(Step {
+        place,
+        name: deed.name,
+        uses,
+        accesses,
+    })
 }
 
-/// The step of a kept command, if it makes one. No command of a pass does yet.
-#[tactic(auto, using(wg_model::proofs::StepLaws::pass_none))]
-fn kept_step(
-    alloc: Global,
-    place: StepPlace,
-    kept: &(On, Command),
-) -> Result<Option<Step>, NoMemory>
-    ensures { IfOk result (λ step. (opened : Option PassSoFar) → option_to_list step ≡ steps_at place opened kept.now.0 kept.now.1) }
+/// What was done, as steps at a place, in order.
+pub fn steps(alloc: Global, deeds: &[Deed], place: StepPlace) -> Result<Steps, NoMemory>
+    ensures { IfOk result (λ steps. steps ≡ map (placed place) deeds.now) }
 {
-    match kept.0 {
-        On::Encoder => return command_step(alloc, place, &kept.1),
-        On::Pass(_) => return Ok(None),
+    let mut steps = Vec::with_capacity(alloc, deeds.len())?;
+    for deed in deeds {
+        steps.push(copied(place, deed)?)?;
     }
-}
-
-/// The steps of the commands of a recording that has no verdict and no open pass, in order, each at
-/// this place. A range of bytes or layers that ends past every number, which no such command has, is
-/// answered as want of memory.
-pub fn steps(alloc: Global, commands: &[(On, Command)], place: StepPlace) -> Result<Steps, NoMemory>
-    ensures steps { IfOk result (λ steps. steps ≡ StepsOf place commands.now) }
-    // Each is as the table of uses has it, as the theorem on orders asks.
-    ensures declared { IfOk result (λ steps. (k : ℕ) (s : Step) → slice_get steps k ≡ Some s → IsOwnStep s) }
-{
-    let mut steps = Items::new(alloc);
-    for kept in commands {
-        if let Some(step) = kept_step(alloc, place, kept)? {
-            steps.push(step)?;
-        }
-    }
-    Ok(steps)
+    Ok(Items::from_vec(steps))
 }
 
 /// The step of a queue write, if it makes one.

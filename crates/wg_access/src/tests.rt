@@ -1,13 +1,14 @@
 //! Each call that takes memory, once. What steps commands and writes make is for the scripts of tests/cases.
+use crate::done::Done;
 use crate::{steps, write_step};
 use std::alloc::Global;
 use std::sync::Arc;
 use std::test::Fail;
 use wg_types::NoMemory;
-use wg_types::commands::{Command, On};
+use wg_types::commands::Command;
 use wg_types::handles::{BufferInfo, Handle, Info, ObjRef};
-use wg_types::parts::{Cells, Kind, PartRun};
-use wg_types::steps::{QueueWrite, StepPlace};
+use wg_types::parts::{Cells, Kind, Part, PartRun};
+use wg_types::steps::{QueueWrite, StepName, StepPlace};
 use wg_types::usages::Usages;
 
 /// A buffer of 64 bytes that is copied from and to.
@@ -39,9 +40,9 @@ fn a_copy_and_a_write_make_a_step_each(rt: HostRuntime) -> Result<(), Fail> {
         target_offset: 8,
         size: 12,
     };
-    let mut commands = Vec::new(alloc);
-    commands.push((On::Encoder, copy))?;
-    let made = steps(alloc, commands.as_slice(), StepPlace::Op(4))?;
+    let mut done = Done::new(alloc);
+    done.add_command(alloc, None, &copy)?;
+    let made = steps(alloc, done.deeds.as_slice(), StepPlace::Op(4))?;
     let [step] = made.as_slice() else {
         return Err(Fail::new("one step"));
     };
@@ -68,5 +69,19 @@ fn a_copy_and_a_write_make_a_step_each(rt: HostRuntime) -> Result<(), Fail> {
         step.accesses.as_slice(),
         [(bytes(3, 4, 12), Kind::Write)].as_slice()
     );
+    Ok(())
+}
+
+#[test]
+fn a_dispatch_has_a_usage_scope(rt: HostRuntime) -> Result<(), Fail> {
+    let alloc = rt.alloc();
+    let touches = [
+        (bytes(7, 0, 16), (Usages::CONSTANT, Kind::Read)),
+        (bytes(7, 16, 32), (Usages::STORAGE, Kind::Both)),
+    ];
+    let mut done = Done::new(alloc);
+    done.add(alloc, StepName::Dispatch, touches.as_slice())?;
+    assert_eq!(rt; done.clash, Some(Part::Buffer { object: 7 }));
+    assert_eq!(rt; done.deeds.as_slice().len(), 1);
     Ok(())
 }

@@ -82,7 +82,11 @@ pub fn check(command: &Command) -> Option<u16>
         Command::BeginComputePass
         | Command::PushDebugGroup
         | Command::PopDebugGroup
-        | Command::End => return None,
+        | Command::End
+        | Command::SetPipeline { .. }
+        | Command::SetBindGroup { .. }
+        | Command::Dispatch { .. }
+        | Command::DispatchIndirect { .. } => return None,
     }
 }
 

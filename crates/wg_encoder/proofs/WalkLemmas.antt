@@ -1,5 +1,5 @@
 -- What is known of the kept commands after one more.
-use Rattle.std.proofs.Common.{◌≡◌, ℕ, ◌+◌, ◌<◌, ◌==◌, ◌||◌, ◌++◌, inl, inr, Bool, true, false, Option, Some, None, List, [], ◌∷◌, length, get_or, slice_set, refl, sym, ◌∙◌, ap, arith, append-nil, length-append, slice_index_or, is_some}
+use Rattle.std.proofs.Common.{◌≡◌, ℕ, ◌+◌, ◌<◌, ◌==◌, ◌||◌, ◌++◌, inl, inr, Bool, true, false, Option, Some, None, List, [], ◌∷◌, length, get_or, slice_set, map, refl, sym, ◌∙◌, ap, arith, length-append, slice_index_or, is_some}
 use Rattle.std.proofs.lemmas.List.{length-set, get_or-set_other}
 use Rattle.std.proofs.lemmas.Grind.{get_or-set_at}
 use Rattle.std.proofs.Common.{◌≢◌}
@@ -9,26 +9,26 @@ use Rattle.std.proofs.lemmas.List.{get_or_append_left}
 use Rattle.std.proofs.Math.Seq.{get_or-append_seam}
 use Rattle.wg_types.specs.Commands.{Command}
 use Rattle.wg_types.specs.declared.commands.On.TheVariants.{Encoder, Pass}
-use Rattle.wg_types.specs.declared.parts.Part.{Part}
 use Rattle.wg_types.specs.declared.commands.CommandOf.TheVariants.{BeginComputePass}
 use Rattle.wg_model.proofs.Walks.{ended_new, open_number_below}
 use Rattle.wg_types.specs.Commands.{is_begin, is_end}
 use Rattle.wg_model.specs.Rules.{or_else, first_unmet}
 use Rattle.wg_model.specs.Commands.{command_rules}
 use Rattle.wg_model.specs.Compute.{depth_after}
-use Rattle.wg_model.specs.Scopes.{Use, clash, first_clash}
-use Rattle.wg_model.specs.Walk.{Kept, PassSoFar, pass_rule, begins, open_pass, is_open, has_ended, encoder_depth, verdict, scopes_in, scopes_of}
+use Rattle.std.specs.Option.{option_to_list}
+use Rattle.wg_model.specs.Touches.{uses_in, deed_of, encoder_does}
+use Rattle.wg_model.specs.Scopes.{first_clash}
+use Rattle.wg_model.specs.Walk.{Kept, PassSoFar, pass_rule, pass_does, begins, open_pass, is_open, has_ended, encoder_depth, verdict, doings, deeds, scopes_of}
+use Rattle.wg_access.specs.Done.{done_by_encoder, done_by_pass, done_of}
 use Rattle.wg_encoder.specs.Walked.{IsStateOf, IsOpenOf, IsWalkOf, IsNext}
+use Rattle.wg_encoder.proofs.DoneLemmas.{after_nothing, after_encoder, after_pass}
+use Rattle.wg_access.specs.declared.done.Done.{Done}
 use Rattle.wg_encoder.specs.declared.walk.Walk.{Walk}
 use Rattle.wg_encoder.specs.declared.walk.Opened.{Opened}
 
 pub or_none : {X : Type 0} (a : Option X) → or_else a None ≡ a
 or_none None = refl
 or_none (Some x) = refl
-
-or_assoc : {X : Type 0} (a b c : Option X) → or_else (or_else a b) c ≡ or_else a (or_else b c)
-or_assoc None b c = refl
-or_assoc (Some x) b c = refl
 
 -- of two that are none, both are
 or_first : {X : Type 0} (a b : Option X) → or_else a b ≡ None → a ≡ None
@@ -38,10 +38,6 @@ or_first (Some x) b h = h
 or_second : {X : Type 0} (a b : Option X) → or_else a b ≡ None → b ≡ None
 or_second None b h = h
 or_second (Some x) b h = absurd (cc)
-
-pub first_clash-append : (xs ys : List (List Use)) → first_clash (xs ++ ys) ≡ or_else (first_clash xs) (first_clash ys)
-first_clash-append [] ys = refl
-first_clash-append (x ∷ xs) ys = ap (λ r. or_else (clash x) r) (first_clash-append xs ys) ∙ sym (or_assoc (clash x) (first_clash xs) (first_clash ys))
 
 at_push : (marks : List Bool) (c n : ℕ) (d : ℕ → Bool) → length marks ≡ c → ((k : ℕ) → k < c → get_or marks k false ≡ d k) → d c ≡ false → n < c + 1 → get_or (marks ++ false ∷ []) n false ≡ d n
 at_push marks c n d len each new lt = elim (cases_lt n c) [
@@ -58,7 +54,7 @@ walk_dead device kept pass command walk m h = record {
   verdict_is = m.verdict_is ∙ rw h (sym (or_none _));
   depth_is = m.depth_is;
   open_is = rw h m.open_is;
-  clash_is = λ v r. m.clash_is (or_first _ _ v) (rw h at r) ∙ rw h (ap first_clash (sym (append-nil (scopes_of kept))));
+  done_is = λ v r. m.done_is (or_first _ _ v) (rw h at r) ∙ rw h (sym (after_nothing (scopes_of kept) (doings kept)));
 }
 
 some_is : (opened : Option PassSoFar) → is_some opened ≡ true → (q : PassSoFar) × (opened ≡ Some q)
@@ -77,7 +73,7 @@ locked device kept opened command walk m e b = record {
   verdict_is = rw e (ap (λ v. or_else v (Some 240)) m.verdict_is);
   depth_is = rw e m.depth_is;
   open_is = let o = m.open_is in rw e (rw e at o);
-  clash_is = λ v r. let w = or_second (verdict device kept) _ v in absurd (let x = rw e at w in cc);
+  done_is = λ v r. let w = or_second (verdict device kept) _ v in absurd (let x = rw e at w in cc);
 }
 
 -- a dead pass: one that is begun on a locked encoder
@@ -88,7 +84,7 @@ dead_begun device kept opened command walk m e b = record {
   verdict_is = rw e (ap (λ v. or_else v (Some 240)) m.verdict_is);
   depth_is = rw e m.depth_is;
   open_is = let o = m.open_is in rw e (rw e at o);
-  clash_is = λ v r. let w = or_second (verdict device kept) _ v in absurd (let x = rw e at w in cc);
+  done_is = λ v r. let w = or_second (verdict device kept) _ v in absurd (let x = rw e at w in cc);
 }
 
 pub walk_locked : (device : ℕ) (kept : Kept) (command : Command) (walk : Walk) → IsWalkOf device kept walk → is_some (open_pass kept) ≡ true → is_begin command ≡ false → IsWalkOf device ((Encoder, command) ∷ kept) (record walk { verdict = or_else walk.verdict (Some 240) })
@@ -97,10 +93,15 @@ walk_locked device kept command walk m l b = let q = some_is (open_pass kept) l 
 pub walk_dead_begun : (device : ℕ) (kept : Kept) (command : Command) (walk : Walk) → IsWalkOf device kept walk → is_some (open_pass kept) ≡ true → is_begin command ≡ true → IsWalkOf device ((Encoder, command) ∷ kept) (record walk { verdict = or_else walk.verdict (Some 240); ended = walk.ended ++ false ∷ [] })
 walk_dead_begun device kept command walk m l b = let q = some_is (open_pass kept) l in dead_begun device kept q.0 command walk m q.1 b
 
--- a begin leaves the debug groups of the encoder
+-- a begin has no rule of the encoder, and leaves its debug groups
 begin_depth : (depth : ℕ) (command : Command) → is_begin command ≡ true → depth_after depth command ≡ depth
 begin_depth depth BeginComputePass b = refl
 begin_depth depth _ b = absurd (cc)
+
+begin_does : (command : Command) → is_begin command ≡ true → encoder_does command ≡ None
+unfolding encoder_does
+begin_does BeginComputePass b = refl
+begin_does _ b = absurd (cc)
 
 -- a pass that is begun on an unlocked encoder
 begun : (device : ℕ) (kept : Kept) (command : Command) (walk : Walk) (opened : Opened) → IsWalkOf device kept walk → open_pass kept ≡ None → is_begin command ≡ true → opened.number ≡ begins kept → IsStateOf device command [] opened.state → IsWalkOf device ((Encoder, command) ∷ kept) (record walk { ended = walk.ended ++ false ∷ []; opened = Some opened })
@@ -110,42 +111,50 @@ begun device kept command walk opened m e b n s = record {
   verdict_is = rw e (rw b (m.verdict_is ∙ sym (or_none _)));
   depth_is = rw e (m.depth_is ∙ sym (begin_depth (encoder_depth kept) command b));
   open_is = rw e (rw b (n, s));
-  clash_is = λ v r. m.clash_is (or_first _ _ v) (rw e refl) ∙ ap first_clash (sym (append-nil (scopes_of kept)));
+  done_is = λ v r. m.done_is (or_first _ _ v) (rw e refl) ∙ sym (after_encoder (scopes_of kept) (doings kept) (encoder_does command) ∙ ap (done_by_encoder (done_of kept)) (begin_does command b));
 }
 
 -- a command on an unlocked encoder that begins no pass
-command_free : (device : ℕ) (kept : Kept) (command : Command) (walk : Walk) → IsWalkOf device kept walk → open_pass kept ≡ None → is_begin command ≡ false → IsWalkOf device ((Encoder, command) ∷ kept) (record walk { verdict = or_else walk.verdict (first_unmet (command_rules device walk.depth command)); depth = depth_after walk.depth command })
-command_free device kept command walk m e b = record {
+abbrev NextVerdict : ℕ → Walk → Command → Option ℕ
+NextVerdict device walk command = or_else walk.verdict (first_unmet (command_rules device walk.depth command))
+
+command_free : (device : ℕ) (kept : Kept) (command : Command) (walk : Walk) (done : Done) → IsWalkOf device kept walk → open_pass kept ≡ None → is_begin command ≡ false → (NextVerdict device walk command ≡ None → done ≡ done_by_encoder walk.done (encoder_does command)) → IsWalkOf device ((Encoder, command) ∷ kept) (record walk { done = done; verdict = NextVerdict device walk command; depth = depth_after walk.depth command })
+command_free device kept command walk done m e b d = record {
   count = rw b m.count;
   ended_is = λ n lt. m.ended_is n (rw b at lt);
-  verdict_is = rw e (rw b (rw m.verdict_is (rw m.depth_is refl)));
+  verdict_is = next;
   depth_is = rw e (ap (λ d. depth_after d command) m.depth_is);
   open_is = let o = m.open_is in rw e (rw b (rw e at o));
-  clash_is = λ v r. m.clash_is (or_first _ _ v) (rw e refl) ∙ ap first_clash (sym (append-nil (scopes_of kept)));
+  done_is = λ v r. d (next ∙ v) ∙ (ap (λ done. done_by_encoder done (encoder_does command)) (m.done_is (or_first _ _ v) (rw e refl)) ∙ sym (after_encoder (scopes_of kept) (doings kept) (encoder_does command)));
 }
+  where
+    next : NextVerdict device walk command ≡ verdict device ((Encoder, command) ∷ kept)
+    next = rw e (rw b (rw m.verdict_is (rw m.depth_is refl)))
 
 pub walk_begun : (device : ℕ) (kept : Kept) (command : Command) (walk : Walk) (opened : Opened) → IsWalkOf device kept walk → is_some (open_pass kept) ≡ false → is_begin command ≡ true → opened.number ≡ begins kept → IsStateOf device command [] opened.state → IsWalkOf device ((Encoder, command) ∷ kept) (record walk { ended = walk.ended ++ false ∷ []; opened = Some opened })
 walk_begun device kept command walk opened m f b n s = begun device kept command walk opened m (none_is (open_pass kept) f) b n s
 
-pub walk_command : (device : ℕ) (kept : Kept) (command : Command) (walk : Walk) → IsWalkOf device kept walk → is_some (open_pass kept) ≡ false → is_begin command ≡ false → IsWalkOf device ((Encoder, command) ∷ kept) (record walk { verdict = or_else walk.verdict (first_unmet (command_rules device walk.depth command)); depth = depth_after walk.depth command })
-walk_command device kept command walk m f b = command_free device kept command walk m (none_is (open_pass kept) f) b
+pub walk_command : (device : ℕ) (kept : Kept) (command : Command) (walk : Walk) (done : Done) → IsWalkOf device kept walk → is_some (open_pass kept) ≡ false → is_begin command ≡ false → (or_else walk.verdict (first_unmet (command_rules device walk.depth command)) ≡ None → done ≡ done_by_encoder walk.done (encoder_does command)) → IsWalkOf device ((Encoder, command) ∷ kept) (record walk { done = done; verdict = or_else walk.verdict (first_unmet (command_rules device walk.depth command)); depth = depth_after walk.depth command })
+walk_command device kept command walk done m f b d = command_free device kept command walk done m (none_is (open_pass kept) f) b d
 
 open_some : (opened : Option PassSoFar) (pass : ℕ) → is_open opened pass ≡ true → (q : PassSoFar) × (opened ≡ Some q)
 open_some None pass h = absurd (cc)
 open_some (Some q) pass h = (q, refl)
 
-clash_after : (device : ℕ) (kept : Kept) (q : PassSoFar) (command : Command) (walk : Walk) (old new : Opened) (found : Option Part) (rule : Option ℕ) → IsWalkOf device kept walk → open_pass kept ≡ Some q → IsOpenOf device (Some q) (Some old) → IsNext device command old new found rule → verdict device kept ≡ None → pass_rule device q.begin (command ∷ q.earlier) ≡ None → or_else walk.clash found ≡ first_clash (scopes_of kept ++ scopes_in q.begin q.earlier command)
-clash_after device kept q command walk old new found rule m e o next v r =
-    rw (m.clash_is v (rw e (or_first _ _ r))) (rw (next.clash_is q.begin q.earlier (next.took q.begin q.earlier o.1) r) (sym (first_clash-append (scopes_of kept) (scopes_in q.begin q.earlier command))))
+done_after : (device : ℕ) (kept : Kept) (q : PassSoFar) (command : Command) (walk : Walk) (old new : Opened) (after : Done) (rule : Option ℕ) → IsWalkOf device kept walk → open_pass kept ≡ Some q → IsOpenOf device (Some q) (Some old) → IsNext device command old new walk.done after rule → verdict device kept ≡ None → pass_rule device q.begin (command ∷ q.earlier) ≡ None → after ≡ record { clash = first_clash (scopes_of kept ++ map uses_in (option_to_list (pass_does q.begin q.earlier command))); deeds = map deed_of (doings kept ++ option_to_list (pass_does q.begin q.earlier command)) }
+done_after device kept q command walk old new after rule m e o next v r =
+    (next.taken q.begin q.earlier o.1).done_is r
+    ∙ (ap (λ done. done_by_pass done (pass_does q.begin q.earlier command)) (m.done_is v (rw e (or_first _ _ r)))
+    ∙ sym (after_pass (scopes_of kept) (doings kept) (pass_does q.begin q.earlier command)))
 
-inside : (device : ℕ) (kept : Kept) (pass : ℕ) (q : PassSoFar) (command : Command) (walk : Walk) (old new : Opened) (found : Option Part) (rule : Option ℕ) → IsWalkOf device kept walk → open_pass kept ≡ Some q → pass == q.number ≡ true → is_end command ≡ false → IsOpenOf device (Some q) (Some old) → IsNext device command old new found rule → IsWalkOf device ((Pass pass, command) ∷ kept) (record walk { opened = Some new; clash = or_else walk.clash found })
-inside device kept pass q command walk old new found rule m e h b o next = record {
+inside : (device : ℕ) (kept : Kept) (pass : ℕ) (q : PassSoFar) (command : Command) (walk : Walk) (old new : Opened) (after : Done) (rule : Option ℕ) → IsWalkOf device kept walk → open_pass kept ≡ Some q → pass == q.number ≡ true → is_end command ≡ false → IsOpenOf device (Some q) (Some old) → IsNext device command old new walk.done after rule → IsWalkOf device ((Pass pass, command) ∷ kept) (record walk { opened = Some new; done = after })
+inside device kept pass q command walk old new after rule m e h b o next = record {
   count = m.count;
   ended_is = λ n lt. m.ended_is n lt ∙ rw e (rw h (rw b refl));
   verdict_is = m.verdict_is ∙ rw e (rw h (rw b (sym (or_none _))));
   depth_is = m.depth_is;
-  open_is = rw e (rw h (rw b (next.number ∙ o.0, next.took q.begin q.earlier o.1)));
-  clash_is = λ v r. rw e (rw h (clash_after device kept q command walk old new found rule m e o next (or_first _ _ v) (let x = rw e at r in let y = rw h at x in rw b at y)));
+  open_is = rw e (rw h (rw b (next.number ∙ o.0, (next.taken q.begin q.earlier o.1).state_is)));
+  done_is = λ v r. rw e (rw h (done_after device kept q command walk old new after rule m e o next (or_first _ _ v) (let x = rw e at r in let y = rw h at x in rw b at y)));
 }
 
 at_set_by : (b : Bool) (marks : List Bool) (p n : ℕ) (d : Bool) → (p == n) ≡ b → p < length marks → slice_index_or marks n false ≡ d → slice_index_or (slice_set marks p true) n false ≡ b || d
@@ -155,27 +164,31 @@ at_set_by false marks p n d e lt each = let other : n ≢ p = grind (arith, nat_
 at_set : (marks : List Bool) (p n c : ℕ) (d : ℕ → Bool) → length marks ≡ c → p < c → ((k : ℕ) → k < c → slice_index_or marks k false ≡ d k) → n < c → slice_index_or (slice_set marks p true) n false ≡ (p == n) || d n
 at_set marks p n c d len lt each below = at_set_by (p == n) marks p n (d n) refl (omega (arith, len, lt)) (each n below)
 
-ended : (device : ℕ) (kept : Kept) (pass : ℕ) (q : PassSoFar) (command : Command) (walk : Walk) (old new : Opened) (found : Option Part) (rule : Option ℕ) → IsWalkOf device kept walk → open_pass kept ≡ Some q → pass == q.number ≡ true → is_end command ≡ true → IsOpenOf device (Some q) (Some old) → IsNext device command old new found rule → pass < begins kept → IsWalkOf device ((Pass pass, command) ∷ kept) (record walk { opened = None; clash = or_else walk.clash found; verdict = or_else walk.verdict rule; ended = slice_set walk.ended pass true })
-ended device kept pass q command walk old new found rule m e h b o next lt = record {
+ended : (device : ℕ) (kept : Kept) (pass : ℕ) (q : PassSoFar) (command : Command) (walk : Walk) (old new : Opened) (after : Done) (rule : Option ℕ) → IsWalkOf device kept walk → open_pass kept ≡ Some q → pass == q.number ≡ true → is_end command ≡ true → IsOpenOf device (Some q) (Some old) → IsNext device command old new walk.done after rule → pass < begins kept → IsWalkOf device ((Pass pass, command) ∷ kept) (record walk { opened = None; done = after; verdict = or_else walk.verdict rule; ended = slice_set walk.ended pass true })
+ended device kept pass q command walk old new after rule m e h b o next lt = record {
   count = length-set walk.ended pass true ∙ m.count;
   ended_is = λ n below. at_set walk.ended pass n (begins kept) (has_ended kept) m.count lt m.ended_is below ∙ rw e (rw h (rw b refl));
-  verdict_is = rw m.verdict_is (rw e (rw h (rw b (rw (next.rule_is q.begin q.earlier (next.took q.begin q.earlier o.1)) refl))));
+  verdict_is = rw m.verdict_is (rw e (rw h (rw b (rw ((next.taken q.begin q.earlier o.1).rule_is) refl))));
   depth_is = m.depth_is;
   open_is = rw e (rw h (rw b tt));
-  clash_is = λ v r. rw e (rw h (clash_after device kept q command walk old new found rule m e o next (or_first _ _ v) (let x = or_second (verdict device kept) _ v in let y = rw e at x in let z = rw h at y in rw b at z)));
+  done_is = λ v r. rw e (rw h (done_after device kept q command walk old new after rule m e o next (or_first _ _ v) (let x = or_second (verdict device kept) _ v in let y = rw e at x in let z = rw h at y in rw b at z)));
 }
 
 opened_is : (device : ℕ) (opened : Option PassSoFar) (q : PassSoFar) (held : Option Opened) (old : Opened) → IsOpenOf device opened held → opened ≡ Some q → held ≡ Some old → IsOpenOf device (Some q) (Some old)
 opened_is device opened q held old o e h = let x = rw e at o in rw h at x
 
 -- a command of the open pass that is no end
-pub walk_inside : (device : ℕ) (kept : Kept) (pass : ℕ) (command : Command) (walk : Walk) (old new : Opened) (found : Option Part) (rule : Option ℕ) → IsWalkOf device kept walk → walk.opened ≡ Some old → is_open (open_pass kept) pass ≡ true → is_end command ≡ false → IsNext device command old new found rule → IsWalkOf device ((Pass pass, command) ∷ kept) (record walk { opened = Some new; clash = or_else walk.clash found })
-walk_inside device kept pass command walk old new found rule m h i b next =
+pub walk_inside : (device : ℕ) (kept : Kept) (pass : ℕ) (command : Command) (walk : Walk) (old new : Opened) (after : Done) (rule : Option ℕ) → IsWalkOf device kept walk → walk.opened ≡ Some old → is_open (open_pass kept) pass ≡ true → is_end command ≡ false → IsNext device command old new walk.done after rule → IsWalkOf device ((Pass pass, command) ∷ kept) (record walk { opened = Some new; done = after })
+walk_inside device kept pass command walk old new after rule m h i b next =
     let q = open_some (open_pass kept) pass i in
-    inside device kept pass q.0 command walk old new found rule m q.1 (rw q.1 at i) b (opened_is device (open_pass kept) q.0 walk.opened old m.open_is q.1 h) next
+    inside device kept pass q.0 command walk old new after rule m q.1 (rw q.1 at i) b (opened_is device (open_pass kept) q.0 walk.opened old m.open_is q.1 h) next
 
 -- the end of the open pass
-pub walk_ended : (device : ℕ) (kept : Kept) (pass : ℕ) (command : Command) (walk : Walk) (old new : Opened) (found : Option Part) (rule : Option ℕ) → IsWalkOf device kept walk → walk.opened ≡ Some old → is_open (open_pass kept) pass ≡ true → is_end command ≡ true → IsNext device command old new found rule → IsWalkOf device ((Pass pass, command) ∷ kept) (record walk { opened = None; clash = or_else walk.clash found; verdict = or_else walk.verdict rule; ended = slice_set walk.ended pass true })
-walk_ended device kept pass command walk old new found rule m h i b next =
+pub walk_ended : (device : ℕ) (kept : Kept) (pass : ℕ) (command : Command) (walk : Walk) (old new : Opened) (after : Done) (rule : Option ℕ) → IsWalkOf device kept walk → walk.opened ≡ Some old → is_open (open_pass kept) pass ≡ true → is_end command ≡ true → IsNext device command old new walk.done after rule → IsWalkOf device ((Pass pass, command) ∷ kept) (record walk { opened = None; done = after; verdict = or_else walk.verdict rule; ended = slice_set walk.ended pass true })
+walk_ended device kept pass command walk old new after rule m h i b next =
     let q = open_some (open_pass kept) pass i in
-    ended device kept pass q.0 command walk old new found rule m q.1 (rw q.1 at i) b (opened_is device (open_pass kept) q.0 walk.opened old m.open_is q.1 h) next (open_number_below kept pass i)
+    ended device kept pass q.0 command walk old new after rule m q.1 (rw q.1 at i) b (opened_is device (open_pass kept) q.0 walk.opened old m.open_is q.1 h) next (open_number_below kept pass i)
+
+-- what is done by a recording that has no verdict and no open pass
+pub deeds_are : (device : ℕ) (kept : Kept) (walk : Walk) → IsWalkOf device kept walk → verdict device kept ≡ None → is_some (open_pass kept) ≡ false → walk.done.deeds ≡ deeds kept
+deeds_are device kept walk m v o = ap (λ done. done.deeds) (m.done_is v (rw (none_is (open_pass kept) o) refl))

@@ -1,19 +1,22 @@
 -- What a recorder keeps in place of a walk over its commands, and that it is what the walk finds.
 use Rattle.std.specs.Prelude.{◌≡◌, ℕ, ◌<◌, false, List, ◌∷◌, Option, Some, None, length, slice_index_or}
-use Rattle.wg_types.specs.declared.parts.Part.{Part}
 use Rattle.wg_types.specs.Commands.{Command, bracket}
 use Rattle.wg_types.specs.declared.commands.Bracket.{Bracket}
 use Rattle.wg_types.specs.declared.commands.Bracket.TheVariants as brackets
-use Rattle.wg_model.specs.Compute.{ComputeSet, compute_set, compute_rules}
 use Rattle.wg_model.specs.Rules.{first_unmet, or_else}
 use Rattle.wg_model.specs.Commands.{named, common_rules}
-use Rattle.wg_model.specs.Scopes.{first_clash}
-use Rattle.wg_model.specs.Walk.{Kept, PassSoFar, pass_rule, begins, open_pass, has_ended, encoder_depth, verdict, scopes_of, scopes_in}
-use Rattle.wg_encoder.specs.Compute.{compute_after}
+use Rattle.wg_model.specs.Compute.{ComputeSet, compute_set, compute_rules}
+use Rattle.wg_model.specs.Walk.{Kept, PassSoFar, pass_rule, pass_does, begins, open_pass, has_ended, encoder_depth, verdict}
+use Rattle.wg_access.specs.Done.{done_by_pass, done_of}
+use Rattle.wg_access.specs.declared.done.Done.{Done}
 use Rattle.wg_encoder.specs.declared.pass.PassState.{PassState}
 use Rattle.wg_encoder.specs.declared.pass.PassState.TheVariants.{Refused, Compute}
 use Rattle.wg_encoder.specs.declared.walk.Opened.{Opened}
 use Rattle.wg_encoder.specs.declared.walk.Walk.{Walk}
+
+-- the first unmet rule of a command of a compute pass, over what is set
+abbrev pub rule_over : ℕ → ComputeSet → Command → Option ℕ
+rule_over device set command = or_else (first_unmet (common_rules device (named command))) (first_unmet (compute_rules set command))
 
 abbrev pub IsComputeBy : Bracket → List Command → ComputeSet → Type 0
 IsComputeBy brackets.BeginComputePass earlier set = set ≡ compute_set earlier
@@ -48,17 +51,15 @@ pub record IsWalkOf (device : ℕ) (kept : Kept) (walk : Walk) : Type 0 where
   pub depth_is : walk.depth ≡ encoder_depth kept
   pub open_is : IsOpenOf device (open_pass kept) walk.opened
   -- as long as no rule was unmet, also in the open pass
-  pub clash_is : verdict device kept ≡ None → open_rule device (open_pass kept) ≡ None → walk.clash ≡ first_clash (scopes_of kept)
+  pub done_is : verdict device kept ≡ None → open_rule device (open_pass kept) ≡ None → walk.done ≡ done_of kept
 
--- A compute pass took a command: its rule is the first unmet one, and where there is none the command is set.
-pub record IsComputeTaken (device : ℕ) (old : ComputeSet) (command : Command) (rule : Option ℕ) (new : ComputeSet) : Type 0 where
-  pub rule_is : rule ≡ or_else (first_unmet (common_rules device (named command))) (first_unmet (compute_rules old command))
-  pub after : rule ≡ None → new ≡ compute_after old command
+-- A pass took a command: its state, its rule, and what is done are after it what its commands give.
+pub record IsTaken (device : ℕ) (begin : Command) (earlier : List Command) (command : Command) (state : PassState) (old new : Done) (rule : Option ℕ) : Type 0 where
+  pub state_is : IsStateOf device begin (command ∷ earlier) state
+  pub rule_is : rule ≡ pass_rule device begin (command ∷ earlier)
+  pub done_is : pass_rule device begin (command ∷ earlier) ≡ None → new ≡ done_by_pass old (pass_does begin earlier command)
 
--- What a command of the open pass does to the pass's state: it takes the command, and gives the clash of the scope that it
--- completes, and the pass's rule.
-pub record IsNext (device : ℕ) (command : Command) (old new : Opened) (found : Option Part) (rule : Option ℕ) : Type 0 where
-  pub number : new.number ≡ old.number
-  pub took : (begin : Command) (earlier : List Command) → IsStateOf device begin earlier old.state → IsStateOf device begin (command ∷ earlier) new.state
-  pub clash_is : (begin : Command) (earlier : List Command) → IsStateOf device begin (command ∷ earlier) new.state → pass_rule device begin (command ∷ earlier) ≡ None → found ≡ first_clash (scopes_in begin earlier command)
-  pub rule_is : (begin : Command) (earlier : List Command) → IsStateOf device begin (command ∷ earlier) new.state → rule ≡ pass_rule device begin (command ∷ earlier)
+-- The open pass took a command.
+pub record IsNext (device : ℕ) (command : Command) (before after : Opened) (old new : Done) (rule : Option ℕ) : Type 0 where
+  pub number : after.number ≡ before.number
+  pub taken : (begin : Command) (earlier : List Command) → IsStateOf device begin earlier before.state → IsTaken device begin earlier command after.state old new rule

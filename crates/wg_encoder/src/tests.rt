@@ -112,3 +112,24 @@ fn a_pass_on_a_locked_encoder_is_dead(rt: HostRuntime) -> Result<(), Fail> {
     assert!(rt; recorder.take().open_pass());
     Ok(())
 }
+
+#[test]
+fn an_open_pass_leaves_nothing_done(rt: HostRuntime) -> Result<(), Fail> {
+    let alloc = rt.alloc();
+    let mut recorder = opened(alloc);
+    let clear = Command::ClearBuffer {
+        buffer: object(alloc, 1, BUFFER)?,
+        offset: 0,
+        size: Some(8),
+    };
+    note(&rt, &mut recorder, On::Encoder, clear)?;
+    note(&rt, &mut recorder, On::Encoder, Command::BeginComputePass)?;
+    let recording = recorder.take();
+    assert_eq!(rt; recording.done().len(), 0);
+    recorder.put_back(recording);
+    note(&rt, &mut recorder, On::Pass(0), Command::End)?;
+    let recording = recorder.take();
+    assert_eq!(rt; recording.done().len(), 1);
+    assert_eq!(rt; recording.scopes(), None);
+    Ok(())
+}

@@ -1,6 +1,9 @@
 //! The aspects of formats, and the bytes of a texel in copies.
-ghost use Rattle.std.specs.Prelude.{◌≡◌, ◌≤◌, IfSome};
+ghost use Rattle.std.specs.Prelude.{◌≡◌, ◌≤◌, ◌==◌, IfSome};
+ghost use Rattle.std.specs.List.{list_any};
+ghost use Rattle.wg_rows.specs.Runs.{aspect_number};
 ghost use Rattle.wg_types.specs.Formats.{row, format_number};
+ghost use Rattle.wg_model.specs.Subresources.{aspects_meet};
 ghost use Rattle.wg_model.specs.Formats.{has_depth, has_stencil, is_color, has_named, all_aspects, named_aspects, copied_aspect, bytes_to, bytes_from, texel_to, texel_from, linear, copy_compatible};
 
 use wg_types::formats::{Format, FormatAspects};
@@ -81,6 +84,30 @@ pub fn named_aspects(word: AspectWord, format: Format) -> &'static [Aspect]
             return &[];
         }
     }
+}
+
+/// Whether an aspect is one of these.
+fn has_aspect(aspects: &[Aspect], aspect: Aspect) -> bool
+    ensures { result ≡ list_any (λ other. aspect_number aspect == aspect_number other) aspects.now }
+{
+    for other in aspects {
+        if (aspect as u8) == (*other as u8) {
+            return true;
+        }
+    }
+    false
+}
+
+/// Whether two lists of aspects have one in common.
+pub fn aspects_meet(aspects: &[Aspect], others: &[Aspect]) -> bool
+    ensures { result ≡ aspects_meet aspects.now others.now }
+{
+    for aspect in aspects {
+        if has_aspect(others, *aspect) {
+            return true;
+        }
+    }
+    false
 }
 
 /// The one aspect that a copy between a buffer and a texture takes; none where a word names several.

@@ -8,7 +8,9 @@ mod handles;
 mod layout;
 mod memory;
 
-pub use aspects::{copy_compatible, has_named, is_color, named_aspects, texel_from, texel_to};
+pub use aspects::{
+    aspects_meet, copy_compatible, has_named, is_color, named_aspects, texel_from, texel_to,
+};
 pub use extents::{
     covers_all, end_layer, extent, first_layer, has_no_texel, layer_count, spot_fits,
 };

@@ -18,7 +18,8 @@ use Rattle.wg_history.proofs.Runs.{newest, others}
 use Rattle.wg_history.proofs.Tests.{not_true, any_grows, met_after, met_before}
 use Rattle.wg_history.proofs.Released.{resource_made, due_some}
 use Rattle.wg_history.proofs.Makers.{made_more, own_below}
-use Rattle.wg_history.proofs.Holders.{undropped_held, named_held, listed_names, held_falls}
+use Rattle.wg_history.proofs.Holders.{undropped_held, held_falls}
+use Rattle.wg_history.proofs.Reached.{listed_held}
 use Rattle.wg_history.specs.Entries.{Setup, Event, Submit, WriteBuffer, WriteTexture, Complete, Reply, Entry, Past}
 use Rattle.wg_history.specs.Objects.{ObjRef, is_making, count, resource_at, commands_at}
 use Rattle.wg_history.specs.Operations.{issued, completion, completed, submit_uses, is_used, op_of, use_by, last_use}
@@ -103,9 +104,9 @@ buffers_stand setup past buffers none = by_use (any_used buffers_of (is_destroye
     by_use false used = refl
 
 -- A submit that meets its rules uses nothing that is gone.
-pub submit_stands : (setup : Setup) (past : Past) (buffers : List ObjRef) (n : ℕ) → is_none (submit_rule setup past buffers) ≡ true → n < count past → is_gone setup past n ≡ true → submit_uses past buffers n ≡ false
+pub submit_stands : (setup : Setup) (past : Past) (buffers : List ObjRef) (n : ℕ) → IsRun setup past → is_none (submit_rule setup past buffers) ≡ true → n < count past → is_gone setup past n ≡ true → submit_uses past buffers n ≡ false
 unfolding submit_rule
-submit_stands setup past buffers n e lt gone =
+submit_stands setup past buffers n run e lt gone =
     let all : AreMet (submit_list setup past buffers) = all_met (submit_list setup past buffers) e in
     let met : AreMet (together_rules setup past buffers) = met_after (listed_rules setup past buffers) (together_rules setup past buffers) all in
     let spared : any_used resources (is_destroyed setup past) past buffers ≡ false = any_destroyed_is setup past buffers ∙ ap₂ ◌||◌ (buffers_stand setup past buffers (not_true (any_used buffers_of (is_busy setup past) past buffers) met.1.1.0)) (not_true (any_used textures_of (is_destroyed setup past) past buffers) met.1.1.1.0) in
@@ -114,7 +115,7 @@ submit_stands setup past buffers n e lt gone =
     by_use : (b : Bool) → submit_uses past buffers n ≡ b → any_used resources (is_destroyed setup past) past buffers ≡ false → AreMet (listed_rules setup past buffers) → list_any (λ buffer. is_consumed setup past buffer.number) buffers ≡ false → b ≡ false
     by_use true used spared listed consumed = elim (or_cases (is_destroyed setup past n) (not (is_held setup past n)) gone) [
       | inl destroyed ↦ absurd (true≢false (sym (used_destroyed setup past buffers n destroyed used) ∙ spared))
-      | inr unheld ↦ absurd (true≢false (sym (named_held setup past n lt (listed_names setup past buffers n listed consumed used)) ∙ not_true (is_held setup past n) unheld))
+      | inr unheld ↦ absurd (true≢false (sym (listed_held setup past buffers n run listed consumed used) ∙ not_true (is_held setup past n) unheld))
     ]
     by_use false used spared listed consumed = refl
 
@@ -123,8 +124,8 @@ no_op : (lost b : Bool) (k : ℕ) → b ≡ false → unwrap_or (op_of (if not l
 no_op true b k e = refl
 no_op false b k e = ap (λ (b : Bool). unwrap_or (op_of (if b then Queued k else Plain)) 0) e
 
-uses_none : (setup : Setup) (past : Past) (event : Event) (n : ℕ) → n < count past → is_gone setup past n ≡ true → (if is_used past event n then unwrap_or (op_of (reply_to setup past event).answer) 0 else 0) ≡ 0
-uses_none setup past (WriteBuffer buffer offset size) n lt gone = by_same (buffer.number == n) refl
+uses_none : (setup : Setup) (past : Past) (event : Event) (n : ℕ) → IsRun setup past → n < count past → is_gone setup past n ≡ true → (if is_used past event n then unwrap_or (op_of (reply_to setup past event).answer) 0 else 0) ≡ 0
+uses_none setup past (WriteBuffer buffer offset size) n run lt gone = by_same (buffer.number == n) refl
   where
     by_rule : (b : Bool) → is_none (write_buffer_rule setup past buffer offset size) ≡ b → buffer.number ≡ n → b ≡ false
     by_rule true e same = absurd (true≢false (sym gone ∙ (ap (is_gone setup past) (sym same) ∙ write_stands setup past buffer offset size e)))
@@ -133,7 +134,7 @@ uses_none setup past (WriteBuffer buffer offset size) n lt gone = by_same (buffe
     by_same : (b : Bool) → (buffer.number == n) ≡ b → (if b then unwrap_or (op_of (reply_to setup past (WriteBuffer buffer offset size)).answer) 0 else 0) ≡ 0
     by_same true e = no_op (is_lost past) (is_none (write_buffer_rule setup past buffer offset size)) (issued past + 1) (by_rule (is_none (write_buffer_rule setup past buffer offset size)) refl (eqb-true buffer.number n e))
     by_same false e = refl
-uses_none setup past (WriteTexture texture spot layout size data_size) n lt gone = by_same (texture.number == n) refl
+uses_none setup past (WriteTexture texture spot layout size data_size) n run lt gone = by_same (texture.number == n) refl
   where
     by_rule : (b : Bool) → is_none (write_texture_rule setup past texture spot layout size data_size) ≡ b → texture.number ≡ n → b ≡ false
     by_rule true e same = absurd (true≢false (sym gone ∙ (ap (is_gone setup past) (sym same) ∙ write_texture_stands setup past texture spot layout size data_size e)))
@@ -142,19 +143,19 @@ uses_none setup past (WriteTexture texture spot layout size data_size) n lt gone
     by_same : (b : Bool) → (texture.number == n) ≡ b → (if b then unwrap_or (op_of (reply_to setup past (WriteTexture texture spot layout size data_size)).answer) 0 else 0) ≡ 0
     by_same true e = no_op (is_lost past) (is_none (write_texture_rule setup past texture spot layout size data_size)) (issued past + 1) (by_rule (is_none (write_texture_rule setup past texture spot layout size data_size)) refl (eqb-true texture.number n e))
     by_same false e = refl
-uses_none setup past (Submit buffers) n lt gone = by_use (submit_uses past buffers n) refl
+uses_none setup past (Submit buffers) n run lt gone = by_use (submit_uses past buffers n) refl
   where
     by_rule : (b : Bool) → is_none (submit_rule setup past buffers) ≡ b → submit_uses past buffers n ≡ true → b ≡ false
-    by_rule true met used = absurd (true≢false (sym used ∙ submit_stands setup past buffers n met lt gone))
+    by_rule true met used = absurd (true≢false (sym used ∙ submit_stands setup past buffers n run met lt gone))
     by_rule false met used = refl
 
     by_use : (b : Bool) → submit_uses past buffers n ≡ b → (if b then unwrap_or (op_of (reply_to setup past (Submit buffers)).answer) 0 else 0) ≡ 0
     by_use true used = no_op (is_lost past) (is_none (submit_rule setup past buffers)) (issued past + 1) (by_rule (is_none (submit_rule setup past buffers)) refl used)
     by_use false used = refl
-uses_none setup past _ n lt gone = refl
+uses_none setup past _ n run lt gone = refl
 
 unused_then : (setup : Setup) (entry : Entry) (older : Past) (n : ℕ) → IsRun setup (entry ∷ older) → n < count older → is_gone setup older n ≡ true → use_by older entry n ≡ 0
-unused_then setup entry older n run lt gone = ap (λ (reply : Reply). if is_used older entry.event n then unwrap_or (op_of reply.answer) 0 else 0) (newest setup entry older run) ∙ uses_none setup older entry.event n lt gone
+unused_then setup entry older n run lt gone = ap (λ (reply : Reply). if is_used older entry.event n then unwrap_or (op_of reply.answer) 0 else 0) (newest setup entry older run) ∙ uses_none setup older entry.event n (others setup entry older run) lt gone
 
 -- What is gone stays so.
 pub gone_stays : (setup : Setup) (entry : Entry) (older : Past) (n : ℕ) → IsRun setup (entry ∷ older) → n < count older → is_gone setup older n ≡ true → is_gone setup (entry ∷ older) n ≡ true

@@ -16,7 +16,8 @@ use Rattle.wg_orders.specs.Steps.{Step, StepPlace}
 use Rattle.wg_orders.specs.Trace.{steps_in}
 use Rattle.wg_orders.specs.Laws.{Unused}
 use Rattle.wg_orders.proofs.Unused.{unused_none, unused_one, unused_append}
-use Rattle.wg_model.specs.Recorded.{touching, host_name, host_touches, host_step}
+use Rattle.wg_model.specs.Touches.{touching}
+use Rattle.wg_model.specs.Recorded.{host_name, host_touches, host_step}
 use Rattle.wg_model.proofs.Unmet.{all_met}
 use Rattle.wg_model.proofs.Sparing.{or_first, host_spares}
 use Rattle.wg_history.specs.Entries.{Setup, Event, MapAsync, Destroy, Unmap, Form, Making, Queue, Promising, Completion, Plainly, ForWork, ForError, ForMap, effects_of, Entry, Past}

@@ -11,14 +11,12 @@ use Rattle.wg_types.specs.declared.wanted.Wanted.{Wanted}
 use Rattle.wg_types.specs.declared.handles.Info.{Info}
 use Rattle.wg_model.specs.Rules.{first_unmet, AreMet}
 use Rattle.wg_model.specs.Walk.{Verdict}
-use Rattle.wg_model.specs.Recorded.{wants_resource, numbered, names_within, resources, uses_resource}
+use Rattle.wg_model.specs.Recorded.{names_within}
 use Rattle.wg_model.specs.Holding.{is_among, any_below, is_named_in, is_awaited_in, is_root_in}
 use Rattle.wg_model.proofs.Unmet.{all_met}
-use Rattle.wg_model.proofs.NamedLemmas.{any_resources}
 use Rattle.wg_model.proofs.Holding.{below_from, below_to, held_within, held_cases, root_held, referred_held}
 use Rattle.wg_history.specs.Entries.{Setup, Event, Finish, Drop, effects_of, recorded_by, Entry, Past}
 use Rattle.wg_history.specs.Objects.{ObjRef, is_making, count, maker, info_at, is_own, is_any, is_valid, is_made_valid, is_encoder, commands_at}
-use Rattle.wg_history.specs.Operations.{submit_uses}
 use Rattle.wg_history.specs.Rules.{drop_list, drops, dropped_at, is_dropped, is_consumed, consumes, has_finished, ends_encoder, is_genuine, may_name, any_barred, encoder_rules, recording_rules, finish_rule, listed_rules}
 use Rattle.wg_history.specs.Held.{refers_made, refers_at, is_submittable, names_at, is_open, holds_of, is_held}
 use Rattle.wg_history.specs.Loss.{is_lost}
@@ -266,27 +264,3 @@ falls_upto setup entry older (suc fuel) n run le lt e =
 
 pub held_falls : (setup : Setup) (entry : Entry) (older : Past) (n : ℕ) → IsRun setup (entry ∷ older) → n < count older → is_held setup (entry ∷ older) n ≡ true → is_held setup older n ≡ true
 held_falls setup entry older n run lt e = falls_upto setup entry older (count (entry ∷ older)) n run (omega arith) lt e
-
--- What an operation uses is held.
-
-pub named_resource : (command : Command) (n : ℕ) → list_any (λ r. r == n) (resources command) ≡ true → list_any (λ (object : HandleValue × Wanted). object.0.reference.number == n) (named command) ≡ true
-named_resource command n h =
-    any_grows (λ (object : HandleValue × Wanted). object.0.reference.number == n) (numbered wants_resource (λ r. r == n))
-    (λ object both. (and_parts (wants_resource object.1) (object.0.reference.number == n) both).1)
-    (named command) (sym (any_resources (λ r. r == n) command) ∙ h)
-
-pub used_named : (commands : List (On × Command)) (n : ℕ) → uses_resource commands n ≡ true → is_among (names_within commands) n ≡ true
-used_named commands n used = among_named commands n ∙ any_grows (λ kept. list_any (λ (object : HandleValue × Wanted). object.0.reference.number == n) (named kept.1)) (λ kept. list_any (λ r. r == n) (resources kept.1)) (λ kept in_command. named_resource kept.1 n in_command) commands used
-
-pub listed_names : (setup : Setup) (past : Past) (buffers : List ObjRef) (n : ℕ) → AreMet (listed_rules setup past buffers) → list_any (λ buffer. is_consumed setup past buffer.number) buffers ≡ false → submit_uses past buffers n ≡ true → is_named setup past n ≡ true
-listed_names setup past [] n met consumed used = absurd (true≢false (sym used))
-listed_names setup past (buffer ∷ buffers) n met consumed used = elim (or_cases (uses_resource (commands_at past buffer.number) n) (submit_uses past buffers n) used) [
-  | inl here ↦ named_from setup past buffer.number n (own_below setup past _ buffer met.0)
-      (and_from (is_valid past buffer.number) _ met.1.1.0 (and_from (not (is_consumed setup past buffer.number)) (not (is_dropped setup past buffer.number)) (ap not (first_not (is_consumed setup past buffer.number) _ consumed)) met.1.0))
-      (used_named (commands_at past buffer.number) n here)
-  | inr later ↦ listed_names setup past buffers n met.1.1.1 (was_not (is_consumed setup past buffer.number) _ consumed) later
-]
-  where
-    first_not : (a b : Bool) → (a || b) ≡ false → a ≡ false
-    first_not true b e = absurd (true≢false e)
-    first_not false b e = refl

@@ -7,7 +7,7 @@ use Rattle.wg_types.specs.declared.handles.Info.{Info}
 use Rattle.wg_types.specs.declared.handles.ObjRef.{ObjRef}
 use Rattle.wg_types.specs.declared.replies.Reply.{Reply}
 use Rattle.wg_model.specs.Rules.{Rule, AreMet}
-use Rattle.wg_model.specs.Recorded.{uses_resource}
+use Rattle.wg_model.specs.Recorded.{names_within, uses_resource}
 use Rattle.wg_model.proofs.Unmet.{all_met}
 use Rattle.wg_history.specs.Loss.{is_lost}
 use Rattle.wg_history.specs.Entries.{Setup, Event, Finish, Submit, WriteBuffer, WriteTexture, Destroy, Entry, Past}
@@ -19,7 +19,7 @@ use Rattle.wg_history.specs.Releases.{is_due, is_released}
 use Rattle.wg_history.proofs.Released.{maker_below, resource_made, due_some}
 use Rattle.wg_history.proofs.Tests.{fails, met_before}
 use Rattle.wg_history.proofs.Makers.{older_le, own_below}
-use Rattle.wg_history.proofs.Holders.{used_named}
+use Rattle.wg_history.proofs.Reached.{reached_below, used_reached}
 use Rattle.wg_history.proofs.Making.{names_back}
 use Rattle.wg_history.proofs.Runs.{newest, others}
 
@@ -86,9 +86,8 @@ consumed_new setup (entry ∷ older) n le =
 -- A valid command buffer uses objects that were made before it.
 valid_unused : (setup : Setup) (past : Past) (k n : ℕ) → IsRun setup past → count past ≤ n → is_valid past k ≡ true → uses_resource (commands_at past k) n ≡ false
 valid_unused setup past k n run le valid = fails (uses_resource (commands_at past k) n) (count past) n le (λ used.
-    let lt = names_back setup past k n run valid (used_named (commands_at past k) n used) in
     let made = maker_below past k (valid_made (maker past k) valid) in
-    omega (arith, lt, made))
+    reached_below setup past (names_within (commands_at past k)) n run (λ m among. let lt = names_back setup past k m run valid among in omega (arith, lt, made)) (used_reached setup past k n run valid used))
   where
     valid_made : (o : Option Entry) → option_map_or (λ entry. is_made_valid entry.reply.answer) o false ≡ true → is_some o ≡ true
     valid_made None h = absurd (true≢false (sym h))

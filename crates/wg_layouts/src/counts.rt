@@ -47,7 +47,8 @@ fn is_of(sort: Sort, kind: BindingKind) -> bool
     }
 }
 
-fn is_dynamic(kind: BindingKind) -> bool
+/// Whether a binding takes a dynamic offset.
+pub fn is_dynamic(kind: BindingKind) -> bool
     ensures { result ≡ is_dynamic kind }
 {
     match kind {

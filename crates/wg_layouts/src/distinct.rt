@@ -27,7 +27,7 @@ fn are_apart(entries: &[LayoutEntry]) -> bool
 }
 
 /// Whether each binding is above the one before it.
-fn are_ascending(entries: &[LayoutEntry]) -> bool
+pub fn are_ascending(entries: &[LayoutEntry]) -> bool
     ensures { result ≡ ascends_from 0 entries.now }
 {
     let mut least = 0;

@@ -17,7 +17,7 @@ pub fn is_seen_by(stage: u32, entry: &LayoutEntry) -> bool
 }
 
 /// Whether shaders may write what a binding holds.
-fn may_write(kind: BindingKind) -> bool
+pub fn may_write(kind: BindingKind) -> bool
     ensures { result ≡ may_write kind }
 {
     match kind {

@@ -1,11 +1,12 @@
 -- The steps of queue writes and of recorded commands are as the table of uses has them.
-use Rattle.std.proofs.Common.{◌≡◌, ℕ, zero, suc, Bool, true, false, ◌==◌, List, [], ◌∷◌, ◌++◌, Option, Some, None, refl, ap, sym, ◌∙◌, subst, slice_get, if◌then◌else◌}
+use Rattle.std.proofs.Common.{◌≡◌, ℕ, zero, suc, Bool, true, false, ◌==◌, ◌&&◌, List, [], ◌∷◌, ◌++◌, map, Option, Some, None, is_none, option_to_list, refl, ap, sym, ◌∙◌, subst, slice_get, reverse, if◌then◌else◌}
+use Rattle.std.specs.List.{flat_map}
 use Rattle.wg_types.specs.declared.steps.QueueWrite.TheVariants.{Buffer as BufferWrite, Texture as TextureWrite}
 use Rattle.wg_types.specs.declared.steps.StepName.TheVariants as name
 use Rattle.wg_types.specs.declared.commands.On.{On}
 use Rattle.wg_types.specs.declared.commands.On.TheVariants.{Encoder, Pass}
 use Rattle.wg_types.specs.Commands.{Command}
-use Rattle.wg_types.specs.declared.commands.CommandOf.TheVariants.{CopyBufferToBuffer, CopyBufferToTexture, CopyTextureToBuffer, CopyTextureToTexture, ClearBuffer}
+use Rattle.wg_types.specs.declared.commands.CommandOf.TheVariants.{BeginComputePass, CopyBufferToBuffer, CopyBufferToTexture, CopyTextureToBuffer, CopyTextureToTexture, ClearBuffer, Dispatch, DispatchIndirect}
 use Rattle.wg_types.specs.declared.mappings.Mapping.{Mapping}
 use Rattle.wg_types.specs.declared.mappings.MapMode.{MapMode}
 use Rattle.wg_types.specs.declared.mappings.MapMode.TheVariants.{Read as ReadMode, Write as WriteMode}
@@ -19,11 +20,23 @@ use Rattle.wg_model.specs.Formats.{texel_to}
 use Rattle.wg_model.specs.Subresources.{copied_cells, has_no_texel}
 use Rattle.wg_model.specs.TexelCopies.{whole_spot}
 use Rattle.wg_model.specs.Commands.{texture_of}
-use Rattle.wg_model.specs.Walk.{PassSoFar, open_pass}
+use Rattle.wg_model.specs.Walk.{Kept, PassSoFar, open_pass, is_open, pass_does, does_within, does_at, doings, deeds, verdict}
 use Rattle.wg_model.specs.Commands.{size_or_rest}
-use Rattle.wg_model.specs.Recorded.{Touch, touching, read_cells, written_cells, bytes_at, target_kind, copied_to, copied_from, layout_bytes, range_touches, buffer_to_buffer_touches, buffer_to_texture_touches, texture_to_buffer_touches, texture_to_texture_touches, write_buffer_step, write_texture_step, host_name, host_touches, host_step, unless, encoder_steps, steps_within, steps_at, recorded_steps}
+use Rattle.wg_model.specs.Touches.{Touch, Doing, deed_of, placed, touching, step_of, read_cells, written_cells, bytes_at, target_kind, copied_to, copied_from, layout_bytes, range_touches, buffer_to_buffer_touches, buffer_to_texture_touches, texture_to_buffer_touches, texture_to_texture_touches, unless, encoder_does}
+use Rattle.wg_types.specs.declared.groups.GroupLayoutInfo.{GroupLayoutInfo}
+use Rattle.wg_types.specs.declared.bindings.BufferBinding.{BufferBinding}
+use Rattle.wg_types.specs.declared.bindings.BufferBinding.TheVariants.{Uniform, Storage, ReadOnlyStorage}
+use Rattle.wg_types.specs.declared.bindings.StorageAccess.TheVariants.{ReadOnly, WriteOnly, ReadWrite}
+use Rattle.wg_types.specs.declared.bindings.BindingKind.{BindingKind}
+use Rattle.wg_types.specs.declared.bindings.BindingKind.TheVariants.{Buffer, Sampler, Texture, StorageTexture}
+use Rattle.wg_types.specs.declared.commands.BoundGroup.{BoundGroup}
+use Rattle.wg_rows.specs.Rows.{EachRow}
+use Rattle.wg_orders.specs.Steps.{is_clear_name}
+use Rattle.wg_model.specs.Bound.{Place, kind_touch, resource_cells, place_touches, layouts_places, bound_touches}
+use Rattle.wg_model.specs.Compute.{ComputeSet, compute_set, compute_does, layouts_set, dispatch_touches, indirect_touch}
+use Rattle.wg_model.specs.Recorded.{write_buffer_step, write_texture_step, host_name, host_touches, host_step}
 use Rattle.wg_model.specs.StepLaws.{IsOwnStep, WritesAreDeclared, RecordedAreDeclared}
-use Rattle.wg_model.proofs.Touching.{AreProper, touching_own, read_proper, written_proper, joined_proper}
+use Rattle.wg_model.proofs.Touching.{IsProper, AreProper, touching_own, read_proper, written_proper, joined_proper}
 
 -- What each step touches is proper.
 written_one : (kind : Kind) (cells : Cells) → AreProper (written_cells kind cells ∷ [])
@@ -87,41 +100,87 @@ pub only_step : (only s : Step) (k : ℕ) → slice_get (only ∷ []) k ≡ Some
 only_step only s zero e = cc
 only_step only s (suc k) e = absurd (cc)
 
-one_own : (b : Bool) (only : Step) (k : ℕ) (s : Step) → IsOwnStep only → slice_get (unless b only) k ≡ Some s → IsOwnStep s
-one_own true only k s own e = absurd (no_step s k e)
-one_own false only k s own e = subst (λ (x : Step). IsOwnStep x) (only_step only s k e) own
+-- What is done is no clear, and touches cells properly.
+abbrev pub IsOwn : Doing → Type 0
+IsOwn doing = (is_clear_name doing.0 ≡ false) × AreProper doing.1
 
-encoder_own : (place : StepPlace) (command : Command) (k : ℕ) (s : Step) → slice_get (encoder_steps place command) k ≡ Some s → IsOwnStep s
-unfolding encoder_steps
-encoder_own place (CopyBufferToBuffer source source_offset target target_offset size) k s e =
-    let touches : List Touch = buffer_to_buffer_touches source.reference.number source_offset target.reference.number target_offset size in
-    one_own (size == 0) (touching place name.CopyBufferToBuffer touches) k s (touching_own place name.CopyBufferToBuffer touches refl (buffers_proper source.reference.number source_offset target.reference.number target_offset size)) e
-encoder_own place (CopyBufferToTexture buffer layout texture spot size) k s e =
-    let touches : List Touch = buffer_to_texture_touches buffer.reference.number layout texture.reference.number (texture_of texture) spot size in
-    one_own (has_no_texel size) (touching place name.CopyBufferToTexture touches) k s (touching_own place name.CopyBufferToTexture touches refl (to_texture_proper buffer.reference.number layout texture.reference.number (texture_of texture) spot size)) e
-encoder_own place (CopyTextureToBuffer buffer layout texture spot size) k s e =
-    let touches : List Touch = texture_to_buffer_touches buffer.reference.number layout texture.reference.number (texture_of texture) spot size in
-    one_own (has_no_texel size) (touching place name.CopyTextureToBuffer touches) k s (touching_own place name.CopyTextureToBuffer touches refl (to_buffer_proper buffer.reference.number layout texture.reference.number (texture_of texture) spot size)) e
-encoder_own place (CopyTextureToTexture source source_mip source_origin target target_mip target_origin size) k s e =
-    let touches : List Touch = texture_to_texture_touches source.reference.number (texture_of source) (whole_spot source_mip source_origin) target.reference.number (texture_of target) (whole_spot target_mip target_origin) size in
-    one_own (has_no_texel size) (touching place name.CopyTextureToTexture touches) k s (touching_own place name.CopyTextureToTexture touches refl (textures_proper source.reference.number (texture_of source) (whole_spot source_mip source_origin) target.reference.number (texture_of target) (whole_spot target_mip target_origin) size)) e
-encoder_own place (ClearBuffer buffer offset size) k s e =
-    let touches : List Touch = range_touches buffer.reference.number offset (size_or_rest buffer offset size) in
-    one_own (size_or_rest buffer offset size == 0) (touching place name.ClearBuffer touches) k s (touching_own place name.ClearBuffer touches refl (range_proper buffer.reference.number offset (size_or_rest buffer offset size))) e
-encoder_own place _ k s e = absurd (no_step s k e)
+abbrev pub AreOwn : List Doing → Type 0
+AreOwn doings = EachRow IsOwn doings
 
--- A pass makes no step yet.
-pub pass_none : (place : StepPlace) (opened : Option PassSoFar) (pass : ℕ) (command : Command) → steps_at place opened (Pass pass) command ≡ []
-pass_none place None pass command = refl
-pass_none place (Some opened) pass command = by_open (pass == opened.number)
+unless_own : (b : Bool) (doing : Doing) → IsOwn doing → AreOwn (option_to_list (unless b doing))
+unless_own true doing own = tt
+unless_own false doing own = (own, tt)
+
+encoder_own : (command : Command) → AreOwn (option_to_list (encoder_does command))
+unfolding encoder_does
+encoder_own (CopyBufferToBuffer source source_offset target target_offset size) = unless_own (size == 0) _ (refl, buffers_proper source.reference.number source_offset target.reference.number target_offset size)
+encoder_own (CopyBufferToTexture buffer layout texture spot size) = unless_own (has_no_texel size) _ (refl, to_texture_proper buffer.reference.number layout texture.reference.number (texture_of texture) spot size)
+encoder_own (CopyTextureToBuffer buffer layout texture spot size) = unless_own (has_no_texel size) _ (refl, to_buffer_proper buffer.reference.number layout texture.reference.number (texture_of texture) spot size)
+encoder_own (CopyTextureToTexture source source_mip source_origin target target_mip target_origin size) = unless_own (has_no_texel size) _ (refl, textures_proper source.reference.number (texture_of source) (whole_spot source_mip source_origin) target.reference.number (texture_of target) (whole_spot target_mip target_origin) size)
+encoder_own (ClearBuffer buffer offset size) = unless_own (size_or_rest buffer offset size == 0) _ (refl, range_proper buffer.reference.number offset (size_or_rest buffer offset size))
+encoder_own _ = tt
+
+-- What groups touch.
+buffer_one : (binding : BufferBinding) (dynamic : Bool) (min_size : ℕ) (cells : Cells) → IsProper (cells, kind_touch (Buffer binding dynamic min_size))
+buffer_one Uniform dynamic min_size cells e = absurd (cc)
+buffer_one Storage dynamic min_size cells e = refl
+buffer_one ReadOnlyStorage dynamic min_size cells e = absurd (cc)
+
+kind_one : (kind : BindingKind) (cells : Cells) → IsProper (cells, kind_touch kind)
+kind_one (Buffer binding dynamic min_size) cells e = buffer_one binding dynamic min_size cells e
+kind_one (Sampler sampler_type) cells e = absurd (cc)
+kind_one (Texture sample dim multi) cells e = absurd (cc)
+kind_one (StorageTexture ReadOnly format dim) cells e = absurd (cc)
+kind_one (StorageTexture WriteOnly format dim) cells e = refl
+kind_one (StorageTexture ReadWrite format dim) cells e = refl
+
+cells_own : (kind : BindingKind) (cells : List Cells) → AreProper (map (λ (run : Cells). (run, kind_touch kind)) cells)
+cells_own kind [] = tt
+cells_own kind (run ∷ cells) = (kind_one kind run, cells_own kind cells)
+
+places_own : (places : List Place) → AreProper (flat_map place_touches places)
+places_own [] = tt
+places_own (place ∷ places) = joined_proper (place_touches place) (flat_map place_touches places) (cells_own place.asked.kind (resource_cells place.moved place.resource)) (places_own places)
+
+bound_own : (layouts : List GroupLayoutInfo) (groups : List (Option BoundGroup)) → AreProper (bound_touches layouts groups)
+unfolding bound_touches
+bound_own layouts groups = places_own (layouts_places layouts groups 0)
+
+compute_own : (set : ComputeSet) (command : Command) → AreOwn (option_to_list (compute_does set command))
+unfolding compute_does
+compute_own set (Dispatch x y z) = ((refl, bound_own (layouts_set set) set.groups), tt)
+compute_own set (DispatchIndirect buffer offset) = ((refl, joined_proper (dispatch_touches set) (indirect_touch buffer offset 12 ∷ []) (bound_own (layouts_set set) set.groups) (λ e. absurd (cc), tt)), tt)
+compute_own set _ = tt
+
+pass_own : (begin : Command) (earlier : List Command) (command : Command) → AreOwn (option_to_list (pass_does begin earlier command))
+pass_own BeginComputePass earlier command = compute_own (compute_set earlier) command
+pass_own _ earlier command = tt
+
+within_own : (opened : Option PassSoFar) (command : Command) → AreOwn (option_to_list (does_within opened command))
+within_own None command = tt
+within_own (Some pass) command = pass_own pass.begin pass.earlier command
+
+at_own : (opened : Option PassSoFar) (on : On) (command : Command) → AreOwn (option_to_list (does_at opened on command))
+at_own opened Encoder command = encoder_own command
+at_own opened (Pass pass) command = by_open (is_open opened pass)
   where
-    by_open : (b : Bool) → (if b then steps_within place (Some opened) command else []) ≡ []
-    by_open true = refl
-    by_open false = refl
+    by_open : (b : Bool) → AreOwn (option_to_list (if b then does_within opened command else None))
+    by_open true = within_own opened command
+    by_open false = tt
 
-at_own : (place : StepPlace) (opened : Option PassSoFar) (on : On) (command : Command) (k : ℕ) (s : Step) → slice_get (steps_at place opened on command) k ≡ Some s → IsOwnStep s
-at_own place opened Encoder command k s e = encoder_own place command k s e
-at_own place opened (Pass pass) command k s e = absurd (no_step s k (ap (λ steps. slice_get steps k) (sym (pass_none place opened pass command)) ∙ e))
+-- What holds of each of two lists holds of each of both.
+pub each_joined : {A : Type 0} (P : A → Type 0) (xs ys : List A) → EachRow P xs → EachRow P ys → EachRow P (xs ++ ys)
+each_joined P [] ys a b = b
+each_joined P (x ∷ xs) ys a b = (a.0, each_joined P xs ys a.1 b)
+
+doings_own : (kept : Kept) → AreOwn (doings kept)
+doings_own [] = tt
+doings_own (kept ∷ older) = each_joined IsOwn (doings older) (option_to_list (does_at (open_pass older) kept.0 kept.1)) (doings_own older) (at_own (open_pass older) kept.0 kept.1)
+
+steps_own : (place : StepPlace) (done : List Doing) → AreOwn done → (k : ℕ) (s : Step) → slice_get (map (step_of place) done) k ≡ Some s → IsOwnStep s
+steps_own place [] own k s e = absurd (cc)
+steps_own place (doing ∷ done) own zero s e = subst (λ (x : Step). IsOwnStep x) (cc) (touching_own place doing.0 doing.1 own.0.0 own.0.1)
+steps_own place (doing ∷ done) own (suc k) s e = steps_own place done own.1 k s e
 
 -- A step of two lists is of one of them.
 pub data Stands (xs ys : List Step) (s : Step) : Type 0 where
@@ -137,10 +196,14 @@ stands_in (x ∷ xs) ys (suc k) s e = by_cases (stands_in xs ys k s e)
     by_cases (Left i h) = Left (suc i) h
     by_cases (Right i h) = Right i h
 
+-- The steps of a recording are those that its commands complete, or none.
+pub placed_deeds : (place : StepPlace) (done : List Doing) → map (placed place) (map deed_of done) ≡ map (step_of place) done
+placed_deeds place [] = refl
+placed_deeds place (doing ∷ done) = ap (λ steps. step_of place doing ∷ steps) (placed_deeds place done)
+
 pub recorded_are_declared : RecordedAreDeclared
-recorded_are_declared place [] k s e = absurd (no_step s k e)
-recorded_are_declared place (kept ∷ older) k s e = by_cases (stands_in (recorded_steps place older) (steps_at place (open_pass older) kept.0 kept.1) k s e) (λ i h. recorded_are_declared place older i s h)
+recorded_are_declared place device commands k s e = by_rules (is_none (verdict device (reverse commands)) && is_none (open_pass (reverse commands))) e
   where
-    by_cases : Stands (recorded_steps place older) (steps_at place (open_pass older) kept.0 kept.1) s → ((i : ℕ) → slice_get (recorded_steps place older) i ≡ Some s → IsOwnStep s) → IsOwnStep s
-    by_cases (Left i h) rest = rest i h
-    by_cases (Right i h) rest = at_own place (open_pass older) kept.0 kept.1 i s h
+    by_rules : (b : Bool) → slice_get (map (placed place) (if b then deeds (reverse commands) else [])) k ≡ Some s → IsOwnStep s
+    by_rules true h = steps_own place (doings (reverse commands)) (doings_own (reverse commands)) k s (ap (λ steps. slice_get steps k) (sym (placed_deeds place (doings (reverse commands)))) ∙ h)
+    by_rules false h = absurd (no_step s k h)

@@ -15,7 +15,7 @@ pub use Rattle.wg_types.specs.Commands.{Command, named}
 use Rattle.wg_types.specs.Commands.{bracket}
 use Rattle.wg_types.specs.declared.commands.Bracket.{Bracket}
 use Rattle.wg_types.specs.declared.commands.Bracket.TheVariants as brackets
-use Rattle.wg_types.specs.declared.commands.CommandOf.TheVariants.{BeginComputePass, CopyBufferToBuffer, CopyBufferToTexture, CopyTextureToBuffer, CopyTextureToTexture, ClearBuffer, PushDebugGroup, PopDebugGroup, End}
+use Rattle.wg_types.specs.declared.commands.CommandOf.TheVariants.{BeginComputePass, CopyBufferToBuffer, CopyBufferToTexture, CopyTextureToBuffer, CopyTextureToTexture, ClearBuffer, PushDebugGroup, PopDebugGroup, End, SetPipeline, SetBindGroup, Dispatch, DispatchIndirect}
 use Rattle.wg_model.specs.Rules.{Rule}
 use Rattle.wg_model.specs.Buffers.{copy_src, copy_dst, has_usage}
 use Rattle.wg_model.specs.TexelCopies.{buffer_to_texture_rules, texture_to_buffer_rules, texture_to_texture_rules, whole_spot}
@@ -107,6 +107,10 @@ own_rules (ClearBuffer buffer offset size) = clear_buffer_rules buffer offset (s
 own_rules PushDebugGroup = []
 own_rules PopDebugGroup = []
 own_rules End = []
+own_rules (SetPipeline pipeline) = []
+own_rules (SetBindGroup index group offsets) = []
+own_rules (Dispatch x y z) = []
+own_rules (DispatchIndirect buffer offset) = []
 
 -- popDebugGroup (WebGPU, "Debug Markers"), by how many groups of its place are open: 285 one is.
 abbrev pub group_rules_by : ℕ → Bracket → List Rule

@@ -1,6 +1,6 @@
 -- The walk over the kept commands of a recorder: its passes, the encoder's state, and the rule that invalidated it first
 -- (WebGPU, "Command Encoding", "encoder state"). An encoder is unlocked, or locked by the one pass that is open on it.
-use Rattle.std.specs.Prelude.{ℕ, ◌+◌, ◌==◌, ◌&&◌, ◌||◌, Bool, false, List, [], ◌∷◌, ◌++◌, Option, Some, None, is_none, reverse, if◌then◌else◌}
+use Rattle.std.specs.Prelude.{ℕ, ◌+◌, ◌==◌, ◌&&◌, ◌||◌, Bool, false, List, [], ◌∷◌, ◌++◌, map, Option, Some, None, is_none, option_to_list, reverse, if◌then◌else◌}
 use Rattle.wg_types.specs.declared.commands.On.{On}
 use Rattle.wg_types.specs.declared.commands.On.TheVariants.{Encoder, Pass}
 use Rattle.wg_types.specs.Commands.{Command}
@@ -9,8 +9,10 @@ use Rattle.wg_types.specs.declared.commands.Bracket.TheVariants as brackets
 use Rattle.wg_types.specs.Commands.{bracket, is_begin, is_end}
 use Rattle.wg_model.specs.Rules.{first_unmet, or_else}
 use Rattle.wg_model.specs.Commands.{named, common_rules, command_rules}
-use Rattle.wg_model.specs.Compute.{depth_after, compute_set, compute_rules}
+use Rattle.wg_model.specs.Touches.{Doing, uses_in, deed_of, encoder_does}
+use Rattle.wg_model.specs.Compute.{depth_after, compute_set, compute_rules, compute_does}
 use Rattle.wg_model.specs.Scopes.{Use}
+use Rattle.wg_types.specs.declared.steps.Deed.{Deed}
 
 -- The kept commands, newest first, each with the encoder or pass that it stands on.
 abbrev pub Kept : Type 0
@@ -44,9 +46,16 @@ abbrev pub pass_rule : ℕ → Command → List Command → Option ℕ
 pass_rule device begin [] = begun_rule device begin
 pass_rule device begin (command ∷ earlier) = or_else (pass_rule device begin earlier) (rule_in device begin earlier command)
 
--- the scopes that a command of a pass completes; those of a compute pass are of commands that are not there yet
-abbrev pub scopes_in : Command → List Command → Command → List (List Use)
-scopes_in begin earlier command = []
+-- what a command of a pass completes, if it does: a step, whose uses are a usage scope
+abbrev pub does_by : Bracket → List Command → Command → Option Doing
+does_by brackets.BeginComputePass earlier command = compute_does (compute_set earlier) command
+does_by brackets.EndPass earlier command = None
+does_by brackets.PushGroup earlier command = None
+does_by brackets.PopGroup earlier command = None
+does_by brackets.Neither earlier command = None
+
+abbrev pub pass_does : Command → List Command → Command → Option Doing
+pass_does begin earlier command = does_by (bracket begin) earlier command
 
 -- The encoder.
 
@@ -130,14 +139,30 @@ verdict device (kept ∷ older) = or_else (verdict device older) (given device (
 abbrev pub Verdict : ℕ → List (On × Command) → Option ℕ
 Verdict device commands = verdict device (reverse commands)
 
--- Usage scopes, in the order of the commands that complete them.
-abbrev pub scopes_within : Option PassSoFar → Command → List (List Use)
-scopes_within None command = []
-scopes_within (Some pass) command = scopes_in pass.begin pass.earlier command
+-- What commands do, in order, each with the step that it completes.
+abbrev pub does_within : Option PassSoFar → Command → Option Doing
+does_within None command = None
+does_within (Some pass) command = pass_does pass.begin pass.earlier command
 
+abbrev pub does_in_pass : Option PassSoFar → ℕ → Command → Option Doing
+does_in_pass opened pass command = if is_open opened pass then does_within opened command else None
+
+abbrev pub does_at : Option PassSoFar → On → Command → Option Doing
+does_at opened Encoder command = encoder_does command
+does_at opened (Pass pass) command = does_in_pass opened pass command
+
+abbrev pub doings : Kept → List Doing
+doings [] = []
+doings (kept ∷ older) = doings older ++ option_to_list (does_at (open_pass older) kept.0 kept.1)
+
+-- the same as it is printed, without a place
+abbrev pub deeds : Kept → List Deed
+deeds kept = map deed_of (doings kept)
+
+-- Usage scopes, in the order of the commands that complete them: what a command of a pass does is one.
 abbrev pub scopes_at : Option PassSoFar → On → Command → List (List Use)
 scopes_at opened Encoder command = []
-scopes_at opened (Pass pass) command = if is_open opened pass then scopes_within opened command else []
+scopes_at opened (Pass pass) command = map uses_in (option_to_list (does_in_pass opened pass command))
 
 abbrev pub scopes_of : Kept → List (List Use)
 scopes_of [] = []
@@ -146,3 +171,7 @@ scopes_of (kept ∷ older) = scopes_of older ++ scopes_at (open_pass older) kept
 -- the scopes of a recording that has no verdict and no open pass
 abbrev pub ScopesOf : ℕ → List (On × Command) → List (List Use)
 ScopesOf device commands = if is_none (verdict device (reverse commands)) && is_none (open_pass (reverse commands)) then scopes_of (reverse commands) else []
+
+-- what a recording does that has no verdict and no open pass; another does nothing
+abbrev pub DeedsOf : ℕ → List (On × Command) → List Deed
+DeedsOf device commands = if is_none (verdict device (reverse commands)) && is_none (open_pass (reverse commands)) then deeds (reverse commands) else []

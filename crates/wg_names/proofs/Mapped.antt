@@ -7,13 +7,12 @@ use Rattle.std.proofs.lemmas.List.{map-append}
 use Rattle.std.proofs.lemmas.List.Elements.{All-nil, All-cons, All-map, All-weaker, All-contains, Contains-append_left, Contains-append_right, Contains-push}
 use Rattle.wg_types.specs.declared.wanted.Kind.{Kind}
 use Rattle.wg_types.specs.declared.wanted.Wanted.{Wanted}
-use Rattle.wg_types.specs.declared.wanted.Wanted.TheVariants as wanted
 use Rattle.wg_types.specs.Refs.{all_wanted}
 use Rattle.wg_types.specs.Bindings.{resource_named, entries_named, map_resource, map_entry}
 use Rattle.wg_types.specs.declared.bindings.ResourceOf.{ResourceOf}
 use Rattle.wg_types.specs.declared.bindings.ResourceOf.TheVariants.{Buffer, View, Sampler}
 use Rattle.wg_types.specs.declared.bindings.GroupEntryOf.{GroupEntryOf}
-use Rattle.wg_types.specs.Commands.{named, map_refs}
+use Rattle.wg_types.specs.Commands.{place_wanted, kind_begun, named, map_refs}
 use Rattle.wg_types.specs.declared.commands.CommandOf.{CommandOf}
 use Rattle.wg_types.specs.Requests.{kind_made, named as asked_of, map_refs as map_asked}
 use Rattle.wg_types.specs.declared.requests.RequestOf.{RequestOf}
@@ -36,6 +35,12 @@ other f x = (f x.0, x.1)
 command_named : {R S : Type 0} (f : R → S) (command : CommandOf R) → named (map_refs f command) ≡ map (other f) (named command)
 command_named f command = grind arith
 
+command_place : {R S : Type 0} (f : R → S) (command : CommandOf R) → place_wanted (map_refs f command) ≡ place_wanted command
+command_place f command = grind arith
+
+command_kind : {R S : Type 0} (f : R → S) (command : CommandOf R) → kind_begun (map_refs f command) ≡ kind_begun command
+command_kind f command = grind arith
+
 all_named : {R S : Type 0} (f : R → S) (want : Wanted) (xs : List R) → all_wanted want (map f xs) ≡ map (other f) (all_wanted want xs)
 all_named f want [] = refl
 all_named f want (x ∷ xs) = ap (λ rest. (f x, want) ∷ rest) (all_named f want xs)
@@ -56,7 +61,7 @@ request_kind : {R S : Type 0} (f : R → S) (request : RequestOf R) → kind_mad
 request_kind f request = grind arith
 
 uses_mapped : {R S : Type 0} (f : R → S) (call : CallOf R) → uses_of (map_call f call) ≡ map (other f) (uses_of call)
-uses_mapped f (Record on command made) = ap (λ rest. (f on, wanted.Encoder) ∷ rest) (command_named f command)
+uses_mapped f (Record on command made) = ap₂ (λ want rest. (f on, want) ∷ rest) (command_place f command) (command_named f command)
 uses_mapped f (Ask request made) = request_named f request
 
 as_mapped : {R S : Type 0} (f : R → S) (made : Option R) (kind : Option Kind) → option_to_list (made_as (option_map f made) kind) ≡ map (other f) (option_to_list (made_as made kind))
@@ -65,7 +70,7 @@ as_mapped f (Some name) None = refl
 as_mapped f (Some name) (Some kind) = refl
 
 made_mapped : {R S : Type 0} (f : R → S) (call : CallOf R) → made_by (map_call f call) ≡ map (other f) (made_by call)
-made_mapped f (Record on command made) = refl
+made_mapped f (Record on command made) = ap (λ kind. option_to_list (made_as (option_map f made) kind)) (command_kind f command) ∙ as_mapped f made (kind_begun command)
 made_mapped f (Ask request made) = ap (λ kind. option_to_list (made_as (option_map f made) kind)) (request_kind f request) ∙ as_mapped f made (kind_made request)
 
 -- ---- lists

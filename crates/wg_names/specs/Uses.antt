@@ -2,16 +2,15 @@
 use Rattle.std.specs.Prelude.{ℕ, List, ◌∷◌, Option, Some, None, Result, Ok, Err, ⊤}
 use Rattle.wg_types.specs.declared.wanted.Kind.{Kind}
 use Rattle.wg_types.specs.declared.wanted.Wanted.{Wanted}
-use Rattle.wg_types.specs.declared.wanted.Wanted.TheVariants as wanted
 pub use Rattle.wg_types.specs.Wanted.{admits}
-use Rattle.wg_types.specs.Commands.{named}
+use Rattle.wg_types.specs.Commands.{place_wanted, kind_begun, named}
 use Rattle.wg_types.specs.Requests.{kind_made, named as asked_of}
 use Rattle.wg_script.specs.declared.calls.CallOf.{CallOf}
 use Rattle.wg_script.specs.declared.calls.CallOf.TheVariants.{Record, Ask}
 
--- the names that a call uses, in the order of its keys
+-- the names that a call uses, in the order of its keys: what a recording call stands on comes first
 abbrev pub uses_of : {R : Type 0} → CallOf R → List (R × Wanted)
-uses_of (Record on command made) = (on, wanted.Encoder) ∷ named command
+uses_of (Record on command made) = (on, place_wanted command) ∷ named command
 uses_of (Ask request made) = asked_of request
 
 -- the name that a call makes
@@ -21,7 +20,7 @@ made_as (Some name) None = None
 made_as None kind = None
 
 abbrev pub made_of : {R : Type 0} → CallOf R → Option (R × Kind)
-made_of (Record on command made) = None
+made_of (Record on command made) = made_as made (kind_begun command)
 made_of (Ask request made) = made_as made (kind_made request)
 
 -- the rule that a test of a name found broken, and what it refuses

@@ -70,6 +70,17 @@ fn first_refusals(rt: HostRuntime) -> Result<(), Fail> {
             1,
         ),
         (
+            r#"{"do":"createEncoder","as":"e"},{"do":"end","on":"e"}"#,
+            11,
+            1,
+        ),
+        (
+            r#"{"do":"createEncoder","as":"e"},{"do":"beginComputePass","on":"e","as":"p"},
+                {"do":"pushDebugGroup","on":"p"},{"do":"drop","object":"p"}"#,
+            11,
+            3,
+        ),
+        (
             r#"{"do":"destroy","object":"b"},{"do":"complete","op":-1}"#,
             8,
             1,

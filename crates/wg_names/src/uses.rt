@@ -5,7 +5,7 @@ ghost use Rattle.wg_types.specs.Requests.{named as asked_of};
 ghost use Rattle.std.specs.Option.{option_map};
 ghost use Rattle.wg_names.specs.Names.{check_use};
 ghost use Rattle.wg_names.specs.Known.{names_in};
-ghost use Rattle.wg_names.specs.Uses.{uses_of, made_of, broken, refused};
+ghost use Rattle.wg_names.specs.Uses.{uses_of, made_as, made_of, broken, refused};
 ghost use Rattle.wg_names.specs.Script.{check_uses};
 
 use crate::known::Known;
@@ -72,28 +72,35 @@ fn check_request(
     refused(request.first(&asked))
 }
 
-/// Tests the names that a call uses, in the order of its keys.
+/// Tests the names that a call uses, in the order of its keys: what a recording call stands on comes first.
 pub fn check_uses(known: &Known<'_>, phase: u32, lane: u32, call: &Call) -> Result<(), u8>
     ensures { result ≡ check_uses (names_in known.now) phase lane (uses_of call.now) }
 {
     match call {
         Call::Record { on, command, .. } => {
-            known.check_use(phase, lane, on, Wanted::Encoder)?;
+            known.check_use(phase, lane, on, command.place_wanted())?;
             check_command(known, phase, lane, command)
         }
         Call::Ask { request, .. } => check_request(known, phase, lane, request),
     }
 }
 
-/// The name that a call makes, and what it stands for.
+/// A name with the kind of what is made under it, where there are both.
+fn made_as(made: &Option<Name>, kind: Option<Kind>) -> Option<(&Name, Kind)>
+    ensures { option_map (λ m. (m.0.now, m.1)) result ≡ made_as made.now kind }
+{
+    match (made, kind) {
+        (Some(name), Some(kind)) => Some((name, kind)),
+        (Some(_), None) | (None, _) => None,
+    }
+}
+
+/// The name that a call makes, and what it stands for: an object, or a pass.
 pub fn made_of(call: &Call) -> Option<(&Name, Kind)>
     ensures { option_map (λ m. (m.0.now, m.1)) result ≡ made_of call.now }
 {
     match call {
-        Call::Record { .. } => None,
-        Call::Ask { request, made } => match (made, request.kind_made()) {
-            (Some(name), Some(kind)) => Some((name, kind)),
-            (Some(_), None) | (None, _) => None,
-        },
+        Call::Record { command, made, .. } => made_as(made, command.kind_begun()),
+        Call::Ask { request, made } => made_as(made, request.kind_made()),
     }
 }

@@ -1,11 +1,11 @@
--- A recording call is late exactly where a call before it finishes its encoder.
-use Rattle.std.proofs.Common.{◌≡◌, ℕ, zero, suc, ◌+◌, ◌<◌, Bool, true, false, ◌||◌, ◌==◌, Option, Some, None, List, [], ◌∷◌, ◌++◌, length, map, refl, sym, ap, ap₂, subst, ◌∙◌, inl, inr, arith, append_assoc}
-use Rattle.std.specs.Prelude.{All, Contains, option_map}
+-- A recording call is late exactly where a call before it finishes its encoder, or its pass has ended.
+use Rattle.std.proofs.Common.{◌≡◌, ℕ, zero, suc, ◌+◌, ◌<◌, ◌≤◌, nat_lt, not, Bool, true, false, ◌||◌, ◌==◌, Option, Some, None, List, [], ◌∷◌, ◌++◌, length, map, refl, sym, ap, ap₂, subst, ◌∙◌, inl, inr, arith, append_assoc}
+use Rattle.std.specs.Prelude.{All, Contains, reverse, slice_get}
 use Rattle.std.specs.Option.{option_map_or, option_to_list}
 use Rattle.std.specs.List.{list_any}
 use Rattle.std.proofs.lemmas.Bool.{ne_eqb}
+use Rattle.std.proofs.lemmas.Bool.Decides.{nat_tests}
 use Rattle.std.proofs.lemmas.List.{append-nil, length-append}
-use Rattle.std.proofs.lemmas.List.Sums.{fold-append}
 use Rattle.std.proofs.lemmas.List.Folds.{list_any-append}
 use Rattle.std.proofs.lemmas.List.Concat.{flat_map-append}
 use Rattle.std.proofs.lemmas.List.Elements.{All-nil, All-cons, All-head, All-tail, All-contains, Contains-append_cases, Contains-push_cases}
@@ -13,22 +13,29 @@ use Rattle.wg_types.specs.declared.wanted.Kind.{Kind}
 use Rattle.wg_types.specs.declared.wanted.Kind.TheVariants as kind
 use Rattle.wg_types.specs.declared.wanted.Wanted.TheVariants as wanted
 use Rattle.wg_types.specs.Wanted.{admits}
-use Rattle.wg_types.specs.Commands.{named, map_refs}
-use Rattle.wg_types.specs.Requests.{kind_made, named as asked_of}
+use Rattle.wg_types.specs.Commands.{named, place_wanted, kind_begun}
+use Rattle.wg_types.specs.declared.commands.CommandOf.{CommandOf}
+use Rattle.wg_types.specs.declared.commands.On.{On}
+use Rattle.wg_types.specs.declared.commands.On.TheVariants.{Encoder, Pass}
+use Rattle.wg_types.specs.Requests.{named as asked_of}
 use Rattle.wg_types.specs.declared.requests.RequestOf.{RequestOf}
 use Rattle.wg_types.specs.declared.requests.RequestOf.TheVariants.{CreateBuffer, CreateTexture, CreateView, CreateSampler, CreateBindGroupLayout, CreatePipelineLayout, CreateBindGroup, CreateComputePipeline, CreateEncoder, Finish, Submit, WriteBuffer, WriteTexture, Destroy, Drop, Complete, PushErrorScope, PopErrorScope, Lose, WorkDone, MapAsync, Unmap}
-use Rattle.wg_encoder.specs.Recorders.{RecorderValue, after_take, is_late}
-use Rattle.wg_types.specs.declared.commands.On.TheVariants.{Encoder}
+use Rattle.wg_model.specs.Walk.{has_ended}
+use Rattle.wg_encoder.specs.Recorders.{RecorderValue, has_taken}
 use Rattle.wg_history.specs.declared.events.Setup.{Setup}
 use Rattle.wg_script.specs.CallOf.{BoundCall}
 use Rattle.wg_script.specs.declared.calls.CallOf.TheVariants.{Record, Ask}
-use Rattle.wg_names.specs.Uses.{uses_of, made_as, made_of}
+use Rattle.wg_names.specs.Uses.{uses_of, made_of}
 use Rattle.wg_names.specs.Bound.{Made, made_by, made_in, IsFound, LaneIsBound, numbers_below}
 use Rattle.wg_play.specs.declared.objects.Object.{Object}
-use Rattle.wg_play.specs.Objects.{ended_by, handle_at, is_late_on, taken_on}
-use Rattle.wg_play.specs.Play.{Played, start, played, lane_played, request_played}
-use Rattle.wg_play.specs.Late.{finishes, LateIsFinished}
-use Rattle.wg_play.proofs.Lateness.{late_at, late_new, length_with, recorded_objects, calls_at}
+use Rattle.wg_play.specs.declared.objects.Object.TheVariants as object
+use Rattle.wg_play.specs.declared.objects.Stand.{Stand}
+use Rattle.wg_play.specs.Objects.{ended_by, recorder_at, stand_at, is_begun, is_late_by, is_late_on}
+use Rattle.wg_play.specs.Play.{Played, start, played, lane_played}
+use Rattle.wg_play.specs.Late.{finishes, pass_ended, has_pass_ended, LateIsFinished}
+use Rattle.wg_play.proofs.Slots.{stand_encoder, stand_pass}
+use Rattle.wg_play.proofs.Lateness.{or_false, call_keeps, call_leaves}
+use Rattle.wg_play.proofs.Making.{call_length, encoder_made, pass_made, pass_begun, place_of_begin, is_encoder, stands_on}
 
 abbrev Slots : Type 0
 Slots = Made ℕ
@@ -59,64 +66,54 @@ from_zero (suc n) =
     let e : 0 + length (numbers_below n) ≡ n = omega (arith, ih) in
     subst (λ m. AreFrom 0 (numbers_below n ++ m ∷ [])) e (from_push 0 (numbers_below n) (from_zero n))
 
-slots_of : Slots → List ℕ
+abbrev slots_of : Slots → List ℕ
 slots_of ms = map (λ m. m.0) ms
 
-from_here : (k : ℕ) (ms : Slots) (m : ℕ × Kind) (rest : Slots) → AreFrom k (map (λ x. x.0) (ms ++ m ∷ rest)) → m.0 ≡ k + length ms
-from_here k [] m rest from = from.0 ∙ omega arith
-from_here k (x ∷ ms) m rest from = from_here (k + 1) ms m rest from.1 ∙ omega arith
+from_front : (k : ℕ) (front rest : Slots) → AreFrom k (slots_of (front ++ rest)) → AreFrom k (slots_of front)
+from_front k [] rest from = tt
+from_front k (m ∷ front) rest from = (from.0, from_front (k + 1) front rest from.1)
 
-from_below : (k : ℕ) (ms : Slots) (m : ℕ × Kind) (rest : Slots) → AreFrom k (map (λ x. x.0) (ms ++ m ∷ rest)) → All (λ x. x.0 < k + length ms) ms
-from_below k [] m rest from = All-nil (λ (x : ℕ × Kind). x.0 < k + 0)
-from_below k (x ∷ ms) m rest from =
-    let here : x.0 ≡ k = from.0 in
-    let e : (k + 1) + length ms ≡ k + length (x ∷ ms) = omega arith in
-    All-cons (λ (y : ℕ × Kind). y.0 < k + length (x ∷ ms)) x ms (omega (arith, here))
-    (subst (λ n. All (λ (y : ℕ × Kind). y.0 < n) ms) e (from_below (k + 1) ms m rest from.1))
+-- the slot that the first of some calls makes, and those that the others make
+first_from : (k : ℕ) (made : Option (ℕ × Kind)) (rest : Slots) → AreFrom k (slots_of (option_to_list made ++ rest)) → (m : ℕ × Kind) → made ≡ Some m → m.0 ≡ k
+first_from k None rest from m e = absurd (cc)
+first_from k (Some x) rest from m e = ap (λ (o : Option (ℕ × Kind)). option_map_or (λ (y : ℕ × Kind). y.0) o 0) (sym e) ∙ from.0
 
--- ---- before a slot is made no call ends it
+rest_from : (k : ℕ) (made : Option (ℕ × Kind)) (rest : Slots) → AreFrom k (slots_of (option_to_list made ++ rest)) → AreFrom (k + length (option_to_list made)) (slots_of rest)
+rest_from k None rest from = let e : k ≡ k + 0 = omega arith in subst (λ n. AreFrom n (slots_of rest)) e from
+rest_from k (Some m) rest from = from.1
 
-all_left : {X : Type 0} (P : X → Type 0) (xs ys : List X) → All P (xs ++ ys) → All P xs
-all_left P [] ys all = All-nil P
-all_left P (x ∷ xs) ys all = All-cons P x xs (All-head P x (xs ++ ys) all) (all_left P xs ys (All-tail P x (xs ++ ys) all))
+-- ---- what a call finishes was made
 
-request_unborn : (made : Slots) (n : ℕ) (request : RequestOf ℕ) → All (λ m. m.0 < n) made → All (IsFound made) (asked_of request) → option_map_or (λ encoder. encoder == n) (ended_by request) false ≡ false
-request_unborn made n (Finish encoder) below all =
+request_unborn : (made : Slots) (count n : ℕ) (request : RequestOf ℕ) → All (λ m. m.0 < count) made → count ≤ n → All (IsFound made) (asked_of request) → option_map_or (λ encoder. encoder == n) (ended_by request) false ≡ false
+request_unborn made count n (Finish encoder) below from all =
     let found = All-head (IsFound made) (encoder, wanted.Encoder) [] all in
-    let less : encoder < n = All-contains (λ (m : ℕ × Kind). m.0 < n) made (encoder, found.kind) below found.stands in
-    ne_eqb encoder n (λ e. absurd (omega (arith, less, e)))
-request_unborn made n (CreateBuffer known) below all = refl
-request_unborn made n (CreateTexture known) below all = refl
-request_unborn made n (CreateView texture asked) below all = refl
-request_unborn made n (CreateSampler known) below all = refl
-request_unborn made n (CreateBindGroupLayout known) below all = refl
-request_unborn made n (CreatePipelineLayout layouts) below all = refl
-request_unborn made n (CreateBindGroup layout entries) below all = refl
-request_unborn made n (CreateComputePipeline layout iface) below all = refl
-request_unborn made n CreateEncoder below all = refl
-request_unborn made n (Submit buffers) below all = refl
-request_unborn made n (WriteBuffer buffer offset size) below all = refl
-request_unborn made n (WriteTexture texture spot layout size data_size) below all = refl
-request_unborn made n (Destroy object) below all = refl
-request_unborn made n (Drop object) below all = refl
-request_unborn made n (Complete op) below all = refl
-request_unborn made n (PushErrorScope filter) below all = refl
-request_unborn made n PopErrorScope below all = refl
-request_unborn made n Lose below all = refl
-request_unborn made n WorkDone below all = refl
-request_unborn made n (MapAsync buffer mode offset size) below all = refl
-request_unborn made n (Unmap buffer) below all = refl
+    let less : encoder < count = All-contains (λ (m : ℕ × Kind). m.0 < count) made (encoder, found.kind) below found.stands in
+    ne_eqb encoder n (λ e. absurd (omega (arith, less, from, e)))
+request_unborn made count n (CreateBuffer known) below from all = refl
+request_unborn made count n (CreateTexture known) below from all = refl
+request_unborn made count n (CreateView texture asked) below from all = refl
+request_unborn made count n (CreateSampler known) below from all = refl
+request_unborn made count n (CreateBindGroupLayout known) below from all = refl
+request_unborn made count n (CreatePipelineLayout layouts) below from all = refl
+request_unborn made count n (CreateBindGroup layout entries) below from all = refl
+request_unborn made count n (CreateComputePipeline layout iface) below from all = refl
+request_unborn made count n CreateEncoder below from all = refl
+request_unborn made count n (Submit buffers) below from all = refl
+request_unborn made count n (WriteBuffer buffer offset size) below from all = refl
+request_unborn made count n (WriteTexture texture spot layout size data_size) below from all = refl
+request_unborn made count n (Destroy object) below from all = refl
+request_unborn made count n (Drop object) below from all = refl
+request_unborn made count n (Complete op) below from all = refl
+request_unborn made count n (PushErrorScope filter) below from all = refl
+request_unborn made count n PopErrorScope below from all = refl
+request_unborn made count n Lose below from all = refl
+request_unborn made count n WorkDone below from all = refl
+request_unborn made count n (MapAsync buffer mode offset size) below from all = refl
+request_unborn made count n (Unmap buffer) below from all = refl
 
-call_unborn : (made : Slots) (n : ℕ) (call : BoundCall) → All (λ m. m.0 < n) made → All (IsFound made) (uses_of call) → finishes n call ≡ false
-call_unborn made n (Record on command made_slot) below all = refl
-call_unborn made n (Ask request made_slot) below all = request_unborn made n request below all
-
-calls_unborn : (made : Slots) (n : ℕ) (calls : List BoundCall) → LaneIsBound made calls → All (λ m. m.0 < n) (made ++ made_in calls) → list_any (finishes n) calls ≡ false
-calls_unborn made n [] bound below = refl
-calls_unborn made n (call ∷ calls) bound below =
-    let P : ℕ × Kind → Type 0 = λ m. m.0 < n in
-    ap₂ (λ a b. a || b) (call_unborn made n call (all_left P made (made_in (call ∷ calls)) below) bound.0)
-    (calls_unborn (made ++ made_by call) n calls bound.1 (subst (λ ms. All P ms) (sym (append_assoc made (made_by call) (made_in calls))) below))
+call_unborn : (made : Slots) (count n : ℕ) (call : BoundCall) → All (λ m. m.0 < count) made → count ≤ n → All (IsFound made) (uses_of call) → finishes n call ≡ false
+call_unborn made count n (Record on command made_slot) below from all = refl
+call_unborn made count n (Ask request made_slot) below from all = request_unborn made count n request below from all
 
 -- ---- a lane up to one of its calls
 
@@ -129,174 +126,210 @@ lane_front : (made : Slots) (front rest : List BoundCall) → LaneIsBound made (
 lane_front made [] rest bound = tt
 lane_front made (x ∷ front) rest bound = (bound.0, lane_front (made ++ made_by x) front rest bound.1)
 
--- the call that makes a slot
-record Split (calls : List BoundCall) (m : ℕ × Kind) : Type 0 where
-  front : List BoundCall
-  maker : BoundCall
-  back : List BoundCall
-  is : calls ≡ front ++ maker ∷ back
-  makes : made_of maker ≡ Some m
-
 only : (o : Option (ℕ × Kind)) (m : ℕ × Kind) → Contains (option_to_list o) m → o ≡ Some m
 only None m there = absurd (omega (arith, there.1))
 only (Some x) m there = elim (Contains-push_cases [] x m there) [ inl none ↦ absurd (omega (arith, none.1)) | inr same ↦ ap (λ y. Some y) same ]
 
-split_of : (calls : List BoundCall) (m : ℕ × Kind) → Contains (made_in calls) m → Split calls m
-split_of [] m there = absurd (omega (arith, there.1))
-split_of (call ∷ calls) m there = elim (Contains-append_cases (made_by call) (made_in calls) m there) [
-  | inl here ↦ record { front = []; maker = call; back = calls; is = refl; makes = only (made_of call) m here }
-  | inr later ↦ let rest = split_of calls m later in
-      record { front = call ∷ rest.front; maker = rest.maker; back = rest.back; is = ap (λ cs. call ∷ cs) rest.is; makes = rest.makes }
-]
+-- ---- the slots after some calls
 
--- ---- how many objects there are
+-- an encoder, which has ended where one of the calls finishes it
+record IsEncoder (objects : List Object) (before : List BoundCall) (slot : ℕ) : Type 0 where
+  recorder : RecorderValue
+  is : recorder_at objects slot ≡ Some recorder
+  taken : has_taken recorder ≡ list_any (finishes slot) before
 
-request_length : (setup : Setup) (state : Played) (request : RequestOf ℕ) (slot : ℕ) → length (request_played setup state request (Some slot)).objects ≡ length state.objects + length (option_to_list (made_as (Some slot) (kind_made request)))
-request_length setup state (CreateBuffer known) slot = length-append state.objects _
-request_length setup state (CreateTexture known) slot = length-append state.objects _
-request_length setup state (CreateView texture asked) slot = length-append state.objects _
-request_length setup state (CreateSampler known) slot = length-append state.objects _
-request_length setup state (CreateBindGroupLayout known) slot = length-append state.objects _
-request_length setup state (CreatePipelineLayout layouts) slot = length-append state.objects _
-request_length setup state (CreateBindGroup layout entries) slot = length-append state.objects _
-request_length setup state (CreateComputePipeline layout iface) slot = length-append state.objects _
-request_length setup state CreateEncoder slot = length-append state.objects _
-request_length setup state (Finish encoder) slot = length-append (taken_on state.objects encoder) _ ∙ ap (λ n. n + 1) (length_with state.objects encoder (λ r. record r { commands = []; takes = after_take r.takes }))
-request_length setup state (Submit buffers) slot = omega arith
-request_length setup state (WriteBuffer buffer offset size) slot = omega arith
-request_length setup state (WriteTexture texture spot layout size data_size) slot = omega arith
-request_length setup state (Destroy object) slot = omega arith
-request_length setup state (Drop object) slot = omega arith
-request_length setup state (Complete op) slot = omega arith
-request_length setup state (PushErrorScope filter) slot = omega arith
-request_length setup state PopErrorScope slot = omega arith
-request_length setup state Lose slot = omega arith
-request_length setup state WorkDone slot = omega arith
-request_length setup state (MapAsync buffer mode offset size) slot = omega arith
-request_length setup state (Unmap buffer) slot = omega arith
+-- a pass that was begun on such an encoder
+record IsPass (objects : List Object) (before : List BoundCall) (slot : ℕ) : Type 0 where
+  encoder : ℕ
+  number : ℕ
+  is : slice_get objects slot ≡ Some (object.Pass encoder number)
+  holder : IsEncoder objects before encoder
+  begun : nat_lt number holder.recorder.passes ≡ true
 
-taken_length : (objects : List Object) (found : Option ℕ) → length (option_map_or (taken_on objects) found objects) ≡ length objects
-taken_length objects None = refl
-taken_length objects (Some encoder) = length_with objects encoder (λ r. record r { commands = []; takes = after_take r.takes })
+record Stands (objects : List Object) (before : List BoundCall) : Type 0 where
+  count : length objects ≡ length (made_in before)
+  below : All (λ m. m.0 < length objects) (made_in before)
+  unborn : (n : ℕ) → length objects ≤ n → list_any (finishes n) before ≡ false
+  encoders : (slot : ℕ) → Contains (made_in before) (slot, kind.Encoder) → IsEncoder objects before slot
+  passes : (slot : ℕ) → Contains (made_in before) (slot, kind.ComputePass) → IsPass objects before slot
 
-call_length : (setup : Setup) (state : Played) (call : BoundCall) → length (played setup state call).objects ≡ length state.objects + length (made_by call)
-call_length setup state (Record on command made) =
-    let e : length (played setup state (Record on command made)).objects ≡ length state.objects
-    = ap length (recorded_objects setup state on (map_refs (handle_at state.objects) command)) ∙ length_with state.objects on _ in
-    e ∙ omega arith
-call_length setup state (Ask request None) = taken_length state.objects (ended_by request) ∙ omega arith
-call_length setup state (Ask request (Some slot)) = request_length setup state request slot
+no_calls : Stands [] []
+no_calls = record {
+  count = refl;
+  below = All-nil (λ (m : ℕ × Kind). m.0 < 0);
+  unborn = λ n from. refl;
+  encoders = λ slot there. absurd (omega (arith, there.1));
+  passes = λ slot there. absurd (omega (arith, there.1));
+}
 
-calls_length : (setup : Setup) (calls : List BoundCall) (state : Played) → length (lane_played setup state calls).objects ≡ length state.objects + length (made_in calls)
-calls_length setup [] state = omega arith
-calls_length setup (call ∷ calls) state =
-    let one : length (played setup state call).objects ≡ length state.objects + length (made_by call) = call_length setup state call in
-    let more : length (lane_played setup (played setup state call) calls).objects ≡ length (played setup state call).objects + length (made_in calls) = calls_length setup calls (played setup state call) in
-    let joined : length (made_by call ++ made_in calls) ≡ length (made_by call) + length (made_in calls) = length-append (made_by call) (made_in calls) in
-    more ∙ omega (arith, one, joined)
+made_more : (before : List BoundCall) (call : BoundCall) → made_in (before ++ call ∷ []) ≡ made_in before ++ made_by call
+made_more before call = flat_map-append made_by before (call ∷ []) ∙ ap (λ ms. made_in before ++ ms) (append-nil (made_by call))
 
--- ---- the encoder that a call makes
+finished_more : (before : List BoundCall) (call : BoundCall) (n : ℕ) → list_any (finishes n) (before ++ call ∷ []) ≡ list_any (finishes n) before || finishes n call
+finished_more before call n = list_any-append (finishes n) before (call ∷ []) ∙ ap (λ b. list_any (finishes n) before || b) (or_false (finishes n call))
 
-encoder_new : (setup : Setup) (state : Played) (request : RequestOf ℕ) (slot : ℕ) → kind_made request ≡ Some kind.Encoder → late_at (request_played setup state request (Some slot)).objects (length state.objects) ≡ Some false
-encoder_new setup state CreateEncoder slot e = late_new state.objects _
-encoder_new setup state (CreateBuffer known) slot e = absurd (cc)
-encoder_new setup state (CreateTexture known) slot e = absurd (cc)
-encoder_new setup state (CreateView texture asked) slot e = absurd (cc)
-encoder_new setup state (CreateSampler known) slot e = absurd (cc)
-encoder_new setup state (CreateBindGroupLayout known) slot e = absurd (cc)
-encoder_new setup state (CreatePipelineLayout layouts) slot e = absurd (cc)
-encoder_new setup state (CreateBindGroup layout entries) slot e = absurd (cc)
-encoder_new setup state (CreateComputePipeline layout iface) slot e = absurd (cc)
-encoder_new setup state (Finish encoder) slot e = absurd (cc)
-encoder_new setup state (Submit buffers) slot e = absurd (cc)
-encoder_new setup state (WriteBuffer buffer offset size) slot e = absurd (cc)
-encoder_new setup state (WriteTexture texture spot layout size data_size) slot e = absurd (cc)
-encoder_new setup state (Destroy object) slot e = absurd (cc)
-encoder_new setup state (Drop object) slot e = absurd (cc)
-encoder_new setup state (Complete op) slot e = absurd (cc)
-encoder_new setup state (PushErrorScope filter) slot e = absurd (cc)
-encoder_new setup state PopErrorScope slot e = absurd (cc)
-encoder_new setup state Lose slot e = absurd (cc)
-encoder_new setup state WorkDone slot e = absurd (cc)
-encoder_new setup state (MapAsync buffer mode offset size) slot e = absurd (cc)
-encoder_new setup state (Unmap buffer) slot e = absurd (cc)
+-- one more call
 
-as_encoder : (slot on : ℕ) (found : Option Kind) → made_as (Some slot) found ≡ Some (on, kind.Encoder) → found ≡ Some kind.Encoder
-as_encoder slot on None e = absurd (cc)
-as_encoder slot on (Some k) e = let same : (slot, k) ≡ (on, kind.Encoder) = cc in ap (λ (m : ℕ × Kind). Some m.1) same
+encoder_after : (setup : Setup) (state : Played) (before : List BoundCall) (call : BoundCall) (slot : ℕ) → IsEncoder state.objects before slot → IsEncoder (played setup state call).objects (before ++ call ∷ []) slot
+encoder_after setup state before call slot was =
+    let kept = call_keeps setup state call slot was.recorder was.is in
+    record {
+      recorder = kept.recorder;
+      is = kept.is;
+      taken = kept.taken ∙ (ap (λ b. b || finishes slot call) was.taken ∙ sym (finished_more before call slot));
+    }
 
-maker_at : (setup : Setup) (state : Played) (call : BoundCall) (on : ℕ) → made_of call ≡ Some (on, kind.Encoder) → late_at (played setup state call).objects (length state.objects) ≡ Some false
-maker_at setup state (Record slot command made) on e = absurd (cc)
-maker_at setup state (Ask request None) on e = absurd (cc)
-maker_at setup state (Ask request (Some slot)) on e = encoder_new setup state request slot (as_encoder slot on (kind_made request) e)
+more_begun : (number old new : ℕ) → nat_lt number old ≡ true → old ≤ new → nat_lt number new ≡ true
+more_begun number old new begun more = grind (arith, nat_tests, begun, more)
+
+pass_after : (setup : Setup) (state : Played) (before : List BoundCall) (call : BoundCall) (slot : ℕ) → IsPass state.objects before slot → IsPass (played setup state call).objects (before ++ call ∷ []) slot
+unfolding encoder_after
+pass_after setup state before call slot was =
+    let kept = call_keeps setup state call was.encoder was.holder.recorder was.holder.is in
+    record {
+      encoder = was.encoder;
+      number = was.number;
+      is = call_leaves setup state call slot was.encoder was.number was.is;
+      holder = encoder_after setup state before call was.encoder was.holder;
+      begun = more_begun was.number was.holder.recorder.passes kept.recorder.passes was.begun kept.passes;
+    }
+
+-- no call has finished the encoder that is made
+encoder_first : (setup : Setup) (state : Played) (before : List BoundCall) (call : BoundCall) (slot : ℕ) → Stands state.objects before → All (IsFound (made_in before)) (uses_of call)
+    → slot ≡ length state.objects → made_of call ≡ Some (slot, kind.Encoder) → IsEncoder (played setup state call).objects (before ++ call ∷ []) slot
+encoder_first setup state before call slot was uses here makes =
+    let fresh = encoder_made setup state call slot makes in
+    let from : length state.objects ≤ slot = omega (arith, here) in
+    let unborn : list_any (finishes slot) (before ++ call ∷ []) ≡ false
+    = finished_more before call slot ∙ ap₂ (λ a b. a || b) (was.unborn slot from) (call_unborn (made_in before) (length state.objects) slot call was.below from uses) in
+    record {
+      recorder = fresh.recorder;
+      is = ap (λ n. recorder_at (played setup state call).objects n) here ∙ fresh.is;
+      taken = fresh.unended ∙ sym unborn;
+    }
+
+-- the encoder on which a pass is begun
+begun_on : (before : List BoundCall) (objects : List Object) (on : ℕ) (command : CommandOf ℕ) (made : Option ℕ) → Stands objects before → All (IsFound (made_in before)) (uses_of (Record on command made))
+    → place_wanted command ≡ wanted.Encoder → IsEncoder objects before on
+begun_on before objects on command made was uses place =
+    let found = All-head (IsFound (made_in before)) (on, place_wanted command) (named command) uses in
+    was.encoders on (subst (λ k. Contains (made_in before) (on, k)) (is_encoder found.kind (ap (λ w. admits w found.kind) (sym place) ∙ found.fits)) found.stands)
+
+pass_on : (setup : Setup) (state : Played) (before : List BoundCall) (on made slot : ℕ) (command : CommandOf ℕ) → IsEncoder state.objects before on → slot ≡ length state.objects
+    → kind_begun command ≡ Some kind.ComputePass → IsPass (played setup state (Record on command (Some made))).objects (before ++ Record on command (Some made) ∷ []) slot
+pass_on setup state before on made slot command holder here begins =
+    let new = pass_begun setup state on made command holder.recorder holder.is begins in
+    record {
+      encoder = on;
+      number = holder.recorder.passes;
+      is = ap (λ n. slice_get (played setup state (Record on command (Some made))).objects n) here ∙ new.is;
+      holder = record {
+        recorder = new.recorder;
+        is = new.recorder_is;
+        taken = new.taken ∙ (holder.taken ∙ sym (finished_more before (Record on command (Some made)) on ∙ or_false (list_any (finishes on) before)));
+      };
+      begun = new.begun;
+    }
+
+pass_first : (setup : Setup) (state : Played) (before : List BoundCall) (call : BoundCall) (slot : ℕ) → Stands state.objects before → All (IsFound (made_in before)) (uses_of call)
+    → slot ≡ length state.objects → made_of call ≡ Some (slot, kind.ComputePass) → IsPass (played setup state call).objects (before ++ call ∷ []) slot
+pass_first setup state before call slot was uses here makes =
+    let begins = pass_made call slot makes in
+    let holder = begun_on before state.objects begins.on begins.command (Some begins.slot) was (subst (λ c. All (IsFound (made_in before)) (uses_of c)) begins.is uses) (place_of_begin begins.command begins.kind_is) in
+    subst (λ c. IsPass (played setup state c).objects (before ++ c ∷ []) slot) (sym begins.is) (pass_on setup state before begins.on begins.slot slot begins.command holder here begins.kind_is)
+
+below_more : (made : Slots) (found : Option (ℕ × Kind)) (old new : ℕ) → All (λ m. m.0 < old) made → new ≡ old + length (option_to_list found) → ((m : ℕ × Kind) → found ≡ Some m → m.0 ≡ old)
+    → All (λ m. m.0 < new) (made ++ option_to_list found)
+below_more [] None old new below count here = All-nil (λ (m : ℕ × Kind). m.0 < new)
+below_more [] (Some x) old new below count here =
+    let e : x.0 ≡ old = here x refl in
+    All-cons (λ (m : ℕ × Kind). m.0 < new) x [] (omega (arith, e, count)) (All-nil (λ (m : ℕ × Kind). m.0 < new))
+below_more (x ∷ made) found old new below count here =
+    let less : x.0 < old = All-head (λ (m : ℕ × Kind). m.0 < old) x made below in
+    All-cons (λ (m : ℕ × Kind). m.0 < new) x (made ++ option_to_list found) (omega (arith, less, count))
+    (below_more made found old new (All-tail (λ (m : ℕ × Kind). m.0 < old) x made below) count here)
+
+one_more : (setup : Setup) (state : Played) (before : List BoundCall) (call : BoundCall) → Stands state.objects before → All (IsFound (made_in before)) (uses_of call)
+    → ((m : ℕ × Kind) → made_of call ≡ Some m → m.0 ≡ length state.objects) → Stands (played setup state call).objects (before ++ call ∷ [])
+one_more setup state before call was uses here =
+    let objects : List Object = (played setup state call).objects in
+    let grown : length objects ≡ length state.objects + length (made_by call) = call_length setup state call in
+    let old_count : length state.objects ≡ length (made_in before) = was.count in
+    let joined : length (made_in before ++ made_by call) ≡ length (made_in before) + length (made_by call) = length-append (made_in before) (made_by call) in
+    let new_made : made_in (before ++ call ∷ []) ≡ made_in before ++ made_by call = made_more before call in
+    record {
+      count = (let e : length objects ≡ length (made_in before ++ made_by call) = omega (arith, grown, old_count, joined) in e) ∙ ap length (sym new_made);
+      below = subst (λ ms. All (λ (m : ℕ × Kind). m.0 < length objects) ms) (sym new_made) (below_more (made_in before) (made_of call) (length state.objects) (length objects) was.below grown here);
+      unborn = λ n from. (
+          let less : length state.objects ≤ n = omega (arith, from, grown) in
+          finished_more before call n ∙ ap₂ (λ a b. a || b) (was.unborn n less) (call_unborn (made_in before) (length state.objects) n call was.below less uses));
+      encoders = λ slot there. elim (Contains-append_cases (made_in before) (made_by call) (slot, kind.Encoder) (subst (λ ms. Contains ms (slot, kind.Encoder)) new_made there)) [
+        | inl earlier ↦ encoder_after setup state before call slot (was.encoders slot earlier)
+        | inr new ↦ let makes : made_of call ≡ Some (slot, kind.Encoder) = only (made_of call) (slot, kind.Encoder) new in
+            encoder_first setup state before call slot was uses (here (slot, kind.Encoder) makes) makes
+      ];
+      passes = λ slot there. elim (Contains-append_cases (made_in before) (made_by call) (slot, kind.ComputePass) (subst (λ ms. Contains ms (slot, kind.ComputePass)) new_made there)) [
+        | inl earlier ↦ pass_after setup state before call slot (was.passes slot earlier)
+        | inr new ↦ let makes : made_of call ≡ Some (slot, kind.ComputePass) = only (made_of call) (slot, kind.ComputePass) new in
+            pass_first setup state before call slot was uses (here (slot, kind.ComputePass) makes) makes
+      ];
+    }
+
+-- calls one after another
+
+all_after : (setup : Setup) (calls before : List BoundCall) (state : Played) → Stands state.objects before → LaneIsBound (made_in before) calls → AreFrom (length state.objects) (slots_of (made_in calls))
+    → Stands (lane_played setup state calls).objects (before ++ calls)
+all_after setup [] before state was bound from = subst (λ cs. Stands state.objects cs) (sym (append-nil before)) was
+all_after setup (call ∷ calls) before state was bound from =
+    let grown : length (played setup state call).objects ≡ length state.objects + length (made_by call) = call_length setup state call in
+    subst (λ cs. Stands (lane_played setup (played setup state call) calls).objects cs) (append_assoc before (call ∷ []) calls)
+    (all_after setup calls (before ++ call ∷ []) (played setup state call)
+    (one_more setup state before call was bound.0 (first_from (length state.objects) (made_of call) (made_in calls) from))
+    (subst (λ ms. LaneIsBound ms calls) (sym (made_more before call)) bound.1)
+    (subst (λ n. AreFrom n (slots_of (made_in calls))) (sym grown) (rest_from (length state.objects) (made_of call) (made_in calls) from)))
 
 -- ---- the law
 
-is_encoder : (k : Kind) → admits wanted.Encoder k ≡ true → k ≡ kind.Encoder
-is_encoder kind.Buffer e = absurd (cc)
-is_encoder kind.Texture e = absurd (cc)
-is_encoder kind.View e = absurd (cc)
-is_encoder kind.Sampler e = absurd (cc)
-is_encoder kind.GroupLayout e = absurd (cc)
-is_encoder kind.PipelineLayout e = absurd (cc)
-is_encoder kind.Group e = absurd (cc)
-is_encoder kind.Compute e = absurd (cc)
-is_encoder kind.Encoder e = refl
-is_encoder kind.CommandBuffer e = absurd (cc)
+-- an end of the encoder and an end of the pass are both found in the recorder
+late_of : (on : On) (r : RecorderValue) (finished : Bool) → has_taken r ≡ finished → is_begun on r.passes ≡ true → is_late_by on r ≡ finished || pass_ended on (Some r)
+late_of Encoder r finished taken begun = ap (λ b. b || false) taken
+late_of (Pass number) r finished taken begun = ap₂ (λ a b. not a || (b || has_ended (reverse r.commands) number)) begun taken
 
-late_of : (found : Option RecorderValue) (b : Bool) → (let late : Option Bool = option_map (λ r. is_late r Encoder) found in late) ≡ Some b → option_map_or (λ r. is_late r Encoder) found true ≡ b
-late_of None b e = absurd (cc)
-late_of (Some r) b e = cc
+abbrev LateAt : List Object → List BoundCall → Stand → Type 0
+LateAt objects before stand = is_late_on objects stand ≡ list_any (finishes stand.encoder) before || has_pass_ended objects stand
 
-late_on : (objects : List Object) (on : ℕ) (b : Bool) → late_at objects on ≡ Some b → is_late_on objects on ≡ b
-late_on [] on b e = absurd (cc)
-late_on (o ∷ os) zero b e = late_of o.recorder b e
-late_on (o ∷ os) (suc on) b e = late_on os on b e
+late_by : (objects : List Object) (before : List BoundCall) (stand : Stand) (r : RecorderValue) → recorder_at objects stand.encoder ≡ Some r → has_taken r ≡ list_any (finishes stand.encoder) before
+    → is_begun stand.on r.passes ≡ true → LateAt objects before stand
+late_by objects before stand r is taken begun =
+    ap (λ found. option_map_or (is_late_by stand.on) found true) is
+    ∙ (late_of stand.on r (list_any (finishes stand.encoder) before) taken begun
+    ∙ ap (λ found. list_any (finishes stand.encoder) before || pass_ended stand.on found) (sym is))
 
--- after the call that makes an encoder it is late exactly where a call since finishes it
-since : (setup : Setup) (front back : List BoundCall) (maker : BoundCall) (on : ℕ) → made_of maker ≡ Some (on, kind.Encoder) → on ≡ length (made_in front)
-    → is_late_on (lane_played setup start (front ++ maker ∷ back)).objects on ≡ list_any (finishes on) back
-since setup front back maker on makes here =
-    let state = lane_played setup start front in
-    let count : length state.objects ≡ on = calls_length setup front start ∙ sym (here ∙ omega arith) in
-    let new : late_at (played setup state maker).objects on ≡ Some false = subst (λ n. late_at (played setup state maker).objects n ≡ Some false) count (maker_at setup state maker on makes) in
-    let whole : lane_played setup start (front ++ maker ∷ back) ≡ lane_played setup (played setup state maker) back = fold-append (played setup) start front (maker ∷ back) in
-    late_on (lane_played setup start (front ++ maker ∷ back)).objects on (list_any (finishes on) back)
-    (ap (λ (s : Played). late_at s.objects on) whole ∙ calls_at setup back (played setup state maker) on false new)
+late_encoder : (objects : List Object) (before : List BoundCall) (slot : ℕ) → IsEncoder objects before slot → LateAt objects before (stand_at objects slot)
+late_encoder objects before slot at =
+    subst (λ stand. LateAt objects before stand) (sym (stand_encoder objects slot at.recorder at.is))
+    (late_by objects before (record { encoder = slot; on = Encoder }) at.recorder at.is at.taken refl)
 
-law_at : (setup : Setup) (before rest : List BoundCall) (on count : ℕ) → LaneIsBound [] (before ++ rest) → map (λ m. m.0) (made_in (before ++ rest)) ≡ numbers_below count
-    → Split before (on, kind.Encoder) → is_late_on (lane_played setup start before).objects on ≡ list_any (finishes on) before
-law_at setup before rest on count bound numbered split =
-    let m : ℕ × Kind = (on, kind.Encoder) in
-    let more : Slots = made_in split.back ++ made_in rest in
-    let makes : made_by split.maker ≡ m ∷ [] = ap option_to_list split.makes in
-    let parts : made_in (before ++ rest) ≡ made_in split.front ++ m ∷ more
-    = flat_map-append made_by before rest
-    ∙ (ap (λ cs. made_in cs ++ made_in rest) split.is
-    ∙ (ap (λ ms. ms ++ made_in rest) (flat_map-append made_by split.front (split.maker ∷ split.back))
-    ∙ (append_assoc (made_in split.front) (made_by split.maker ++ made_in split.back) (made_in rest)
-    ∙ ap (λ ms. made_in split.front ++ ((ms ++ made_in split.back) ++ made_in rest)) makes))) in
-    let from : AreFrom 0 (map (λ x. x.0) (made_in split.front ++ m ∷ more))
-    = subst (λ ns. AreFrom 0 ns) (sym numbered ∙ ap (map (λ x. x.0)) parts) (from_zero count) in
-    let here : on ≡ length (made_in split.front) = from_here 0 (made_in split.front) m more from ∙ omega arith in
-    let below : All (λ x. x.0 < on) (made_in split.front)
-    = subst (λ n. All (λ (x : ℕ × Kind). x.0 < n) (made_in split.front)) (omega (arith, here)) (from_below 0 (made_in split.front) m more from) in
-    let lane : LaneIsBound [] (split.front ++ split.maker ∷ split.back) = subst (λ cs. LaneIsBound [] cs) split.is (lane_front [] before rest bound) in
-    let early : list_any (finishes on) split.front ≡ false = calls_unborn [] on split.front (lane_front [] split.front (split.maker ∷ split.back) lane) below in
-    let own : finishes on split.maker ≡ false = call_unborn (made_in split.front) on split.maker below (lane_at [] split.front split.maker split.back lane) in
-    let all : list_any (finishes on) (split.front ++ split.maker ∷ split.back) ≡ list_any (finishes on) split.back
-    = list_any-append (finishes on) split.front (split.maker ∷ split.back) ∙ ap₂ (λ a b. a || (b || list_any (finishes on) split.back)) early own in
-    ap (λ cs. is_late_on (lane_played setup start cs).objects on) split.is
-    ∙ (since setup split.front split.back split.maker on split.makes here
-    ∙ (sym all ∙ ap (λ cs. list_any (finishes on) cs) (sym split.is)))
+late_pass : (objects : List Object) (before : List BoundCall) (slot : ℕ) → IsPass objects before slot → LateAt objects before (stand_at objects slot)
+late_pass objects before slot at =
+    subst (λ stand. LateAt objects before stand) (sym (stand_pass objects slot at.encoder at.number at.is))
+    (late_by objects before (record { encoder = at.encoder; on = Pass at.number }) at.holder.recorder at.holder.is at.holder.taken at.begun)
+
+late_found : (objects : List Object) (before : List BoundCall) (slot : ℕ) (command : CommandOf ℕ) → Stands objects before → IsFound (made_in before) (slot, place_wanted command) → LateAt objects before (stand_at objects slot)
+late_found objects before slot command was found = elim (stands_on command found.kind found.fits) [
+  | inl encoder ↦ late_encoder objects before slot (was.encoders slot (subst (λ k. Contains (made_in before) (slot, k)) encoder found.stands))
+  | inr pass ↦ late_pass objects before slot (was.passes slot (subst (λ k. Contains (made_in before) (slot, k)) pass found.stands))
+]
 
 pub late_is_finished : LateIsFinished
 late_is_finished setup before after on command made bound =
     let call : BoundCall = Record on command made in
     let calls : List BoundCall = before ++ call ∷ after in
     let lane : LaneIsBound [] calls = All-head (LaneIsBound []) calls [] bound.used.0 in
-    let found = All-head (IsFound (made_in before)) (on, wanted.Encoder) (named command) (lane_at [] before call after lane) in
-    let stands : Contains (made_in before) (on, kind.Encoder) = subst (λ k. Contains (made_in before) (on, k)) (is_encoder found.kind found.fits) found.stands in
-    let whole : map (λ m. m.0) (made_in calls) ≡ numbers_below bound.count
+    let whole : slots_of (made_in calls) ≡ numbers_below bound.count
     = ap (map (λ (m : ℕ × Kind). m.0)) (sym (append-nil (made_in calls ++ []) ∙ append-nil (made_in calls))) ∙ bound.numbered in
-    law_at setup before (call ∷ after) on bound.count lane whole (split_of before (on, kind.Encoder) stands)
+    let parts : made_in calls ≡ made_in before ++ made_in (call ∷ after) = flat_map-append made_by before (call ∷ after) in
+    let from : AreFrom 0 (slots_of (made_in before))
+    = from_front 0 (made_in before) (made_in (call ∷ after)) (subst (λ ms. AreFrom 0 (slots_of ms)) parts (subst (λ ns. AreFrom 0 ns) (sym whole) (from_zero bound.count))) in
+    late_found (lane_played setup start before).objects before on command (all_after setup before [] start no_calls (lane_front [] before (call ∷ after) lane) from)
+    (All-head (IsFound (made_in before)) (on, place_wanted command) (named command) (lane_at [] before call after lane))

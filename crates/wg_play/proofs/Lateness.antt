@@ -1,33 +1,29 @@
--- What a recorder says of being late, call by call.
-use Rattle.std.proofs.Common.{◌≡◌, ℕ, zero, suc, Bool, true, false, ◌||◌, ◌==◌, Option, Some, None, List, [], ◌∷◌, ◌++◌, length, refl, sym, ap, subst, ◌∙◌, inl, inr}
-use Rattle.std.specs.Prelude.{option_and_then, option_map, slice_get, slice_set}
+-- What each call does to the recorders and the passes of slots.
+use Rattle.std.proofs.Common.{◌≡◌, ℕ, ◌+◌, ◌≤◌, Bool, true, false, ◌||◌, ◌==◌, Option, Some, None, List, [], ◌∷◌, ◌++◌, length, refl, sym, ap, subst, ◌∙◌, inl, inr, arith, if◌then◌else◌}
+use Rattle.std.specs.Prelude.{option_map, slice_get}
 use Rattle.std.specs.Option.{option_map_or}
-use Rattle.std.specs.List.{list_any}
 use Rattle.std.proofs.lemmas.Bool.{cases_eq, eq-eqb, ne_eqb, cases_Bool}
 use Rattle.wg_types.specs.declared.handles.Info.{Info}
-use Rattle.wg_types.specs.declared.commands.On.TheVariants.{Encoder}
+use Rattle.wg_types.specs.declared.commands.On.{On}
 use Rattle.wg_types.specs.declared.replies.Answer.{Answer}
 use Rattle.wg_types.specs.declared.replies.Answer.TheVariants.{Made, Queued, Promised, Plain, BadCompletion}
 use Rattle.wg_types.specs.Commands.{Command, map_refs}
-use Rattle.wg_encoder.specs.Recorders.{RecorderValue, is_late, recorded, after_take}
+use Rattle.wg_model.specs.Walk.{begins_pass}
+use Rattle.wg_encoder.specs.Recorders.{RecorderValue, has_taken, recorded, after_take}
 use Rattle.wg_encoder.proofs.TakeLemmas.{counted}
 use Rattle.wg_history.specs.declared.events.Setup.{Setup}
 use Rattle.wg_history.specs.Answers.{reply_to}
 use Rattle.wg_script.specs.CallOf.{BoundCall}
 use Rattle.wg_script.specs.declared.calls.CallOf.TheVariants.{Record, Ask}
 use Rattle.wg_play.specs.declared.objects.Object.{Object}
-use Rattle.wg_play.specs.Objects.{handle_at, changed, with_recorder, is_late_on, recorded_on, taken_on, ended_by, objects_taken, known_made, event_asked, object_of}
-use Rattle.wg_play.specs.Play.{Played, with_made, command_played, played, lane_played}
+use Rattle.wg_play.specs.declared.objects.Object.TheVariants as object
+use Rattle.wg_play.specs.declared.objects.Stand.{Stand}
+use Rattle.wg_play.specs.Objects.{handle_at, recorder_at, stand_at, with_recorder, is_begun, is_late_on, recorded_by, recorded_on, begun_by, taken_on, ended_by, objects_taken, known_made, event_asked, object_of}
+use Rattle.wg_play.specs.Play.{Played, with_made, command_played, played}
 use Rattle.wg_play.specs.Late.{finishes}
+use Rattle.wg_play.proofs.Slots.{own_recorder, other_recorder, pass_with, length_with, at_append, recorder_append}
 
--- whether the encoder of a slot is late, if it is one
-abbrev pub late_in : Object → Option Bool
-late_in object = option_map (λ recorder. is_late recorder Encoder) object.recorder
-
-abbrev pub late_at : List Object → ℕ → Option Bool
-late_at objects slot = option_and_then late_in (slice_get objects slot)
-
-or_false : (b : Bool) → (b || false) ≡ b
+pub or_false : (b : Bool) → (b || false) ≡ b
 or_false true = refl
 or_false false = refl
 
@@ -35,112 +31,129 @@ or_true : (b : Bool) → (b || true) ≡ true
 or_true true = refl
 or_true false = refl
 
--- ---- a change of one recorder
+-- The recorder of a slot after a call, which finishes it or does not: it has begun as many passes as before, or more.
+pub record Kept (objects : List Object) (slot : ℕ) (finished : Bool) (old : RecorderValue) : Type 0 where
+  pub recorder : RecorderValue
+  pub is : recorder_at objects slot ≡ Some recorder
+  pub passes : old.passes ≤ recorder.passes
+  pub taken : has_taken recorder ≡ (has_taken old || finished)
 
-set_tail : (o : Object) (os : List Object) (slot : ℕ) (change : RecorderValue → RecorderValue) (found : Option Object)
-    → option_map_or (λ x. slice_set (o ∷ os) (suc slot) (changed x change)) found (o ∷ os) ≡ o ∷ option_map_or (λ x. slice_set os slot (changed x change)) found os
-set_tail o os slot change None = refl
-set_tail o os slot change (Some x) = refl
+same_kept : (objects : List Object) (slot : ℕ) (r : RecorderValue) → recorder_at objects slot ≡ Some r → Kept objects slot false r
+same_kept objects slot r e = record { recorder = r; is = e; passes = omega arith; taken = sym (or_false (has_taken r)) }
 
-with_tail : (o : Object) (os : List Object) (slot : ℕ) (change : RecorderValue → RecorderValue) → with_recorder (o ∷ os) (suc slot) change ≡ o ∷ with_recorder os slot change
-with_tail o os slot change = set_tail o os slot change (slice_get os slot)
+kept_append : (objects more : List Object) (slot : ℕ) (finished : Bool) (r : RecorderValue) → Kept objects slot finished r → Kept (objects ++ more) slot finished r
+kept_append objects more slot finished r kept = record {
+  recorder = kept.recorder;
+  is = recorder_append objects more slot kept.recorder kept.is;
+  passes = kept.passes;
+  taken = kept.taken;
+}
 
-late_kept : (change : RecorderValue → RecorderValue) → ((r : RecorderValue) → is_late (change r) Encoder ≡ is_late r Encoder)
-    → (found : Option RecorderValue) → option_map (λ r. is_late r Encoder) (option_map change found) ≡ option_map (λ r. is_late r Encoder) found
-late_kept change keeps None = refl
-late_kept change keeps (Some r) = ap (λ b. Some b) (keeps r)
+-- ---- a recording call
 
-kept_at : (change : RecorderValue → RecorderValue) → ((r : RecorderValue) → is_late (change r) Encoder ≡ is_late r Encoder)
-    → (objects : List Object) (slot on : ℕ) → late_at (with_recorder objects slot change) on ≡ late_at objects on
-kept_at change keeps [] slot on = refl
-kept_at change keeps (o ∷ os) zero zero = late_kept change keeps o.recorder
-kept_at change keeps (o ∷ os) zero (suc on) = refl
-kept_at change keeps (o ∷ os) (suc slot) zero = ap (λ xs. late_at xs zero) (with_tail o os slot change)
-kept_at change keeps (o ∷ os) (suc slot) (suc on) = ap (λ xs. late_at xs (suc on)) (with_tail o os slot change) ∙ kept_at change keeps os slot on
+counts : (b : Bool) (n : ℕ) → n ≤ (if b then n + 1 else n)
+counts true n = omega arith
+counts false n = omega arith
 
-other_at : (change : RecorderValue → RecorderValue) (objects : List Object) (slot on : ℕ) → (slot ≡ on → ⊥) → late_at (with_recorder objects slot change) on ≡ late_at objects on
-other_at change [] slot on differs = refl
-other_at change (o ∷ os) zero zero differs = absurd (differs refl)
-other_at change (o ∷ os) zero (suc on) differs = refl
-other_at change (o ∷ os) (suc slot) zero differs = ap (λ xs. late_at xs zero) (with_tail o os slot change)
-other_at change (o ∷ os) (suc slot) (suc on) differs = ap (λ xs. late_at xs (suc on)) (with_tail o os slot change) ∙ other_at change os slot on (λ e. differs (ap (λ n. suc n) e))
+more_passes : (on : On) (command : Command) (b : Bool) (r : RecorderValue) → r.passes ≤ (if b then recorded r on command else r).passes
+more_passes on command true r = counts (begins_pass on command) r.passes
+more_passes on command false r = omega arith
 
-late_ended : (change : RecorderValue → RecorderValue) → ((r : RecorderValue) → is_late (change r) Encoder ≡ true)
-    → (found : Option RecorderValue) (b : Bool) → option_map (λ r. is_late r Encoder) found ≡ Some b → option_map (λ r. is_late r Encoder) (option_map change found) ≡ Some true
-late_ended change stops None b e = absurd (cc)
-late_ended change stops (Some r) b e = ap (λ x. Some x) (stops r)
+same_taken : (on : On) (command : Command) (b : Bool) (r : RecorderValue) → has_taken (if b then recorded r on command else r) ≡ has_taken r
+same_taken on command true r = refl
+same_taken on command false r = refl
 
-own_at : (change : RecorderValue → RecorderValue) → ((r : RecorderValue) → is_late (change r) Encoder ≡ true)
-    → (objects : List Object) (on : ℕ) (b : Bool) → late_at objects on ≡ Some b → late_at (with_recorder objects on change) on ≡ Some true
-own_at change stops [] on b e = absurd (cc)
-own_at change stops (o ∷ os) zero b e = late_ended change stops o.recorder b e
-own_at change stops (o ∷ os) (suc on) b e = ap (λ xs. late_at xs (suc on)) (with_tail o os on change) ∙ own_at change stops os on b e
+own_recorded : (objects : List Object) (slot : ℕ) (on : On) (command : Command) (r : RecorderValue) → recorder_at objects slot ≡ Some r → Kept (with_recorder objects slot (recorded_by on command)) slot false r
+own_recorded objects slot on command r e = record {
+  recorder = recorded_by on command r;
+  is = own_recorder (recorded_by on command) objects slot ∙ ap (option_map (recorded_by on command)) e;
+  passes = more_passes on command (is_begun on r.passes) r;
+  taken = same_taken on command (is_begun on r.passes) r ∙ sym (or_false (has_taken r));
+}
 
-pub length_with : (objects : List Object) (slot : ℕ) (change : RecorderValue → RecorderValue) → length (with_recorder objects slot change) ≡ length objects
-length_with [] slot change = refl
-length_with (o ∷ os) zero change = refl
-length_with (o ∷ os) (suc slot) change = ap length (with_tail o os slot change) ∙ ap (λ n. suc n) (length_with os slot change)
-
--- ---- what is recorded and what is taken
-
-stays : (command : Command) (r : RecorderValue) → is_late (recorded r Encoder command) Encoder ≡ is_late r Encoder
-stays command r = refl
-
-stopped : (takes : ℕ) (r : RecorderValue) → is_late (record r { commands = []; takes = after_take takes }) Encoder ≡ true
-stopped takes r = ap (λ b. b || false) (counted takes)
-
-taken_at : (objects : List Object) (slot on : ℕ) (b : Bool) → late_at objects on ≡ Some b → late_at (taken_on objects slot) on ≡ Some (b || slot == on)
-taken_at objects slot on b e = elim (cases_eq slot on) [
-  | inl same ↦ subst (λ n. late_at (taken_on objects n) on ≡ Some (b || n == on)) (sym same)
-      (own_at (λ r. record r { commands = []; takes = after_take r.takes }) (λ r. stopped r.takes r) objects on b e
-      ∙ ap (λ x. Some x) (sym (ap (λ x. b || x) (eq-eqb on on refl) ∙ or_true b)))
-  | inr differs ↦ other_at (λ r. record r { commands = []; takes = after_take r.takes }) objects slot on differs ∙ (e ∙ ap (λ x. Some x) (sym (ap (λ x. b || x) (ne_eqb slot on differs) ∙ or_false b)))
+recorded_kept : (objects : List Object) (stand : Stand) (command : Command) (slot : ℕ) (r : RecorderValue) → recorder_at objects slot ≡ Some r → Kept (recorded_on objects stand command) slot false r
+recorded_kept objects stand command slot r e = elim (cases_eq stand.encoder slot) [
+  | inl same ↦ subst (λ n. Kept (with_recorder objects n (recorded_by stand.on command)) slot false r) (sym same) (own_recorded objects slot stand.on command r e)
+  | inr differs ↦ same_kept (recorded_on objects stand command) slot r (other_recorder (recorded_by stand.on command) objects stand.encoder slot differs ∙ e)
 ]
 
-ended_at : (objects : List Object) (found : Option ℕ) (on : ℕ) (b : Bool) → late_at objects on ≡ Some b
-    → late_at (option_map_or (taken_on objects) found objects) on ≡ Some (b || option_map_or (λ encoder. encoder == on) found false)
-ended_at objects None on b e = e ∙ ap (λ x. Some x) (sym (or_false b))
-ended_at objects (Some encoder) on b e = taken_at objects encoder on b e
+-- a recording call changes its recorder alone and makes its pass, late or not
+pub recorded_objects : (setup : Setup) (state : Played) (stand : Stand) (command : Command) (made : Option ℕ)
+    → (command_played setup state stand command made).objects ≡ recorded_on state.objects stand command ++ begun_by state.objects stand.encoder command made
+recorded_objects setup state stand command made = elim (cases_Bool (is_late_on state.objects stand)) [ inl late ↦ rw late refl | inr kept ↦ rw kept refl ]
+
+-- ---- a finish
+
+abbrev taking : RecorderValue → RecorderValue
+taking r = record r { commands = []; takes = after_take r.takes }
+
+own_taken : (objects : List Object) (slot : ℕ) (r : RecorderValue) → recorder_at objects slot ≡ Some r → Kept (taken_on objects slot) slot true r
+own_taken objects slot r e = record {
+  recorder = record r { commands = []; takes = after_take r.takes };
+  is = own_recorder taking objects slot ∙ ap (option_map taking) e;
+  passes = omega arith;
+  taken = counted r.takes ∙ sym (or_true (has_taken r));
+}
+
+taken_kept : (objects : List Object) (encoder slot : ℕ) (r : RecorderValue) → recorder_at objects slot ≡ Some r → Kept (taken_on objects encoder) slot (encoder == slot) r
+taken_kept objects encoder slot r e = elim (cases_eq encoder slot) [
+  | inl same ↦ subst (λ n. Kept (taken_on objects n) slot (n == slot) r) (sym same) (subst (λ b. Kept (taken_on objects slot) slot b r) (sym (eq-eqb slot slot refl)) (own_taken objects slot r e))
+  | inr differs ↦ subst (λ b. Kept (taken_on objects encoder) slot b r) (sym (ne_eqb encoder slot differs)) (same_kept (taken_on objects encoder) slot r (other_recorder taking objects encoder slot differs ∙ e))
+]
+
+ended_kept : (objects : List Object) (ended : Option ℕ) (slot : ℕ) (r : RecorderValue) → recorder_at objects slot ≡ Some r
+    → Kept (option_map_or (taken_on objects) ended objects) slot (option_map_or (λ encoder. encoder == slot) ended false) r
+ended_kept objects None slot r e = same_kept objects slot r e
+ended_kept objects (Some encoder) slot r e = taken_kept objects encoder slot r e
+
+ended_pass : (objects : List Object) (ended : Option ℕ) (slot encoder number : ℕ) → slice_get objects slot ≡ Some (object.Pass encoder number)
+    → slice_get (option_map_or (taken_on objects) ended objects) slot ≡ Some (object.Pass encoder number)
+ended_pass objects None slot encoder number e = e
+ended_pass objects (Some ended) slot encoder number e = pass_with taking objects ended slot encoder number e
+
+pub taken_length : (objects : List Object) (ended : Option ℕ) → length (option_map_or (taken_on objects) ended objects) ≡ length objects
+taken_length objects None = refl
+taken_length objects (Some encoder) = length_with taking objects encoder
 
 -- ---- what is made
 
-late_append : (objects more : List Object) (on : ℕ) (b : Bool) → late_at objects on ≡ Some b → late_at (objects ++ more) on ≡ Some b
-late_append [] more on b e = absurd (cc)
-late_append (o ∷ os) more zero b e = e
-late_append (o ∷ os) more (suc on) b e = late_append os more on b e
+made_kept : (serial : ℕ) (objects : List Object) (known : Option Info) (answer : Answer) (slot : ℕ) (finished : Bool) (r : RecorderValue) → Kept objects slot finished r → Kept (with_made serial objects known answer) slot finished r
+made_kept serial objects None answer slot finished r kept = kept
+made_kept serial objects (Some known) (Made number valid) slot finished r kept = kept_append objects (object_of (record { device = serial; number = number }) valid known ∷ []) slot finished r kept
+made_kept serial objects (Some known) (Queued op) slot finished r kept = kept
+made_kept serial objects (Some known) Promised slot finished r kept = kept
+made_kept serial objects (Some known) Plain slot finished r kept = kept
+made_kept serial objects (Some known) BadCompletion slot finished r kept = kept
 
-pub late_new : (objects : List Object) (o : Object) → late_at (objects ++ o ∷ []) (length objects) ≡ late_in o
-late_new [] o = refl
-late_new (x ∷ objects) o = late_new objects o
+made_pass : (serial : ℕ) (objects : List Object) (known : Option Info) (answer : Answer) (slot encoder number : ℕ) → slice_get objects slot ≡ Some (object.Pass encoder number)
+    → slice_get (with_made serial objects known answer) slot ≡ Some (object.Pass encoder number)
+made_pass serial objects None answer slot encoder number e = e
+made_pass serial objects (Some known) (Made made valid) slot encoder number e = at_append objects (object_of (record { device = serial; number = made }) valid known ∷ []) slot (object.Pass encoder number) e
+made_pass serial objects (Some known) (Queued op) slot encoder number e = e
+made_pass serial objects (Some known) Promised slot encoder number e = e
+made_pass serial objects (Some known) Plain slot encoder number e = e
+made_pass serial objects (Some known) BadCompletion slot encoder number e = e
 
-made_at : (serial : ℕ) (objects : List Object) (known : Option Info) (answer : Answer) (on : ℕ) (b : Bool) → late_at objects on ≡ Some b → late_at (with_made serial objects known answer) on ≡ Some b
-made_at serial objects None answer on b e = e
-made_at serial objects (Some known) (Made number valid) on b e = late_append objects (object_of (record { device = serial; number = number }) valid known ∷ []) on b e
-made_at serial objects (Some known) (Queued op) on b e = e
-made_at serial objects (Some known) Promised on b e = e
-made_at serial objects (Some known) Plain on b e = e
-made_at serial objects (Some known) BadCompletion on b e = e
+-- ---- a call
 
--- ---- a call, and calls one after another
-
--- a recording call changes its recorder alone, late or not
-pub recorded_objects : (setup : Setup) (state : Played) (on : ℕ) (command : Command) → (command_played setup state on command).objects ≡ recorded_on state.objects on command
-recorded_objects setup state on command = elim (cases_Bool (is_late_on state.objects on)) [ inl late ↦ rw late refl | inr kept ↦ rw kept refl ]
-
-call_at : (setup : Setup) (state : Played) (call : BoundCall) (on : ℕ) (b : Bool) → late_at state.objects on ≡ Some b → late_at (played setup state call).objects on ≡ Some (b || finishes on call)
-call_at setup state (Record slot command made) on b e =
+pub call_keeps : (setup : Setup) (state : Played) (call : BoundCall) (slot : ℕ) (r : RecorderValue) → recorder_at state.objects slot ≡ Some r → Kept (played setup state call).objects slot (finishes slot call) r
+call_keeps setup state (Record on command made) slot r e =
+    let stand : Stand = stand_at state.objects on in
     let found : Command = map_refs (handle_at state.objects) command in
-    ap (λ objects. late_at objects on) (recorded_objects setup state slot found)
-    ∙ (kept_at (λ r. recorded r Encoder found) (stays found) state.objects slot on ∙ (e ∙ ap (λ x. Some x) (sym (or_false b))))
-call_at setup state (Ask request made) on b e =
-    made_at setup.serial (objects_taken state.objects request) (known_made state.objects request made) (reply_to setup state.past (event_asked state.objects request)).answer on (b || finishes on (Ask request made)) (ended_at state.objects (ended_by request) on b e)
+    subst (λ objects. Kept objects slot false r) (sym (recorded_objects setup state stand found made))
+    (kept_append (recorded_on state.objects stand found) (begun_by state.objects stand.encoder found made) slot false r (recorded_kept state.objects stand found slot r e))
+call_keeps setup state (Ask request made) slot r e =
+    made_kept setup.serial (objects_taken state.objects request) (known_made state.objects request made) (reply_to setup state.past (event_asked state.objects request)).answer slot (finishes slot (Ask request made)) r
+    (ended_kept state.objects (ended_by request) slot r e)
 
-or_assoc : (a b c : Bool) → ((a || b) || c) ≡ (a || (b || c))
-or_assoc true b c = refl
-or_assoc false b c = refl
-
-pub calls_at : (setup : Setup) (calls : List BoundCall) (state : Played) (on : ℕ) (b : Bool) → late_at state.objects on ≡ Some b → late_at (lane_played setup state calls).objects on ≡ Some (b || list_any (finishes on) calls)
-calls_at setup [] state on b e = e ∙ ap (λ x. Some x) (sym (or_false b))
-calls_at setup (call ∷ calls) state on b e =
-    calls_at setup calls (played setup state call) on (b || finishes on call) (call_at setup state call on b e)
-    ∙ ap (λ x. Some x) (or_assoc b (finishes on call) (list_any (finishes on) calls))
+pub call_leaves : (setup : Setup) (state : Played) (call : BoundCall) (slot encoder number : ℕ) → slice_get state.objects slot ≡ Some (object.Pass encoder number)
+    → slice_get (played setup state call).objects slot ≡ Some (object.Pass encoder number)
+call_leaves setup state (Record on command made) slot encoder number e =
+    let stand : Stand = stand_at state.objects on in
+    let found : Command = map_refs (handle_at state.objects) command in
+    ap (λ objects. slice_get objects slot) (recorded_objects setup state stand found made)
+    ∙ at_append (recorded_on state.objects stand found) (begun_by state.objects stand.encoder found made) slot (object.Pass encoder number)
+    (pass_with (recorded_by stand.on found) state.objects stand.encoder slot encoder number e)
+call_leaves setup state (Ask request made) slot encoder number e =
+    made_pass setup.serial (objects_taken state.objects request) (known_made state.objects request made) (reply_to setup state.past (event_asked state.objects request)).answer slot encoder number
+    (ended_pass state.objects (ended_by request) slot encoder number e)

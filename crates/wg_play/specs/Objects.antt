@@ -1,5 +1,5 @@
 -- What the slots of a script stand for on a device, and which event each call of the device is.
-use Rattle.std.specs.Prelude.{ℕ, List, [], map, Option, Some, None, option_and_then, option_map, slice_get, slice_set, if◌then◌else◌, Bool, true, false}
+use Rattle.std.specs.Prelude.{ℕ, nat_lt, not, ◌||◌, List, [], ◌∷◌, map, Option, Some, None, option_and_then, option_map, slice_get, slice_set, if◌then◌else◌, Bool, true, false}
 use Rattle.std.specs.Option.{option_map_or}
 use Rattle.wg_types.specs.Handles.{HandleValue}
 use Rattle.wg_types.specs.declared.handles.ObjRef.{ObjRef}
@@ -8,8 +8,9 @@ use Rattle.wg_types.specs.declared.handles.Info.TheVariants as info
 use Rattle.wg_types.specs.declared.textures.TextureInfo.{TextureInfo}
 use Rattle.wg_types.specs.declared.textures.ViewAsked.{ViewAsked}
 use Rattle.wg_types.specs.declared.textures.ViewDesc.{ViewDesc}
-use Rattle.wg_types.specs.declared.commands.On.TheVariants.{Encoder}
-use Rattle.wg_types.specs.Commands.{Command}
+use Rattle.wg_types.specs.declared.commands.On.{On}
+use Rattle.wg_types.specs.declared.commands.On.TheVariants.{Encoder, Pass}
+use Rattle.wg_types.specs.Commands.{Command, kind_begun}
 use Rattle.wg_types.specs.Bindings.{map_entry}
 use Rattle.wg_types.specs.declared.requests.RequestOf.{RequestOf}
 use Rattle.wg_types.specs.declared.requests.RequestOf.TheVariants.{CreateBuffer, CreateTexture, CreateView, CreateSampler, CreateBindGroupLayout, CreatePipelineLayout, CreateBindGroup, CreateComputePipeline, CreateEncoder, Finish, Submit, WriteBuffer, WriteTexture, Destroy, Drop, Complete, PushErrorScope, PopErrorScope, Lose, WorkDone, MapAsync, Unmap}
@@ -20,39 +21,82 @@ use Rattle.wg_encoder.specs.Recorders.{RecorderValue, RecordingValue, is_late, r
 use Rattle.wg_history.specs.declared.events.Event.{Event}
 use Rattle.wg_history.specs.declared.events.Event.TheVariants as event
 use Rattle.wg_play.specs.declared.objects.Object.{Object}
+use Rattle.wg_play.specs.declared.objects.Object.TheVariants as object
+use Rattle.wg_play.specs.declared.objects.Stand.{Stand}
 
 -- Stands for an object that was not made. Each slot that a script uses was made by an earlier call, so that it is not met.
 abbrev pub unknown : HandleValue
 unknown = record { reference = record { device = 0; number = 0 }; valid = false; info = info.CommandBuffer }
 
--- The objects that calls have made, by their slots: an object as its caller holds it, and its reference.
+-- What calls have made, by its slot: an object as its caller holds it, with the recorder of an encoder; or a pass, by the slot
+-- of its encoder and its number there.
+abbrev pub handle_in : Object → HandleValue
+handle_in (object.Made handle recorder) = handle
+handle_in (object.Pass encoder number) = unknown
+
 abbrev pub handle_at : List Object → ℕ → HandleValue
-handle_at objects slot = option_map_or (λ object. object.handle) (slice_get objects slot) unknown
+handle_at objects slot = option_map_or handle_in (slice_get objects slot) unknown
 
 abbrev pub reference_at : List Object → ℕ → ObjRef
 reference_at objects slot = (handle_at objects slot).reference
 
 -- what is known of the object of a slot, if there is one
+abbrev pub info_in : Object → Option Info
+info_in (object.Made handle recorder) = Some handle.info
+info_in (object.Pass encoder number) = None
+
 abbrev pub knows_at : List Object → ℕ → Option Info
-knows_at objects slot = option_map (λ object. object.handle.info) (slice_get objects slot)
+knows_at objects slot = option_and_then info_in (slice_get objects slot)
 
 -- the recorder of an encoder
+abbrev pub recorder_in : Object → Option RecorderValue
+recorder_in (object.Made handle recorder) = recorder
+recorder_in (object.Pass encoder number) = None
+
 abbrev pub recorder_at : List Object → ℕ → Option RecorderValue
-recorder_at objects slot = option_and_then (λ object. object.recorder) (slice_get objects slot)
+recorder_at objects slot = option_and_then recorder_in (slice_get objects slot)
 
 abbrev pub changed : Object → (RecorderValue → RecorderValue) → Object
-changed object change = record object { recorder = option_map change object.recorder }
+changed (object.Made handle recorder) change = object.Made handle (option_map change recorder)
+changed (object.Pass encoder number) change = object.Pass encoder number
 
 -- the objects with a change of an encoder's recorder
 abbrev pub with_recorder : List Object → ℕ → (RecorderValue → RecorderValue) → List Object
-with_recorder objects slot change = option_map_or (λ object. slice_set objects slot (changed object change)) (slice_get objects slot) objects
+with_recorder objects slot change = option_map_or (λ x. slice_set objects slot (changed x change)) (slice_get objects slot) objects
+
+-- where a recording call stands that names a slot: on the encoder itself, or on a pass of one
+abbrev pub stand_in : ℕ → Object → Stand
+stand_in slot (object.Made handle recorder) = record { encoder = slot; on = Encoder }
+stand_in slot (object.Pass encoder number) = record { encoder = encoder; on = Pass number }
+
+abbrev pub stand_at : List Object → ℕ → Stand
+stand_at objects slot = option_map_or (stand_in slot) (slice_get objects slot) (record { encoder = slot; on = Encoder })
+
+-- A recorder has begun each pass that a script names, so that the other case is not met.
+abbrev pub is_begun : On → ℕ → Bool
+is_begun Encoder passes = true
+is_begun (Pass number) passes = nat_lt number passes
 
 -- a recording call is late where its encoder's recorder says so
-abbrev pub is_late_on : List Object → ℕ → Bool
-is_late_on objects slot = option_map_or (λ recorder. is_late recorder Encoder) (recorder_at objects slot) true
+abbrev pub is_late_by : On → RecorderValue → Bool
+is_late_by on recorder = not (is_begun on recorder.passes) || is_late recorder on
 
-abbrev pub recorded_on : List Object → ℕ → Command → List Object
-recorded_on objects slot command = with_recorder objects slot (λ recorder. recorded recorder Encoder command)
+abbrev pub is_late_on : List Object → Stand → Bool
+is_late_on objects stand = option_map_or (is_late_by stand.on) (recorder_at objects stand.encoder) true
+
+abbrev pub recorded_by : On → Command → RecorderValue → RecorderValue
+recorded_by on command recorder = if is_begun on recorder.passes then recorded recorder on command else recorder
+
+abbrev pub recorded_on : List Object → Stand → Command → List Object
+recorded_on objects stand command = with_recorder objects stand.encoder (recorded_by stand.on command)
+
+-- how many passes were begun on the recorder of an encoder, which is the number of the next
+abbrev pub passes_at : List Object → ℕ → ℕ
+passes_at objects slot = option_map_or (λ recorder. recorder.passes) (recorder_at objects slot) 0
+
+-- the pass that a command begins on the encoder of a slot, where it begins one that has a slot
+abbrev pub begun_by : List Object → ℕ → Command → Option ℕ → List Object
+begun_by objects encoder command made = option_map_or (λ slot. option_map_or (λ kind. object.Pass encoder (passes_at objects encoder) ∷ []) (kind_begun command) []) made []
 
 -- what a finish takes from the recorder of its encoder, and the recorder after it
 abbrev pub taken_from : List Object → ℕ → RecordingValue
@@ -171,4 +215,4 @@ recorder_for encoder info.CommandBuffer = None
 
 -- an object that was made, an encoder with a recorder that has kept nothing
 abbrev pub object_of : ObjRef → Bool → Info → Object
-object_of named valid known = record { handle = record { reference = named; valid = valid; info = known }; recorder = recorder_for named known }
+object_of named valid known = object.Made (record { reference = named; valid = valid; info = known }) (recorder_for named known)

@@ -15,7 +15,8 @@ use Rattle.wg_script.specs.CallOf.{BoundCall}
 use Rattle.wg_script.specs.declared.calls.CallOf.TheVariants.{Record, Ask}
 use Rattle.wg_script.specs.declared.draft.Script.{Script}
 use Rattle.wg_play.specs.declared.objects.Object.{Object}
-use Rattle.wg_play.specs.Objects.{handle_at, reference_at, is_late_on, recorded_on, event_asked, objects_taken, known_made, object_of}
+use Rattle.wg_play.specs.declared.objects.Stand.{Stand}
+use Rattle.wg_play.specs.Objects.{handle_at, reference_at, stand_at, is_late_on, recorded_on, begun_by, event_asked, objects_taken, known_made, object_of}
 
 -- How far a script was played: the objects that its calls have made, by their slots; and the entries, newest first.
 pub record Played : Type 0 where
@@ -40,11 +41,12 @@ answered setup state known event =
     let reply = reply_to setup state.past event in
     record { objects = with_made setup.serial state.objects known reply.answer; past = (record { who = 0; event = event; reply = reply }) ∷ state.past }
 
--- a recording call is kept by its encoder's recorder, or it is late and is followed by that event
-abbrev pub command_played : Setup → Played → ℕ → Command → Played
-command_played setup state on command =
-    let next = record state { objects = recorded_on state.objects on command } in
-    if is_late_on state.objects on then answered setup next None (Late (reference_at state.objects on)) else next
+-- A recording call is kept by its encoder's recorder, or it is late and is followed by that event. The begin of a pass makes
+-- the pass in either case.
+abbrev pub command_played : Setup → Played → Stand → Command → Option ℕ → Played
+command_played setup state stand command made =
+    let next = record state { objects = recorded_on state.objects stand command ++ begun_by state.objects stand.encoder command made } in
+    if is_late_on state.objects stand then answered setup next None (Late (reference_at state.objects stand.encoder)) else next
 
 -- every other call is an event
 abbrev pub request_played : Setup → Played → RequestOf ℕ → Option ℕ → Played
@@ -52,7 +54,7 @@ request_played setup state request made =
     answered setup (record state { objects = objects_taken state.objects request }) (known_made state.objects request made) (event_asked state.objects request)
 
 abbrev pub played : Setup → Played → BoundCall → Played
-played setup state (Record on command made) = command_played setup state on (map_refs (handle_at state.objects) command)
+played setup state (Record on command made) = command_played setup state (stand_at state.objects on) (map_refs (handle_at state.objects) command) made
 played setup state (Ask request made) = request_played setup state request made
 
 -- The calls of a lane one after another; the one lane that a phase may have; the phases one after another.

@@ -2,7 +2,8 @@
 ghost use Rattle.wg_play.specs.Late.{LateIsFinished};
 ghost use Rattle.wg_play.specs.Infos.{InfoIsMade};
 
-/// In a script of one lane a recording call is late exactly where a call before it finishes its encoder.
+/// In a script of one lane a recording call is late exactly where a call before it finishes its encoder,
+/// or its pass has ended.
 pub fn late_calls()
     ensures { LateIsFinished }
 {}

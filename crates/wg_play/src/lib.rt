@@ -8,4 +8,4 @@ mod objects;
 
 pub use calls::{command_of, event_asked, info_asked};
 pub use laws::{late_calls, made_infos};
-pub use objects::{Object, object_of, record_on, reference_at};
+pub use objects::{Object, Stand, begun_by, object_of, record_on, reference_at, stand_at};

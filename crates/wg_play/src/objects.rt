@@ -1,10 +1,9 @@
 //! The objects that the calls of a script have made, by their slots.
-ghost use Rattle.std.specs.Prelude.{◌≡◌, true, [], option_map, slice_get, option_copied, IfOk, OnOk, OnErr};
+ghost use Rattle.std.specs.Prelude.{◌≡◌, true, [], option_map, option_to_list, slice_get, option_copied, IfOk, OnOk, OnErr};
 ghost use Rattle.std.specs.Arc.{arc_value};
 ghost use Rattle.std.specs.Option.{option_map_or};
-ghost use Rattle.wg_types.specs.declared.commands.On.TheVariants.{Encoder};
-ghost use Rattle.wg_encoder.specs.Recorders.{is_late, noted, recorded, after_take};
-ghost use Rattle.wg_play.specs.Objects.{handle_at, reference_at, knows_at, known_texture, size_at, changed, is_late_on, recorded_on, taken_from, taken_on, recorder_for, object_of};
+ghost use Rattle.wg_encoder.specs.Recorders.{noted, after_take};
+ghost use Rattle.wg_play.specs.Objects.{handle_at, reference_at, knows_at, known_texture, size_at, recorder_in, changed, stand_at, is_begun, is_late_by, is_late_on, recorded_by, recorded_on, passes_at, begun_by, taken_from, taken_on, recorder_for, object_of};
 
 use std::alloc::Global;
 use std::sync::Arc;
@@ -15,11 +14,25 @@ use wg_types::commands::{Command, On};
 use wg_types::handles::{Handle, Info, ObjRef};
 use wg_types::textures::TextureInfo;
 
-/// An object that a call made, as its caller holds it, and the recorder of an encoder.
+/// What a call made: an object as its caller holds it, with the recorder of an encoder; or a pass, by the
+/// slot of its encoder and its number there. Passes are no objects of a device.
 #[derive(Drop)]
-pub struct Object {
-    pub handle: Handle,
-    pub recorder: Option<Recorder>,
+pub enum Object {
+    Made {
+        handle: Handle,
+        recorder: Option<Recorder>,
+    },
+    Pass {
+        encoder: u32,
+        number: u32,
+    },
+}
+
+/// Where a recording call stands: the slot of its encoder, and whether on that itself or on a pass of it.
+#[derive(Clone, Copy, Debug)]
+pub struct Stand {
+    pub encoder: u32,
+    pub on: On,
 }
 
 /// Stands for an object that was not made.
@@ -33,8 +46,10 @@ pub fn handle_at(alloc: Global, objects: &[Object], slot: u32) -> Result<Handle,
     ensures { IfOk result (λ handle. handle ≡ handle_at objects.now slot) }
 {
     match objects.get(slot as usize) {
-        Some(object) => object.handle.share(),
-        None => Ok(Handle::new(UNKNOWN, false, Arc::new(alloc, Info::CommandBuffer)?)),
+        Some(Object::Made { handle, .. }) => handle.share(),
+        Some(Object::Pass { .. }) | None => {
+            Ok(Handle::new(UNKNOWN, false, Arc::new(alloc, Info::CommandBuffer)?))
+        }
     }
 }
 
@@ -43,8 +58,8 @@ pub fn reference_at(objects: &[Object], slot: u32) -> ObjRef
     ensures { result ≡ reference_at objects.now slot }
 {
     match objects.get(slot as usize) {
-        Some(object) => object.handle.reference(),
-        None => UNKNOWN,
+        Some(Object::Made { handle, .. }) => handle.reference(),
+        Some(Object::Pass { .. }) | None => UNKNOWN,
     }
 }
 
@@ -53,8 +68,8 @@ pub fn size_at(objects: &[Object], slot: u32, offset: u64, size: Option<u64>) ->
     ensures { result ≡ size_at objects.now slot offset size }
 {
     match objects.get(slot as usize) {
-        Some(object) => size_or_rest(&object.handle, offset, size),
-        None => size.unwrap_or(0),
+        Some(Object::Made { handle, .. }) => size_or_rest(handle, offset, size),
+        Some(Object::Pass { .. }) | None => size.unwrap_or(0),
     }
 }
 
@@ -63,8 +78,8 @@ pub fn info_at(objects: &[Object], slot: u32) -> Option<&Info>
     ensures { option_copied result ≡ knows_at objects.now slot }
 {
     match objects.get(slot as usize) {
-        Some(object) => Some(object.handle.info()),
-        None => None,
+        Some(Object::Made { handle, .. }) => Some(handle.info()),
+        Some(Object::Pass { .. }) | None => None,
     }
 }
 
@@ -73,45 +88,128 @@ pub fn known_texture_at(objects: &[Object], slot: u32) -> TextureInfo
     ensures { result ≡ known_texture (handle_at objects.now slot) }
 {
     match objects.get(slot as usize) {
-        Some(object) if object.handle.valid() => texture_of(&object.handle),
+        Some(Object::Made { handle, .. }) if handle.valid() => texture_of(handle),
         _ => no_texture(),
     }
 }
 
-/// Records a command on the recorder of an object. Where it has none the command is late.
-fn record_in(object: &mut Object, command: Command) -> Result<Noted, NoMemory>
-    ensures noted { IfOk result (λ answer. answer ≡ noted (option_map_or (λ recorder. is_late recorder Encoder) object.old.recorder true)) }
-    ensures after { OnOk result (object.new ≡ changed object.old (λ recorder. recorded recorder Encoder command)) }
-    ensures unchanged { OnErr result (object.new ≡ object.old) }
+/// Where a recording call stands that names a slot.
+pub fn stand_at(objects: &[Object], slot: u32) -> Stand
+    ensures { result ≡ stand_at objects.now slot }
 {
-    let Some(recorder) = &mut object.recorder else {
-        return Ok(Noted::Late);
-    };
-    recorder.record(On::Encoder, command)
+    match objects.get(slot as usize) {
+        Some(Object::Pass { encoder, number }) => Stand {
+            encoder: *encoder,
+            on: On::Pass(*number),
+        },
+        Some(Object::Made { .. }) | None => Stand {
+            encoder: slot,
+            on: On::Encoder,
+        },
+    }
 }
 
-/// Records a command on the recorder of the encoder of a slot.
-pub fn record_on(objects: &mut Vec<Object>, slot: u32, command: Command) -> Result<Noted, NoMemory>
-    ensures noted { IfOk result (λ answer. answer ≡ noted (is_late_on objects.old.items slot)) }
-    ensures after { OnOk result (objects.new.items ≡ recorded_on objects.old.items slot command) }
+/// Whether what a command stands on was begun, where so many passes were.
+fn is_begun(on: On, passes: u32) -> bool
+    ensures { result ≡ is_begun on passes }
+{
+    match on {
+        On::Encoder => true,
+        On::Pass(number) => number < passes,
+    }
+}
+
+/// Records a command on a recorder. On a pass that it has not begun the command is late.
+#[tactic(auto, using(crate::proofs::Begun::begun_on))]
+fn record_by(recorder: &mut Recorder, on: On, command: Command) -> Result<Noted, NoMemory>
+    ensures noted { IfOk result (λ answer. answer ≡ noted (is_late_by on recorder.old)) }
+    ensures after { OnOk result (recorder.new ≡ recorded_by on command recorder.old) }
+    ensures unchanged { OnErr result (recorder.new ≡ recorder.old) }
+{
+    if !is_begun(on, recorder.passes()) {
+        return Ok(Noted::Late);
+    }
+    recorder.record(on, command)
+}
+
+/// Records a command on the recorder of an object. Where it has none the command is late.
+fn record_in(object: &mut Object, on: On, command: Command) -> Result<Noted, NoMemory>
+    ensures noted { IfOk result (λ answer. answer ≡ noted (option_map_or (is_late_by on) (recorder_in object.old) true)) }
+    ensures after { OnOk result (object.new ≡ changed object.old (recorded_by on command)) }
+    ensures unchanged { OnErr result (object.new ≡ object.old) }
+{
+    match object {
+        Object::Made {
+            recorder: Some(recorder),
+            ..
+        } => record_by(recorder, on, command),
+        Object::Made { recorder: None, .. } | Object::Pass { .. } => Ok(Noted::Late),
+    }
+}
+
+/// Records a command where it stands.
+pub fn record_on(
+    objects: &mut Vec<Object>,
+    stand: Stand,
+    command: Command,
+) -> Result<Noted, NoMemory>
+    ensures noted { IfOk result (λ answer. answer ≡ noted (is_late_on objects.old.items stand)) }
+    ensures after { OnOk result (objects.new.items ≡ recorded_on objects.old.items stand command) }
     ensures unchanged { OnErr result (objects.new.items ≡ objects.old.items) }
 {
-    let index = slot as usize;
+    let index = stand.encoder as usize;
     if index >= objects.len() {
         return Ok(Noted::Late);
     }
-    record_in(&mut objects[index], command)
+    record_in(&mut objects[index], stand.on, command)
+}
+
+/// How many passes were begun on the encoder of a slot.
+fn passes_at(objects: &[Object], slot: u32) -> u32
+    ensures { result ≡ passes_at objects.now slot }
+{
+    match objects.get(slot as usize) {
+        Some(
+            Object::Made {
+                recorder: Some(recorder),
+                ..
+            },
+        ) => recorder.passes(),
+        Some(Object::Made { recorder: None, .. }) | Some(Object::Pass { .. }) | None => 0,
+    }
+}
+
+/// The pass that a command begins on the encoder of a slot, where it begins one that has a slot. It is
+/// asked before the command is recorded, and the pass is made after that.
+pub fn begun_by(
+    objects: &[Object],
+    encoder: u32,
+    command: &Command,
+    made: Option<u32>,
+) -> Option<Object>
+    ensures { option_to_list result ≡ begun_by objects.now encoder command.now made }
+{
+    match (made, command.kind_begun()) {
+        (Some(_), Some(_)) => Some(Object::Pass {
+            encoder,
+            number: passes_at(objects, encoder),
+        }),
+        _ => None,
+    }
 }
 
 /// Takes what the recorder of an object has kept, if it has a recorder.
 fn take_in(object: &mut Object) -> Option<Recording>
-    ensures taken { result ≡ option_map (λ recorder. record { device = recorder.device; commands = recorder.commands }) object.old.recorder }
+    ensures taken { result ≡ option_map (λ recorder. record { device = recorder.device; commands = recorder.commands }) (recorder_in object.old) }
     ensures after { object.new ≡ changed object.old (λ recorder. record recorder { commands = []; takes = after_take recorder.takes }) }
 {
-    let Some(recorder) = &mut object.recorder else {
-        return None;
-    };
-    Some(recorder.take())
+    match object {
+        Object::Made {
+            recorder: Some(recorder),
+            ..
+        } => Some(recorder.take()),
+        Object::Made { recorder: None, .. } | Object::Pass { .. } => None,
+    }
 }
 
 /// Takes what the recorder of the encoder of a slot has kept.
@@ -162,5 +260,5 @@ pub fn object_of(
 {
     let recorder = recorder_for(alloc, reference, valid, &info);
     let handle = Handle::new(reference, valid, Arc::new(alloc, info)?);
-    Ok(Object { handle, recorder })
+    Ok(Object::Made { handle, recorder })
 }

@@ -1,5 +1,5 @@
-//! Reads a call: a function for each call that is built, with its keys. Those of calls on textures and on
-//! bindings stand in files of their own.
+//! Reads a call: a function for each call that is built, with its keys. Those of calls on textures, bindings
+//! and passes stand in files of their own.
 ghost use Rattle.std.specs.Prelude.{◌≡◌};
 ghost use Rattle.serde_json.specs.View.{view};
 ghost use Rattle.wg_script.specs.Giving.{Gives};
@@ -13,6 +13,9 @@ use crate::calling::{asking, making, recording};
 use crate::calls::Call;
 use crate::lists::list_at;
 use crate::name::Name;
+use crate::pass_calls::{
+    begin_compute_pass, dispatch, dispatch_indirect, end, set_bind_group, set_pipeline,
+};
 use crate::texture_calls::{
     copy_buffer_to_texture, copy_texture_to_buffer, copy_texture_to_texture, create_texture,
     create_view, write_texture,
@@ -256,20 +259,20 @@ fn call_as(alloc: Global, word: Word, call: &Value) -> Result<Call, Refusal>
         Word::ClearBuffer => clear_buffer(alloc, call),
         Word::PushDebugGroup => push_debug_group(alloc, call),
         Word::PopDebugGroup => pop_debug_group(alloc, call),
+        Word::BeginComputePass => begin_compute_pass(alloc, call),
+        Word::End => end(alloc, call),
+        Word::SetPipeline => set_pipeline(alloc, call),
+        Word::SetBindGroup => set_bind_group(alloc, call),
+        Word::Dispatch => dispatch(alloc, call),
+        Word::DispatchIndirect => dispatch_indirect(alloc, call),
         Word::CreateRenderPipeline
         | Word::CreateQuerySet
         | Word::CreateBundleEncoder
-        | Word::BeginComputePass
         | Word::BeginRenderPass
-        | Word::End
         | Word::FinishBundle
         | Word::ResolveQuerySet
-        | Word::SetPipeline
-        | Word::SetBindGroup
         | Word::SetVertexBuffer
         | Word::SetIndexBuffer
-        | Word::Dispatch
-        | Word::DispatchIndirect
         | Word::BeginOcclusionQuery
         | Word::EndOcclusionQuery
         | Word::ExecuteBundles

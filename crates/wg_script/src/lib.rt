@@ -10,6 +10,7 @@ mod calls;
 mod draft;
 mod lists;
 mod name;
+mod pass_calls;
 mod reading;
 mod texture_calls;
 mod texture_words;

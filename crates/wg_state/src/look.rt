@@ -2,7 +2,7 @@
 ghost use Rattle.std.specs.Prelude.{◌≡◌, ◌≤◌, ◌==◌, reverse, option_copied, length, is_some, IfSome, Some, None, not, true, false, ◌&&◌, if◌then◌else◌};
 ghost use Rattle.std.specs.Option.{option_map_or};
 ghost use Rattle.wg_history.specs.Infos.{same_kind, same_info};
-ghost use Rattle.wg_history.specs.Objects.{info_at, buffer_at, texture_at, texture_or_none_at, commands_at, is_valid, is_own, is_any, is_buffer, is_texture, is_encoder, is_command_buffer, has_memory};
+ghost use Rattle.wg_history.specs.Objects.{info_at, buffer_at, texture_at, texture_or_none_at, commands_at, deeds_at, is_valid, is_own, is_any, is_buffer, is_texture, is_encoder, is_command_buffer, has_memory};
 ghost use Rattle.wg_history.specs.Rules.{is_genuine};
 ghost use Rattle.wg_types.specs.Wanted.{admits};
 ghost use Rattle.wg_types.specs.Kinds.{kind_of};
@@ -12,6 +12,7 @@ use crate::infos::{has_memory, is_command_buffer, is_encoder, same_info, same_ki
 use wg_history::events::Setup;
 use wg_types::commands::{Command, On};
 use wg_types::handles::{BufferInfo, Handle, Info, ObjRef};
+use wg_types::steps::Deed;
 use wg_types::textures::TextureInfo;
 use wg_types::wanted::Wanted;
 
@@ -135,6 +136,16 @@ pub fn commands_at(book: &Book, number: u64) -> &[(On, Command)]
 {
     match book.maker(number) {
         Some(entry) => entry.event.recorded(),
+        None => &[],
+    }
+}
+
+/// What these do, a step each.
+pub fn deeds_at(book: &Book, number: u64) -> &[Deed]
+    ensures { result.now ≡ deeds_at (reverse book.now.entries) number }
+{
+    match book.maker(number) {
+        Some(entry) => entry.event.deeds(),
         None => &[],
     }
 }

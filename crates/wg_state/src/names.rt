@@ -150,11 +150,16 @@ fn push_named(names: &mut Vec<u64>, command: &Command) -> Result<(), NoMemory>
             push_name(names, source)?;
             push_name(names, target)
         }
-        Command::ClearBuffer { buffer, .. } => push_name(names, buffer),
+        Command::ClearBuffer { buffer, .. } | Command::DispatchIndirect { buffer, .. } => {
+            push_name(names, buffer)
+        }
+        Command::SetPipeline { pipeline } => push_name(names, pipeline),
+        Command::SetBindGroup { group, .. } => push_name(names, group),
         Command::BeginComputePass
         | Command::PushDebugGroup
         | Command::PopDebugGroup
-        | Command::End => Ok(()),
+        | Command::End
+        | Command::Dispatch { .. } => Ok(()),
     }
 }
 

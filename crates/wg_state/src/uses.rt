@@ -1,14 +1,19 @@
 //! The resources that command buffers use.
 ghost use Rattle.std.specs.Prelude.{◌≡◌, ◌∷◌, ◌++◌, [], reverse, OnOk, IfOk};
 ghost use Rattle.wg_types.specs.Commands.{named};
-ghost use Rattle.wg_state.specs.Uses.{uses_in, uses_within, uses_of};
+ghost use Rattle.std.specs.Prelude.{option_to_list};
+ghost use Rattle.std.specs.List.{flat_map};
+ghost use Rattle.wg_types.specs.declared.bindings.BoundEntry.{BoundEntry as BoundEntryOf};
+ghost use Rattle.wg_model.specs.Bound.{known_group};
+ghost use Rattle.wg_state.specs.Uses.{resource_uses, group_uses, uses_in, uses_within, uses_of};
 
 use crate::book::Book;
 use crate::look;
 use std::alloc::Global;
 use wg_history::NoMemory;
+use wg_types::bindings::{BoundEntry, BoundResource};
 use wg_types::commands::{Command, On};
-use wg_types::handles::{Handle, ObjRef};
+use wg_types::handles::{Handle, Info, ObjRef};
 use wg_types::steps::Sort;
 
 /// A resource that an operation uses: its number, and as what it is wanted.
@@ -29,7 +34,49 @@ fn push_used(uses: &mut Vec<Used>, object: &Handle, sort: Sort) -> Result<(), No
     Ok(())
 }
 
-/// Adds the resources that a command names to a list.
+/// The resource that an entry of a bind group binds, or of which it binds a view.
+fn resource_used(resource: BoundResource) -> Option<Used>
+    ensures { option_to_list result ≡ resource_uses resource }
+{
+    match resource {
+        BoundResource::Buffer { buffer, .. } => Some(Used {
+            number: buffer.number,
+            sort: Sort::Buffer,
+        }),
+        BoundResource::View { view_info, .. } => Some(Used {
+            number: view_info.texture.number,
+            sort: Sort::Texture,
+        }),
+        BoundResource::Sampler { .. } => None,
+    }
+}
+
+/// Adds the resources of the entries of a bind group to a list.
+fn push_entries(uses: &mut Vec<Used>, entries: &[BoundEntry]) -> Result<(), NoMemory>
+    ensures { OnOk result (uses.new.items ≡ uses.old.items ++ flat_map (λ (entry : BoundEntryOf). resource_uses entry.resource) entries.now) }
+{
+    for entry in entries {
+        if let Some(used) = resource_used(entry.resource) {
+            uses.push(used)?;
+        }
+    }
+    Ok(())
+}
+
+/// Adds the resources of a bind group to a list; nothing is known of an invalid one.
+fn push_group(uses: &mut Vec<Used>, group: &Handle) -> Result<(), NoMemory>
+    ensures { OnOk result (uses.new.items ≡ uses.old.items ++ group_uses (known_group group.now)) }
+{
+    if !group.valid() {
+        return Ok(());
+    }
+    match group.info() {
+        Info::Group(known) => push_entries(uses, known.entries.as_slice()),
+        _ => Ok(()),
+    }
+}
+
+/// Adds the resources of the objects that a command names to a list.
 fn push_named(uses: &mut Vec<Used>, command: &Command) -> Result<(), NoMemory>
     ensures { OnOk result (uses.new.items ≡ uses.old.items ++ uses_in (named command.now)) }
 {
@@ -55,11 +102,16 @@ fn push_named(uses: &mut Vec<Used>, command: &Command) -> Result<(), NoMemory>
             push_used(uses, source, Sort::Texture)?;
             push_used(uses, target, Sort::Texture)
         }
-        Command::ClearBuffer { buffer, .. } => push_used(uses, buffer, Sort::Buffer),
+        Command::ClearBuffer { buffer, .. } | Command::DispatchIndirect { buffer, .. } => {
+            push_used(uses, buffer, Sort::Buffer)
+        }
+        Command::SetBindGroup { group, .. } => push_group(uses, group),
         Command::BeginComputePass
         | Command::PushDebugGroup
         | Command::PopDebugGroup
-        | Command::End => Ok(()),
+        | Command::End
+        | Command::SetPipeline { .. }
+        | Command::Dispatch { .. } => Ok(()),
     }
 }
 

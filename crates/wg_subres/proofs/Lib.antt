@@ -2,3 +2,4 @@ pub mod Numbers
 pub mod Covered
 pub mod Printed
 pub mod Meeting
+pub mod ViewsMeeting

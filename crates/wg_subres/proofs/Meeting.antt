@@ -26,14 +26,14 @@ unfolding copied_cells copy_runs
 cells_lie texture info spot size = if_lie (nat_lt (first_layer info.dim spot.origin) (end_layer info.dim spot.origin size)) texture spot.mip (first_layer info.dim spot.origin) (end_layer info.dim spot.origin size) (named_aspects spot.aspect (row info.format).aspects)
 
 -- Aspects.
-or_left : (a b : Bool) → a ≡ true → a || b ≡ true
+pub or_left : (a b : Bool) → a ≡ true → a || b ≡ true
 or_left a b e = rw e refl
 
-or_right : (a b : Bool) → b ≡ true → a || b ≡ true
+pub or_right : (a b : Bool) → b ≡ true → a || b ≡ true
 or_right true b e = refl
 or_right false b e = e
 
-same_number : (x y a : ℕ) → x == a ≡ true → y == a ≡ true → x == y ≡ true
+pub same_number : (x y a : ℕ) → x == a ≡ true → y == a ≡ true → x == y ≡ true
 same_number x y a e f = eq-eqb x y (eqb-true x a e ∙ sym (eqb-true y a f))
 
 meets_one : (x a : Aspect) (ys : List Aspect) → aspect_number x == aspect_number a ≡ true → is_among a ys ≡ true → list_any (λ y. aspect_number x == aspect_number y) ys ≡ true
@@ -44,7 +44,7 @@ meets_one x a (y ∷ ys) e f = by_cases (or_cases (aspect_number y == aspect_num
     by_cases (inl g) rest = or_left (aspect_number x == aspect_number y) (list_any (λ y. aspect_number x == aspect_number y) ys) (same_number (aspect_number x) (aspect_number y) (aspect_number a) e g)
     by_cases (inr g) rest = or_right (aspect_number x == aspect_number y) (list_any (λ y. aspect_number x == aspect_number y) ys) (rest g)
 
-meets : (a : Aspect) (xs ys : List Aspect) → is_among a xs ≡ true → is_among a ys ≡ true → aspects_meet xs ys ≡ true
+pub meets : (a : Aspect) (xs ys : List Aspect) → is_among a xs ≡ true → is_among a ys ≡ true → aspects_meet xs ys ≡ true
 meets a [] ys e f = absurd (cc)
 meets a (x ∷ xs) ys e f = by_cases (or_cases (aspect_number x == aspect_number a) (is_among a xs) e) (λ g. meets a xs ys g f)
   where
@@ -53,7 +53,7 @@ meets a (x ∷ xs) ys e f = by_cases (or_cases (aspect_number x == aspect_number
     by_cases (inr g) rest = or_right (list_any (λ y. aspect_number x == aspect_number y) ys) (aspects_meet xs ys) (rest g)
 
 -- An aspect in both.
-turned : (x y : ℕ) → x == y ≡ true → y == x ≡ true
+pub turned : (x y : ℕ) → x == y ≡ true → y == x ≡ true
 turned x y e = eq-eqb y x (sym (eqb-true x y e))
 
 among_turned : (x : Aspect) (ys : List Aspect) → list_any (λ y. aspect_number x == aspect_number y) ys ≡ true → is_among x ys ≡ true
@@ -64,10 +64,10 @@ among_turned x (y ∷ ys) e = by_cases (or_cases (aspect_number x == aspect_numb
     by_cases (inl g) rest = or_left (aspect_number y == aspect_number x) (is_among x ys) (turned (aspect_number x) (aspect_number y) g)
     by_cases (inr g) rest = or_right (aspect_number y == aspect_number x) (is_among x ys) (rest g)
 
-abbrev InBoth : List Aspect → List Aspect → Type 0
+abbrev pub InBoth : List Aspect → List Aspect → Type 0
 InBoth xs ys = (a : Aspect) × ((is_among a xs ≡ true) × (is_among a ys ≡ true))
 
-in_both : (xs ys : List Aspect) → aspects_meet xs ys ≡ true → InBoth xs ys
+pub in_both : (xs ys : List Aspect) → aspects_meet xs ys ≡ true → InBoth xs ys
 in_both [] ys e = absurd (cc)
 in_both (x ∷ xs) ys e = by_cases (or_cases (list_any (λ y. aspect_number x == aspect_number y) ys) (aspects_meet xs ys) e) (in_both xs ys)
   where
@@ -79,13 +79,13 @@ in_both (x ∷ xs) ys e = by_cases (or_cases (list_any (λ y. aspect_number x ==
     by_cases (inr g) rest = more (rest g)
 
 -- Layers.
-in_lower : (lo hi lo2 hi2 : ℕ) → ranges_meet lo hi lo2 hi2 ≡ true → in_range lo hi (max lo lo2) ≡ true
+pub in_lower : (lo hi lo2 hi2 : ℕ) → ranges_meet lo hi lo2 hi2 ≡ true → in_range lo hi (max lo lo2) ≡ true
 in_lower lo hi lo2 hi2 e = grind (arith, nat_tests, e)
 
-in_upper : (lo hi lo2 hi2 : ℕ) → ranges_meet lo hi lo2 hi2 ≡ true → in_range lo2 hi2 (max lo lo2) ≡ true
+pub in_upper : (lo hi lo2 hi2 : ℕ) → ranges_meet lo hi lo2 hi2 ≡ true → in_range lo2 hi2 (max lo lo2) ≡ true
 in_upper lo hi lo2 hi2 e = grind (arith, nat_tests, e)
 
-ranges_share : (lo hi lo2 hi2 x : ℕ) → in_range lo hi x ≡ true → in_range lo2 hi2 x ≡ true → ranges_meet lo hi lo2 hi2 ≡ true
+pub ranges_share : (lo hi lo2 hi2 x : ℕ) → in_range lo hi x ≡ true → in_range lo2 hi2 x ≡ true → ranges_meet lo hi lo2 hi2 ≡ true
 ranges_share lo hi lo2 hi2 x e f = grind (arith, nat_tests, e, f)
 
 -- A part in both.

@@ -10,7 +10,7 @@ use Rattle.wg_rows.specs.Runs.{Aspect, aspect_number, Part, Buffer, Subresource,
 use Rattle.wg_rows.specs.Uses.{Usages, printed_uses, Kind, printed_accesses}
 use Rattle.wg_model.specs.Formats.{named_aspects}
 use Rattle.wg_model.specs.Textures.{layer_count}
-use Rattle.wg_model.specs.Subresources.{view_runs, first_layer, end_layer, copied_cells, copy_runs, copies_meet}
+use Rattle.wg_model.specs.Subresources.{view_runs, first_layer, end_layer, copied_cells, copy_runs, copies_meet, views_meet}
 
 -- whether an aspect is one of these
 abbrev pub is_among : Aspect → List Aspect → Bool
@@ -54,6 +54,11 @@ CopiedCellsLie = (texture : ℕ) (info : TextureInfo) (spot : TextureSpot) (size
 pub record CopiesMeet : Type 0 where
   pub shared : (texture : ℕ) (source : TextureInfo) (from : TextureSpot) (target : TextureInfo) (to : TextureSpot) (size : List ℕ) → copies_meet source from target to size ≡ true → (part : Part) × ((copy_has texture source from size part ≡ true) × (copy_has texture target to size part ≡ true))
   pub only : (texture : ℕ) (source : TextureInfo) (from : TextureSpot) (target : TextureInfo) (to : TextureSpot) (size : List ℕ) (part : Part) → copy_has texture source from size part ≡ true → copy_has texture target to size part ≡ true → copies_meet source from target to size ≡ true
+
+-- Two views meet exactly where some part is in both.
+pub record ViewsMeet : Type 0 where
+  pub shared : (a b : ViewInfo) → views_meet a b ≡ true → (part : Part) × ((view_has a part ≡ true) × (view_has b part ≡ true))
+  pub only : (a b : ViewInfo) (part : Part) → view_has a part ≡ true → view_has b part ≡ true → views_meet a b ≡ true
 
 -- the runs, each used in this way
 abbrev pub all_used : Usages → List PartRun → List (PartRun × Usages)

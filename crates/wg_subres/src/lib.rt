@@ -5,11 +5,11 @@ ghost use Rattle.std.specs.Prelude.{◌≡◌, ◌++◌, ◌+◌, min, [], IfOk,
 ghost use Rattle.wg_types.specs.Formats.{row};
 ghost use Rattle.wg_rows.specs.Rows.{numbers};
 ghost use Rattle.wg_model.specs.Formats.{named_aspects};
-ghost use Rattle.wg_model.specs.Subresources.{level_runs, aspect_runs, view_runs, end_layer, layer_cells, layer_runs, copied_cells, copy_runs};
-ghost use Rattle.wg_subres.specs.Has.{ViewsCover, CopiesCover, CopiedCellsLie, CopiesMeet, ViewsPrinted, CopiesPrinted, CellsPrinted};
+ghost use Rattle.wg_model.specs.Subresources.{level_runs, aspect_runs, view_runs, end_layer, layer_cells, layer_runs, copied_cells, copy_runs, ranges_meet, view_layers_end, view_mips_end, views_meet};
+ghost use Rattle.wg_subres.specs.Has.{ViewsCover, CopiesCover, CopiedCellsLie, CopiesMeet, ViewsMeet, ViewsPrinted, CopiesPrinted, CellsPrinted};
 
 use std::alloc::Global;
-use wg_formats::{end_layer, first_layer, layer_count, named_aspects};
+use wg_formats::{aspects_meet, end_layer, first_layer, layer_count, named_aspects};
 use wg_types::NoMemory;
 use wg_types::items::Items;
 use wg_types::parts::{Aspect, Cells, PartRun};
@@ -75,22 +75,36 @@ fn aspect_runs(
     Ok(runs)
 }
 
+/// Where the layers of a view end that its texture has.
+fn layers_end(view: &ViewInfo) -> u32
+    ensures { result ≡ view_layers_end view.now }
+{
+    end_within(
+        view.base_layer,
+        view.layers,
+        layer_count(&view.texture_info),
+    )
+}
+
+/// Where the mip levels of a view end that its texture has.
+fn mips_end(view: &ViewInfo) -> u32
+    ensures { result ≡ view_mips_end view.now }
+{
+    end_within(view.base_mip, view.mips, view.texture_info.mips)
+}
+
 /// The subresources of a view that its texture has, a run for each aspect and mip level; what lies past
 /// the texture's end adds none (WebGPU, "Texture Views").
 #[tactic(auto, unfolding(wg_model::specs::Subresources::view_runs))]
 pub fn of_view(alloc: Global, view: &ViewInfo) -> Result<PartRuns, NoMemory>
     ensures { IfOk result (λ runs. runs ≡ view_runs view.now) }
 {
-    let info = &view.texture_info;
-    let end = end_within(view.base_layer, view.layers, layer_count(info));
+    let end = layers_end(view);
     if view.base_layer >= end {
         return Ok(Items::new(alloc));
     }
-    let mips = (
-        view.base_mip,
-        end_within(view.base_mip, view.mips, info.mips),
-    );
-    let aspects = named_aspects(view.aspect, info.format);
+    let mips = (view.base_mip, mips_end(view));
+    let aspects = named_aspects(view.aspect, view.texture_info.format);
     aspect_runs(
         alloc,
         view.texture.number,
@@ -98,6 +112,26 @@ pub fn of_view(alloc: Global, view: &ViewInfo) -> Result<PartRuns, NoMemory>
         mips,
         aspects,
     )
+}
+
+/// Whether two ranges have a number in common.
+fn ranges_meet(a: (u32, u32), b: (u32, u32)) -> bool
+    ensures { result ≡ ranges_meet a.0 a.1 b.0 b.1 }
+{
+    a.0.max(b.0) < a.1.min(b.1)
+}
+
+/// Whether two views have a subresource in common.
+#[tactic(auto, unfolding(wg_model::specs::Subresources::views_meet))]
+pub fn views_meet(a: &ViewInfo, b: &ViewInfo) -> bool
+    ensures { result ≡ views_meet a.now b.now }
+{
+    let aspects = named_aspects(a.aspect, a.texture_info.format);
+    let others = named_aspects(b.aspect, b.texture_info.format);
+    a.texture.number == b.texture.number
+        && aspects_meet(aspects, others)
+        && ranges_meet((a.base_mip, mips_end(a)), (b.base_mip, mips_end(b)))
+        && ranges_meet((a.base_layer, layers_end(a)), (b.base_layer, layers_end(b)))
 }
 
 /// The layer past the last of a copy. One past every number is in no texture, and no copy whose place
@@ -213,12 +247,13 @@ pub fn of_copy(
 
 /// The runs of a view cover just the subresources that the view has, and those of a copy just what the
 /// copy has, in which the cells lie that it accesses. Two copies within one texture meet exactly where
-/// some subresource is in both.
+/// some subresource is in both, and so do two views.
 pub fn runs_cover()
     ensures views { ViewsCover }
     ensures copies { CopiesCover }
     ensures cells { CopiedCellsLie }
     ensures meet { CopiesMeet }
+    ensures views_meet { ViewsMeet }
 {}
 
 /// Where all runs of a view are used in one way they are in printed form, and so are the runs of a copy

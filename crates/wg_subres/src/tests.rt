@@ -1,4 +1,4 @@
-use crate::{cells_of_copy, of_copy, of_view};
+use crate::{cells_of_copy, of_copy, of_view, views_meet};
 use std::test::Fail;
 use wg_types::formats::Format;
 use wg_types::handles::ObjRef;
@@ -26,22 +26,41 @@ fn run(aspect: Aspect) -> PartRun {
     }
 }
 
-#[test]
-fn runs_of_a_view_and_a_copy(rt: HostRuntime) -> Result<(), Fail> {
-    // Also where a view goes past the end of its texture.
-    let view = ViewInfo {
+/// A view of mip levels and layers from these on.
+fn view_from(aspect: AspectWord, base_mip: u32, base_layer: u32) -> ViewInfo {
+    ViewInfo {
         texture: ObjRef {
             device: 1,
             number: 7,
         },
         texture_info: TEXTURE,
         dim: ViewDim::TwoArray,
-        aspect: AspectWord::All,
-        base_mip: 1,
+        aspect,
+        base_mip,
         mips: u32::MAX,
-        base_layer: 1,
+        base_layer,
         layers: u32::MAX,
-    };
+    }
+}
+
+#[test]
+fn views_meet_in_a_subresource(rt: HostRuntime) {
+    let whole = view_from(AspectWord::All, 0, 0);
+    let depth = view_from(AspectWord::DepthOnly, 1, 1);
+    let stencil = view_from(AspectWord::StencilOnly, 1, 1);
+    assert!(rt; views_meet(&whole, &depth));
+    assert!(rt; views_meet(&depth, &whole));
+    assert!(rt; !views_meet(&depth, &stencil));
+    // There is no mip level 2.
+    let past = view_from(AspectWord::All, 2, 0);
+    assert!(rt; !views_meet(&whole, &past));
+    assert!(rt; !views_meet(&past, &past));
+}
+
+#[test]
+fn runs_of_a_view_and_a_copy(rt: HostRuntime) -> Result<(), Fail> {
+    // Also where a view goes past the end of its texture.
+    let view = view_from(AspectWord::All, 1, 1);
     let both = [run(Aspect::Depth), run(Aspect::Stencil)];
     assert_eq!(rt; of_view(rt.alloc(), &view)?.as_slice(), both.as_slice());
     let spot = TextureSpot {

@@ -2,4 +2,6 @@
 #![tactic(auto)]
 
 #[cfg(test)]
+mod compute;
+#[cfg(test)]
 mod tests;

@@ -13,7 +13,8 @@ use Rattle.wg_history.specs.declared.events.Event.TheVariants.{Late}
 use Rattle.wg_history.specs.Entries.{Entry, Past}
 use Rattle.wg_history.specs.Answers.{reply_to}
 use Rattle.wg_play.specs.declared.objects.Object.{Object}
-use Rattle.wg_play.specs.Objects.{reference_at, is_late_on, recorded_on}
+use Rattle.wg_play.specs.declared.objects.Stand.{Stand}
+use Rattle.wg_play.specs.Objects.{reference_at, is_late_on, recorded_on, begun_by}
 use Rattle.wg_play.specs.Play.{Played, with_made, answered, command_played}
 
 -- An event was answered, and what the call has made is noted.
@@ -34,14 +35,18 @@ answered_is setup objects new_objects history new_history known event reply seri
     state : List Object → Past → Played
     state made past = record { objects = made; past = past }
 
--- A recording call that is late, and one that is kept.
-pub late_is : (setup : Setup) (state : Played) (on : ℕ) (command : Command) → is_late_on state.objects on ≡ true → answered setup (record state { objects = recorded_on state.objects on command }) None (Late (reference_at state.objects on)) ≡ command_played setup state on command
-late_is setup state on command late =
-    ap (λ (b : Bool). if b then answered setup (record state { objects = recorded_on state.objects on command }) None (Late (reference_at state.objects on)) else record state { objects = recorded_on state.objects on command }) (sym late)
+-- A recording call that is late, and one that is kept. Both make the pass that they begin.
+pub late_is : (setup : Setup) (state : Played) (stand : Stand) (command : Command) (made : Option ℕ) → is_late_on state.objects stand ≡ true
+    → answered setup (record state { objects = recorded_on state.objects stand command ++ begun_by state.objects stand.encoder command made }) None (Late (reference_at state.objects stand.encoder)) ≡ command_played setup state stand command made
+late_is setup state stand command made late =
+    let next : Played = record state { objects = recorded_on state.objects stand command ++ begun_by state.objects stand.encoder command made } in
+    ap (λ (b : Bool). if b then answered setup next None (Late (reference_at state.objects stand.encoder)) else next) (sym late)
 
-pub kept_is : (setup : Setup) (state : Played) (on : ℕ) (command : Command) → is_late_on state.objects on ≡ false → record state { objects = recorded_on state.objects on command } ≡ command_played setup state on command
-kept_is setup state on command kept =
-    ap (λ (b : Bool). if b then answered setup (record state { objects = recorded_on state.objects on command }) None (Late (reference_at state.objects on)) else record state { objects = recorded_on state.objects on command }) (sym kept)
+pub kept_is : (setup : Setup) (state : Played) (stand : Stand) (command : Command) (made : Option ℕ) → is_late_on state.objects stand ≡ false
+    → record state { objects = recorded_on state.objects stand command ++ begun_by state.objects stand.encoder command made } ≡ command_played setup state stand command made
+kept_is setup state stand command made kept =
+    let next : Played = record state { objects = recorded_on state.objects stand command ++ begun_by state.objects stand.encoder command made } in
+    ap (λ (b : Bool). if b then answered setup next None (Late (reference_at state.objects stand.encoder)) else next) (sym kept)
 
 -- What was noted says whether the call was late.
 pub was_late : (b : Bool) → noted b ≡ NotedLate → b ≡ true

@@ -1,11 +1,13 @@
 -- Where commands may stand, which begin and end a pass, and the objects that they name.
-use Rattle.std.specs.Prelude.{Bool, true, false, List, [], ◌∷◌}
+use Rattle.std.specs.Prelude.{Bool, true, false, List, [], ◌∷◌, Option, Some, None}
 use Rattle.wg_types.specs.Handles.{HandleValue}
 pub use Rattle.wg_types.specs.Refs.{first_of, all_wanted}
 use Rattle.wg_types.specs.declared.wanted.Wanted.{Wanted}
 use Rattle.wg_types.specs.declared.wanted.Wanted.TheVariants as wanted
+use Rattle.wg_types.specs.declared.wanted.Kind.{Kind}
+use Rattle.wg_types.specs.declared.wanted.Kind.TheVariants as kind
 pub use Rattle.wg_types.specs.declared.commands.CommandOf.{CommandOf}
-use Rattle.wg_types.specs.declared.commands.CommandOf.TheVariants.{BeginComputePass, CopyBufferToBuffer, CopyBufferToTexture, CopyTextureToBuffer, CopyTextureToTexture, ClearBuffer, PushDebugGroup, PopDebugGroup, End}
+use Rattle.wg_types.specs.declared.commands.CommandOf.TheVariants.{BeginComputePass, CopyBufferToBuffer, CopyBufferToTexture, CopyTextureToBuffer, CopyTextureToTexture, ClearBuffer, PushDebugGroup, PopDebugGroup, End, SetPipeline, SetBindGroup, Dispatch, DispatchIndirect}
 use Rattle.wg_types.specs.declared.commands.Bracket.{Bracket}
 use Rattle.wg_types.specs.declared.commands.Bracket.TheVariants as brackets
 use Rattle.wg_types.specs.declared.commands.CommandPlace.{CommandPlace}
@@ -27,7 +29,21 @@ is_pass ComputePass = true
 is_pass RenderPass = true
 is_pass Bundle = false
 
--- whether a command may stand on a place of a kind: debug groups anywhere, an end on a pass, the others on an encoder
+abbrev pub is_compute_pass : CommandPlace → Bool
+is_compute_pass Encoder = false
+is_compute_pass ComputePass = true
+is_compute_pass RenderPass = false
+is_compute_pass Bundle = false
+
+-- a place that binds pipelines and groups
+abbrev pub binds : CommandPlace → Bool
+binds Encoder = false
+binds ComputePass = true
+binds RenderPass = true
+binds Bundle = true
+
+-- whether a command may stand on a place of a kind: debug groups anywhere, an end on a pass, what sets pipelines and groups on
+-- passes and bundle encoders, dispatches on a compute pass, the others on an encoder
 abbrev pub fits : {R : Type 0} → CommandOf R → CommandPlace → Bool
 fits BeginComputePass place = is_encoder place
 fits (CopyBufferToBuffer source source_offset target target_offset size) place = is_encoder place
@@ -38,6 +54,26 @@ fits (ClearBuffer buffer offset size) place = is_encoder place
 fits PushDebugGroup place = true
 fits PopDebugGroup place = true
 fits End place = is_pass place
+fits (SetPipeline pipeline) place = binds place
+fits (SetBindGroup index group offsets) place = binds place
+fits (Dispatch x y z) place = is_compute_pass place
+fits (DispatchIndirect buffer offset) place = is_compute_pass place
+
+-- what a command asks of what it stands on, where that has a name
+abbrev pub place_wanted : {R : Type 0} → CommandOf R → Wanted
+place_wanted BeginComputePass = wanted.Encoder
+place_wanted (CopyBufferToBuffer source source_offset target target_offset size) = wanted.Encoder
+place_wanted (CopyBufferToTexture buffer layout texture spot size) = wanted.Encoder
+place_wanted (CopyTextureToBuffer buffer layout texture spot size) = wanted.Encoder
+place_wanted (CopyTextureToTexture source source_mip source_origin target target_mip target_origin size) = wanted.Encoder
+place_wanted (ClearBuffer buffer offset size) = wanted.Encoder
+place_wanted PushDebugGroup = wanted.Recording
+place_wanted PopDebugGroup = wanted.Recording
+place_wanted End = wanted.Pass
+place_wanted (SetPipeline pipeline) = wanted.Pass
+place_wanted (SetBindGroup index group offsets) = wanted.Pass
+place_wanted (Dispatch x y z) = wanted.ComputePass
+place_wanted (DispatchIndirect buffer offset) = wanted.ComputePass
 
 -- what a command opens or closes, if it does
 abbrev pub bracket : {R : Type 0} → CommandOf R → Bracket
@@ -50,6 +86,21 @@ bracket (ClearBuffer buffer offset size) = brackets.Neither
 bracket PushDebugGroup = brackets.PushGroup
 bracket PopDebugGroup = brackets.PopGroup
 bracket End = brackets.EndPass
+bracket (SetPipeline pipeline) = brackets.Neither
+bracket (SetBindGroup index group offsets) = brackets.Neither
+bracket (Dispatch x y z) = brackets.Neither
+bracket (DispatchIndirect buffer offset) = brackets.Neither
+
+-- the kind of the pass that a command begins, if it begins one
+abbrev pub kind_begun_by : Bracket → Option Kind
+kind_begun_by brackets.BeginComputePass = Some kind.ComputePass
+kind_begun_by brackets.EndPass = None
+kind_begun_by brackets.PushGroup = None
+kind_begun_by brackets.PopGroup = None
+kind_begun_by brackets.Neither = None
+
+abbrev pub kind_begun : {R : Type 0} → CommandOf R → Option Kind
+kind_begun command = kind_begun_by (bracket command)
 
 -- whether a command begins a pass
 abbrev pub begins_pass_by : Bracket → Bool
@@ -84,6 +135,10 @@ named (ClearBuffer buffer offset size) = (buffer, wanted.Buffer) ∷ []
 named PushDebugGroup = []
 named PopDebugGroup = []
 named End = []
+named (SetPipeline pipeline) = (pipeline, wanted.Pipeline) ∷ []
+named (SetBindGroup index group offsets) = (group, wanted.Group) ∷ []
+named (Dispatch x y z) = []
+named (DispatchIndirect buffer offset) = (buffer, wanted.Buffer) ∷ []
 
 -- the command with other objects in place of those that it names
 abbrev pub map_refs : {R S : Type 0} → (R → S) → CommandOf R → CommandOf S
@@ -96,3 +151,7 @@ map_refs f (ClearBuffer buffer offset size) = ClearBuffer (f buffer) offset size
 map_refs f PushDebugGroup = PushDebugGroup
 map_refs f PopDebugGroup = PopDebugGroup
 map_refs f End = End
+map_refs f (SetPipeline pipeline) = SetPipeline (f pipeline)
+map_refs f (SetBindGroup index group offsets) = SetBindGroup index (f group) offsets
+map_refs f (Dispatch x y z) = Dispatch x y z
+map_refs f (DispatchIndirect buffer offset) = DispatchIndirect (f buffer) offset

@@ -1,13 +1,15 @@
 //! The commands of recorders, and where they stand.
 ghost use Rattle.std.specs.Prelude.{◌≡◌, IfOk};
 ghost use Rattle.std.specs.List.{list_any};
-ghost use Rattle.wg_types.specs.Commands.{fits, bracket, is_begin, is_end, named, map_refs, first_of};
+ghost use Rattle.wg_types.specs.Commands.{fits, place_wanted, kind_begun, bracket, is_begin, is_end, named, map_refs, first_of};
 
 use crate::NoMemory;
 use crate::handles::Handle;
+use crate::items::Items;
 use crate::refs::{self, Ask, Find, Test, Tested};
+use crate::shared::Shared;
 use crate::textures::{DataLayout, TextureSpot};
-use crate::wanted::Wanted;
+use crate::wanted::{Kind, Wanted};
 use std::alloc::Global;
 
 /// What a command stands on: the encoder itself, or the pass with this number. Passes are numbered
@@ -41,7 +43,8 @@ pub enum Bracket {
 
 /// One command, with the objects that it names as `R`: handles, or names of a script. Offsets and sizes
 /// of buffers are in bytes, origins and sizes of textures in texels (WebGPU, "Command Encoding"). A copy
-/// from texture to texture copies all aspects.
+/// from texture to texture copies all aspects. Dynamic offsets stand in the order of the bindings' numbers,
+/// and a dispatch has a count of workgroups in each dimension (WebGPU, "Compute Passes").
 #[derive(Drop)]
 pub enum CommandOf<R> {
     BeginComputePass,
@@ -83,10 +86,34 @@ pub enum CommandOf<R> {
     PushDebugGroup,
     PopDebugGroup,
     End,
+    SetPipeline {
+        pipeline: R,
+    },
+    SetBindGroup {
+        index: u32,
+        group: R,
+        offsets: Shared<Items<u32>>,
+    },
+    Dispatch {
+        x: u32,
+        y: u32,
+        z: u32,
+    },
+    DispatchIndirect {
+        buffer: R,
+        offset: u64,
+    },
 }
 
 /// A command as its caller holds its objects.
 pub type Command = CommandOf<Handle>;
+
+/// A bind group as it is set, with its dynamic offsets.
+#[derive(Drop)]
+pub struct BoundGroup {
+    pub group: Handle,
+    pub offsets: Shared<Items<u32>>,
+}
 
 impl<R> CommandOf<R> {
     /// Whether the command may stand on a place of this kind.
@@ -98,12 +125,49 @@ impl<R> CommandOf<R> {
             CommandOf::End => {
                 matches!(place, CommandPlace::ComputePass | CommandPlace::RenderPass)
             }
+            CommandOf::SetPipeline { .. } | CommandOf::SetBindGroup { .. } => {
+                matches!(
+                    place,
+                    CommandPlace::ComputePass | CommandPlace::RenderPass | CommandPlace::Bundle
+                )
+            }
+            CommandOf::Dispatch { .. } | CommandOf::DispatchIndirect { .. } => {
+                matches!(place, CommandPlace::ComputePass)
+            }
             CommandOf::BeginComputePass
             | CommandOf::CopyBufferToBuffer { .. }
             | CommandOf::CopyBufferToTexture { .. }
             | CommandOf::CopyTextureToBuffer { .. }
             | CommandOf::CopyTextureToTexture { .. }
             | CommandOf::ClearBuffer { .. } => { matches!(place, CommandPlace::Encoder) }
+        }
+    }
+
+    /// What the command asks of what it stands on, where that has a name.
+    pub fn place_wanted(&self) -> Wanted
+        ensures { result ≡ place_wanted self.now }
+    {
+        match self {
+            CommandOf::PushDebugGroup | CommandOf::PopDebugGroup => Wanted::Recording,
+            CommandOf::End | CommandOf::SetPipeline { .. } | CommandOf::SetBindGroup { .. } =>
+                Wanted::Pass,
+            CommandOf::Dispatch { .. } | CommandOf::DispatchIndirect { .. } => Wanted::ComputePass,
+            CommandOf::BeginComputePass
+            | CommandOf::CopyBufferToBuffer { .. }
+            | CommandOf::CopyBufferToTexture { .. }
+            | CommandOf::CopyTextureToBuffer { .. }
+            | CommandOf::CopyTextureToTexture { .. }
+            | CommandOf::ClearBuffer { .. } => Wanted::Encoder,
+        }
+    }
+
+    /// The kind of the pass that the command begins, if it begins one.
+    pub fn kind_begun(&self) -> Option<Kind>
+        ensures { result ≡ kind_begun self.now }
+    {
+        match self.bracket() {
+            Bracket::BeginComputePass => Some(Kind::ComputePass),
+            Bracket::EndPass | Bracket::PushGroup | Bracket::PopGroup | Bracket::Neither => None,
         }
     }
 
@@ -117,7 +181,11 @@ impl<R> CommandOf<R> {
             | CommandOf::CopyBufferToTexture { .. }
             | CommandOf::CopyTextureToBuffer { .. }
             | CommandOf::CopyTextureToTexture { .. }
-            | CommandOf::ClearBuffer { .. } => Bracket::Neither,
+            | CommandOf::ClearBuffer { .. }
+            | CommandOf::SetPipeline { .. }
+            | CommandOf::SetBindGroup { .. }
+            | CommandOf::Dispatch { .. }
+            | CommandOf::DispatchIndirect { .. } => Bracket::Neither,
             CommandOf::PushDebugGroup => Bracket::PushGroup,
             CommandOf::PopDebugGroup => Bracket::PopGroup,
             CommandOf::End => Bracket::EndPass,
@@ -167,10 +235,14 @@ impl<R> CommandOf<R> {
                 refs::two(asked, (source, Wanted::Texture), (target, Wanted::Texture))
             }
             CommandOf::ClearBuffer { buffer, .. } => asked.ask(buffer, Wanted::Buffer),
+            CommandOf::SetPipeline { pipeline } => asked.ask(pipeline, Wanted::Pipeline),
+            CommandOf::SetBindGroup { group, .. } => asked.ask(group, Wanted::Group),
+            CommandOf::DispatchIndirect { buffer, .. } => asked.ask(buffer, Wanted::Buffer),
             CommandOf::BeginComputePass
             | CommandOf::PushDebugGroup
             | CommandOf::PopDebugGroup
-            | CommandOf::End => None,
+            | CommandOf::End
+            | CommandOf::Dispatch { .. } => None,
         }
     }
 
@@ -182,8 +254,7 @@ impl<R> CommandOf<R> {
         self.first(&Tested { test }).is_some()
     }
 
-    /// The command with other objects in place of those that it names. Lists inside commands take their
-    /// memory from the allocator.
+    /// The command with other objects in place of those that it names. Dynamic offsets are shared.
     pub fn map<S: Drop, F: Find<R, S>>(
         &self,
         alloc: Global,
@@ -262,6 +333,27 @@ impl<R> CommandOf<R> {
             CommandOf::PushDebugGroup => Ok(CommandOf::PushDebugGroup),
             CommandOf::PopDebugGroup => Ok(CommandOf::PopDebugGroup),
             CommandOf::End => Ok(CommandOf::End),
+            CommandOf::SetPipeline { pipeline } => Ok(CommandOf::SetPipeline {
+                pipeline: find.find(pipeline)?,
+            }),
+            CommandOf::SetBindGroup {
+                index,
+                group,
+                offsets,
+            } => Ok(CommandOf::SetBindGroup {
+                index: *index,
+                group: find.find(group)?,
+                offsets: offsets.share()?,
+            }),
+            CommandOf::Dispatch { x, y, z } => Ok(CommandOf::Dispatch {
+                x: *x,
+                y: *y,
+                z: *z,
+            }),
+            CommandOf::DispatchIndirect { buffer, offset } => Ok(CommandOf::DispatchIndirect {
+                buffer: find.find(buffer)?,
+                offset: *offset,
+            }),
         }
     }
 }

@@ -1,5 +1,6 @@
 use Rattle.wg_subres.proofs.Covered.{views_cover, copies_cover}
 use Rattle.wg_subres.proofs.Meeting.{cells_lie, copies_meet_where}
+use Rattle.wg_subres.proofs.ViewsMeeting.{views_meet_where}
 use Rattle.wg_subres.proofs.runs_cover.Goals as goal
 
 pub returns-clause-views : goal.returns-clause-views
@@ -13,3 +14,6 @@ returns-clause-cells c = cells_lie
 
 pub returns-clause-meet : goal.returns-clause-meet
 returns-clause-meet c = copies_meet_where
+
+pub returns-clause-views_meet : goal.returns-clause-views_meet
+returns-clause-views_meet c = views_meet_where

@@ -1,0 +1,89 @@
+//! What the kept commands of a recorder have done.
+ghost use Rattle.std.specs.Prelude.{◌≡◌, Some, None, is_some, true, [], OnOk, OnErr};
+ghost use Rattle.wg_model.specs.Rules.{or_else};
+ghost use Rattle.wg_model.specs.Touches.{Doing, deed_of, encoder_does};
+ghost use Rattle.wg_access.specs.Done.{done_by_encoder, done_by_pass, done_of};
+
+use crate::deeds::encoder_deed;
+use crate::touching::deed_of;
+use std::alloc::Global;
+use wg_scopes::clash_in;
+use wg_types::NoMemory;
+use wg_types::commands::Command;
+use wg_types::items::Items;
+use wg_types::parts::Part;
+use wg_types::steps::{Deed, Deeds, StepName, Touch};
+
+/// The finished steps, in order, and the least clashing part of the first usage scope that has one
+/// (WebGPU, "Usage Scope Validation").
+#[derive(Drop)]
+pub struct Done {
+    pub clash: Option<Part>,
+    pub deeds: Deeds,
+}
+
+/// The first of two parts.
+fn first_part(a: Option<Part>, b: Option<Part>) -> Option<Part>
+    ensures { result ≡ or_else a b }
+{
+    if let Some(part) = a {
+        return Some(part);
+    }
+    b
+}
+
+impl Done {
+    /// Nothing is done.
+    pub fn new(alloc: Global) -> Done
+        ensures { result ≡ done_of [] }
+    {
+        Done {
+            clash: None,
+            deeds: Items::new(alloc),
+        }
+    }
+
+    /// Adds what a step of a pass does, whose uses are a usage scope.
+    #[tactic(auto, using(crate::proofs::Adding::deed_added))]
+    fn add_deed(&mut self, deed: Deed) -> Result<(), NoMemory>
+        ensures ok { (doing : Doing) → deed ≡ deed_of doing → OnOk result (self.new ≡ done_by_pass self.old (Some doing)) }
+        ensures err { OnErr result (self.new ≡ self.old) }
+    {
+        let found = clash_in(deed.uses.as_slice());
+        self.deeds.push(deed)?;
+        self.clash = first_part(self.clash, found);
+        Ok(())
+    }
+
+    /// Adds a step of a pass that touches these.
+    pub fn add(&mut self, alloc: Global, name: StepName, touches: &[Touch]) -> Result<(), NoMemory>
+        ensures ok { OnOk result (self.new ≡ done_by_pass self.old (Some (name, touches.now))) }
+        ensures err { OnErr result (self.new ≡ self.old) }
+    {
+        let deed = deed_of(alloc, name, touches)?;
+        self.add_deed(deed)
+    }
+
+    /// Adds the step of a command on the encoder, if it makes one, unless some rule is unmet.
+    pub fn add_command(
+        &mut self,
+        alloc: Global,
+        verdict: Option<u16>,
+        command: &Command,
+    ) -> Result<(), NoMemory>
+        ensures ok { verdict ≡ None → OnOk result (self.new ≡ done_by_encoder self.old (encoder_does command.now)) }
+        ensures refused { is_some verdict ≡ true → self.new ≡ self.old }
+        ensures err { OnErr result (self.new ≡ self.old) }
+    {
+        if verdict.is_some() {
+            return Ok(());
+        }
+        match encoder_deed(alloc, command)? {
+            Some(deed) => {
+                self.deeds.push(deed)?;
+                return Ok(());
+            }
+            None => return Ok(()),
+        }
+    }
+}

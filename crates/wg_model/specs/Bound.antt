@@ -1,0 +1,181 @@
+-- Bind groups as they are set (WebGPU, "Bind Groups" and "Programmable Passes"): what they bind where, their rules, and what
+-- they touch.
+use Rattle.std.specs.Prelude.{ℕ, ◌+◌, ◌%◌, ◌==◌, nat_le, nat_lt, bit_and, not, ◌&&◌, ◌||◌, Bool, true, false, List, [], ◌∷◌, ◌++◌, map, Option, Some, None, length, count_by, if◌then◌else◌, slice_index_or}
+use Rattle.std.specs.List.{list_all, list_any, flat_map}
+use Rattle.std.specs.Option.{option_map_or}
+use Rattle.wg_types.specs.Handles.{HandleValue}
+use Rattle.wg_types.specs.Bindings.{entry_of}
+use Rattle.wg_types.specs.declared.handles.Info.{Info}
+use Rattle.wg_types.specs.declared.handles.Info.TheVariants as info
+use Rattle.wg_types.specs.declared.groups.GroupInfo.{GroupInfo}
+use Rattle.wg_types.specs.declared.groups.GroupLayoutInfo.{GroupLayoutInfo}
+use Rattle.wg_types.specs.declared.bindings.LayoutEntry.{LayoutEntry}
+use Rattle.wg_types.specs.declared.bindings.BoundEntry.{BoundEntry}
+use Rattle.wg_types.specs.declared.bindings.BoundResource.{BoundResource}
+use Rattle.wg_types.specs.declared.bindings.BoundResource.TheVariants.{Buffer as BoundBuffer, View as BoundView, Sampler as BoundSampler}
+use Rattle.wg_types.specs.declared.bindings.BindingKind.{BindingKind}
+use Rattle.wg_types.specs.declared.bindings.BindingKind.TheVariants.{Buffer, Sampler, Texture, StorageTexture}
+use Rattle.wg_types.specs.declared.bindings.BufferBinding.{BufferBinding}
+use Rattle.wg_types.specs.declared.bindings.BufferBinding.TheVariants.{Uniform, Storage, ReadOnlyStorage}
+use Rattle.wg_types.specs.declared.bindings.StorageAccess.{StorageAccess}
+use Rattle.wg_types.specs.declared.bindings.StorageAccess.TheVariants.{ReadOnly, WriteOnly, ReadWrite}
+use Rattle.wg_types.specs.declared.commands.BoundGroup.{BoundGroup}
+use Rattle.wg_rows.specs.Runs.{Cells, Bytes}
+use Rattle.wg_rows.specs.Uses.{Usages, Kind, Read, Both}
+use Rattle.wg_model.specs.Rules.{Rule}
+use Rattle.wg_model.specs.Layouts.{is_dynamic, may_write}
+use Rattle.wg_model.specs.Equality.{equivalent}
+use Rattle.wg_model.specs.Subresources.{ranges_meet, views_meet, view_cells}
+use Rattle.wg_model.specs.Touches.{Touch, constant_usage, storage_usage, storage_read_usage}
+
+-- what is known of a group, if it is one
+abbrev pub group_in : Info → Option GroupInfo
+group_in (info.Group group) = Some group
+group_in _ = None
+
+-- what a handle knows of a group, which of an invalid one is nothing
+abbrev pub known_group : HandleValue → Option GroupInfo
+known_group handle = if handle.valid then group_in handle.info else None
+
+-- the layouts of the groups of a pipeline
+abbrev pub layouts_in : Info → List GroupLayoutInfo
+layouts_in (info.Compute pipeline) = pipeline.layout_info.layouts_info
+layouts_in _ = []
+
+-- how many of a layout's bindings take a dynamic offset
+abbrev pub dynamics : List LayoutEntry → ℕ
+dynamics entries = count_by (λ (entry : LayoutEntry). is_dynamic entry.kind) entries
+
+-- and how many of these have lesser numbers than this: offsets are dealt out by ascending binding
+abbrev pub dynamics_before : List LayoutEntry → ℕ → ℕ
+dynamics_before entries binding = count_by (λ (entry : LayoutEntry). is_dynamic entry.kind && nat_lt entry.binding binding) entries
+
+-- by how much what is bound is moved
+abbrev pub moved_by : List LayoutEntry → List ℕ → LayoutEntry → ℕ
+moved_by layout offsets asked = if is_dynamic asked.kind then slice_index_or offsets (dynamics_before layout asked.binding) 0 else 0
+
+-- What a group that is set binds: the entry of the layout, by how much it is moved, and the resource.
+pub record Place : Type 0 where
+  pub asked : LayoutEntry
+  pub moved : ℕ
+  pub resource : BoundResource
+
+abbrev pub place_of : List LayoutEntry → List ℕ → LayoutEntry → BoundResource → Place
+place_of layout offsets asked resource = record { asked = asked; moved = moved_by layout offsets asked; resource = resource }
+
+abbrev pub entry_places : List LayoutEntry → List ℕ → BoundEntry → List Place
+entry_places layout offsets bound = option_map_or (λ (asked : LayoutEntry). place_of layout offsets asked bound.resource ∷ []) (entry_of layout bound.binding) []
+
+abbrev pub places_in : GroupInfo → List ℕ → List Place
+places_in group offsets = flat_map (entry_places group.layout_info.entries offsets) group.entries
+
+-- whether the bound range, moved, fits its buffer
+abbrev pub range_fits : ℕ → BoundResource → Bool
+range_fits moved (BoundBuffer buffer known offset size) = nat_le (offset + moved + size) known.size
+range_fits moved (BoundView view known) = true
+range_fits moved (BoundSampler sampler known) = true
+
+abbrev pub place_fits : Place → Bool
+place_fits place = range_fits place.moved place.resource
+
+-- how many bind groups may be set
+abbrev pub most_groups : ℕ
+most_groups = 4
+
+abbrev pub offset_rules : Option GroupInfo → List ℕ → List Rule
+offset_rules None offsets = []
+offset_rules (Some group) offsets =
+    (326, length offsets == dynamics group.layout_info.entries)
+    ∷ ((327, list_all (λ offset. offset % 256 == 0) offsets)
+    ∷ ((328, list_all place_fits (places_in group offsets))
+    ∷ []))
+
+-- setBindGroup (WebGPU, "setBindGroup"): 325 the index is one that a device has; 326 there are as many offsets as dynamic
+-- bindings; 327 each is a multiple of 256; 328 each bound range, moved by its offset, fits its buffer.
+unfoldable pub set_rules : ℕ → Option GroupInfo → List ℕ → List Rule
+set_rules index group offsets = (325, nat_lt index most_groups) ∷ offset_rules group offsets
+
+-- Dispatches and draws: the groups of a pipeline's layout that have an entry.
+abbrev pub has_entries : GroupLayoutInfo → Bool
+has_entries layout = not (length layout.entries == 0)
+
+-- what is known of the group that is set, if one is
+abbrev pub info_set : Option BoundGroup → Option GroupInfo
+info_set None = None
+info_set (Some bound) = known_group bound.group
+
+-- whether a group is set with an equivalent layout, or the layout has no entry
+abbrev pub layout_fits : GroupLayoutInfo → Option BoundGroup → Bool
+layout_fits layout group = not (has_entries layout) || option_map_or (λ (known : GroupInfo). equivalent layout.entries known.layout_info.entries) (info_set group) false
+
+-- the same of each layout, the first of which has this index
+abbrev pub layouts_fit : List GroupLayoutInfo → List (Option BoundGroup) → ℕ → Bool
+layouts_fit [] groups index = true
+layouts_fit (layout ∷ layouts) groups index = layout_fits layout (slice_index_or groups index None) && layouts_fit layouts groups (index + 1)
+
+-- what a group that is set binds
+abbrev pub set_places : Option BoundGroup → List Place
+set_places None = []
+set_places (Some bound) = option_map_or (λ (known : GroupInfo). places_in known bound.offsets) (known_group bound.group) []
+
+abbrev pub index_places : GroupLayoutInfo → Option BoundGroup → List Place
+index_places layout group = if has_entries layout then set_places group else []
+
+-- what the groups bind that are set at the indexes where the layouts have an entry; the first layout has this index
+abbrev pub layouts_places : List GroupLayoutInfo → List (Option BoundGroup) → ℕ → List Place
+layouts_places [] groups index = []
+layouts_places (layout ∷ layouts) groups index = index_places layout (slice_index_or groups index None) ++ layouts_places layouts groups (index + 1)
+
+-- whether two bound resources have a byte or a subresource in common, each moved
+abbrev pub resources_meet : ℕ → BoundResource → ℕ → BoundResource → Bool
+resources_meet moved (BoundBuffer buffer known offset size) moved2 (BoundBuffer buffer2 known2 offset2 size2) =
+    buffer.number == buffer2.number && ranges_meet (offset + moved) (offset + moved + size) (offset2 + moved2) (offset2 + moved2 + size2)
+resources_meet moved (BoundView view known) moved2 (BoundView view2 known2) = views_meet known known2
+resources_meet moved _ moved2 _ = false
+
+-- whether one stage sees two places that overlap, where shaders may write one of them
+abbrev pub overlap : Place → Place → Bool
+overlap a b =
+    nat_lt 0 (bit_and a.asked.visibility b.asked.visibility)
+    && ((may_write a.asked.kind || may_write b.asked.kind)
+    && resources_meet a.moved a.resource b.moved b.resource)
+
+-- whether no two places do
+abbrev pub are_clear : List Place → Bool
+are_clear [] = true
+are_clear (place ∷ places) = not (list_any (overlap place) places) && are_clear places
+
+-- 341 each group of the pipeline's layout that has an entry is set with an equivalent layout; 342 no two bindings of these
+-- groups that one stage sees overlap where shaders may write one of them
+unfoldable pub bound_rules : List GroupLayoutInfo → List (Option BoundGroup) → List Rule
+bound_rules layouts groups = (341, layouts_fit layouts groups 0) ∷ ((342, are_clear (layouts_places layouts groups 0)) ∷ [])
+
+-- What is bound is used and accessed as the kind of its binding says, whatever stages see it: each cell of a bound range and
+-- each subresource of a view.
+abbrev pub buffer_touch : BufferBinding → Usages × Kind
+buffer_touch Uniform = (constant_usage, Read)
+buffer_touch Storage = (storage_usage, Both)
+buffer_touch ReadOnlyStorage = (storage_read_usage, Read)
+
+abbrev pub access_touch : StorageAccess → Usages × Kind
+access_touch ReadOnly = (storage_read_usage, Read)
+access_touch WriteOnly = (storage_usage, Both)
+access_touch ReadWrite = (storage_usage, Both)
+
+abbrev pub kind_touch : BindingKind → Usages × Kind
+kind_touch (Buffer binding dynamic min_size) = buffer_touch binding
+kind_touch (Sampler sampler_type) = (constant_usage, Read)
+kind_touch (Texture sample dim multi) = (constant_usage, Read)
+kind_touch (StorageTexture access format dim) = access_touch access
+
+abbrev pub resource_cells : ℕ → BoundResource → List Cells
+resource_cells moved (BoundBuffer buffer known offset size) = Bytes buffer.number (offset + moved) (offset + moved + size) ∷ []
+resource_cells moved (BoundView view known) = view_cells known
+resource_cells moved (BoundSampler sampler known) = []
+
+abbrev pub place_touches : Place → List Touch
+place_touches place = map (λ (cells : Cells). (cells, kind_touch place.asked.kind)) (resource_cells place.moved place.resource)
+
+-- what the groups touch that are set at the indexes where the layouts have an entry
+unfoldable pub bound_touches : List GroupLayoutInfo → List (Option BoundGroup) → List Touch
+bound_touches layouts groups = flat_map place_touches (layouts_places layouts groups 0)

@@ -1,0 +1,154 @@
+-- What steps touch: the cells that they access and the parts that they use (WebGPU, "Resource Usages").
+use Rattle.std.specs.Prelude.{ℕ, ◌+◌, ◌*◌, ◌==◌, nat_lt, Bool, List, [], ◌∷◌, ◌++◌, map, Option, Some, None, unwrap_or, if◌then◌else◌}
+use Rattle.std.specs.List.{filter}
+use Rattle.wg_types.specs.declared.steps.StepName.{StepName}
+use Rattle.wg_types.specs.declared.steps.StepName.TheVariants as name
+use Rattle.wg_types.specs.declared.steps.Deed.{Deed}
+use Rattle.wg_types.specs.Commands.{Command}
+use Rattle.wg_types.specs.declared.commands.CommandOf.TheVariants.{BeginComputePass, CopyBufferToBuffer, CopyBufferToTexture, CopyTextureToBuffer, CopyTextureToTexture, ClearBuffer, PushDebugGroup, PopDebugGroup, End, SetPipeline, SetBindGroup, Dispatch, DispatchIndirect}
+use Rattle.wg_types.specs.declared.textures.TextureInfo.{TextureInfo}
+use Rattle.wg_types.specs.declared.textures.TextureSpot.{TextureSpot}
+use Rattle.wg_types.specs.declared.textures.DataLayout.{DataLayout}
+use Rattle.wg_types.specs.Textures.{width, height, depth}
+use Rattle.wg_rows.specs.Runs.{PartRun, Cells, Bytes, cell_lo, cell_hi, run_part}
+use Rattle.wg_rows.specs.Uses.{Usages, Kind, Read, Write, Both, printed_accesses}
+use Rattle.wg_rows.specs.Sets.{UseRow, sets}
+use Rattle.wg_orders.specs.Steps.{Step, StepPlace}
+use Rattle.wg_model.specs.Formats.{texel_from, texel_to}
+use Rattle.wg_model.specs.Subresources.{copied_cells, has_no_texel}
+use Rattle.wg_model.specs.TexelCopies.{required, covers_all, bytes_in, whole_spot}
+use Rattle.wg_model.specs.Commands.{texture_of, size_or_rest}
+
+-- Usages of parts, a bit each.
+abbrev pub input_usage : Usages
+input_usage = record { 0 = 1 }
+
+abbrev pub constant_usage : Usages
+constant_usage = record { 0 = 2 }
+
+abbrev pub storage_usage : Usages
+storage_usage = record { 0 = 4 }
+
+abbrev pub storage_read_usage : Usages
+storage_read_usage = record { 0 = 8 }
+
+abbrev pub copy_src_usage : Usages
+copy_src_usage = record { 0 = 64 }
+
+abbrev pub copy_dst_usage : Usages
+copy_dst_usage = record { 0 = 128 }
+
+-- What a step does with some cells: how it uses the parts that they lie in, and how it accesses them.
+abbrev pub Touch : Type 0
+Touch = Cells × (Usages × Kind)
+
+abbrev pub use_of : Touch → PartRun × Usages
+use_of touch = (run_part touch.0, touch.1.0)
+
+abbrev pub access_of : Touch → Cells × Kind
+access_of touch = (touch.0, touch.1.1)
+
+-- whether a run has a cell
+abbrev pub has_cells : Cells × Kind → Bool
+has_cells row = nat_lt (cell_lo row.0) (cell_hi row.0)
+
+-- What is done in one step: its name, and what it touches.
+abbrev pub Doing : Type 0
+Doing = StepName × List Touch
+
+-- its uses as they come, which are a usage scope where the step has one
+abbrev pub uses_in : Doing → List UseRow
+uses_in doing = map use_of doing.1
+
+-- The same as it is printed: it uses each part by the union of what its touches use it as, one row for the parts that are used
+-- alike. Where a touch has no cell its part is used and nothing is accessed.
+unfoldable pub deed_of : Doing → Deed
+deed_of doing =
+    record {
+      name = doing.0;
+      uses = sets (uses_in doing);
+      accesses = printed_accesses (filter has_cells (map access_of doing.1));
+    }
+
+-- the step at a place
+abbrev pub placed : StepPlace → Deed → Step
+placed place deed = record { place = place; name = deed.name; uses = deed.uses; accesses = deed.accesses }
+
+abbrev pub step_of : StepPlace → Doing → Step
+step_of place doing = placed place (deed_of doing)
+
+abbrev pub touching : StepPlace → StepName → List Touch → Step
+touching place name touches = step_of place (name, touches)
+
+-- copies read the cells that they copy from, and write those that they copy to
+abbrev pub read_cells : Cells → Touch
+read_cells cells = (cells, (copy_src_usage, Read))
+
+abbrev pub written_cells : Kind → Cells → Touch
+written_cells kind cells = (cells, (copy_dst_usage, kind))
+
+-- the bytes from an offset on
+abbrev pub bytes_at : ℕ → ℕ → ℕ → Cells
+bytes_at object offset size = Bytes object offset (offset + size)
+
+-- The subresources that a copy is to are written where it covers all of each, and else read and written, since what it
+-- leaves stays.
+abbrev pub target_kind : TextureInfo → TextureSpot → List ℕ → Kind
+target_kind info spot size = if covers_all info spot size then Write else Both
+
+abbrev pub copied_to : ℕ → TextureInfo → TextureSpot → List ℕ → List Touch
+copied_to object info spot size = map (written_cells (target_kind info spot size)) (copied_cells object info spot size)
+
+abbrev pub copied_from : ℕ → TextureInfo → TextureSpot → List ℕ → List Touch
+copied_from object info spot size = map read_cells (copied_cells object info spot size)
+
+-- the range that a copy takes of a buffer: its offset and the bytes that its layout requires
+abbrev pub layout_bytes : DataLayout → Option ℕ → List ℕ → ℕ
+layout_bytes layout bytes size = unwrap_or (required layout (bytes_in bytes) size) 0
+
+-- Bytes between rows or images stay as they are: then a range is read and written, and else it is written.
+abbrev pub range_kind : ℕ → ℕ → List ℕ → Kind
+range_kind taken bytes size = if nat_lt (width size * height size * depth size * bytes) taken then Both else Write
+
+-- What writeBuffer and clearBuffer touch: the range is written.
+abbrev pub range_touches : ℕ → ℕ → ℕ → List Touch
+range_touches object offset size = written_cells Write (bytes_at object offset size) ∷ []
+
+-- What copyBufferToBuffer touches: the range of the source is read, that of the target is written.
+abbrev pub buffer_to_buffer_touches : ℕ → ℕ → ℕ → ℕ → ℕ → List Touch
+buffer_to_buffer_touches source source_offset target target_offset size = read_cells (bytes_at source source_offset size) ∷ range_touches target target_offset size
+
+-- What copyBufferToTexture touches: the range is read, and the subresources are copied to.
+abbrev pub buffer_to_texture_touches : ℕ → DataLayout → ℕ → TextureInfo → TextureSpot → List ℕ → List Touch
+buffer_to_texture_touches buffer layout texture info spot size =
+    read_cells (bytes_at buffer layout.offset (layout_bytes layout (texel_to spot.aspect info.format) size)) ∷ copied_to texture info spot size
+
+-- What copyTextureToBuffer touches: the range is copied to, and the subresources are read.
+abbrev pub range_copied_to : ℕ → DataLayout → Option ℕ → List ℕ → Touch
+range_copied_to buffer layout bytes size = written_cells (range_kind (layout_bytes layout bytes size) (bytes_in bytes) size) (bytes_at buffer layout.offset (layout_bytes layout bytes size))
+
+abbrev pub texture_to_buffer_touches : ℕ → DataLayout → ℕ → TextureInfo → TextureSpot → List ℕ → List Touch
+texture_to_buffer_touches buffer layout texture info spot size = range_copied_to buffer layout (texel_from spot.aspect info.format) size ∷ copied_from texture info spot size
+
+-- What copyTextureToTexture touches: the subresources of the source are read, those of the target are copied to.
+abbrev pub texture_to_texture_touches : ℕ → TextureInfo → TextureSpot → ℕ → TextureInfo → TextureSpot → List ℕ → List Touch
+texture_to_texture_touches source from_info from target to_info to size = copied_from source from_info from size ++ copied_to target to_info to size
+
+abbrev pub unless : Bool → Doing → Option Doing
+unless nothing doing = if nothing then None else Some doing
+
+-- what a command on an encoder does, if it makes a step; a copy or clear of size 0 makes none
+unfoldable pub encoder_does : Command → Option Doing
+encoder_does BeginComputePass = None
+encoder_does (CopyBufferToBuffer source source_offset target target_offset size) = unless (size == 0) (name.CopyBufferToBuffer, buffer_to_buffer_touches source.reference.number source_offset target.reference.number target_offset size)
+encoder_does (CopyBufferToTexture buffer layout texture spot size) = unless (has_no_texel size) (name.CopyBufferToTexture, buffer_to_texture_touches buffer.reference.number layout texture.reference.number (texture_of texture) spot size)
+encoder_does (CopyTextureToBuffer buffer layout texture spot size) = unless (has_no_texel size) (name.CopyTextureToBuffer, texture_to_buffer_touches buffer.reference.number layout texture.reference.number (texture_of texture) spot size)
+encoder_does (CopyTextureToTexture source source_mip source_origin target target_mip target_origin size) = unless (has_no_texel size) (name.CopyTextureToTexture, texture_to_texture_touches source.reference.number (texture_of source) (whole_spot source_mip source_origin) target.reference.number (texture_of target) (whole_spot target_mip target_origin) size)
+encoder_does (ClearBuffer buffer offset size) = unless (size_or_rest buffer offset size == 0) (name.ClearBuffer, range_touches buffer.reference.number offset (size_or_rest buffer offset size))
+encoder_does PushDebugGroup = None
+encoder_does PopDebugGroup = None
+encoder_does End = None
+encoder_does (SetPipeline pipeline) = None
+encoder_does (SetBindGroup index group offsets) = None
+encoder_does (Dispatch x y z) = None
+encoder_does (DispatchIndirect buffer offset) = None

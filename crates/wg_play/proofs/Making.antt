@@ -1,0 +1,369 @@
+-- What calls make: how many objects there are after a call, and what stands at the new slot.
+use Rattle.std.proofs.Common.{◌≡◌, ℕ, ◌+◌, nat_lt, Bool, true, false, Option, Some, None, List, [], ◌∷◌, ◌++◌, length, refl, sym, ap, subst, ◌∙◌, ◌⊎◌, inl, inr, arith, if◌then◌else◌}
+use Rattle.std.specs.Prelude.{option_map, slice_get}
+use Rattle.std.specs.Option.{option_map_or, option_to_list}
+use Rattle.std.proofs.lemmas.Bool.Decides.{nat_tests}
+use Rattle.std.proofs.lemmas.List.{length-append}
+use Rattle.wg_types.specs.Handles.{HandleValue}
+use Rattle.wg_types.specs.declared.wanted.Kind.{Kind}
+use Rattle.wg_types.specs.declared.wanted.Kind.TheVariants as kind
+use Rattle.wg_types.specs.declared.wanted.Wanted.{Wanted}
+use Rattle.wg_types.specs.declared.wanted.Wanted.TheVariants as wanted
+use Rattle.wg_types.specs.Wanted.{admits}
+use Rattle.wg_types.specs.declared.commands.On.TheVariants.{Encoder}
+use Rattle.wg_types.specs.declared.commands.Bracket.{Bracket}
+use Rattle.wg_types.specs.declared.commands.Bracket.TheVariants as brackets
+use Rattle.wg_types.specs.declared.commands.CommandOf.{CommandOf}
+use Rattle.wg_types.specs.declared.commands.CommandOf.TheVariants.{BeginComputePass, CopyBufferToBuffer, CopyBufferToTexture, CopyTextureToBuffer, CopyTextureToTexture, ClearBuffer, PushDebugGroup, PopDebugGroup, End, SetPipeline, SetBindGroup, Dispatch, DispatchIndirect}
+use Rattle.wg_types.specs.Commands.{Command, map_refs, bracket, place_wanted, kind_begun_by, kind_begun, begins_pass_by, is_begin}
+use Rattle.wg_types.specs.Requests.{kind_made}
+use Rattle.wg_types.specs.declared.requests.RequestOf.{RequestOf}
+use Rattle.wg_types.specs.declared.requests.RequestOf.TheVariants.{CreateBuffer, CreateTexture, CreateView, CreateSampler, CreateBindGroupLayout, CreatePipelineLayout, CreateBindGroup, CreateComputePipeline, CreateEncoder, Finish, Submit, WriteBuffer, WriteTexture, Destroy, Drop, Complete, PushErrorScope, PopErrorScope, Lose, WorkDone, MapAsync, Unmap}
+use Rattle.wg_encoder.specs.Recorders.{RecorderValue, has_taken}
+use Rattle.wg_history.specs.declared.events.Setup.{Setup}
+use Rattle.wg_script.specs.CallOf.{BoundCall}
+use Rattle.wg_script.specs.declared.calls.CallOf.TheVariants.{Record, Ask}
+use Rattle.wg_names.specs.Uses.{made_as, made_of}
+use Rattle.wg_names.specs.Bound.{made_by}
+use Rattle.wg_play.specs.declared.objects.Object.{Object}
+use Rattle.wg_play.specs.declared.objects.Object.TheVariants as object
+use Rattle.wg_play.specs.declared.objects.Stand.{Stand}
+use Rattle.wg_play.specs.Objects.{handle_at, recorder_at, stand_at, with_recorder, recorded_by, recorded_on, passes_at, begun_by, taken_on, ended_by}
+use Rattle.wg_play.specs.Play.{Played, played, request_played}
+use Rattle.wg_play.proofs.Slots.{own_recorder, length_with, at_new, recorder_new, recorder_append, stand_encoder}
+use Rattle.wg_play.proofs.Lateness.{recorded_objects, taken_length}
+
+-- ---- the command that begins a pass
+
+bracket_mapped : {R S : Type 0} (f : R → S) (command : CommandOf R) → bracket (map_refs f command) ≡ bracket command
+bracket_mapped f BeginComputePass = refl
+bracket_mapped f (CopyBufferToBuffer source source_offset target target_offset size) = refl
+bracket_mapped f (CopyBufferToTexture buffer layout texture spot size) = refl
+bracket_mapped f (CopyTextureToBuffer buffer layout texture spot size) = refl
+bracket_mapped f (CopyTextureToTexture source source_mip source_origin target target_mip target_origin size) = refl
+bracket_mapped f (ClearBuffer buffer offset size) = refl
+bracket_mapped f PushDebugGroup = refl
+bracket_mapped f PopDebugGroup = refl
+bracket_mapped f End = refl
+bracket_mapped f (SetPipeline pipeline) = refl
+bracket_mapped f (SetBindGroup index group offsets) = refl
+bracket_mapped f (Dispatch x y z) = refl
+bracket_mapped f (DispatchIndirect buffer offset) = refl
+
+-- it stands on an encoder
+pub place_of_begin : {R : Type 0} (command : CommandOf R) → kind_begun command ≡ Some kind.ComputePass → place_wanted command ≡ wanted.Encoder
+place_of_begin BeginComputePass e = refl
+place_of_begin (CopyBufferToBuffer source source_offset target target_offset size) e = refl
+place_of_begin (CopyBufferToTexture buffer layout texture spot size) e = refl
+place_of_begin (CopyTextureToBuffer buffer layout texture spot size) e = refl
+place_of_begin (CopyTextureToTexture source source_mip source_origin target target_mip target_origin size) e = refl
+place_of_begin (ClearBuffer buffer offset size) e = refl
+place_of_begin PushDebugGroup e = absurd (cc)
+place_of_begin PopDebugGroup e = absurd (cc)
+place_of_begin End e = absurd (cc)
+place_of_begin (SetPipeline pipeline) e = absurd (cc)
+place_of_begin (SetBindGroup index group offsets) e = absurd (cc)
+place_of_begin (Dispatch x y z) e = absurd (cc)
+place_of_begin (DispatchIndirect buffer offset) e = absurd (cc)
+
+begins_by : (b : Bracket) → kind_begun_by b ≡ Some kind.ComputePass → begins_pass_by b ≡ true
+begins_by brackets.BeginComputePass e = refl
+begins_by brackets.EndPass e = absurd (cc)
+begins_by brackets.PushGroup e = absurd (cc)
+begins_by brackets.PopGroup e = absurd (cc)
+begins_by brackets.Neither e = absurd (cc)
+
+-- a command stands on an encoder or a compute pass
+abbrev is_place : Wanted → Bool
+is_place wanted.Encoder = true
+is_place wanted.ComputePass = true
+is_place wanted.Pass = true
+is_place wanted.Recording = true
+is_place _ = false
+
+place_is : {R : Type 0} (command : CommandOf R) → is_place (place_wanted command) ≡ true
+place_is BeginComputePass = refl
+place_is (CopyBufferToBuffer source source_offset target target_offset size) = refl
+place_is (CopyBufferToTexture buffer layout texture spot size) = refl
+place_is (CopyTextureToBuffer buffer layout texture spot size) = refl
+place_is (CopyTextureToTexture source source_mip source_origin target target_mip target_origin size) = refl
+place_is (ClearBuffer buffer offset size) = refl
+place_is PushDebugGroup = refl
+place_is PopDebugGroup = refl
+place_is End = refl
+place_is (SetPipeline pipeline) = refl
+place_is (SetBindGroup index group offsets) = refl
+place_is (Dispatch x y z) = refl
+place_is (DispatchIndirect buffer offset) = refl
+
+-- ---- how many objects there are
+
+request_length : (setup : Setup) (state : Played) (request : RequestOf ℕ) (slot : ℕ) → length (request_played setup state request (Some slot)).objects ≡ length state.objects + length (option_to_list (made_as (Some slot) (kind_made request)))
+request_length setup state (CreateBuffer known) slot = length-append state.objects _
+request_length setup state (CreateTexture known) slot = length-append state.objects _
+request_length setup state (CreateView texture asked) slot = length-append state.objects _
+request_length setup state (CreateSampler known) slot = length-append state.objects _
+request_length setup state (CreateBindGroupLayout known) slot = length-append state.objects _
+request_length setup state (CreatePipelineLayout layouts) slot = length-append state.objects _
+request_length setup state (CreateBindGroup layout entries) slot = length-append state.objects _
+request_length setup state (CreateComputePipeline layout iface) slot = length-append state.objects _
+request_length setup state CreateEncoder slot = length-append state.objects _
+request_length setup state (Finish encoder) slot = length-append (taken_on state.objects encoder) _ ∙ ap (λ n. n + 1) (taken_length state.objects (Some encoder))
+request_length setup state (Submit buffers) slot = omega arith
+request_length setup state (WriteBuffer buffer offset size) slot = omega arith
+request_length setup state (WriteTexture texture spot layout size data_size) slot = omega arith
+request_length setup state (Destroy object) slot = omega arith
+request_length setup state (Drop object) slot = omega arith
+request_length setup state (Complete op) slot = omega arith
+request_length setup state (PushErrorScope filter) slot = omega arith
+request_length setup state PopErrorScope slot = omega arith
+request_length setup state Lose slot = omega arith
+request_length setup state WorkDone slot = omega arith
+request_length setup state (MapAsync buffer mode offset size) slot = omega arith
+request_length setup state (Unmap buffer) slot = omega arith
+
+begun_length : (objects : List Object) (encoder : ℕ) (command : Command) (made : Option ℕ) (found : Option Kind) → kind_begun command ≡ found → length (begun_by objects encoder command made) ≡ length (option_to_list (made_as made found))
+begun_length objects encoder command None found e = refl
+begun_length objects encoder command (Some slot) None e = rw e refl
+begun_length objects encoder command (Some slot) (Some k) e = rw e refl
+
+begun_mapped : (f : ℕ → HandleValue) (command : CommandOf ℕ) → kind_begun (map_refs f command) ≡ kind_begun command
+begun_mapped f command = ap kind_begun_by (bracket_mapped f command)
+
+pub call_length : (setup : Setup) (state : Played) (call : BoundCall) → length (played setup state call).objects ≡ length state.objects + length (made_by call)
+call_length setup state (Record on command made) =
+    let stand : Stand = stand_at state.objects on in
+    let found : Command = map_refs (handle_at state.objects) command in
+    let one : length (played setup state (Record on command made)).objects ≡ length (recorded_on state.objects stand found) + length (begun_by state.objects stand.encoder found made)
+    = ap length (recorded_objects setup state stand found made) ∙ length-append (recorded_on state.objects stand found) (begun_by state.objects stand.encoder found made) in
+    let same : length (recorded_on state.objects stand found) ≡ length state.objects = length_with (recorded_by stand.on found) state.objects stand.encoder in
+    let more : length (begun_by state.objects stand.encoder found made) ≡ length (made_by (Record on command made))
+    = begun_length state.objects stand.encoder found made (kind_begun command) (begun_mapped (handle_at state.objects) command) in
+    one ∙ omega (arith, same, more)
+call_length setup state (Ask request None) = taken_length state.objects (ended_by request) ∙ omega arith
+call_length setup state (Ask request (Some slot)) = request_length setup state request slot
+
+-- ---- the encoder that a call makes
+
+-- it has not ended
+pub record Fresh (objects : List Object) (slot : ℕ) : Type 0 where
+  pub recorder : RecorderValue
+  pub is : recorder_at objects slot ≡ Some recorder
+  pub unended : has_taken recorder ≡ false
+
+encoder_new : (setup : Setup) (state : Played) (request : RequestOf ℕ) (slot : ℕ) → kind_made request ≡ Some kind.Encoder → Fresh (request_played setup state request (Some slot)).objects (length state.objects)
+encoder_new setup state CreateEncoder slot e = record { recorder = _; is = recorder_new state.objects _; unended = refl }
+encoder_new setup state (CreateBuffer known) slot e = absurd (cc)
+encoder_new setup state (CreateTexture known) slot e = absurd (cc)
+encoder_new setup state (CreateView texture asked) slot e = absurd (cc)
+encoder_new setup state (CreateSampler known) slot e = absurd (cc)
+encoder_new setup state (CreateBindGroupLayout known) slot e = absurd (cc)
+encoder_new setup state (CreatePipelineLayout layouts) slot e = absurd (cc)
+encoder_new setup state (CreateBindGroup layout entries) slot e = absurd (cc)
+encoder_new setup state (CreateComputePipeline layout iface) slot e = absurd (cc)
+encoder_new setup state (Finish encoder) slot e = absurd (cc)
+encoder_new setup state (Submit buffers) slot e = absurd (cc)
+encoder_new setup state (WriteBuffer buffer offset size) slot e = absurd (cc)
+encoder_new setup state (WriteTexture texture spot layout size data_size) slot e = absurd (cc)
+encoder_new setup state (Destroy object) slot e = absurd (cc)
+encoder_new setup state (Drop object) slot e = absurd (cc)
+encoder_new setup state (Complete op) slot e = absurd (cc)
+encoder_new setup state (PushErrorScope filter) slot e = absurd (cc)
+encoder_new setup state PopErrorScope slot e = absurd (cc)
+encoder_new setup state Lose slot e = absurd (cc)
+encoder_new setup state WorkDone slot e = absurd (cc)
+encoder_new setup state (MapAsync buffer mode offset size) slot e = absurd (cc)
+encoder_new setup state (Unmap buffer) slot e = absurd (cc)
+
+same_kind : (slot on : ℕ) (found : Option Kind) (k : Kind) → made_as (Some slot) found ≡ Some (on, k) → found ≡ Some k
+same_kind slot on None k e = absurd (cc)
+same_kind slot on (Some x) k e = let same : (slot, x) ≡ (on, k) = cc in ap (λ (m : ℕ × Kind). Some m.1) same
+
+no_encoder : (b : Bracket) (slot on : ℕ) → made_as (Some slot) (kind_begun_by b) ≡ Some (on, kind.Encoder) → ⊥
+no_encoder brackets.BeginComputePass slot on e = let same : Some kind.ComputePass ≡ Some kind.Encoder = same_kind slot on (Some kind.ComputePass) kind.Encoder e in cc
+no_encoder brackets.EndPass slot on e = cc
+no_encoder brackets.PushGroup slot on e = cc
+no_encoder brackets.PopGroup slot on e = cc
+no_encoder brackets.Neither slot on e = cc
+
+pub encoder_made : (setup : Setup) (state : Played) (call : BoundCall) (on : ℕ) → made_of call ≡ Some (on, kind.Encoder) → Fresh (played setup state call).objects (length state.objects)
+encoder_made setup state (Record stand command None) on e = absurd (cc)
+encoder_made setup state (Record stand command (Some slot)) on e = absurd (no_encoder (bracket command) slot on e)
+encoder_made setup state (Ask request None) on e = absurd (cc)
+encoder_made setup state (Ask request (Some slot)) on e = encoder_new setup state request slot (same_kind slot on (kind_made request) kind.Encoder e)
+
+-- ---- the pass that a call makes
+
+no_pass : (request : RequestOf ℕ) → kind_made request ≡ Some kind.ComputePass → ⊥
+no_pass (CreateBuffer known) e = cc
+no_pass (CreateTexture known) e = cc
+no_pass (CreateView texture asked) e = cc
+no_pass (CreateSampler known) e = cc
+no_pass (CreateBindGroupLayout known) e = cc
+no_pass (CreatePipelineLayout layouts) e = cc
+no_pass (CreateBindGroup layout entries) e = cc
+no_pass (CreateComputePipeline layout iface) e = cc
+no_pass CreateEncoder e = cc
+no_pass (Finish encoder) e = cc
+no_pass (Submit buffers) e = cc
+no_pass (WriteBuffer buffer offset size) e = cc
+no_pass (WriteTexture texture spot layout size data_size) e = cc
+no_pass (Destroy object) e = cc
+no_pass (Drop object) e = cc
+no_pass (Complete op) e = cc
+no_pass (PushErrorScope filter) e = cc
+no_pass PopErrorScope e = cc
+no_pass Lose e = cc
+no_pass WorkDone e = cc
+no_pass (MapAsync buffer mode offset size) e = cc
+no_pass (Unmap buffer) e = cc
+
+-- The call that makes a pass begins one.
+pub record Begins (call : BoundCall) : Type 0 where
+  pub on : ℕ
+  pub command : CommandOf ℕ
+  pub slot : ℕ
+  pub is : call ≡ Record on command (Some slot)
+  pub kind_is : kind_begun command ≡ Some kind.ComputePass
+
+pub pass_made : (call : BoundCall) (at : ℕ) → made_of call ≡ Some (at, kind.ComputePass) → Begins call
+pass_made (Record on command None) at e = absurd (cc)
+pass_made (Record on command (Some slot)) at e = record { on = on; command = command; slot = slot; is = refl; kind_is = same_kind slot at (kind_begun command) kind.ComputePass e }
+pass_made (Ask request None) at e = absurd (cc)
+pass_made (Ask request (Some slot)) at e = absurd (no_pass request (same_kind slot at (kind_made request) kind.ComputePass e))
+
+-- A pass that was begun, and its encoder's recorder.
+pub record Begun (objects : List Object) (slot on : ℕ) (old : RecorderValue) : Type 0 where
+  pub is : slice_get objects slot ≡ Some (object.Pass on old.passes)
+  pub recorder : RecorderValue
+  pub recorder_is : recorder_at objects on ≡ Some recorder
+  pub taken : has_taken recorder ≡ has_taken old
+  pub begun : nat_lt old.passes recorder.passes ≡ true
+
+begun_is : (objects : List Object) (on slot : ℕ) (command : Command) (r : RecorderValue) → recorder_at objects on ≡ Some r → kind_begun command ≡ Some kind.ComputePass
+    → begun_by objects on command (Some slot) ≡ object.Pass on r.passes ∷ []
+begun_is objects on slot command r e k =
+    ap (λ (found : Option Kind). option_map_or (λ (x : Kind). object.Pass on (passes_at objects on) ∷ []) found []) k
+    ∙ ap (λ (found : Option RecorderValue). object.Pass on (option_map_or (λ (recorder : RecorderValue). recorder.passes) found 0) ∷ []) e
+
+next : (n : ℕ) (b : Bool) → b ≡ true → nat_lt n (if b then n + 1 else n) ≡ true
+next n true e = grind (arith, nat_tests)
+next n false e = absurd (cc)
+
+begun_at : (objects : List Object) (on : ℕ) (command : Command) (r : RecorderValue) → recorder_at objects on ≡ Some r → kind_begun command ≡ Some kind.ComputePass
+    → Begun (with_recorder objects on (recorded_by Encoder command) ++ object.Pass on r.passes ∷ []) (length objects) on r
+begun_at objects on command r e k =
+    let kept : List Object = with_recorder objects on (recorded_by Encoder command) in
+    let count : length kept ≡ length objects = length_with (recorded_by Encoder command) objects on in
+    record {
+      is = subst (λ n. slice_get (kept ++ object.Pass on r.passes ∷ []) n ≡ Some (object.Pass on r.passes)) count (at_new kept (object.Pass on r.passes));
+      recorder = recorded_by Encoder command r;
+      recorder_is = recorder_append kept (object.Pass on r.passes ∷ []) on (recorded_by Encoder command r) (own_recorder (recorded_by Encoder command) objects on ∙ ap (option_map (recorded_by Encoder command)) e);
+      taken = refl;
+      begun = next r.passes (is_begin command) (begins_by (bracket command) k);
+    }
+
+pub pass_begun : (setup : Setup) (state : Played) (on slot : ℕ) (command : CommandOf ℕ) (r : RecorderValue) → recorder_at state.objects on ≡ Some r → kind_begun command ≡ Some kind.ComputePass
+    → Begun (played setup state (Record on command (Some slot))).objects (length state.objects) on r
+pass_begun setup state on slot command r e k =
+    let found : Command = map_refs (handle_at state.objects) command in
+    let begins : kind_begun found ≡ Some kind.ComputePass = begun_mapped (handle_at state.objects) command ∙ k in
+    let whole : (played setup state (Record on command (Some slot))).objects ≡ with_recorder state.objects on (recorded_by Encoder found) ++ object.Pass on r.passes ∷ []
+    = recorded_objects setup state (stand_at state.objects on) found (Some slot)
+    ∙ (ap (λ (stand : Stand). recorded_on state.objects stand found ++ begun_by state.objects stand.encoder found (Some slot)) (stand_encoder state.objects on r e)
+    ∙ ap (λ (pass : List Object). with_recorder state.objects on (recorded_by Encoder found) ++ pass) (begun_is state.objects on slot found r e begins)) in
+    subst (λ objects. Begun objects (length state.objects) on r) (sym whole) (begun_at state.objects on found r e begins)
+
+-- ---- where a command stands
+
+pub is_encoder : (k : Kind) → admits wanted.Encoder k ≡ true → k ≡ kind.Encoder
+is_encoder kind.Buffer e = absurd (cc)
+is_encoder kind.Texture e = absurd (cc)
+is_encoder kind.View e = absurd (cc)
+is_encoder kind.Sampler e = absurd (cc)
+is_encoder kind.GroupLayout e = absurd (cc)
+is_encoder kind.PipelineLayout e = absurd (cc)
+is_encoder kind.Group e = absurd (cc)
+is_encoder kind.Compute e = absurd (cc)
+is_encoder kind.Encoder e = refl
+is_encoder kind.CommandBuffer e = absurd (cc)
+is_encoder kind.ComputePass e = absurd (cc)
+
+-- what a command may stand on
+abbrev takes_commands : Kind → Bool
+takes_commands kind.Encoder = true
+takes_commands kind.ComputePass = true
+takes_commands _ = false
+
+admitted : (w : Wanted) (k : Kind) → is_place w ≡ true → admits w k ≡ true → takes_commands k ≡ true
+admitted wanted.Buffer k p e = absurd (cc)
+admitted wanted.Texture k p e = absurd (cc)
+admitted wanted.View k p e = absurd (cc)
+admitted wanted.Sampler k p e = absurd (cc)
+admitted wanted.GroupLayout k p e = absurd (cc)
+admitted wanted.PipelineLayout k p e = absurd (cc)
+admitted wanted.Group k p e = absurd (cc)
+admitted wanted.Pipeline k p e = absurd (cc)
+admitted wanted.Destroyable k p e = absurd (cc)
+admitted wanted.Encoder kind.Buffer p e = absurd (cc)
+admitted wanted.Encoder kind.Texture p e = absurd (cc)
+admitted wanted.Encoder kind.View p e = absurd (cc)
+admitted wanted.Encoder kind.Sampler p e = absurd (cc)
+admitted wanted.Encoder kind.GroupLayout p e = absurd (cc)
+admitted wanted.Encoder kind.PipelineLayout p e = absurd (cc)
+admitted wanted.Encoder kind.Group p e = absurd (cc)
+admitted wanted.Encoder kind.Compute p e = absurd (cc)
+admitted wanted.Encoder kind.Encoder p e = refl
+admitted wanted.Encoder kind.CommandBuffer p e = absurd (cc)
+admitted wanted.Encoder kind.ComputePass p e = absurd (cc)
+admitted wanted.CommandBuffer k p e = absurd (cc)
+admitted wanted.ComputePass kind.Buffer p e = absurd (cc)
+admitted wanted.ComputePass kind.Texture p e = absurd (cc)
+admitted wanted.ComputePass kind.View p e = absurd (cc)
+admitted wanted.ComputePass kind.Sampler p e = absurd (cc)
+admitted wanted.ComputePass kind.GroupLayout p e = absurd (cc)
+admitted wanted.ComputePass kind.PipelineLayout p e = absurd (cc)
+admitted wanted.ComputePass kind.Group p e = absurd (cc)
+admitted wanted.ComputePass kind.Compute p e = absurd (cc)
+admitted wanted.ComputePass kind.Encoder p e = absurd (cc)
+admitted wanted.ComputePass kind.CommandBuffer p e = absurd (cc)
+admitted wanted.ComputePass kind.ComputePass p e = refl
+admitted wanted.Pass kind.Buffer p e = absurd (cc)
+admitted wanted.Pass kind.Texture p e = absurd (cc)
+admitted wanted.Pass kind.View p e = absurd (cc)
+admitted wanted.Pass kind.Sampler p e = absurd (cc)
+admitted wanted.Pass kind.GroupLayout p e = absurd (cc)
+admitted wanted.Pass kind.PipelineLayout p e = absurd (cc)
+admitted wanted.Pass kind.Group p e = absurd (cc)
+admitted wanted.Pass kind.Compute p e = absurd (cc)
+admitted wanted.Pass kind.Encoder p e = absurd (cc)
+admitted wanted.Pass kind.CommandBuffer p e = absurd (cc)
+admitted wanted.Pass kind.ComputePass p e = refl
+admitted wanted.Recording kind.Buffer p e = absurd (cc)
+admitted wanted.Recording kind.Texture p e = absurd (cc)
+admitted wanted.Recording kind.View p e = absurd (cc)
+admitted wanted.Recording kind.Sampler p e = absurd (cc)
+admitted wanted.Recording kind.GroupLayout p e = absurd (cc)
+admitted wanted.Recording kind.PipelineLayout p e = absurd (cc)
+admitted wanted.Recording kind.Group p e = absurd (cc)
+admitted wanted.Recording kind.Compute p e = absurd (cc)
+admitted wanted.Recording kind.Encoder p e = refl
+admitted wanted.Recording kind.CommandBuffer p e = absurd (cc)
+admitted wanted.Recording kind.ComputePass p e = refl
+admitted wanted.Object k p e = absurd (cc)
+
+encoder_or_pass : (k : Kind) → takes_commands k ≡ true → (k ≡ kind.Encoder) ⊎ (k ≡ kind.ComputePass)
+encoder_or_pass kind.Buffer e = absurd (cc)
+encoder_or_pass kind.Texture e = absurd (cc)
+encoder_or_pass kind.View e = absurd (cc)
+encoder_or_pass kind.Sampler e = absurd (cc)
+encoder_or_pass kind.GroupLayout e = absurd (cc)
+encoder_or_pass kind.PipelineLayout e = absurd (cc)
+encoder_or_pass kind.Group e = absurd (cc)
+encoder_or_pass kind.Compute e = absurd (cc)
+encoder_or_pass kind.Encoder e = inl refl
+encoder_or_pass kind.CommandBuffer e = absurd (cc)
+encoder_or_pass kind.ComputePass e = inr refl
+
+pub stands_on : {R : Type 0} (command : CommandOf R) (k : Kind) → admits (place_wanted command) k ≡ true → (k ≡ kind.Encoder) ⊎ (k ≡ kind.ComputePass)
+stands_on command k e = encoder_or_pass k (admitted (place_wanted command) k (place_is command) e)

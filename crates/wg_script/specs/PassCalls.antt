@@ -1,0 +1,66 @@
+-- The calls on compute passes: for each its keys, and what each holds, in the order in which they are read.
+use Rattle.std.specs.Prelude.{ℕ, codes, Result}
+use Rattle.serde_json.specs.Data.{Data}
+use Rattle.wg_types.specs.declared.commands.CommandOf.TheVariants.{BeginComputePass, End, SetPipeline, SetBindGroup, Dispatch, DispatchIndirect}
+use Rattle.wg_script.specs.Values.{whole, whole_at, whole_or, most_whole, most_short, name_at}
+use Rattle.wg_script.specs.Lists.{list_or_empty}
+use Rattle.wg_script.specs.CallOf.{Call}
+use Rattle.wg_script.specs.Calling.{recording, beginning}
+use Rattle.wg_script.specs.Readers.{Reader, gives, need, may, ◌▹◌, read_by}
+
+-- beginComputePass: the name that it makes is that of the pass
+abbrev pub begin_compute_pass_keys : Reader Call
+begin_compute_pass_keys = gives (λ on made. beginning on BeginComputePass made)
+    ▹ need (codes "on") name_at
+    ▹ need (codes "as") name_at
+
+unfoldable pub begin_compute_pass_of : Data → Result Call ℕ
+begin_compute_pass_of d = read_by begin_compute_pass_keys d
+
+-- end
+abbrev pub end_keys : Reader Call
+end_keys = gives (λ on. recording on End) ▹ need (codes "on") name_at
+
+unfoldable pub end_of : Data → Result Call ℕ
+end_of d = read_by end_keys d
+
+-- setPipeline
+abbrev pub set_pipeline_keys : Reader Call
+set_pipeline_keys = gives (λ on pipeline. recording on (SetPipeline pipeline))
+    ▹ need (codes "on") name_at
+    ▹ need (codes "pipeline") name_at
+
+unfoldable pub set_pipeline_of : Data → Result Call ℕ
+set_pipeline_of d = read_by set_pipeline_keys d
+
+-- setBindGroup: no dynamic offsets where the key is left out
+abbrev pub set_bind_group_keys : Reader Call
+set_bind_group_keys = gives (λ on index group offsets. recording on (SetBindGroup index group offsets))
+    ▹ need (codes "on") name_at
+    ▹ need (codes "index") (whole_at most_short)
+    ▹ need (codes "group") name_at
+    ▹ may (codes "offsets") (list_or_empty (whole most_short))
+
+unfoldable pub set_bind_group_of : Data → Result Call ℕ
+set_bind_group_of d = read_by set_bind_group_keys d
+
+-- dispatch
+abbrev pub dispatch_keys : Reader Call
+dispatch_keys = gives (λ on x y z. recording on (Dispatch x y z))
+    ▹ need (codes "on") name_at
+    ▹ need (codes "x") (whole_at most_short)
+    ▹ may (codes "y") (whole_or most_short 1)
+    ▹ may (codes "z") (whole_or most_short 1)
+
+unfoldable pub dispatch_of : Data → Result Call ℕ
+dispatch_of d = read_by dispatch_keys d
+
+-- dispatchIndirect
+abbrev pub dispatch_indirect_keys : Reader Call
+dispatch_indirect_keys = gives (λ on buffer offset. recording on (DispatchIndirect buffer offset))
+    ▹ need (codes "on") name_at
+    ▹ need (codes "buffer") name_at
+    ▹ need (codes "offset") (whole_at most_whole)
+
+unfoldable pub dispatch_indirect_of : Data → Result Call ℕ
+dispatch_indirect_of d = read_by dispatch_indirect_keys d

@@ -1,0 +1,86 @@
+//! Reads the calls on compute passes: a function for each, with its keys.
+ghost use Rattle.std.specs.Prelude.{◌≡◌};
+ghost use Rattle.serde_json.specs.View.{view};
+ghost use Rattle.wg_script.specs.Giving.{Gives};
+ghost use Rattle.wg_script.specs.PassCalls.{begin_compute_pass_of, end_of, set_pipeline_of, set_bind_group_of, dispatch_of, dispatch_indirect_of};
+
+use crate::calling::{beginning, recording};
+use crate::calls::Call;
+use crate::lists::list_or_empty;
+use crate::values::{
+    MOST_WHOLE, Refusal, check_keys, name_at, reading, short_at, short_or, whole_at,
+};
+use serde_json::Value;
+use std::alloc::Global;
+use wg_types::commands::CommandOf;
+use wg_types::shared::Shared;
+
+/// Reads `beginComputePass`.
+#[tactic(auto, unfolding(crate::specs::PassCalls::begin_compute_pass_of))]
+pub fn begin_compute_pass(alloc: Global, call: &Value) -> Result<Call, Refusal>
+    ensures { Gives result (begin_compute_pass_of (view call.now)) }
+{
+    reading!(call:
+        need on = name_at(alloc, "on");
+        need made = name_at(alloc, "as");
+        => beginning(on, CommandOf::BeginComputePass, made))
+}
+
+/// Reads `end`.
+#[tactic(auto, unfolding(crate::specs::PassCalls::end_of))]
+pub fn end(alloc: Global, call: &Value) -> Result<Call, Refusal>
+    ensures { Gives result (end_of (view call.now)) }
+{
+    reading!(call:
+        need on = name_at(alloc, "on");
+        => recording(on, CommandOf::End))
+}
+
+/// Reads `setPipeline`.
+#[tactic(auto, unfolding(crate::specs::PassCalls::set_pipeline_of))]
+pub fn set_pipeline(alloc: Global, call: &Value) -> Result<Call, Refusal>
+    ensures { Gives result (set_pipeline_of (view call.now)) }
+{
+    reading!(call:
+        need on = name_at(alloc, "on");
+        need pipeline = name_at(alloc, "pipeline");
+        => recording(on, CommandOf::SetPipeline { pipeline }))
+}
+
+/// Reads `setBindGroup`.
+#[tactic(auto, unfolding(crate::specs::PassCalls::set_bind_group_of))]
+pub fn set_bind_group(alloc: Global, call: &Value) -> Result<Call, Refusal>
+    ensures { Gives result (set_bind_group_of (view call.now)) }
+{
+    reading!(call:
+        need on = name_at(alloc, "on");
+        need index = short_at("index");
+        need group = name_at(alloc, "group");
+        may offsets = list_or_empty(alloc, "offsets");
+        => recording(on, CommandOf::SetBindGroup { index, group, offsets: Shared::new(alloc, offsets)? }))
+}
+
+/// Reads `dispatch`.
+#[tactic(auto, unfolding(crate::specs::PassCalls::dispatch_of))]
+pub fn dispatch(alloc: Global, call: &Value) -> Result<Call, Refusal>
+    ensures { Gives result (dispatch_of (view call.now)) }
+{
+    reading!(call:
+        need on = name_at(alloc, "on");
+        need x = short_at("x");
+        may y = short_or("y", 1);
+        may z = short_or("z", 1);
+        => recording(on, CommandOf::Dispatch { x, y, z }))
+}
+
+/// Reads `dispatchIndirect`.
+#[tactic(auto, unfolding(crate::specs::PassCalls::dispatch_indirect_of))]
+pub fn dispatch_indirect(alloc: Global, call: &Value) -> Result<Call, Refusal>
+    ensures { Gives result (dispatch_indirect_of (view call.now)) }
+{
+    reading!(call:
+        need on = name_at(alloc, "on");
+        need buffer = name_at(alloc, "buffer");
+        need offset = whole_at("offset", MOST_WHOLE);
+        => recording(on, CommandOf::DispatchIndirect { buffer, offset }))
+}
