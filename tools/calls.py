@@ -42,6 +42,8 @@ class Key:
             return f"the name of {either(self.kinds())}"
         if self.sort == "names":
             return f"a list of at most 1024 names, each of {either(self.kinds())}"
+        if self.sort == "numbers":
+            return f"a list of at most 1024 whole numbers from 0 to {2 ** int(self.detail) - 1}"
         if self.sort == "objects":
             return f"a list of at most 1024 objects, each {OBJECTS[self.detail]['said']}"
         if self.sort == "new":

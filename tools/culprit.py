@@ -9,12 +9,15 @@ Calls that make nothing that the recording names are left out, as long as what i
 import calls
 from report import NotReport, Report
 
-# The rules of a finish itself, in the order of its tests, that are about what is still open.
-OPEN = {182, 183}
+# The rules of a finish itself, in the order of its tests, that are about what is still open: a pass, a debug group.
+PASS, GROUP = 182, 183
+OPEN = {PASS, GROUP}
 # The rule that nothing is used that was dropped: of an encoder that has ended well it is about what its commands name.
 DROPPED = 11
+# The rule that every usage scope is compatible, which is that of one dispatch.
+SCOPE = 184
 # The rules that are the finish's own, and not those of a command.
-OF_FINISH = OPEN | {DROPPED}
+OF_FINISH = OPEN | {DROPPED, SCOPE}
 # The rules of a finish that need no command: on the encoder itself.
 OF_ENCODER = {180}
 
@@ -59,18 +62,19 @@ class Cuts:
 
     def is_as_valid(self):
         """Whether the script of these calls alone makes objects as valid as the whole script does."""
-        status, out = self.program.ask(self.cut(len(self.commands), False).encode("utf-8"))
+        status, out = self.program.ask(self.cut(len(self.commands), []).encode("utf-8"))
         if status != 0:
             return False
         made = [entry.answer[2] for entry in Report(out.decode("utf-8")).entries if entry.object() is not None]
         kept = [self.beside.entry_of[call] for call in self.script.calls if call in self.needed and call in self.beside.entry_of]
         return made == [entry.answer[2] for entry in kept if entry.object() is not None]
 
-    def rule(self, kept, is_closed):
-        """The rule that the finish has with the first `kept` commands alone; with `is_closed`, what they leave open is closed first."""
-        case = (kept, is_closed and bool(self.closers(kept)))
+    def rule(self, kept, closed):
+        """The rule that the finish has with the first `kept` commands alone; of what they leave open that is closed first which `closed` names."""
+        closers = self.closers(kept, closed)
+        case = (kept, *closers)
         if case not in self.asked:
-            status, out = self.program.ask(self.cut(kept, is_closed).encode("utf-8"))
+            status, out = self.program.ask(self.cut(kept, closers).encode("utf-8"))
             self.asked[case] = self.fault(out.decode("utf-8")) if status == 0 else "refused"
         return self.asked[case]
 
@@ -81,8 +85,8 @@ class Cuts:
             return "refused"
         return last.fault[1] if last.fault else None
 
-    def cut(self, kept, is_closed):
-        """The script up to the finish, without the later commands of its encoder."""
+    def cut(self, kept, closers):
+        """The script up to the finish, without late calls and without the later commands of its encoder, in place of which the closers stand."""
         gone = set(self.commands[kept:])
         phase, lane, number = self.finish.place
         phases = []
@@ -91,30 +95,49 @@ class Cuts:
             for place, values in enumerate(lanes.what):
                 own = self.script.lanes[at, place]
                 if at == phase:
-                    own = [call for call in own[: number + 1] if call not in gone] if place == lane else []
-                texts.append([self.script.text.of(call.value) for call in own if self.needed is None or call in self.needed])
+                    own = own[: number + 1] if place == lane else []
+                texts.append([self.script.text.of(call.value) for call in own if self.is_kept(call, gone)])
             phases.append(texts)
-        if is_closed:
-            phases[-1][lane][-1:-1] = self.closers(kept)
+        phases[-1][lane][-1:-1] = closers
         head = [f'"{key.what}":{self.script.text.of(value)}' for key, value in self.script.top.what if key.what != "phases"]
         joined = ",".join("[" + ",".join("[" + ",\n".join(each) + "]" for each in lanes) + "]" for lanes in phases)
         return "{" + ",".join([*head, f'"phases":[{joined}]']) + "}"
 
-    def closers(self, kept):
-        """Calls that close the debug groups and the pass that the first commands leave open."""
-        depth, begun, open_pass = {}, {}, None
-        for call in self.commands[:kept]:
+    def is_kept(self, call, gone):
+        """Whether a call stands in a shorter script. A late call does not: what it is late for may not be there."""
+        return call not in gone and not call.is_late and (self.needed is None or call in self.needed)
+
+    def opened(self, kept):
+        """What the first commands leave open: the pass with the number of its begin, or None; and by encoder and pass the numbers of the
+        commands that opened its debug groups."""
+        open_pass, groups = None, {}
+        for number, call in enumerate(self.commands[:kept], 1):
             on = call.value.member("on").what
             if call.word in calls.BEGINS:
-                begun[call.gives] = True
-                open_pass = open_pass or call.gives
-            elif call.word == calls.END and on == open_pass:
+                open_pass = open_pass or (call.gives, number)
+            elif call.word == calls.END and open_pass and on == open_pass[0]:
                 open_pass = None
-            elif on == open_pass or (on == self.encoder.name and open_pass is None):
-                depth[on] = max(0, depth.get(on, 0) + calls.groups(call.word))
-        closing = [f'{{"do":"popDebugGroup","on":"{open_pass}"}}'] * depth.get(open_pass, 0)
-        closing += [f'{{"do":"{calls.END}","on":"{open_pass}"}}'] * bool(open_pass)
-        return closing + [f'{{"do":"popDebugGroup","on":"{self.encoder.name}"}}'] * depth.get(self.encoder.name, 0)
+            elif on == (open_pass[0] if open_pass else self.encoder.name):
+                opening = groups.setdefault(on, [])
+                if calls.groups(call.word) > 0:
+                    opening.append(number)
+                elif calls.groups(call.word) < 0:
+                    del opening[-1:]
+        return open_pass, groups
+
+    def closers(self, kept, closed):
+        """Calls that close what the first commands leave open: the pass with its debug groups (`pass`), the debug groups of the encoder (`groups`)."""
+        open_pass, groups = self.opened(kept)
+        closing = []
+        if "pass" in closed and open_pass:
+            closing = [self.closer("popDebugGroup", open_pass[0])] * len(groups.get(open_pass[0], []))
+            closing.append(self.closer(calls.END, open_pass[0]))
+        if "groups" in closed:
+            closing += [self.closer("popDebugGroup", self.encoder.name)] * len(groups.get(self.encoder.name, []))
+        return closing
+
+    def closer(self, word, on):
+        return f'{{"do":"{word}","on":"{on}"}}'
 
 
 def find(beside, finish, rule, program):
@@ -123,37 +146,40 @@ def find(beside, finish, rule, program):
     if place is None or place.finish is not finish or not place.commands or rule in OF_ENCODER:
         return None
     cuts = Cuts(beside, finish, program)
-    if cuts.rule(len(cuts.commands), rule not in OPEN) != rule:
+    closed = {PASS: (), GROUP: ("pass",)}.get(rule, ("pass", "groups"))
+    if cuts.rule(len(cuts.commands), closed) != rule:
         return None
-    found = opener(cuts, rule) if rule in OPEN else first(cuts, rule)
+    found = opener(cuts, rule, closed) if rule in OPEN else first(cuts, rule, closed)
     if found is None:
         return None
     return Found(cuts.commands[found - 1], found, len(cuts.commands), len(cuts.asked), said_of(rule))
 
 
-def first(cuts, rule):
+def first(cuts, rule, closed):
     """The least number of commands with which the finish has the rule. Once it has it, more commands do not take it away."""
     low, high = 0, len(cuts.commands)
-    if cuts.rule(0, True) == rule:
+    if cuts.rule(0, closed) == rule:
         return None
     while high - low > 1:
         middle = (low + high) // 2
-        if cuts.rule(middle, True) == rule:
+        if cuts.rule(middle, closed) == rule:
             high = middle
         else:
             low = middle
     return high
 
 
-def opener(cuts, rule):
-    """The last command from which on no shorter recording closes what it opens."""
-    number = len(cuts.commands)
-    while number > 0 and cuts.rule(number - 1, False) == rule:
-        number -= 1
-    return number or None
+def opener(cuts, rule, closed):
+    """The command that opens what is open to the end: with it, and not without it, a recording has the rule."""
+    open_pass, groups = cuts.opened(len(cuts.commands))
+    opening = [open_pass[1]] if rule == PASS and open_pass else groups.get(cuts.encoder.name, []) if rule == GROUP else []
+    is_it = opening and cuts.rule(opening[0], closed) == rule and cuts.rule(opening[0] - 1, closed) != rule
+    return opening[0] if is_it else None
 
 
 def said_of(rule):
     if rule == DROPPED:
         return "names what was dropped before the encoder was made"
+    if rule == SCOPE:
+        return "has the first usage scope that is not compatible"
     return "opens what is still open" if rule in OPEN else "invalidated the encoder"

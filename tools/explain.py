@@ -12,9 +12,13 @@ from report import NotReport, Release, Report, count, summary
 from scopes import Scopes
 
 ANSWERS = {"plain": "done", "bad": "bad: what is complete already, or was never queued, was said to be complete", "promise": "a promise"}
-# The rules that set a call beside the entries of layouts, and the kinds of layouts.
-OF_LAYOUTS = {141, 142, *range(150, 158), 160}
+# The rules that set a call beside the entries of layouts; and what is a layout or has one.
+OF_LAYOUTS = {141, 142, *range(150, 158), 160, 326}
 LAYOUTS = ("bind group layout", "pipeline layout")
+WITH_LAYOUT = ("bind group", "compute pipeline")
+# The rules of a dispatch on what is set where it comes, and that of a command while a pass is open.
+OF_SET = {culprit.SCOPE, 340, 341, 342}
+LOCKED = 240
 ACCESSES = {
     "read": "reads",
     "write": "writes",
@@ -103,7 +107,7 @@ class Explained:
             found = culprit.find(self.beside, call, number, self.program)
         self.sentence(number, found.call.word if found and number not in culprit.OF_FINISH else entry.word, found is not None)
         if found:
-            self.command(found)
+            self.command(found, number)
             if number == culprit.DROPPED:
                 self.before(call, {name.what for _, name in found.call.names()}, ("drop",))
         elif call is not None:
@@ -115,13 +119,29 @@ class Explained:
         for rule in asked[-1:] if is_of_command and number == culprit.DROPPED else asked[:1]:
             self.say(f"    rule {number} asks of {rule.label}: {rule.asks}", f"    {rules.section(rule)}")
 
-    def command(self, found):
+    def command(self, found, number):
         script = self.beside.script
         self.say(f"    the command that {found.said} is number {found.number} of {found.total}: {script.where(found.call)}")
         self.say(f"        {script.said(found.call)}")
         self.say(f"    (found by asking the program about {count(found.asked, 'recording')} of the encoder, cut short at different commands)")
-        for key, name in found.call.names():
+        for _, name in found.call.names():
             self.invalid(name.what)
+        if number == LOCKED and found.call.locked_by is not None:
+            self.say(f"    {found.call.locked_by.name} is open there, from {script.where(found.call.locked_by.call)} on")
+        if number in OF_LAYOUTS:
+            self.layouts([name.what for _, name in found.call.names()])
+        if number in OF_SET:
+            self.set_at(found.call)
+
+    def set_at(self, call):
+        """What is set where a dispatch comes, with the layouts of it all."""
+        setters, names = self.beside.script.set_at(call), []
+        for setter in setters:
+            self.say(f"    set there, at {self.beside.script.where(setter)}: {self.beside.script.said(setter)}")
+            names += [name.what for key, name in setter.names() if key != "on"]
+        if not setters:
+            self.say("    nothing is set there")
+        self.layouts(list(dict.fromkeys(names)))
 
     def reasons(self, entry, call, number):
         """What the report itself tells of why a rule is broken."""
@@ -140,12 +160,15 @@ class Explained:
             self.say(*[f"    {line}" for line in self.scopes.maps.of_fault(entry, sorted(self.reached(call)))])
 
     def layouts(self, names):
-        """Where the layouts among some names were made, and those that a pipeline layout among them has."""
-        for name in names:
+        """Where the layouts among some names were made, those that a pipeline layout has, and the bind groups and pipelines with theirs."""
+        waiting, told = list(names), set()
+        while waiting:
+            name = waiting.pop(0)
             maker = self.beside.script.made.get(name)
-            if maker is not None and calls.makes(maker.word) in LAYOUTS:
+            if name not in told and maker is not None and calls.makes(maker.word) in LAYOUTS + WITH_LAYOUT:
                 self.say(f"    {name}: {maker.word} at {self.beside.script.where(maker)}")
-                self.layouts(list(dict.fromkeys(inner.what for _, inner in maker.names())))
+                waiting = [inner.what for _, inner in maker.names()] + waiting
+                told.add(name)
 
     def invalid(self, name):
         maker = self.beside.object_of(name)
@@ -156,8 +179,10 @@ class Explained:
 
     def ended(self, call):
         place = self.beside.script.places.get(scripts.string_of(call.value, "on"))
-        while place is not None and place.finish is None and place.encoder is not None:
-            place = place.encoder
+        if place is not None and place.end is not None:
+            self.say(f"    {place.name} was ended at {self.beside.script.where(place.end)}")
+            return
+        place = place.encoder or place if place is not None else None
         if place is not None and place.finish is not None:
             self.say(f"    {place.name} was finished at {self.beside.script.where(place.finish)}")
 
@@ -171,13 +196,19 @@ class Explained:
                     self.say(f"    {name.what}: {other.word} at {self.beside.script.where(other)}")
 
     def reached(self, call):
-        """The names that a call uses, and those that the commands of the command buffers among them use."""
-        script, names = self.beside.script, {name.what for _, name in call.names()}
-        for name in list(names):
+        """The names that a call uses, those that the commands of the command buffers among them use, and what is bound in bind groups and of what views are."""
+        script, waiting, names = self.beside.script, [name.what for _, name in call.names()], set()
+        while waiting:
+            name = waiting.pop()
             maker = script.made.get(name)
-            if maker is not None and calls.ends_encoder(maker.word) and maker.word != call.word:
+            if name in names or maker is None:
+                continue
+            names.add(name)
+            if calls.makes(maker.word) in ("bind group", "view"):
+                waiting += [each.what for _, each in maker.names()]
+            if calls.ends_encoder(maker.word) and maker.word != call.word:
                 place = script.places.get(scripts.string_of(maker.value, "on"))
-                names |= {each.what for command in (place.commands if place else []) for _, each in command.names()}
+                waiting += [each.what for command in (place.commands if place else []) for _, each in command.names()]
         return names
 
     def trace(self):

@@ -206,9 +206,11 @@ def wrong_in(value, key):
         return None if value.kind in ("true", "false") else value
     if key.sort == "word":
         return None if value.kind == "string" and value.what in calls.WORDS[key.detail] else value
-    if key.sort in ("names", "objects"):
+    if key.sort in ("names", "numbers", "objects"):
         if value.kind != "list" or len(value.what) > 1024:
             return value
+        if key.sort == "numbers":
+            return next((item for item in value.what if not is_whole(item, int(key.detail))), None)
         return next((item for item in value.what if item.kind != ("string" if key.sort == "names" else "object")), None)
     return None if value.kind == "string" else value
 

@@ -3,6 +3,7 @@
 `python3 tools/rules.py --write` makes the page anew; with no word it prints what the page has to be.
 """
 
+import copy
 import json
 import pathlib
 import sys
@@ -32,12 +33,17 @@ def of(number, call=None):
     """The rules of a number, those of a call alone if it has one; each with its whole sentence."""
     found = [rule for rule in RULES if number in rule.numbers]
     whole = next((rule for rule in found if not rule.asks.startswith(ABOVE)), None)
-    for rule in found:
-        if rule.asks.startswith(ABOVE) and whole is not None:
-            rule.asks = whole.asks + rule.asks[len(ABOVE) :]
-            rule.sections, rule.see = whole.sections, whole.see
+    found = [completed(rule, whole) if rule.asks.startswith(ABOVE) and whole is not None else rule for rule in found]
     own = [rule for rule in found if rule.call == call] or [rule for rule in found if rule.call == "*" and call]
     return own or found
+
+
+def completed(rule, whole):
+    """A rule whose words are `as above`, with those of the rule above in place of them. The table itself stays as it is: a row may have several numbers."""
+    made = copy.copy(rule)
+    made.asks = whole.asks + rule.asks[len(ABOVE) :]
+    made.sections, made.see = whole.sections, whole.see
+    return made
 
 
 def section(rule):

@@ -4,7 +4,7 @@ import calls
 
 
 class Call:
-    """A call of a script. `place` is its phase, lane and number in the lane."""
+    """A call of a script. `place` is its phase, lane and number in the lane, `locked_by` the pass that is open on the encoder on which it records."""
 
     def __init__(self, value, place):
         self.value = value
@@ -12,6 +12,7 @@ class Call:
         self.word = string_of(value, "do") or "?"
         self.gives = string_of(value, "as")
         self.is_late = False
+        self.locked_by = None
 
     def names(self):
         """The names that the call uses, in the order of its table's keys: pairs of key and name."""
@@ -60,17 +61,16 @@ def string_of(value, key):
 
 
 class Place:
-    """An encoder or a pass, on which calls record. A pass has the encoder that it was begun on."""
+    """An encoder or a pass, on which calls record, with the calls that ended it. A pass has the encoder that it was begun on."""
 
     def __init__(self, call, encoder=None):
         self.call = call
         self.encoder = encoder
         self.name = call.gives
         self.has_ended = False
-        self.is_dead = False
         self.finish = None
+        self.end = None
         self.open_pass = None
-        self.depth = 0
         self.commands = []
 
 
@@ -116,14 +116,26 @@ class Script:
         if call.is_late:
             return
         encoder.commands.append(call)
+        call.locked_by = encoder.open_pass if place is encoder else None
         if begun:
-            begun.is_dead = encoder.open_pass is not None
             encoder.open_pass = encoder.open_pass or begun
         elif call.word == calls.END and place is encoder.open_pass:
             place.has_ended = True
+            place.end = call
             encoder.open_pass = None
-        elif not (place is encoder and encoder.open_pass):
-            place.depth = max(0, place.depth + calls.groups(call.word))
+
+    def set_at(self, call):
+        """What is set of a pass where a call records on it: the last setPipeline, and the last setBindGroup of each index, least indexes first."""
+        place = self.places[string_of(call.value, "on")]
+        pipeline, groups = None, {}
+        for command in place.encoder.commands if place.encoder else []:
+            if command is call:
+                break
+            if string_of(command.value, "on") == place.name and command.word == "setPipeline":
+                pipeline = command
+            if string_of(command.value, "on") == place.name and command.word == "setBindGroup":
+                groups[command.number("index")] = command
+        return [pipeline] * bool(pipeline) + [groups[index] for index in sorted(groups)]
 
     def where(self, call):
         return self.text.where(call.value.start)

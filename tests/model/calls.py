@@ -13,6 +13,7 @@ NEEDED = object()
 WHOLE = "whole number"
 WORD32 = "whole number of 32 bits"
 THREE = "three whole numbers of 32 bits"
+WORDS32 = "list of whole numbers of 32 bits"
 FLAG = "false or true"
 NAME = "name that is given"
 
@@ -20,11 +21,15 @@ NAME = "name that is given"
 BUFFER = ("name", ("buffer",))
 TEXTURE = ("name", ("texture",))
 ENCODER = ("name", ("encoder",))
+PASS = ("name", ("compute pass",))
+ENCODER_OR_PASS = ("name", ("encoder", "compute pass"))
 VIEW = ("name", ("view",))
 SAMPLER = ("name", ("sampler",))
 GROUP_LAYOUT = ("name", ("bind group layout",))
 GROUP_LAYOUTS = ("names", ("bind group layout",))
 PIPELINE_LAYOUT = ("name", ("pipeline layout",))
+GROUP = ("name", ("bind group",))
+PIPELINE = ("name", ("compute pipeline",))
 RESOURCE = ("name", ("buffer", "texture"))
 OBJECT = (
     "name",
@@ -45,6 +50,8 @@ LAYOUT = [("offset", WHOLE, 0), ("bytesPerRow", WORD32, None), ("rowsPerImage", 
 ORIGIN = (0, 0, 0)
 SPOT = [("texture", TEXTURE, NEEDED), ("mip", WORD32, 0), ("origin", THREE, ORIGIN), ("aspect", word(ASPECT_WORDS), "all"), ("size", THREE, NEEDED)]
 ON = ("on", ENCODER, NEEDED)
+ON_PASS = ("on", PASS, NEEDED)
+ON_EITHER = ("on", ENCODER_OR_PASS, NEEDED)
 AS = ("as", NAME, NEEDED)
 
 SAMPLER_WORDS = ("filtering", "non-filtering", "comparison")
@@ -132,22 +139,29 @@ CALLS = {
         ("targetMip", WORD32, 0), ("targetOrigin", THREE, ORIGIN), ("size", THREE, NEEDED),
     ],
     "clearBuffer": [ON, ("buffer", BUFFER, NEEDED), ("offset", WHOLE, 0), ("size", WHOLE, None)],
-    "pushDebugGroup": [ON],
-    "popDebugGroup": [ON],
+    "beginComputePass": [ON, AS],
+    "setPipeline": [ON_PASS, ("pipeline", PIPELINE, NEEDED)],
+    "setBindGroup": [ON_PASS, ("index", WORD32, NEEDED), ("group", GROUP, NEEDED), ("offsets", WORDS32, ())],
+    "dispatch": [ON_PASS, ("x", WORD32, NEEDED), ("y", WORD32, 1), ("z", WORD32, 1)],
+    "dispatchIndirect": [ON_PASS, ("buffer", BUFFER, NEEDED), ("offset", WHOLE, NEEDED)],
+    "end": [ON_PASS],
+    "pushDebugGroup": [ON_EITHER],
+    "popDebugGroup": [ON_EITHER],
 }
 
 # The calls that are known and not built yet.
 UNBUILT = set("""
-    createRenderPipeline createQuerySet createBundleEncoder beginComputePass beginRenderPass end finishBundle resolveQuerySet setPipeline setBindGroup
-    setVertexBuffer setIndexBuffer dispatch dispatchIndirect beginOcclusionQuery endOcclusionQuery executeBundles draw drawIndexed
-    drawIndirect drawIndexedIndirect createCanvas configureCanvas currentTexture present
+    createRenderPipeline createQuerySet createBundleEncoder beginRenderPass finishBundle resolveQuerySet setVertexBuffer setIndexBuffer
+    beginOcclusionQuery endOcclusionQuery executeBundles draw drawIndexed drawIndirect drawIndexedIndirect createCanvas configureCanvas
+    currentTexture present
 """.split())
 
-# The calls that record a command on an encoder.
+# The calls that record a command on an encoder, or on a pass of it.
 RECORDING = {
-    "copyBufferToBuffer", "copyBufferToTexture", "copyTextureToBuffer", "copyTextureToTexture", "clearBuffer", "pushDebugGroup",
-    "popDebugGroup",
+    "copyBufferToBuffer", "copyBufferToTexture", "copyTextureToBuffer", "copyTextureToTexture", "clearBuffer", "beginComputePass",
+    "setPipeline", "setBindGroup", "dispatch", "dispatchIndirect", "end", "pushDebugGroup", "popDebugGroup",
 }
+DISPATCHES = {"dispatch", "dispatchIndirect"}
 
 # The calls that queue an operation.
 QUEUED = {"submit", "writeBuffer", "writeTexture"}
@@ -156,12 +170,15 @@ QUEUED = {"submit", "writeBuffer", "writeTexture"}
 PROMISING = {"mapAsync", "workDone", "popErrorScope"}
 WAITING = {"mapAsync", "workDone"}
 
-# What a call makes.
+# What object a call makes.
 MADE = {
     "createBuffer": "buffer", "createTexture": "texture", "createView": "view", "createSampler": "sampler",
     "createBindGroupLayout": "bind group layout", "createPipelineLayout": "pipeline layout", "createBindGroup": "bind group",
     "createComputePipeline": "compute pipeline", "createEncoder": "encoder", "finish": "command buffer",
 }
+
+# What the name stands for that a call gives. A pass is no object.
+GIVEN = MADE | {"beginComputePass": "compute pass"}
 
 
 def name_keys(do):

@@ -1,10 +1,13 @@
 """The calls that were played so far, and what is seen by looking back over them.
 
-All looking back is over two plain lists: the calls that were played, oldest first, and the objects, in the order in which
-they were made.
+All looking back is over plain lists: the calls that were played, oldest first, all of them and those of each word; the objects, in
+the order in which they were made; and what was released.
 """
 
+import collections
+
 import memory
+import passes
 from calls import RECORDING, WAITING, name_keys, names_in
 
 
@@ -53,13 +56,37 @@ class Played:
             found += value if type(value) is list else [value]
         return found
 
+    def named(self):
+        """The objects that a command names, with their keys: all but what it stands on."""
+        return [(key, thing) for key, thing in self.uses.items() if key != "on"]
+
+
+def encoder_of(place):
+    """The encoder of what a command stands on: itself, or the one on which the pass was begun."""
+    return place if place.do == "createEncoder" else place.uses["on"]
+
+
+def resources_in(thing):
+    """The buffers and textures that one names who names an object: it itself, or what a bind group binds, with the texture of a view."""
+    if thing.do in ("createBuffer", "createTexture"):
+        return [thing]
+    if thing.do == "createView":
+        return [thing.uses["texture"]]
+    return [found for bound in thing.uses["entries"] for found in resources_in(bound)] if thing.do == "createBindGroup" else []
+
 
 class History:
     def __init__(self, budget):
         self.budget = budget
         self.played = []
+        self.played_of = collections.defaultdict(list)
         self.objects = []
+        self.released = []
         self.names = {}
+
+    def add(self, played):
+        self.played.append(played)
+        self.played_of[played.do].append(played)
 
     def uses_of(self, call):
         """The objects that the names of a call stand for, key by key; of a list, be it of names or of objects, a list."""
@@ -74,18 +101,24 @@ class History:
 
     def is_lost(self):
         """The device is lost from its first loss on."""
-        return any(played.do == "lose" for played in self.played)
+        return self.played_of["lose"] != []
 
     def finishes(self, encoder):
         """The finishes that named an encoder, accepted, refused or on a lost device."""
-        return [played for played in self.played if played.do == "finish" and played.uses["on"] is encoder]
+        return [played for played in self.played_of["finish"] if played.uses["on"] is encoder]
 
     def has_finished(self, encoder):
         return self.finishes(encoder) != []
 
+    def has_ended(self, place):
+        """An encoder has ended from its first finish on. A pass has ended where its encoder has, or by its own end, if it was open."""
+        encoder = encoder_of(place)
+        return self.has_finished(encoder) or place in passes.walk(self.commands_on(encoder))[1]
+
     def commands_on(self, encoder):
-        """The commands that were recorded on an encoder, in order; a late one was not."""
-        return [played for played in self.played if played.do in RECORDING and played.entry is None and played.uses["on"] is encoder]
+        """The commands that were recorded on an encoder and on its passes, in order; a late one was not."""
+        recorded = [played for played in self.played if played.do in RECORDING and played.entry is None]
+        return [played for played in recorded if encoder_of(played.uses["on"]) is encoder]
 
     def commands_of(self, command_buffer):
         """The commands of a command buffer: those of its encoder if it came of the first finish, else none."""
@@ -94,11 +127,11 @@ class History:
 
     def is_destroyed(self, thing):
         """Some destroy that met its rules named the object, be it on a lost device."""
-        return any(played.do == "destroy" and played.is_met and played.uses["object"] is thing for played in self.played)
+        return any(played.is_met and played.uses["object"] is thing for played in self.played_of["destroy"])
 
     def drop_of(self, thing):
         """The drop that met its rules and named the object, be it on a lost device; there is one at most, or None."""
-        drops = [played for played in self.played if played.do == "drop" and played.is_met and played.uses["object"] is thing]
+        drops = [played for played in self.played_of["drop"] if played.is_met and played.uses["object"] is thing]
         return drops[0] if drops else None
 
     def is_dropped(self, thing):
@@ -111,7 +144,7 @@ class History:
 
     def is_consumed(self, command_buffer):
         """Some submit listed the command buffer, accepted, refused or on a lost device."""
-        return any(played.do == "submit" and command_buffer in played.uses["buffers"] for played in self.played)
+        return any(command_buffer in played.uses["buffers"] for played in self.played_of["submit"])
 
     def is_open(self, encoder):
         """An encoder is open until a finish names it, be that accepted, refused or on a lost device, or until it is dropped."""
@@ -131,7 +164,7 @@ class History:
         if other.do in REFERRING:
             return thing in other.referred() and other.is_valid and self.is_held(other)
         if other.do == "finish":
-            return other.is_valid and not self.is_consumed(other) and not self.is_dropped(other) and thing in self.resources_of([other])
+            return other.is_valid and not self.is_consumed(other) and not self.is_dropped(other) and thing in self.named_by([other])
         return other.do == "createEncoder" and self.is_open(other) and not self.was_dropped_before(thing, other)
 
     def issued(self):
@@ -140,7 +173,7 @@ class History:
 
     def completed(self):
         """The number of the last completion that was not bad, or 0."""
-        numbers = [played.call["op"] for played in self.played if played.do == "complete" and played.answer == "plain"]
+        numbers = [played.call["op"] for played in self.played_of["complete"] if played.answer == "plain"]
         return numbers[-1] if numbers else 0
 
     def waiting(self):
@@ -153,15 +186,21 @@ class History:
         return max([played.op for played in self.played if played.op is not None and thing in self.used_by(played)], default=0)
 
     def used_by(self, played):
-        """What an operation uses: a write its target, also where its size is 0; a submit what its commands name."""
+        """What an operation uses: a write its target, also where its size is 0; a submit what its commands name, and what is bound in the
+        groups that they set."""
         if played.do == "submit":
             return self.resources_of(played.uses["buffers"])
         return [played.uses["buffer" if played.do == "writeBuffer" else "texture"]]
 
-    def resources_of(self, command_buffers):
-        """The buffers and textures that the commands of some command buffers name, whether or not a step comes of it."""
+    def named_by(self, command_buffers):
+        """The objects that the commands of some command buffers name themselves."""
         commands = [command for one in command_buffers for command in self.commands_of(one)]
-        return [thing for command in commands for key, thing in command.uses.items() if key != "on"]
+        return [thing for command in commands for _, thing in command.named()]
+
+    def resources_of(self, command_buffers):
+        """The buffers and textures that the commands of some command buffers name, themselves or through a bind group, whether or not
+        a step comes of it."""
+        return [found for thing in self.named_by(command_buffers) for found in resources_in(thing)]
 
     def resources(self):
         """The valid buffers and textures, those that were released too."""
@@ -173,7 +212,7 @@ class History:
 
     def is_released(self, thing):
         """It is released by the first entry after which it is due."""
-        return any(thing in played.released for played in self.played)
+        return thing in self.released
 
     def newly_due(self):
         """What is due after the last entry and was released by none before."""

@@ -6,7 +6,7 @@ the items of a list one after another, then the name that it gives.
 
 import re
 
-from calls import MADE, name_keys, names_in
+from calls import GIVEN, name_keys, names_in
 from script import ask
 
 WELL_FORMED = re.compile(r"[A-Za-z0-9_]{1,64}")
@@ -22,7 +22,7 @@ def bind(calls):
         if "as" in call:
             ask(9, "form", WELL_FORMED.fullmatch(call["as"]) is not None, place)
             ask(9, "given before", call["as"] not in [name for name, _ in given], place)
-            given.append((call["as"], MADE[call["do"]]))
+            given.append((call["as"], GIVEN[call["do"]]))
 
 
 def ask_used(place, name, kinds, given):

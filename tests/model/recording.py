@@ -1,31 +1,39 @@
-"""The rules of commands, and the rule that invalidates an encoder.
+"""The rules of commands on an encoder, and the rule that invalidates it.
 
-A command makes no fault when it is recorded. The first rule that a command of an encoder leaves unmet stays with the
-encoder, which is invalid from then on.
+A command makes no fault when it is recorded. The first rule that goes to an encoder stays with it, and it is invalid from then
+on. A pass keeps the first rule of its own commands, and hands it over by its end.
 """
 
 import buffers
 import copies
+import passes
 from rules import first_unmet
 
 
 def verdict(commands):
-    """The rule that invalidated an encoder first, by the commands that were recorded on it, or None."""
+    """The rule that went to an encoder first, by the commands that were recorded on it and on its passes, or None."""
     for place, command in enumerate(commands):
-        rule = first_unmet(command.do, command_rules(command, commands[:place]))
+        rule = rule_given(command, commands[:place])
         if rule is not None:
             return rule
     return None
 
 
-def command_rules(command, earlier):
-    """The rules of a command on an encoder, after the earlier commands. No pass can be begun yet, so none is open."""
-    yield 240, "no pass is open", True
-    for key, thing in command.uses.items():
-        if key != "on":
-            yield 10, key, True
-            yield 12, key, thing.is_valid
-    yield from own_rules(command, earlier)
+def rule_given(command, earlier):
+    """The rule that a command gives its encoder, or None: one on the encoder its own, and the end of the open pass that of the pass."""
+    open_pass, _ = passes.walk(earlier)
+    if command.uses["on"].do == "createEncoder":
+        return first_unmet(command.do, command_rules(command, earlier, open_pass))
+    if command.do == "end" and command.uses["on"] is open_pass:
+        return passes.pass_rule(passes.on(open_pass, earlier) + [command])
+    return None
+
+
+def command_rules(command, earlier, open_pass):
+    """The rules of a command on an encoder, after the earlier commands."""
+    yield 240, "no pass is open", open_pass is None
+    yield from passes.named_rules(command)
+    yield from own_rules(command, passes.on(command.uses["on"], earlier))
 
 
 def own_rules(command, earlier):
@@ -42,7 +50,7 @@ def own_rules(command, earlier):
         buffer = uses["buffer"]
         yield from buffers.clear_rules(buffer.call, call["offset"], clear_size(command))
     elif command.do == "popDebugGroup":
-        yield 285, "open group", open_groups(earlier) > 0
+        yield 285, "open group", passes.open_groups(earlier) > 0
 
 
 def clear_size(clear):
@@ -51,14 +59,3 @@ def clear_size(clear):
     if clear.call["size"] is None:
         return buffers.rest(buffer.call, buffer.is_valid, clear.call["offset"])
     return clear.call["size"]
-
-
-def open_groups(commands):
-    """How many debug groups are open: a push opens one, a pop closes one if there is one."""
-    count = 0
-    for command in commands:
-        if command.do == "pushDebugGroup":
-            count += 1
-        elif command.do == "popDebugGroup":
-            count = max(count - 1, 0)
-    return count

@@ -5,6 +5,7 @@ import copies
 import groups
 import maps
 import memory
+import passes
 import promises
 import recording
 import scopes
@@ -30,9 +31,11 @@ def play(budget, calls):
 def answer_call(history, call):
     """Plays one call. A command that comes in time makes no entry; all else does."""
     played = Played(call, history.uses_of(call))
-    if played.do in RECORDING and not history.has_finished(played.uses["on"]):
+    if played.do == "beginComputePass":
+        history.names[call["as"]] = played
+    if played.do in RECORDING and not history.has_ended(played.uses["on"]):
         note("late", LATE_RULE, "in time", True)
-        history.played.append(played)
+        history.add(played)
         return
     played.entry = len(history.entries())
     played.on_lost = history.is_lost()
@@ -41,8 +44,9 @@ def answer_call(history, call):
     played.catcher = scopes.catcher_of(history, played.fault)
     played.answer = answer_of(history, played)
     played.settled = promises.settled_by(history, played)
-    history.played.append(played)
+    history.add(played)
     played.released = history.newly_due()
+    history.released += played.released
 
 
 def rule_of(history, played):
@@ -174,20 +178,18 @@ def write_buffer_rules(history, call, buffer):
 
 
 def finish_rules(history, encoder):
-    """The rules of a finish after those of its encoder: first the rule that invalidated it, then what was recorded.
-
-    No script can leave 182 or 184 unmet yet.
-    """
+    """The rules of a finish after those of its encoder: first the rule that invalidated it, then what was recorded."""
     yield 180, "ended", not history.has_finished(encoder)
     commands = history.commands_on(encoder)
     invalidating = recording.verdict(commands)
     if invalidating is not None:
         yield invalidating, "invalidated the encoder", False
-    yield 182, "no pass is open", True
-    yield 183, "groups are closed", recording.open_groups(commands) == 0
-    named = [thing for command in commands for key, thing in command.uses.items() if key != "on"]
-    yield 11, "what commands name", not any(history.was_dropped_before(thing, encoder) for thing in named)
-    yield 184, "scopes", True
+    yield 182, "no pass is open", passes.walk(commands)[0] is None
+    yield 183, "groups are closed", passes.open_groups(passes.on(encoder, commands)) == 0
+    for command in commands:
+        for key, thing in command.named():
+            yield 11, f"{key} that a command names", not history.was_dropped_before(thing, encoder)
+    yield from passes.scope_rules(commands)
 
 
 def submit_rules(history, command_buffers):
@@ -195,13 +197,21 @@ def submit_rules(history, command_buffers):
     yield from of_objects(history, [("command buffer", one) for one in command_buffers], [])
     yield 190, "consumed", not any(history.is_consumed(one) for one in command_buffers)
     yield 191, "named twice", len(set(command_buffers)) == len(command_buffers)
-    resources = history.resources_of(command_buffers)
-    yield from used_rules(history, {thing for thing in resources if thing.do == "createBuffer"})
-    yield 193, "destroyed texture", not any(history.is_destroyed(thing) for thing in resources if thing.do == "createTexture")
+    named, used = history.named_by(command_buffers), dict.fromkeys(history.resources_of(command_buffers))
+    yield from used_rules(history, [thing for thing in used if thing.do == "createBuffer"], named)
+    for thing in used:
+        if thing.do == "createTexture":
+            yield 193, f"destroyed texture{through(thing, named)}", not history.is_destroyed(thing)
 
 
-def used_rules(history, used):
-    """Rule 192: no buffer that a command names is pending, mapped or destroyed."""
-    yield 192, "pending buffer", not any(maps.is_pending(history, buffer) for buffer in used)
-    yield 192, "mapped buffer", not any(maps.mapping_of(history, buffer) for buffer in used)
-    yield 192, "destroyed buffer", not any(history.is_destroyed(buffer) for buffer in used)
+def used_rules(history, used, named):
+    """Rule 192: no buffer that a command names, itself or through a bind group, is pending, mapped or destroyed."""
+    for thing in used:
+        yield 192, f"pending buffer{through(thing, named)}", not maps.is_pending(history, thing)
+        yield 192, f"mapped buffer{through(thing, named)}", not maps.mapping_of(history, thing)
+        yield 192, f"destroyed buffer{through(thing, named)}", not history.is_destroyed(thing)
+
+
+def through(thing, named):
+    """A word for the counts, where no command names a buffer or texture itself."""
+    return "" if thing in named else " in a bind group"

@@ -5,7 +5,7 @@ is gone through in order, and of each call 5, 6, 13, 7 and 8 are tested.
 """
 
 import json_text
-from calls import CALLS, FLAG, KIND, NAME, NEEDED, THREE, UNBUILT, WHOLE, WORD32, group_entry_keys
+from calls import CALLS, FLAG, KIND, NAME, NEEDED, THREE, UNBUILT, WHOLE, WORD32, WORDS32, group_entry_keys
 from rules import note
 
 MOST_BYTES = 4_194_304
@@ -107,6 +107,9 @@ def read_value(place, where, sort, value):
         ask(8, "list", type(value) is list, place)
         ask(8, "three items", len(value) == 3, place)
         ask(8, "three numbers", all(is_whole(item, GREATEST_WORD32) for item in value), place)
+    elif sort == WORDS32:
+        ask_list(place, "numbers", value)
+        ask(8, "numbers of 32 bits", all(is_whole(item, GREATEST_WORD32) for item in value), place)
     elif sort == NAME or sort[0] == "name":
         ask(8, f"name{where}", type(value) is str, place)
     elif sort[0] == "word":
@@ -118,12 +121,16 @@ def read_value(place, where, sort, value):
 
 def read_list(place, sort, value):
     """A list of names, or of objects."""
-    ask(8, f"list of {sort[0]}", type(value) is list, place)
-    ask(8, f"items, {sort[0]}", len(value) <= MOST_ITEMS, place)
+    ask_list(place, sort[0], value)
     if sort[0] == "names":
         ask(8, "names", all(type(item) is str for item in value), place)
         return value
     return [read_item(place, sort[1], item) for item in value]
+
+
+def ask_list(place, of, value):
+    ask(8, f"list of {of}", type(value) is list, place)
+    ask(8, f"items, {of}", len(value) <= MOST_ITEMS, place)
 
 
 def read_item(place, keys_of, item):

@@ -1,16 +1,15 @@
-"""The steps of an entry, those of its operation or of the host, each with what it uses and accesses.
-
-A part is `("b", N)` or `("t", N, aspect, mip, layer)`. A cell is such a subresource, or a run of the bytes of a buffer,
-`("b", N, low, high)`. Aspects are kept by their place in the printed order, so that parts and cells are printed sorted.
-"""
+"""The steps of an entry, those of its operation or of the host, each with what it uses and accesses."""
 
 import copies
 import formats
+import passes
 import recording
+from calls import DISPATCHES
+from cells import in_buffer, in_texture, part_of
 from maps import host_accesses
 
 # Usages in printed order, as far as steps of today use them.
-USAGES = ("copy-src", "copy-dst", "host-read", "host-write", "clear")
+USAGES = ("input", "constant", "storage", "storage-read", "copy-src", "copy-dst", "host-read", "host-write", "clear")
 
 
 class Step:
@@ -30,11 +29,6 @@ class Step:
 
     def writes(self):
         return [cell for cell, kind in self.accesses if kind in ("write", "both")]
-
-
-def part_of(cell):
-    """A byte lies in its buffer, and a subresource is a part itself."""
-    return cell[:2] if cell[0] == "b" else cell
 
 
 def groups_of(history, played):
@@ -58,8 +52,14 @@ def host_steps(entry, name, buffer, mapping):
 
 
 def command_steps(commands, at):
-    """The steps of recorded commands; a copy or clear of size 0 makes none, nor does a debug group."""
-    return [Step(at, command.do, touches) for command in commands if (touches := touches_of(command))]
+    """The steps of recorded commands. A dispatch makes one whatever it touches; a copy or clear of size 0 makes none, nor do others."""
+    steps = []
+    for place, command in enumerate(commands):
+        if command.do in DISPATCHES:
+            steps.append(Step(at, "dispatch", passes.touches_of_dispatch(command, passes.on(command.uses["on"], commands[:place]))))
+        elif touches := touches_of(command):
+            steps.append(Step(at, command.do, touches))
+    return steps
 
 
 def write_steps(played):
@@ -87,16 +87,6 @@ def touches_of(command):
     if command.do == "copyTextureToTexture":
         return texture_to_texture(command)
     return []
-
-
-def in_buffer(buffer, offset, size, usage, kind):
-    """A range of a buffer; an empty one is nothing."""
-    return [(("b", buffer.made, offset, offset + size), usage, kind)] if size > 0 else []
-
-
-def in_texture(texture, cells, usage, kind):
-    """Subresources of a texture, given as triples of aspect, mip level and layer."""
-    return [(("t", texture.made, formats.ASPECTS.index(aspect), mip, layer), usage, kind) for aspect, mip, layer in cells]
 
 
 def one_aspect(call, texture):

@@ -79,6 +79,16 @@ def view_of(call, texture, is_valid):
     return call | {key: value for key, value in left_out.items() if call[key] is None}
 
 
+def subresources_of_view(view):
+    """The subresources of a valid view, as triples of aspect, mip level and layer. One of a 3D texture has the layer 0."""
+    texture = view.uses["texture"].call
+    told = view_of(view.call, texture, True)
+    aspects = formats.named_aspects(texture["format"], told["aspect"])
+    mips = range(told["baseMip"], told["baseMip"] + told["mips"])
+    layers = range(told["baseLayer"], told["baseLayer"] + told["layers"])
+    return [(aspect, mip, layer) for aspect in aspects for mip in mips for layer in layers]
+
+
 def dim_by(texture):
     if texture["dim"] == "2d" and formats.layer_count(texture) > 1:
         return "2d-array"

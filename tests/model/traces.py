@@ -7,7 +7,7 @@ over the steps that the trace has so far.
 from steps import Step, groups_of
 
 # The usages that only read, as far as steps of today use them.
-ONLY_READ = {"copy-src", "host-read"}
+ONLY_READ = {"input", "constant", "storage-read", "copy-src", "host-read"}
 
 
 def trace_of(history):

@@ -49,6 +49,50 @@ def many_layouts(count):
     return script([{"do": "createBindGroupLayout", "as": "n", "entries": []}, {"do": "createPipelineLayout", "as": "l", "layouts": ["n"] * count}])
 
 
+def in_passes(entries, bound, passes, made=()):
+    """A pipeline of four groups of some entries, and an encoder with some lists of calls, each in a pass of its own, which is submitted."""
+    calls = [*made, {"do": "createBindGroupLayout", "as": "l", "entries": entries}, {"do": "createPipelineLayout", "as": "q", "layouts": ["l"] * 4}]
+    calls += [{"do": "createComputePipeline", "as": "k", "layout": "q"}, {"do": "createBindGroup", "as": "g", "layout": "l", "entries": bound}]
+    calls.append({"do": "createEncoder", "as": "e"})
+    for number, body in enumerate(passes):
+        calls.append({"do": "beginComputePass", "on": "e", "as": f"p{number}"})
+        calls += [call | {"on": f"p{number}"} for call in [*body, {"do": "end"}]]
+    return script(calls + [{"do": "finish", "on": "e", "as": "c"}, {"do": "submit", "buffers": ["c"]}])
+
+
+SET_UP = [{"do": "setPipeline", "pipeline": "k"}] + [{"do": "setBindGroup", "index": index, "group": "g"} for index in range(4)]
+
+
+def dispatched(count, dispatches, passes):
+    """So many bindings of one buffer that no stage sees, used by so many dispatches in each of some passes."""
+    entries = [{"binding": binding, "visibility": 0, "kind": "storage"} for binding in range(count)]
+    made = [{"do": "createBuffer", "as": "b", "size": 1024, "usage": 128}]
+    bound = [{"binding": binding, "buffer": "b", "offset": 256 * (binding % 3), "size": 4 * (binding % 5 + 1)} for binding in range(count)]
+    return in_passes(entries, bound, [SET_UP + [{"do": "dispatch", "x": 1}] * dispatches] * passes, made)
+
+
+def offsets(count):
+    return in_passes([], [], [[{"do": "setBindGroup", "index": 0, "group": "g", "offsets": [0] * count}]])
+
+
+def all_subresources():
+    """Dispatches that sample all layers of all mip levels of a texture, and then write one level whole, and one layer of another."""
+    texture = {"do": "createTexture", "as": "t", "size": [4, 4, 256], "usage": 12, "format": "r32uint", "mips": 3}
+    views = [texture] + [
+        {"do": "createView", "as": f"v{number}", "texture": "t", "dim": "2d-array"} | ranges
+        for number, ranges in enumerate([{}, {"baseMip": 1, "mips": 1}, {"baseMip": 2, "baseLayer": 255}])
+    ]
+    calls, passes = views, []
+    for number in range(3):
+        kind = {"kind": "texture", "sample": "uint"} if number == 0 else {"kind": "storage-texture", "format": "r32uint"}
+        calls.append({"do": "createBindGroupLayout", "as": f"l{number}", "entries": [{"binding": 0, "visibility": 4, "dim": "2d-array"} | kind]})
+        calls.append({"do": "createPipelineLayout", "as": f"q{number}", "layouts": [f"l{number}"]})
+        calls.append({"do": "createComputePipeline", "as": f"k{number}", "layout": f"q{number}"})
+        calls.append({"do": "createBindGroup", "as": f"g{number}", "layout": f"l{number}", "entries": [{"binding": 0, "view": f"v{number}"}]})
+        passes += [{"do": "setPipeline", "pipeline": f"k{number}"}, {"do": "setBindGroup", "index": 0, "group": f"g{number}"}, {"do": "dispatch", "x": 1}]
+    return in_passes([], [], [passes, passes[-3:] + passes[:3]], calls)
+
+
 def all_layers():
     """A texture of all mip levels and layers, written layer by layer in one level, and then whole."""
     calls = [{"do": "createTexture", "as": "t", "size": [4, 4, 256], "usage": 3, "format": "r8unorm", "mips": 3}]
@@ -85,4 +129,10 @@ FIXED = {
     "interface-past-the-limit": lambda: interface(1025),
     "layouts-at-the-limit": lambda: many_layouts(1024),
     "layouts-past-the-limit": lambda: many_layouts(1025),
+    "many-bindings-of-a-dispatch": lambda: dispatched(60, 1, 1),
+    "many-dispatches": lambda: dispatched(1, 200, 1),
+    "many-passes": lambda: dispatched(2, 2, 60),
+    "offsets-at-the-limit": lambda: offsets(1024),
+    "offsets-past-the-limit": lambda: offsets(1025),
+    "all-subresources": all_subresources,
 }

@@ -1,17 +1,19 @@
 """Scripts that break a rule of scripts: good ones with one or two changes to calls, names, the top, or the text itself."""
 
 import grouping
+import passing
 import worlds
 from json_forms import Pairs, Raw, text_of
 
 WORD_LIMIT, WHOLE_LIMIT = 2**32 - 1, 2**53 - 1
 UNBUILT = """
-createRenderPipeline createQuerySet createBundleEncoder beginComputePass beginRenderPass end finishBundle
-resolveQuerySet setPipeline setBindGroup setVertexBuffer setIndexBuffer dispatch dispatchIndirect beginOcclusionQuery endOcclusionQuery
-executeBundles draw drawIndexed drawIndirect drawIndexedIndirect createCanvas configureCanvas currentTexture present
+createRenderPipeline createQuerySet createBundleEncoder beginRenderPass finishBundle resolveQuerySet setVertexBuffer setIndexBuffer
+beginOcclusionQuery endOcclusionQuery executeBundles draw drawIndexed drawIndirect drawIndexedIndirect createCanvas configureCanvas
+currentTexture present
 """.split()
 UNKNOWN = ["", "createbuffer", "CreateBuffer", "createBuffer ", "getBindGroupLayout", "setViewport", "copy", "createBuffer\0", "é", "Lose", "onSubmittedWorkDone"]
-NAME_KEYS = {"buffer", "texture", "source", "target", "on", "object", "layout", "view", "sampler"}
+NAME_KEYS = {"buffer", "texture", "source", "target", "on", "object", "layout", "view", "sampler", "pipeline", "group"}
+PASS_WORDS = ["beginComputePass", "setPipeline", "setBindGroup", "dispatch", "dispatchIndirect", "end"]
 OBJECT_LISTS = ["entries", "iface"]
 NUMBERS = [
     "0", "1", "-1", "-0", "1.0", "1.5", "1e3", "1E3", "1e-3", "0e400", "0.0e999999", "4294967295", "4294967296", "9007199254740991",
@@ -30,9 +32,12 @@ GOOD_NAMES = ["a" * 64, "_", "0", "9" * 64, "Z_z9", "do", "as"]
 
 def malformed(random):
     """The bytes of a script with one or two faults, the first of which is what the answer tells."""
-    length = random.choice([3, 12, 30])
-    has_objects = random.random() < 0.6
-    calls = grouping.groups(random)[1][:length] if has_objects else worlds.mixed(random, length)
+    length, kind = random.choice([3, 12, 30]), random.choices(["bound", "passes", "others"], [5, 3, 4])[0]
+    has_objects = kind == "bound"
+    if kind == "passes":
+        calls = passing.passes(random, 1)[1]
+    else:
+        calls = grouping.groups(random)[1][:length] if has_objects else worlds.mixed(random, length)
     top = {"budget": random.choice([0, 1, 1000000, WHOLE_LIMIT]), "phases": [[calls]]}
     for _ in range(random.choice([1, 1, 1, 2, 2, 3])):
         top = random.choices([of_call, of_names, of_top, same], [14, 5, 2, 1] if has_objects else [10, 6, 3, 1])[0](random, top, calls)
@@ -47,6 +52,11 @@ def same(random, top, calls):
     return top
 
 
+def on_passes(calls):
+    """The places of calls on passes."""
+    return [at for at, call in enumerate(calls) if isinstance(call, dict) and call.get("do") in PASS_WORDS]
+
+
 def any_call(random, calls):
     """The place of a call that is still an object."""
     places = [at for at, call in enumerate(calls) if isinstance(call, dict)]
@@ -56,6 +66,7 @@ def any_call(random, calls):
 def of_call(random, top, calls):
     """One call, or one value of it, or an object in it, is spoiled."""
     places = [at for at, call in enumerate(calls) if isinstance(call, dict) and any(call.get(key) for key in OBJECT_LISTS)]
+    places = on_passes(calls) or places
     at = random.choice(places) if places and random.random() < 0.8 else any_call(random, calls)
     if at is not None:
         call = dict(calls[at])
@@ -125,7 +136,7 @@ def other_item(random, call):
 
 def long_list(random, call):
     entry = {"binding": 0, "visibility": 0, "kind": "sampler"}
-    for key, item in (("buffers", "x"), ("layouts", "x"), ("entries", entry), ("iface", entry), ("size", 1)):
+    for key, item in (("buffers", "x"), ("layouts", "x"), ("entries", entry), ("iface", entry), ("offsets", 0), ("size", 1)):
         if key in call:
             call[key] = [item] * random.choice([1024, 1025])
 
@@ -141,6 +152,7 @@ def key_more(random, call):
 MORE_KEYS = [
     "x", "", "DO", "label", "mapped", "size", "usage", "as", "filter", "op", "queries", "depthSlice", "limits", "mode", "kind", "layout", "iface",
     "binding", "visibility", "group", "type", "dynamic", "minSize", "sample", "multi", "access", "buffer", "offset", "view", "sampler", "do",
+    "on", "index", "offsets", "x", "w", "pipeline", "timestampWrites",
 ]
 WRONG_WORDS = [
     "Filtering", "filtering", "nonfiltering", "storage", "readonly-storage", "write", "read-write", "sampled", "unfilterable", "sint", "auto",
@@ -152,6 +164,16 @@ def other_word(random, call):
     words = [key for key in ("format", "dim", "aspect", "filter", "kind", "type", "sample", "access") if key in call]
     if words:
         call[random.choice(words)] = random.choice(WRONG_WORDS)
+
+
+def other_offsets(random, call):
+    """The offsets of a setBindGroup: no list, one with something else than a number of 32 bits, or of another length; of any other call
+    something else."""
+    if call.get("do") != "setBindGroup":
+        return other_value(random, call)
+    item = random.choice([*VALUES, WORD_LIMIT + 1, Raw(random.choice(NUMBERS))])
+    call["offsets"] = random.choice([item, [item], [0, item], [256, 256], [0] * random.choice([1024, 1025])])
+    return None
 
 
 def unbuilt(random, call):
@@ -213,10 +235,10 @@ def repeated(random, call):
 
 
 CALL_CHANGES = [
-    other_value, other_number, border_number, other_item, long_list, key_gone, key_more, other_word, unbuilt, unknown, mapped, no_object,
-    repeated,
+    other_value, other_number, border_number, other_item, other_offsets, long_list, key_gone, key_more, other_word, unbuilt, unknown, mapped,
+    no_object, repeated,
 ]
-CALL_WEIGHTS = [4, 4, 3, 4, 2, 4, 3, 3, 2, 3, 3, 2, 3]
+CALL_WEIGHTS = [4, 4, 3, 4, 3, 2, 4, 3, 3, 2, 3, 3, 2, 3]
 OBJECT_CHANGES = [
     other_value, other_number, border_number, past_word, key_gone, needed_gone, key_more, other_word, other_kind, no_object, repeated,
 ]
@@ -240,6 +262,7 @@ def uses_names(call):
 def of_names(random, top, calls):
     """A name is malformed, given twice, unknown, of a wrong kind, or used before it is given."""
     users = [at for at, call in enumerate(calls) if uses_names(call)]
+    users = on_passes(calls) if on_passes(calls) and random.random() < 0.6 else users
     at = random.choice(users) if users and random.random() < 0.6 else any_call(random, calls)
     if at is None:
         return top
