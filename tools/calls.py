@@ -10,18 +10,21 @@ WORDS = TABLE["words"]
 LATER = {word for words in TABLE["later"].values() for word in words}
 BEGINS = set(TABLE["passes"]["begin"])
 END = TABLE["passes"]["end"]
+PIPELINES = TABLE["passes"]["pipelines"]
 OBJECTS = TABLE["objects"]
 FORMS = TABLE["forms"]
 
 
 class Key:
-    """What the value of a key has to be: `sort` with its `detail`, and whether the key may be left out."""
+    """What the value of a key has to be: `sort` with its `detail`, whether the key may be left out, and whether an item of its list may be null."""
 
     def __init__(self, text):
         words = text.split()
         self.may_be_left_out = words[-1] == "?"
         words = words[:-1] if self.may_be_left_out else words
-        self.sort = "new" if words[0] == "new" else words[0]
+        self.may_have_null = words[-2:] == ["or", "null"]
+        words = words[:-2] if self.may_have_null else words
+        self.sort = words[0]
         self.detail = " ".join(words[1:])
 
     def kinds(self):
@@ -37,18 +40,29 @@ class Key:
         if self.sort == "boolean":
             return "true or false"
         if self.sort == "word":
-            return "one of " + ", ".join(f'"{word}"' for word in WORDS[self.detail])
+            return "one of " + quoted(WORDS[self.detail])
         if self.sort == "name":
             return f"the name of {either(self.kinds())}"
         if self.sort == "names":
             return f"a list of at most 1024 names, each of {either(self.kinds())}"
         if self.sort == "numbers":
             return f"a list of at most 1024 whole numbers from 0 to {2 ** int(self.detail) - 1}"
+        if self.sort == "words":
+            return f"a list of at most 1024 items, each one of {quoted(WORDS[self.detail])}{self.or_null()}"
+        if self.sort == "object":
+            return f"an object, {OBJECTS[self.detail]['said']}"
         if self.sort == "objects":
-            return f"a list of at most 1024 objects, each {OBJECTS[self.detail]['said']}"
+            return f"a list of at most 1024 {'items' if self.may_have_null else 'objects'}, each {OBJECTS[self.detail]['said']}{self.or_null()}"
         if self.sort == "new":
             return "a new name, of 1 to 64 letters, digits and _"
         return "a value"
+
+    def or_null(self):
+        return ", or null" if self.may_have_null else ""
+
+
+def quoted(words):
+    return ", ".join(f'"{word}"' for word in words)
 
 
 def either(kinds):
@@ -63,14 +77,19 @@ def keys_of(word):
 
 
 def form_key(sort):
-    """The key of a sort of objects whose word tells the form of one, or None where the form is told by which key is there."""
-    found = [name for name, text in OBJECTS[sort]["keys"].items() if text == f"word {OBJECTS[sort]['forms']}"]
+    """The key of a sort of objects whose word tells the form of one, or None where the form is told by which key is there, or there are no forms."""
+    found = [name for name, text in OBJECTS[sort]["keys"].items() if text == f"word {OBJECTS[sort].get('forms')}"]
     return found[0] if found else None
 
 
+def forms_of(sort):
+    """The further keys that an object of a sort has by its form; no forms where all of them have the same keys."""
+    return FORMS.get(OBJECTS[sort].get("forms"), {})
+
+
 def form_of(sort, item):
-    """The form of an object in a list of a call, a word that tells its further keys, or None where it has none."""
-    forms, by = FORMS[OBJECTS[sort]["forms"]], form_key(sort)
+    """The form of an object in a call, a word that tells its further keys, or None where it has none."""
+    forms, by = forms_of(sort), form_key(sort)
     if by is None:
         return next((form for form in forms if item.member(form) is not None), None)
     value = item.member(by)
@@ -78,8 +97,8 @@ def form_of(sort, item):
 
 
 def keys_of_object(sort, item):
-    """The keys of an object in a list of a call: those of its sort, and those of its form if it has one."""
-    further = FORMS[OBJECTS[sort]["forms"]].get(form_of(sort, item), {})
+    """The keys of an object in a call: those of its sort, and those of its form if it has one."""
+    further = forms_of(sort).get(form_of(sort, item), {})
     return {name: Key(text) for name, text in {**OBJECTS[sort]["keys"], **further}.items()}
 
 
@@ -88,12 +107,18 @@ def unbuilt(word):
     return CALLS.get(word, {}).get("unbuilt", {})
 
 
+def unbuilt_keys(word):
+    """The keys that a call is not built for yet: each as a list, of the key alone or of the key of a list and that of an object in it."""
+    return [path.split() for path in CALLS.get(word, {}).get("unbuilt keys", [])]
+
+
 def is_known(word):
     return word in CALLS or word in LATER
 
 
 def makes(word):
-    return CALLS.get(word, {}).get("makes") or ("pass" if word in BEGINS else None)
+    """The kind of what the call makes: an object, or a pass; None where it makes neither."""
+    return CALLS.get(word, {}).get("makes")
 
 
 def records(word):

@@ -14,7 +14,7 @@ PASS, GROUP = 182, 183
 OPEN = {PASS, GROUP}
 # The rule that nothing is used that was dropped: of an encoder that has ended well it is about what its commands name.
 DROPPED = 11
-# The rule that every usage scope is compatible, which is that of one dispatch.
+# The rule that every usage scope is compatible, which is that of one dispatch or of one render pass.
 SCOPE = 184
 # The rules that are the finish's own, and not those of a command.
 OF_FINISH = OPEN | {DROPPED, SCOPE}
@@ -152,7 +152,8 @@ def find(beside, finish, rule, program):
     found = opener(cuts, rule, closed) if rule in OPEN else first(cuts, rule, closed)
     if found is None:
         return None
-    return Found(cuts.commands[found - 1], found, len(cuts.commands), len(cuts.asked), said_of(rule))
+    call = cuts.commands[found - 1]
+    return Found(call, found, len(cuts.commands), len(cuts.asked), said_of(rule, beside.script.begin_of(call) is not None))
 
 
 def first(cuts, rule, closed):
@@ -177,9 +178,9 @@ def opener(cuts, rule, closed):
     return opening[0] if is_it else None
 
 
-def said_of(rule):
+def said_of(rule, is_of_render_pass):
     if rule == DROPPED:
         return "names what was dropped before the encoder was made"
     if rule == SCOPE:
-        return "has the first usage scope that is not compatible"
+        return "makes the usage scope of its pass one that is not compatible" if is_of_render_pass else "has the first usage scope that is not compatible"
     return "opens what is still open" if rule in OPEN else "invalidated the encoder"

@@ -15,10 +15,12 @@ ANSWERS = {"plain": "done", "bad": "bad: what is complete already, or was never 
 # The rules that set a call beside the entries of layouts; and what is a layout or has one.
 OF_LAYOUTS = {141, 142, *range(150, 158), 160, 326}
 LAYOUTS = ("bind group layout", "pipeline layout")
-WITH_LAYOUT = ("bind group", "compute pipeline")
-# The rules of a dispatch on what is set where it comes, and that of a command while a pass is open.
-OF_SET = {culprit.SCOPE, 340, 341, 342}
+WITH_LAYOUT = ("bind group", "compute pipeline", "render pipeline")
+# The rules of a dispatch or a draw on what is set where it comes, and that of a command while a pass is open.
+OF_SET = {culprit.SCOPE, 340, 341, 342, 350, 351, 352, 353}
 LOCKED = 240
+# The rules of a pipeline that is set, on what its pass draws to.
+OF_TARGETS = {320, 321}
 ACCESSES = {
     "read": "reads",
     "write": "writes",
@@ -130,12 +132,24 @@ class Explained:
             self.say(f"    {found.call.locked_by.name} is open there, from {script.where(found.call.locked_by.call)} on")
         if number in OF_LAYOUTS:
             self.layouts([name.what for _, name in found.call.names()])
+        if number in OF_TARGETS:
+            self.attached_at(found.call)
+            self.layouts([name.what for key, name in found.call.names() if key != "on"])
         if number in OF_SET:
-            self.set_at(found.call)
+            self.set_at(found.call, number == culprit.SCOPE)
 
-    def set_at(self, call):
-        """What is set where a dispatch comes, with the layouts of it all."""
-        setters, names = self.beside.script.set_at(call), []
+    def attached_at(self, call):
+        """What is attached to the render pass of a call, if it is on one."""
+        begin = self.beside.script.begin_of(call)
+        if begin is not None:
+            self.say(f"    attached there, at {self.beside.script.where(begin)}: {self.beside.script.said(begin)}")
+
+    def set_at(self, call, is_of_scope):
+        """What is set where a dispatch or a draw comes, with the layouts of it all; of the scope of a render pass all that it has attached and set."""
+        is_whole = is_of_scope and self.beside.script.begin_of(call) is not None
+        if is_whole:
+            self.attached_at(call)
+        setters, names = self.beside.script.set_before(call) if is_whole else self.beside.script.set_at(call), []
         for setter in setters:
             self.say(f"    set there, at {self.beside.script.where(setter)}: {self.beside.script.said(setter)}")
             names += [name.what for key, name in setter.names() if key != "on"]

@@ -131,7 +131,19 @@ def not_built(refusal, text, call, top):
         value = call.member(name)
         if value is not None and value.kind == "string" and value.what == word:
             return refusal.at(value.start, f"the word {quoted(word)} under {name}", f"{calls.keys_of(do.what)[name].expected()}: this word is not built yet")
+    for path in calls.unbuilt_keys(do.what if do is not None else None):
+        for key in keys_at(call, path):
+            return refusal.at(key.start, f"the key {key.what}", "no such key: it is not built yet")
     return refusal
+
+
+def keys_at(call, path):
+    """The keys of a call at a path: the key of that name, or those of that name of the objects in the list under the first."""
+    if len(path) == 1:
+        return [call.key(path[0])] if call.key(path[0]) else []
+    value = call.member(path[0])
+    items = value.what if value is not None and value.kind == "list" else []
+    return [item.key(path[1]) for item in items if item.kind == "object" and item.key(path[1])]
 
 
 def keys_of_call(refusal, text, call, top):
@@ -169,17 +181,27 @@ def wrong_values(refusal, text, owner, keys):
             found = shown(text.of(wrong))
             if wrong is value and value.kind == "list":
                 found = f"a list of {len(value.what)}"
-            hint = near(wrong.what, calls.WORDS[key.detail]) if key.sort == "word" and wrong.kind == "string" else None
+            hint = near(wrong.what, calls.WORDS[key.detail]) if key.sort in ("word", "words") and wrong.kind == "string" else None
             return refusal.at(wrong.start, f"{found} under {name}", key.expected(), hint)
-        for item in value.what if value is not None and key.sort == "objects" else []:
+        for item in objects_in(value, key):
             if wrong_object(refusal, text, item, key.detail):
                 return refusal
     return None
 
 
+def objects_in(value, key):
+    """The objects that stand under a key, in a list or alone."""
+    if value is None or key.sort not in ("object", "objects"):
+        return []
+    return [value] if key.sort == "object" else [item for item in value.what if item.kind == "object"]
+
+
 def wrong_object(refusal, text, item, sort):
-    """Whether an object in a list of a call has wrong keys or values. Its form is looked at first, since its keys hang on that."""
-    said, by, forms = calls.OBJECTS[sort]["said"], calls.form_key(sort), calls.FORMS[calls.OBJECTS[sort]["forms"]]
+    """Whether an object in a call has wrong keys or values. Its form is looked at first, since its keys hang on that."""
+    said, by, forms = calls.OBJECTS[sort]["said"], calls.form_key(sort), calls.forms_of(sort)
+    if not forms:
+        keys = calls.keys_of_object(sort, item)
+        return wrong_keys(refusal, item, said, keys) or wrong_values(refusal, text, item, keys)
     form = calls.form_of(sort, item)
     if form is None and by is None:
         return refusal.at(item.start, "none of the keys " + ", ".join(forms), f"one of them: {said} has just one")
@@ -206,13 +228,23 @@ def wrong_in(value, key):
         return None if value.kind in ("true", "false") else value
     if key.sort == "word":
         return None if value.kind == "string" and value.what in calls.WORDS[key.detail] else value
-    if key.sort in ("names", "numbers", "objects"):
+    if key.sort == "object":
+        return None if value.kind == "object" else value
+    if key.sort in ITEMS:
         if value.kind != "list" or len(value.what) > 1024:
             return value
-        if key.sort == "numbers":
-            return next((item for item in value.what if not is_whole(item, int(key.detail))), None)
-        return next((item for item in value.what if item.kind != ("string" if key.sort == "names" else "object")), None)
+        items = [item for item in value.what if not (key.may_have_null and item.kind == "null")]
+        return next((item for item in items if not ITEMS[key.sort](item, key)), None)
     return None if value.kind == "string" else value
+
+
+# Whether an item of a list is what the list's sort asks for.
+ITEMS = {
+    "names": lambda item, key: item.kind == "string",
+    "numbers": lambda item, key: is_whole(item, int(key.detail)),
+    "words": lambda item, key: item.kind == "string" and item.what in calls.WORDS[key.detail],
+    "objects": lambda item, key: item.kind == "object",
+}
 
 
 def is_whole(value, bits):
@@ -233,6 +265,7 @@ def used_names(refusal, text, call, top):
     script = scripts.Script(text, top)
     user = next(each for each in script.calls if each.place == refusal.place)
     for key, value, kinds in user.wanted_names():
+        kinds = of_pass(script, user, kinds)
         maker = script.made.get(value.what)
         is_visible = maker is not None and sees(user, maker)
         if refusal.rule == 10 and not is_visible:
@@ -245,6 +278,13 @@ def used_names(refusal, text, call, top):
             made = f"{value.what} was made at {script.where(maker)}"
             return refusal.at(value.start, f"the name {value.what} under on", "an encoder or a pass that this lane opened in this phase", made)
     return refusal
+
+
+def of_pass(script, user, kinds):
+    """Of the kinds of pipelines that a call takes just the one of the kind of pass that it stands on."""
+    maker = script.made.get(scripts.string_of(user.value, "on"))
+    wanted = calls.PIPELINES.get(calls.makes(maker.word)) if maker is not None else None
+    return [wanted] if wanted in kinds else kinds
 
 
 def sees(user, maker):

@@ -2,6 +2,9 @@
 
 import calls
 
+# The calls that set something of a pass, with the key that says where, if several stand side by side.
+SETS = {"setPipeline": None, "setBindGroup": "index", "setVertexBuffer": "slot", "setIndexBuffer": None}
+
 
 class Call:
     """A call of a script. `place` is its phase, lane and number in the lane, `locked_by` the pass that is open on the encoder on which it records."""
@@ -47,8 +50,8 @@ def names_in(value, keys):
             found.append((key, member, wanted.kinds()))
         if wanted.sort == "names" and member.kind == "list":
             found += [(key, item, wanted.kinds()) for item in member.what if item.kind == "string"]
-        if wanted.sort == "objects" and member.kind == "list":
-            items = [item for item in member.what if item.kind == "object"]
+        if wanted.sort in ("object", "objects"):
+            items = [item for item in ([member] if wanted.sort == "object" else member.what if member.kind == "list" else []) if item.kind == "object"]
             found += [name for item in items for name in names_in(item, calls.keys_of_object(wanted.detail, item))]
     return found
 
@@ -125,17 +128,25 @@ class Script:
             encoder.open_pass = None
 
     def set_at(self, call):
-        """What is set of a pass where a call records on it: the last setPipeline, and the last setBindGroup of each index, least indexes first."""
+        """What is set of a pass where a call records on it: the last setPipeline, the last setBindGroup of each index and setVertexBuffer of each
+        slot, least indexes and slots first, and the last setIndexBuffer."""
+        found = {}
+        for command in self.set_before(call):
+            at = SETS[command.word]
+            found[list(SETS).index(command.word), command.number(at, 0) if at else 0] = command
+        return [found[at] for at in sorted(found)]
+
+    def begin_of(self, call):
+        """The begin of the render pass on which a call records, or None where it is on none."""
+        place = self.places.get(string_of(call.value, "on"))
+        return place.call if place is not None and calls.makes(place.call.word) == "render pass" else None
+
+    def set_before(self, call):
+        """What a call's pass has set before it, overwritten or not, in order."""
         place = self.places[string_of(call.value, "on")]
-        pipeline, groups = None, {}
-        for command in place.encoder.commands if place.encoder else []:
-            if command is call:
-                break
-            if string_of(command.value, "on") == place.name and command.word == "setPipeline":
-                pipeline = command
-            if string_of(command.value, "on") == place.name and command.word == "setBindGroup":
-                groups[command.number("index")] = command
-        return [pipeline] * bool(pipeline) + [groups[index] for index in sorted(groups)]
+        commands = place.encoder.commands if place.encoder else []
+        before = commands[: commands.index(call)] if call in commands else commands
+        return [command for command in before if string_of(command.value, "on") == place.name and command.word in SETS]
 
     def where(self, call):
         return self.text.where(call.value.start)

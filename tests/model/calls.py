@@ -4,7 +4,7 @@ A key is a tuple of its name, the sort of its value, and the value that it has w
 uses stand in the order in which script rules 10 and 11 look at them.
 """
 
-from formats import ACCESS_WORDS, ASPECT_WORDS, FORMATS, SAMPLE_WORDS, TEXTURE_DIMS, VIEW_DIMS
+from formats import ACCESS_WORDS, ASPECT_WORDS, FORMATS, SAMPLE_WORDS, TEXTURE_DIMS, VERTEX_FORMATS, VIEW_DIMS
 from scopes import FILTERS
 
 NEEDED = object()
@@ -21,21 +21,23 @@ NAME = "name that is given"
 BUFFER = ("name", ("buffer",))
 TEXTURE = ("name", ("texture",))
 ENCODER = ("name", ("encoder",))
-PASS = ("name", ("compute pass",))
-ENCODER_OR_PASS = ("name", ("encoder", "compute pass"))
+COMPUTE_PASS = ("name", ("compute pass",))
+RENDER_PASS = ("name", ("render pass",))
+PASS = ("name", ("compute pass", "render pass"))
+ENCODER_OR_PASS = ("name", ("encoder", "compute pass", "render pass"))
 VIEW = ("name", ("view",))
 SAMPLER = ("name", ("sampler",))
 GROUP_LAYOUT = ("name", ("bind group layout",))
 GROUP_LAYOUTS = ("names", ("bind group layout",))
 PIPELINE_LAYOUT = ("name", ("pipeline layout",))
 GROUP = ("name", ("bind group",))
-PIPELINE = ("name", ("compute pipeline",))
+PIPELINE = ("name", ("compute pipeline", "render pipeline"))
 RESOURCE = ("name", ("buffer", "texture"))
 OBJECT = (
     "name",
     (
-        "buffer", "texture", "view", "sampler", "bind group layout", "pipeline layout", "bind group", "compute pipeline", "encoder",
-        "command buffer",
+        "buffer", "texture", "view", "sampler", "bind group layout", "pipeline layout", "bind group", "compute pipeline", "render pipeline",
+        "encoder", "command buffer",
     ),
 )
 COMMAND_BUFFERS = ("names", ("command buffer",))
@@ -50,11 +52,15 @@ LAYOUT = [("offset", WHOLE, 0), ("bytesPerRow", WORD32, None), ("rowsPerImage", 
 ORIGIN = (0, 0, 0)
 SPOT = [("texture", TEXTURE, NEEDED), ("mip", WORD32, 0), ("origin", THREE, ORIGIN), ("aspect", word(ASPECT_WORDS), "all"), ("size", THREE, NEEDED)]
 ON = ("on", ENCODER, NEEDED)
+ON_COMPUTE = ("on", COMPUTE_PASS, NEEDED)
+ON_RENDER = ("on", RENDER_PASS, NEEDED)
 ON_PASS = ("on", PASS, NEEDED)
 ON_EITHER = ("on", ENCODER_OR_PASS, NEEDED)
 AS = ("as", NAME, NEEDED)
 
 SAMPLER_WORDS = ("filtering", "non-filtering", "comparison")
+LOAD = word(("load", "clear"))
+STORE = word(("store", "discard"))
 BUFFER_KEYS = [("dynamic", FLAG, False), ("minSize", WHOLE, 0)]
 
 # The further keys that an entry of a layout or an interface has, by its kind.
@@ -84,6 +90,10 @@ def iface_entry_keys(item):
     return [("group", WORD32, NEEDED), ("binding", WORD32, NEEDED), KIND, *KIND_KEYS[item["kind"]]]
 
 
+def render_iface_entry_keys(item):
+    return [("stage", word(("vertex", "fragment")), NEEDED), *iface_entry_keys(item)]
+
+
 def group_entry_keys(item):
     return [("binding", WORD32, NEEDED), *BOUND_KEYS[bound_by(item)]]
 
@@ -93,11 +103,42 @@ def bound_by(item):
     return next((key for key in BOUND_KEYS if key in item), "buffer")
 
 
-# Sorts of values that are lists of objects: which keys an object has. What has to be known of it for that, its kind, is tested
-# before.
+def attribute_keys(item):
+    return [("format", word(VERTEX_FORMATS), NEEDED), ("offset", WORD32, NEEDED), ("location", WORD32, NEEDED)]
+
+
+def vertex_buffer_keys(item):
+    return [("stride", WORD32, NEEDED), ("step", word(("vertex", "instance")), "vertex"), ("attributes", ("objects", attribute_keys), NEEDED)]
+
+
+def depth_state_keys(item):
+    return [("format", word(FORMATS), NEEDED), ("depthWrite", FLAG, False), ("stencilWrite", FLAG, False)]
+
+
+def color_keys(item):
+    return [("view", VIEW, NEEDED), ("resolve", VIEW, None), ("load", LOAD, NEEDED), ("store", STORE, NEEDED)]
+
+
+def depth_keys(item):
+    return [
+        ("view", VIEW, NEEDED), ("depthLoad", LOAD, None), ("depthStore", STORE, None), ("depthReadOnly", FLAG, False),
+        ("stencilLoad", LOAD, None), ("stencilStore", STORE, None), ("stencilReadOnly", FLAG, False),
+    ]
+
+
+# Sorts of values that are objects, or lists of them: which keys an object has. What has to be known of it for that, its kind, is
+# tested before, of those that have one.
 LAYOUT_ENTRIES = ("objects", layout_entry_keys)
 IFACE_ENTRIES = ("objects", iface_entry_keys)
+RENDER_IFACE_ENTRIES = ("objects", render_iface_entry_keys)
 GROUP_ENTRIES = ("objects", group_entry_keys)
+VERTEX_BUFFERS = ("objects", vertex_buffer_keys)
+TARGETS = ("words or nulls", tuple(FORMATS))
+DEPTH_STATE = ("object", depth_state_keys)
+COLORS = ("objects or nulls", color_keys)
+DEPTH = ("object", depth_keys)
+WITH_KIND = (layout_entry_keys, iface_entry_keys, render_iface_entry_keys)
+WITH_NAMES = ("name", "names", "object", "objects", "objects or nulls")
 
 CALLS = {
     "createBuffer": [("size", WHOLE, NEEDED), ("usage", WORD32, NEEDED), ("mapped", FLAG, False), AS],
@@ -114,6 +155,10 @@ CALLS = {
     "createPipelineLayout": [("layouts", GROUP_LAYOUTS, NEEDED), AS],
     "createBindGroup": [("layout", GROUP_LAYOUT, NEEDED), ("entries", GROUP_ENTRIES, NEEDED), AS],
     "createComputePipeline": [("layout", PIPELINE_LAYOUT, NEEDED), ("iface", IFACE_ENTRIES, ()), AS],
+    "createRenderPipeline": [
+        ("layout", PIPELINE_LAYOUT, NEEDED), ("iface", RENDER_IFACE_ENTRIES, ()), ("buffers", VERTEX_BUFFERS, ()), ("targets", TARGETS, ()),
+        ("depth", DEPTH_STATE, None), ("samples", WORD32, 1), AS,
+    ],
     "createEncoder": [AS],
     "finish": [ON, AS],
     "submit": [("buffers", COMMAND_BUFFERS, NEEDED)],
@@ -140,10 +185,23 @@ CALLS = {
     ],
     "clearBuffer": [ON, ("buffer", BUFFER, NEEDED), ("offset", WHOLE, 0), ("size", WHOLE, None)],
     "beginComputePass": [ON, AS],
+    "beginRenderPass": [ON, ("colors", COLORS, NEEDED), ("depth", DEPTH, None), AS],
     "setPipeline": [ON_PASS, ("pipeline", PIPELINE, NEEDED)],
     "setBindGroup": [ON_PASS, ("index", WORD32, NEEDED), ("group", GROUP, NEEDED), ("offsets", WORDS32, ())],
-    "dispatch": [ON_PASS, ("x", WORD32, NEEDED), ("y", WORD32, 1), ("z", WORD32, 1)],
-    "dispatchIndirect": [ON_PASS, ("buffer", BUFFER, NEEDED), ("offset", WHOLE, NEEDED)],
+    "dispatch": [ON_COMPUTE, ("x", WORD32, NEEDED), ("y", WORD32, 1), ("z", WORD32, 1)],
+    "dispatchIndirect": [ON_COMPUTE, ("buffer", BUFFER, NEEDED), ("offset", WHOLE, NEEDED)],
+    "setVertexBuffer": [ON_RENDER, ("slot", WORD32, NEEDED), ("buffer", BUFFER, NEEDED), ("offset", WHOLE, 0), ("size", WHOLE, None)],
+    "setIndexBuffer": [
+        ON_RENDER, ("buffer", BUFFER, NEEDED), ("format", word(("uint16", "uint32")), NEEDED), ("offset", WHOLE, 0), ("size", WHOLE, None),
+    ],
+    "draw": [
+        ON_RENDER, ("vertices", WORD32, NEEDED), ("instances", WORD32, 1), ("firstVertex", WORD32, 0), ("firstInstance", WORD32, 0),
+    ],
+    "drawIndexed": [
+        ON_RENDER, ("indices", WORD32, NEEDED), ("instances", WORD32, 1), ("firstIndex", WORD32, 0), ("firstInstance", WORD32, 0),
+    ],
+    "drawIndirect": [ON_RENDER, ("buffer", BUFFER, NEEDED), ("offset", WHOLE, NEEDED)],
+    "drawIndexedIndirect": [ON_RENDER, ("buffer", BUFFER, NEEDED), ("offset", WHOLE, NEEDED)],
     "end": [ON_PASS],
     "pushDebugGroup": [ON_EITHER],
     "popDebugGroup": [ON_EITHER],
@@ -151,17 +209,19 @@ CALLS = {
 
 # The calls that are known and not built yet.
 UNBUILT = set("""
-    createRenderPipeline createQuerySet createBundleEncoder beginRenderPass finishBundle resolveQuerySet setVertexBuffer setIndexBuffer
-    beginOcclusionQuery endOcclusionQuery executeBundles draw drawIndexed drawIndirect drawIndexedIndirect createCanvas configureCanvas
-    currentTexture present
+    createQuerySet createBundleEncoder finishBundle resolveQuerySet beginOcclusionQuery endOcclusionQuery executeBundles createCanvas
+    configureCanvas currentTexture present
 """.split())
 
 # The calls that record a command on an encoder, or on a pass of it.
 RECORDING = {
     "copyBufferToBuffer", "copyBufferToTexture", "copyTextureToBuffer", "copyTextureToTexture", "clearBuffer", "beginComputePass",
-    "setPipeline", "setBindGroup", "dispatch", "dispatchIndirect", "end", "pushDebugGroup", "popDebugGroup",
+    "beginRenderPass", "setPipeline", "setBindGroup", "dispatch", "dispatchIndirect", "setVertexBuffer", "setIndexBuffer", "draw",
+    "drawIndexed", "drawIndirect", "drawIndexedIndirect", "end", "pushDebugGroup", "popDebugGroup",
 }
+BEGINS = {"beginComputePass", "beginRenderPass"}
 DISPATCHES = {"dispatch", "dispatchIndirect"}
+DRAWS = {"draw", "drawIndexed", "drawIndirect", "drawIndexedIndirect"}
 
 # The calls that queue an operation.
 QUEUED = {"submit", "writeBuffer", "writeTexture"}
@@ -174,22 +234,27 @@ WAITING = {"mapAsync", "workDone"}
 MADE = {
     "createBuffer": "buffer", "createTexture": "texture", "createView": "view", "createSampler": "sampler",
     "createBindGroupLayout": "bind group layout", "createPipelineLayout": "pipeline layout", "createBindGroup": "bind group",
-    "createComputePipeline": "compute pipeline", "createEncoder": "encoder", "finish": "command buffer",
+    "createComputePipeline": "compute pipeline", "createRenderPipeline": "render pipeline", "createEncoder": "encoder",
+    "finish": "command buffer",
 }
 
 # What the name stands for that a call gives. A pass is no object.
-GIVEN = MADE | {"beginComputePass": "compute pass"}
+GIVEN = MADE | {"beginComputePass": "compute pass", "beginRenderPass": "render pass"}
 
 
 def name_keys(do):
     """The keys of a call whose values use names, in order, each with its sort."""
-    return [(key, sort) for key, sort, _ in CALLS[do] if sort[0] in ("name", "names", "objects")]
+    return [(key, sort) for key, sort, _ in CALLS[do] if sort[0] in WITH_NAMES]
 
 
 def names_in(sort, value):
-    """The names that a value uses, in order, each with what it may stand for."""
+    """The names that a value uses, in order, each with what it may stand for. What is left out, or is null, uses none."""
+    if sort[0] not in WITH_NAMES or value is None:
+        return []
     if sort[0] == "name":
         return [(value, sort[1])]
     if sort[0] == "names":
         return [(name, sort[1]) for name in value]
-    return [found for item in value for key, inner, _ in sort[1](item) if inner[0] == "name" for found in names_in(inner, item[key])]
+    if sort[0] == "object":
+        return [found for key, inner, _ in sort[1](value) for found in names_in(inner, value[key])]
+    return [found for item in value for found in names_in(("object", sort[1]), item)]

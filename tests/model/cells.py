@@ -25,6 +25,15 @@ def in_buffer(buffer, offset, size, usage, kind):
     return [(("b", buffer.made, offset, offset + size), usage, kind)] if size > 0 else []
 
 
+def set_in_buffer(buffer, offset, size, usage, kind):
+    """A range of a buffer that is set in a pass; by an empty one the buffer is used, and no byte is accessed."""
+    return [(("b", buffer.made, offset, offset + size), usage, kind)]
+
+
+def is_empty(cell):
+    return cell[0] == "b" and cell[2] == cell[3]
+
+
 def in_texture(texture, cells, usage, kind):
     """Subresources of a texture, given as triples of aspect, mip level and layer."""
     return [(("t", texture.made, formats.ASPECTS.index(aspect), mip, layer), usage, kind) for aspect, mip, layer in cells]

@@ -6,6 +6,22 @@ VIEW_DIMS = ("1d", "2d", "2d-array", "cube", "cube-array", "3d")
 SAMPLE_WORDS = ("float", "unfilterable-float", "depth", "sint", "uint")
 ACCESS_WORDS = ("read-only", "write-only", "read-write")
 
+# The bytes that an attribute of a vertex buffer takes, for each of its formats.
+VERTEX_FORMATS = {
+    "uint8x2": 2,
+    "uint8x4": 4,
+    "unorm8x4": 4,
+    "uint16x2": 4,
+    "float16x2": 4,
+    "float32": 4,
+    "uint32": 4,
+    "sint32": 4,
+    "float16x4": 8,
+    "float32x2": 8,
+    "float32x3": 12,
+    "float32x4": 16,
+}
+
 # The aspects in the order in which they are printed.
 ASPECTS = ("color", "depth", "stencil")
 

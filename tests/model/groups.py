@@ -1,6 +1,6 @@
-"""The rules of what is bound: bind group layouts, pipeline layouts, bind groups and compute pipelines.
+"""The rules of what is bound: bind group layouts, pipeline layouts and bind groups.
 
-An entry of a layout, of an interface or of a bind group is the dictionary that the script has, with all of its keys. An entry
+An entry of a layout or of a bind group is the dictionary that the script has, with all of its keys. An entry
 of a bind group goes with the object that it binds.
 """
 
@@ -152,7 +152,7 @@ def buffer_rules(in_buffers):
 
 def view_rules(bound):
     """Rules 155 and 156, on pairs of what is asked and a view."""
-    told = [(asked, textures.view_of(view.call, view.uses["texture"].call, True), view.uses["texture"].call) for asked, view in bound]
+    told = [(asked, textures.told(view), view.uses["texture"].call) for asked, view in bound]
     for asked, view, texture in told:
         if asked["kind"] == "texture":
             yield from sampled_rules(asked, view, texture)
@@ -182,16 +182,3 @@ def takes_sample(asked, sampled):
 def takes_sampler(asked, kind):
     """A sampler is of the kind that is asked for; one that does not filter will do for one that does."""
     return kind == asked or (kind, asked) == ("non-filtering", "filtering")
-
-
-def pipeline_rules(layouts, iface):
-    """The own rule of createComputePipeline, on the entries of the layouts of its layout."""
-    for used in iface:
-        yield 160, "group", used["group"] < len(layouts)
-        found = [entry for entry in layouts[used["group"]] if entry["binding"] == used["binding"]]
-        yield 160, "binding", found != []
-        yield 160, "visible", found[0]["visibility"] & COMPUTE != 0
-        yield 160, "kind", found[0]["kind"] == used["kind"]
-        for key in ("type", "sample", "dim", "multi", "access", "format"):
-            if key in used:
-                yield 160, f"{key} of {used['kind']}", found[0][key] == used[key]

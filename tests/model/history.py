@@ -12,7 +12,7 @@ from calls import RECORDING, WAITING, name_keys, names_in
 
 
 # The calls that make an object which refers to all that they name.
-REFERRING = {"createView", "createPipelineLayout", "createBindGroup", "createComputePipeline"}
+REFERRING = {"createView", "createPipelineLayout", "createBindGroup", "createComputePipeline", "createRenderPipeline"}
 
 
 class Played:
@@ -57,8 +57,12 @@ class Played:
         return found
 
     def named(self):
-        """The objects that a command names, with their keys: all but what it stands on."""
-        return [(key, thing) for key, thing in self.uses.items() if key != "on"]
+        """The objects that a command names, with their keys: all but what it stands on. A begin of a render pass names its views."""
+        found = []
+        for key, value in self.uses.items():
+            if key != "on":
+                found += [(key, thing) for thing in (value if type(value) is list else [value])]
+        return found
 
 
 def encoder_of(place):
@@ -67,7 +71,7 @@ def encoder_of(place):
 
 
 def resources_in(thing):
-    """The buffers and textures that one names who names an object: it itself, or what a bind group binds, with the texture of a view."""
+    """The buffers and textures that one names who names an object: it itself, the texture of a view, or what a bind group binds."""
     if thing.do in ("createBuffer", "createTexture"):
         return [thing]
     if thing.do == "createView":
@@ -89,7 +93,7 @@ class History:
         self.played_of[played.do].append(played)
 
     def uses_of(self, call):
-        """The objects that the names of a call stand for, key by key; of a list, be it of names or of objects, a list."""
+        """The objects that the names of a call stand for, key by key; of an object, and of a list of names or of objects, a list."""
         uses = {}
         for key, sort in name_keys(call["do"]):
             found = [self.names[name] for name, _ in names_in(sort, call[key])]
@@ -158,8 +162,8 @@ class History:
         """Whether an object holds one that was dropped.
 
         A valid object that is itself held holds what it refers to: a view its texture, a pipeline layout its bind group layouts, a
-        bind group its layout and what it binds, a compute pipeline its layout. A valid command buffer that is neither consumed nor
-        dropped holds what it names; and an encoder that is open, valid or not, holds all that was dropped since it was made.
+        bind group its layout and what it binds, a pipeline its layout. A valid command buffer that is neither consumed nor dropped
+        holds what it names; and an encoder that is open, valid or not, holds all that was dropped since it was made.
         """
         if other.do in REFERRING:
             return thing in other.referred() and other.is_valid and self.is_held(other)
@@ -186,8 +190,8 @@ class History:
         return max([played.op for played in self.played if played.op is not None and thing in self.used_by(played)], default=0)
 
     def used_by(self, played):
-        """What an operation uses: a write its target, also where its size is 0; a submit what its commands name, and what is bound in the
-        groups that they set."""
+        """What an operation uses: a write its target, also where its size is 0; a submit what its commands name, with the textures of the
+        views that they attach, and what is bound in the groups that they set."""
         if played.do == "submit":
             return self.resources_of(played.uses["buffers"])
         return [played.uses["buffer" if played.do == "writeBuffer" else "texture"]]
@@ -198,8 +202,8 @@ class History:
         return [thing for command in commands for _, thing in command.named()]
 
     def resources_of(self, command_buffers):
-        """The buffers and textures that the commands of some command buffers name, themselves or through a bind group, whether or not
-        a step comes of it."""
+        """The buffers and textures that the commands of some command buffers name, themselves, through a view that they attach, or
+        through a bind group, whether or not a step comes of it."""
         return [found for thing in self.named_by(command_buffers) for found in resources_in(thing)]
 
     def resources(self):

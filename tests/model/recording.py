@@ -1,12 +1,13 @@
 """The rules of commands on an encoder, and the rule that invalidates it.
 
 A command makes no fault when it is recorded. The first rule that goes to an encoder stays with it, and it is invalid from then
-on. A pass keeps the first rule of its own commands, and hands it over by its end.
+on. A pass keeps the first rule of its begin and its own commands, and hands it over by its end.
 """
 
 import buffers
 import copies
 import passes
+from calls import BEGINS
 from rules import first_unmet
 
 
@@ -25,15 +26,16 @@ def rule_given(command, earlier):
     if command.uses["on"].do == "createEncoder":
         return first_unmet(command.do, command_rules(command, earlier, open_pass))
     if command.do == "end" and command.uses["on"] is open_pass:
-        return passes.pass_rule(passes.on(open_pass, earlier) + [command])
+        return passes.pass_rule(open_pass, passes.on(open_pass, earlier) + [command])
     return None
 
 
 def command_rules(command, earlier, open_pass):
-    """The rules of a command on an encoder, after the earlier commands."""
+    """The rules of a command on an encoder, after the earlier commands. All but the first of a begin go to the pass that it begins."""
     yield 240, "no pass is open", open_pass is None
-    yield from passes.named_rules(command)
-    yield from own_rules(command, passes.on(command.uses["on"], earlier))
+    if command.do not in BEGINS:
+        yield from passes.named_rules(command)
+        yield from own_rules(command, passes.on(command.uses["on"], earlier))
 
 
 def own_rules(command, earlier):

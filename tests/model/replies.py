@@ -6,11 +6,12 @@ import groups
 import maps
 import memory
 import passes
+import pipelines
 import promises
 import recording
 import scopes
 import textures
-from calls import MADE, PROMISING, QUEUED, RECORDING, bound_by
+from calls import BEGINS, MADE, PROMISING, QUEUED, RECORDING, bound_by
 from history import History, Played
 from rules import first_unmet, note
 
@@ -31,7 +32,7 @@ def play(budget, calls):
 def answer_call(history, call):
     """Plays one call. A command that comes in time makes no entry; all else does."""
     played = Played(call, history.uses_of(call))
-    if played.do == "beginComputePass":
+    if played.do in BEGINS:
         history.names[call["as"]] = played
     if played.do in RECORDING and not history.has_ended(played.uses["on"]):
         note("late", LATE_RULE, "in time", True)
@@ -120,8 +121,9 @@ def rules_of(history, played):
     if played.do == "createBindGroup":
         return bind_group_rules(history, call, uses)
     if played.do == "createComputePipeline":
-        layouts = [layout.call["entries"] for layout in uses["layout"].uses["layouts"]]
-        return of_object(history, "layout", uses["layout"], groups.pipeline_rules(layouts, call["iface"]))
+        return of_object(history, "layout", uses["layout"], pipelines.compute_rules(layouts_of(uses["layout"]), call["iface"]))
+    if played.do == "createRenderPipeline":
+        return of_object(history, "layout", uses["layout"], pipelines.render_rules(layouts_of(uses["layout"]), call))
     if played.do == "writeBuffer":
         return of_object(history, "target", uses["buffer"], write_buffer_rules(history, call, uses["buffer"]))
     if played.do == "writeTexture":
@@ -136,6 +138,11 @@ def rules_of(history, played):
     if played.do in AS_EVER:
         return own_and_kept(history, "object", *uses.values())
     return iter([])
+
+
+def layouts_of(pipeline_layout):
+    """The entries of each bind group layout of a pipeline layout."""
+    return [layout.call["entries"] for layout in pipeline_layout.uses["layouts"]]
 
 
 def making_rules(history, call, own_rules):
@@ -214,4 +221,6 @@ def used_rules(history, used, named):
 
 def through(thing, named):
     """A word for the counts, where no command names a buffer or texture itself."""
-    return "" if thing in named else " in a bind group"
+    if thing in named:
+        return ""
+    return " that is attached" if any(one.do == "createView" and one.uses["texture"] is thing for one in named) else " in a bind group"

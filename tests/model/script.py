@@ -5,7 +5,7 @@ is gone through in order, and of each call 5, 6, 13, 7 and 8 are tested.
 """
 
 import json_text
-from calls import CALLS, FLAG, KIND, NAME, NEEDED, THREE, UNBUILT, WHOLE, WORD32, WORDS32, group_entry_keys
+from calls import CALLS, FLAG, KIND, NAME, NEEDED, THREE, UNBUILT, WHOLE, WITH_KIND, WORD32, WORDS32
 from rules import note
 
 MOST_BYTES = 4_194_304
@@ -82,21 +82,29 @@ def read_call(place, call):
     do = call.get("do")
     ask(6, "word", type(do) is str and (do in CALLS or do in UNBUILT), place)
     ask(13, "call", do in CALLS, place)
-    if do == "createComputePipeline":
+    if do in ("createComputePipeline", "createRenderPipeline"):
         ask(13, "auto", call.get("layout") != "auto", place)
+    if do == "beginRenderPass":
+        ask(13, "queries", "queries" not in call, place)
+        ask(13, "depthSlice", not has_depth_slice(call.get("colors")), place)
     keys = CALLS[do]
     ask(7, "unknown key", set(call) <= {"do"} | {key for key, _, _ in keys}, place)
     ask(7, "missing key", all(key in call for key, _, default in keys if default is NEEDED), place)
     return {"do": do} | read_values(place, "", call, keys)
 
 
+def has_depth_slice(colors):
+    """Some item of a list is an object with the key `depthSlice`."""
+    return type(colors) is list and any(type(item) is dict and "depthSlice" in item for item in colors)
+
+
 def read_values(place, where, value, keys):
-    """The values of a call, or of an object in a list of it, one key after another."""
+    """The values of a call, or of an object in it, one key after another."""
     return {key: read_value(place, where, sort, value[key]) if key in value else default for key, sort, default in keys}
 
 
 def read_value(place, where, sort, value):
-    """Rule 8: the value is of the sort that its key has. The objects of a list get all their keys."""
+    """Rule 8: the value is of the sort that its key has. Objects get all their keys."""
     if sort == WHOLE:
         ask(8, f"whole number{where}", is_whole(value, GREATEST_WHOLE), place)
     elif sort == WORD32:
@@ -114,18 +122,24 @@ def read_value(place, where, sort, value):
         ask(8, f"name{where}", type(value) is str, place)
     elif sort[0] == "word":
         ask(8, f"word{where}", type(value) is str and value in sort[1], place)
+    elif sort[0] == "object":
+        return read_item(place, sort[1], value)
     else:
         return read_list(place, sort, value)
     return value
 
 
 def read_list(place, sort, value):
-    """A list of names, or of objects."""
+    """A list of names, of words, or of objects; of the latter two with nulls among them or not."""
     ask_list(place, sort[0], value)
     if sort[0] == "names":
         ask(8, "names", all(type(item) is str for item in value), place)
         return value
-    return [read_item(place, sort[1], item) for item in value]
+    if sort[0] == "words or nulls":
+        ask(8, "words or nulls", all(item is None or type(item) is str and item in sort[1] for item in value), place)
+        return value
+    is_nullable = sort[0] == "objects or nulls"
+    return [None if item is None and is_nullable else read_item(place, sort[1], item) for item in value]
 
 
 def ask_list(place, of, value):
@@ -134,9 +148,9 @@ def ask_list(place, of, value):
 
 
 def read_item(place, keys_of, item):
-    """An object of a list, which breaks rule 8 alone. Where its keys hang on its kind, that is looked at first."""
+    """An object in a call, which breaks rule 8 alone. Where its keys hang on its kind, that is looked at first."""
     ask(8, "object", type(item) is dict, place)
-    if keys_of is not group_entry_keys:
+    if keys_of in WITH_KIND:
         ask(8, "missing kind", "kind" in item, place)
         read_value(place, " in an object", KIND[1], item["kind"])
     keys = keys_of(item)

@@ -4,16 +4,23 @@ import copies
 import formats
 import passes
 import recording
-from calls import DISPATCHES
-from cells import in_buffer, in_texture, part_of
+from cells import in_buffer, in_texture, is_empty, part_of
 from maps import host_accesses
 
 # Usages in printed order, as far as steps of today use them.
-USAGES = ("input", "constant", "storage", "storage-read", "copy-src", "copy-dst", "host-read", "host-write", "clear")
+USAGES = (
+    "input", "constant", "storage", "storage-read", "attachment", "attachment-read", "copy-src", "copy-dst", "host-read", "host-write",
+    "clear",
+)
+
+# The accesses that read what is there, those that write, and of the latter those that leave it unset.
+READING = ("read", "both", "readdrop")
+WRITING = ("write", "both", "drop", "readdrop")
+DROPPING = ("drop", "readdrop")
 
 
 class Step:
-    """A step: where it happens, its uses by part, and its accesses, pairs of a cell and `read`, `write` or `both`."""
+    """A step: where it happens, its uses by part, and its accesses, pairs of a cell and `read`, `write`, `both`, `drop` or `readdrop`."""
 
     def __init__(self, at, name, touches):
         self.at = at
@@ -22,13 +29,16 @@ class Step:
         self.accesses = []
         for cell, usage, kind in touches:
             self.uses.setdefault(part_of(cell), set()).add(usage)
-            self.accesses.append((cell, kind))
+            self.accesses += [] if is_empty(cell) else [(cell, kind)]
 
     def reads(self):
-        return [cell for cell, kind in self.accesses if kind in ("read", "both")]
+        return [cell for cell, kind in self.accesses if kind in READING]
 
     def writes(self):
-        return [cell for cell, kind in self.accesses if kind in ("write", "both")]
+        return [cell for cell, kind in self.accesses if kind in WRITING]
+
+    def drops(self):
+        return [cell for cell, kind in self.accesses if kind in DROPPING]
 
 
 def groups_of(history, played):
@@ -52,11 +62,13 @@ def host_steps(entry, name, buffer, mapping):
 
 
 def command_steps(commands, at):
-    """The steps of recorded commands. A dispatch makes one whatever it touches; a copy or clear of size 0 makes none, nor do others."""
+    """The steps of recorded commands. A dispatch makes one whatever it touches, and so does a render pass as a whole; a copy or clear
+    of size 0 makes none, nor do others."""
     steps = []
-    for place, command in enumerate(commands):
-        if command.do in DISPATCHES:
-            steps.append(Step(at, "dispatch", passes.touches_of_dispatch(command, passes.on(command.uses["on"], commands[:place]))))
+    for command in commands:
+        in_scope = passes.touches_of_scope(command, commands)
+        if in_scope is not None:
+            steps.append(Step(at, "renderPass" if command.do == "beginRenderPass" else "dispatch", in_scope))
         elif touches := touches_of(command):
             steps.append(Step(at, command.do, touches))
     return steps

@@ -79,13 +79,17 @@ def view_of(call, texture, is_valid):
     return call | {key: value for key, value in left_out.items() if call[key] is None}
 
 
+def told(view):
+    """What a valid view is, with the keys that were left out."""
+    return view_of(view.call, view.uses["texture"].call, True)
+
+
 def subresources_of_view(view):
     """The subresources of a valid view, as triples of aspect, mip level and layer. One of a 3D texture has the layer 0."""
-    texture = view.uses["texture"].call
-    told = view_of(view.call, texture, True)
-    aspects = formats.named_aspects(texture["format"], told["aspect"])
-    mips = range(told["baseMip"], told["baseMip"] + told["mips"])
-    layers = range(told["baseLayer"], told["baseLayer"] + told["layers"])
+    known = told(view)
+    aspects = formats.named_aspects(view.uses["texture"].call["format"], known["aspect"])
+    mips = range(known["baseMip"], known["baseMip"] + known["mips"])
+    layers = range(known["baseLayer"], known["baseLayer"] + known["layers"])
     return [(aspect, mip, layer) for aspect in aspects for mip in mips for layer in layers]
 
 

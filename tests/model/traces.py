@@ -7,7 +7,7 @@ over the steps that the trace has so far.
 from steps import Step, groups_of
 
 # The usages that only read, as far as steps of today use them.
-ONLY_READ = {"input", "constant", "storage-read", "copy-src", "host-read"}
+ONLY_READ = {"input", "constant", "storage-read", "attachment-read", "copy-src", "host-read"}
 
 
 def trace_of(history):
@@ -32,12 +32,12 @@ def add_group(items, group):
     needed = []
     for place, step in enumerate(group):
         for cell in cut(step.reads(), known + group):
-            if not is_written(cell, group[:place]) and not is_written(cell, known):
+            if not is_written(cell, group[:place]) and not is_set(cell, known):
                 needed.append(cell)
     add_clear(items, needed, group[0].at)
     for step in group:
         known = steps_in(items)
-        add_clear(items, [cell for cell in cut(step.reads(), known) if not is_written(cell, known)], step.at)
+        add_clear(items, [cell for cell in cut(step.reads(), known) if not is_set(cell, known)], step.at)
         add_step(items, step)
 
 
@@ -70,6 +70,12 @@ def last_set(part, steps):
 def is_written(cell, steps):
     """Some step writes the cell. A run of bytes is cut so that no step writes only some of it."""
     return any(contains(other, cell) for step in steps for other in step.writes())
+
+
+def is_set(cell, steps):
+    """Some step writes the cell, and the last that does so does not leave it unset."""
+    writing = [step for step in steps if is_written(cell, [step])]
+    return writing != [] and not any(contains(other, cell) for other in writing[-1].drops())
 
 
 def contains(outer, inner):

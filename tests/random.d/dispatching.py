@@ -9,8 +9,8 @@ from bound import SAMPLED, STORAGE_BINDING, TEXTURE_BINDING, bind_sampler
 from grouping import group_of, layout_of, pipeline_layout_of, usable, used_by
 
 INDIRECT = 256
-# COPY_SRC, COPY_DST, UNIFORM, STORAGE and INDIRECT.
-ALL_ROLES = 12 | 64 | 128 | INDIRECT
+# COPY_SRC, COPY_DST, INDEX, VERTEX, UNIFORM, STORAGE and INDIRECT.
+ALL_ROLES = 12 | 16 | 32 | 64 | 128 | INDIRECT
 STEP = 256
 NO_STORAGE_FORMATS = ["depth16unorm", "depth24plus-stencil8", "depth24plus-stencil8", "stencil8", "rgba8unorm-srgb"]
 # What the aspects are called that a view has, by the word of an aspect, or where that is `all`, by the format.
@@ -352,7 +352,12 @@ def new_pipeline(world, layouts):
 
 
 def kit(world):
-    """A pipeline of up to four layouts, with a few groups for each. Layouts stand there twice at times, or have no entry."""
+    """A pipeline of up to four layouts, with a few groups for each."""
+    return new_pipeline(world, kit_layouts(world))
+
+
+def kit_layouts(world):
+    """Up to four layouts of a pipeline, with a few groups for each. Layouts stand there twice at times, or have no entry."""
     random = world.random
     old = [thing for thing in usable(world, world.group_layouts) if hasattr(thing, "shape")]
     layouts = []
@@ -369,4 +374,43 @@ def kit(world):
     for layout in dict.fromkeys(layouts):
         for _ in range(random.choice([1, 2, 2, 3])):
             new_group(world, twin(world, layout) if random.random() < 0.15 else layout)
-    return new_pipeline(world, layouts)
+    return layouts
+
+
+def groups_for(world, layout):
+    """The groups that will do for a layout, of which there is one as a rule."""
+    found = [thing for thing in usable(world, world.groups) if getattr(thing, "shape", None) == layout.shape]
+    found = [thing for thing in found if not any(is_gone(world, cell) for _, cells in thing.bound for cell in cells)]
+    if not found or world.random.random() < 0.05:
+        made = None if layout.dropped else new_group(world, layout)
+        found += [made] if made is not None else []
+    return found
+
+
+def is_gone(world, cell):
+    thing = named(world.buffers if cell[0] == "b" else world.textures, cell[1])
+    return thing.destroyed or thing.mapped
+
+
+def bound_by(world, pipeline, wanted, counts):
+    """A group and offsets for each index at which a pipeline asks for one, that clash as is wanted, or None.
+
+    `counts` is the name of the buffer of an indirect dispatch, or None.
+    """
+    asked = [(index, layout, groups_for(world, layout)) for index, layout in enumerate(pipeline.layouts) if layout.entries]
+    if not all(groups for _, _, groups in asked):
+        return None
+    for turn in range(10):
+        found = {}
+        for index, layout, groups in asked:
+            group = new_group(world, layout, wanted) if wanted is not None and turn in (0, 5) and not layout.dropped else None
+            group = group or world.random.choice(groups)
+            found[index] = (group, offsets_for(world, group))
+        if clash([moved(*one) for one in found.values()], counts) == wanted:
+            return found
+    return None
+
+
+def set_call(random, on, index, group, offsets):
+    call = {"do": "setBindGroup", "on": on, "index": index, "group": group.name}
+    return call | ({"offsets": offsets} if offsets or random.random() < 0.2 else {})

@@ -75,6 +75,55 @@ def offsets(count):
     return in_passes([], [], [[{"do": "setBindGroup", "index": 0, "group": "g", "offsets": [0] * count}]])
 
 
+def rendered(pipeline, colors, bodies, made=()):
+    """A texture of some layers, with a view of each, and an encoder with passes that draw to some of them by a pipeline of no groups; the
+    encoder is submitted."""
+    calls = [*made, {"do": "createTexture", "as": "t", "size": [4, 4, 8], "usage": 16, "format": "rgba8unorm"}]
+    calls += [{"do": "createView", "as": f"v{layer}", "texture": "t", "dim": "2d", "baseLayer": layer} for layer in range(8)]
+    calls += [{"do": "createPipelineLayout", "as": "l", "layouts": []}, {"do": "createRenderPipeline", "as": "k", "layout": "l"} | pipeline]
+    calls.append({"do": "createEncoder", "as": "e"})
+    for number, body in enumerate(bodies):
+        calls.append({"do": "beginRenderPass", "on": "e", "as": f"p{number}", "colors": colors})
+        calls += [call | {"on": f"p{number}"} for call in [*body, {"do": "end"}]]
+    return script(calls + [{"do": "finish", "on": "e", "as": "c"}, {"do": "submit", "buffers": ["c"]}])
+
+
+COLORS = [{"view": f"v{layer}", "load": "load", "store": "store" if layer % 2 else "discard"} for layer in range(8)]
+BUFFER = {"do": "createBuffer", "as": "b", "size": 4096, "usage": 48}
+
+
+def drawn(draws, passes):
+    """So many draws by all targets, vertex buffers and attributes that there can be, in each of some passes."""
+    last = {"format": "float32x4", "offset": 2032}
+    buffers = [{"stride": 2048, "attributes": [last | {"location": 2 * slot + at} for at in range(2)]} for slot in range(8)]
+    body = [{"do": "setPipeline", "pipeline": "k"}] + [{"do": "setVertexBuffer", "slot": slot, "buffer": "b", "offset": 0} for slot in range(8)]
+    body += [{"do": "draw", "vertices": number % 3} for number in range(draws)]
+    return rendered({"buffers": buffers, "targets": ["rgba8unorm"] * 8}, COLORS, [body] * passes, [BUFFER])
+
+
+def set_again(count):
+    """A pass that sets so many ranges of a buffer, some of which are empty, and draws nothing."""
+    body = [{"do": "setVertexBuffer", "slot": number % 8, "buffer": "b", "offset": 4 * number, "size": 3 * (number % 4)} for number in range(count)]
+    return rendered({"targets": ["rgba8unorm"]}, COLORS[:3], [body], [BUFFER])
+
+
+def targets(count):
+    return rendered({"targets": [None] * (count - 1) + ["rgba8unorm"]}, COLORS[:1], [[]])
+
+
+def colors(count):
+    return rendered({"targets": ["rgba8unorm"]}, COLORS[:1] + [None] * (count - 1), [[]])
+
+
+def vertex_buffers(count):
+    return rendered({"targets": ["rgba8unorm"], "buffers": [{"stride": 4, "attributes": []}] * count}, COLORS[:1], [[]])
+
+
+def attributes(count):
+    listed = [{"format": "float32", "offset": 0, "location": 0}] * count
+    return rendered({"targets": ["rgba8unorm"], "buffers": [{"stride": 4, "attributes": listed}]}, COLORS[:1], [[]])
+
+
 def all_subresources():
     """Dispatches that sample all layers of all mip levels of a texture, and then write one level whole, and one layer of another."""
     texture = {"do": "createTexture", "as": "t", "size": [4, 4, 256], "usage": 12, "format": "r32uint", "mips": 3}
@@ -135,4 +184,15 @@ FIXED = {
     "offsets-at-the-limit": lambda: offsets(1024),
     "offsets-past-the-limit": lambda: offsets(1025),
     "all-subresources": all_subresources,
+    "many-draws": lambda: drawn(200, 1),
+    "many-render-passes": lambda: drawn(2, 40),
+    "many-ranges": lambda: set_again(500),
+    "targets-at-the-limit": lambda: targets(1024),
+    "targets-past-the-limit": lambda: targets(1025),
+    "colors-at-the-limit": lambda: colors(1024),
+    "colors-past-the-limit": lambda: colors(1025),
+    "vertex-buffers-at-the-limit": lambda: vertex_buffers(1024),
+    "vertex-buffers-past-the-limit": lambda: vertex_buffers(1025),
+    "attributes-at-the-limit": lambda: attributes(1024),
+    "attributes-past-the-limit": lambda: attributes(1025),
 }

@@ -57,7 +57,8 @@ def texture(world):
 
 
 def made(world, good, size, **wanted):
-    call = {"do": "createTexture", "size": size, "usage": 3, "dim": "2d", "samples": 1} | wanted
+    usage = 19 if world.random.random() < 0.5 else 3
+    call = {"do": "createTexture", "size": size, "usage": usage, "dim": "2d", "samples": 1} | wanted
     if not good:
         world.random.choice([lambda: call.update(usage=0), lambda: call.update(mips=9), lambda: size.reverse()])()
     thing = world.make("t", call, good)
@@ -82,7 +83,9 @@ def view(world):
             call |= {"dim": "2d", "layers": 1}
         if world.has_fault():
             call["mips"] = 0
-        world.views.append(world.make("v", call, found.good and call["mips"] == 1))
+        thing = world.make("v", call, found.good and call["mips"] == 1)
+        thing.texture = found
+        world.views.append(thing)
 
 
 def some_encoder(world):
@@ -97,8 +100,10 @@ def record(world):
     for _ in range(random.choice([1, 1, 2])):
         one, other = chosen(world, world.buffers, on.made_at), chosen(world, world.buffers, on.made_at)
         image, second = chosen(world, world.textures, on.made_at), chosen(world, world.textures, on.made_at)
-        kind = random.randrange(6)
-        if kind == 0 and None not in (one, other) and one is not other:
+        kind = random.randrange(7)
+        if kind == 6:
+            attach(world, on)
+        elif kind == 0 and None not in (one, other) and one is not other:
             copy = {"do": "copyBufferToBuffer", "on": on.name, "source": one.name, "sourceOffset": 0, "target": other.name, "targetOffset": 0}
             world.add(copy | {"size": random.choice([0, 0, 4])})
         elif kind in (1, 2) and None not in (one, image):
@@ -112,6 +117,22 @@ def record(world):
             world.add({"do": "clearBuffer", "on": on.name, "buffer": one.name} | random.choice([{}, {"size": 0}]))
     if world.has_fault():
         world.add({"do": random.choice(["pushDebugGroup", "popDebugGroup"]), "on": on.name})
+
+
+def attach(world, on):
+    """A render pass of one view, which holds a texture through it."""
+    random = world.random
+    found = chosen(world, [view for view in world.views if view.texture.call["usage"] & 16], on.made_at)
+    if found is None:
+        return
+    name, load, store = world.new_name("r"), random.choice(["load", "clear"]), random.choice(["store", "discard"])
+    begin = {"do": "beginRenderPass", "on": on.name, "as": name, "colors": [{"view": found.name, "load": load, "store": store}]}
+    if found.texture.call["format"] not in COLORS:
+        aspects = [aspect for aspect in ("depth", "stencil") if aspect in found.texture.call["format"]]
+        keys = {f"{aspect}{key}": word for aspect in aspects for key, word in (("Load", load), ("Store", store))}
+        begin.update(colors=[], depth={"view": found.name} | keys)
+    world.add(begin)
+    world.add({"do": "end", "on": name})
 
 
 def whole(image):

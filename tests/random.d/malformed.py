@@ -7,14 +7,15 @@ from json_forms import Pairs, Raw, text_of
 
 WORD_LIMIT, WHOLE_LIMIT = 2**32 - 1, 2**53 - 1
 UNBUILT = """
-createRenderPipeline createQuerySet createBundleEncoder beginRenderPass finishBundle resolveQuerySet setVertexBuffer setIndexBuffer
-beginOcclusionQuery endOcclusionQuery executeBundles draw drawIndexed drawIndirect drawIndexedIndirect createCanvas configureCanvas
-currentTexture present
+createQuerySet createBundleEncoder finishBundle resolveQuerySet beginOcclusionQuery endOcclusionQuery executeBundles createCanvas
+configureCanvas currentTexture present
 """.split()
 UNKNOWN = ["", "createbuffer", "CreateBuffer", "createBuffer ", "getBindGroupLayout", "setViewport", "copy", "createBuffer\0", "é", "Lose", "onSubmittedWorkDone"]
-NAME_KEYS = {"buffer", "texture", "source", "target", "on", "object", "layout", "view", "sampler", "pipeline", "group"}
-PASS_WORDS = ["beginComputePass", "setPipeline", "setBindGroup", "dispatch", "dispatchIndirect", "end"]
-OBJECT_LISTS = ["entries", "iface"]
+NAME_KEYS = {"buffer", "texture", "source", "target", "on", "object", "layout", "view", "resolve", "sampler", "pipeline", "group"}
+PASS_WORDS = [
+    "beginComputePass", "setPipeline", "setBindGroup", "dispatch", "dispatchIndirect", "end", "createRenderPipeline", "beginRenderPass",
+    "beginRenderPass", "setVertexBuffer", "setIndexBuffer", "draw", "drawIndexed", "drawIndirect", "drawIndexedIndirect",
+]
 NUMBERS = [
     "0", "1", "-1", "-0", "1.0", "1.5", "1e3", "1E3", "1e-3", "0e400", "0.0e999999", "4294967295", "4294967296", "9007199254740991",
     "9007199254740992", "18446744073709551615", "18446744073709551616", "18446744073709551617", "99999999999999999999", "-9007199254740992",
@@ -32,12 +33,12 @@ GOOD_NAMES = ["a" * 64, "_", "0", "9" * 64, "Z_z9", "do", "as"]
 
 def malformed(random):
     """The bytes of a script with one or two faults, the first of which is what the answer tells."""
-    length, kind = random.choice([3, 12, 30]), random.choices(["bound", "passes", "others"], [5, 3, 4])[0]
-    has_objects = kind == "bound"
-    if kind == "passes":
-        calls = passing.passes(random, 1)[1]
+    length, kind = random.choice([3, 12, 30]), random.choices(["bound", "passes", "renders", "others"], [5, 3, 6, 4])[0]
+    has_objects = kind in ("bound", "renders")
+    if kind in ("passes", "renders"):
+        calls = (passing.passes if kind == "passes" else passing.rendering)(random, 1)[1]
     else:
-        calls = grouping.groups(random)[1][:length] if has_objects else worlds.mixed(random, length)
+        calls = grouping.groups(random)[1][:length] if kind == "bound" else worlds.mixed(random, length)
     top = {"budget": random.choice([0, 1, 1000000, WHOLE_LIMIT]), "phases": [[calls]]}
     for _ in range(random.choice([1, 1, 1, 2, 2, 3])):
         top = random.choices([of_call, of_names, of_top, same], [14, 5, 2, 1] if has_objects else [10, 6, 3, 1])[0](random, top, calls)
@@ -52,9 +53,32 @@ def same(random, top, calls):
     return top
 
 
-def on_passes(calls):
-    """The places of calls on passes."""
-    return [at for at, call in enumerate(calls) if isinstance(call, dict) and call.get("do") in PASS_WORDS]
+def on_passes(random, calls):
+    """The places of the calls of one word of those on passes and render pipelines."""
+    words = {call["do"] for call in calls if isinstance(call, dict) and call.get("do") in PASS_WORDS}
+    word = random.choice(sorted(words)) if words else None
+    return [at for at, call in enumerate(calls) if word is not None and isinstance(call, dict) and call.get("do") == word]
+
+
+def inner_objects(value, path=()):
+    """The places of the objects inside a call, each a list of keys and numbers."""
+    found = []
+    for key, inner in value.items() if isinstance(value, dict) else enumerate(value) if isinstance(value, list) else []:
+        found += [(*path, key)] * isinstance(inner, dict) + inner_objects(inner, (*path, key))
+    return found
+
+
+def at_place(value, path):
+    return at_place(value[path[0]], path[1:]) if path else value
+
+
+def with_other(value, path, other):
+    """The value with another at a place of it; what it was made of stays as it is."""
+    if not path:
+        return other
+    copied = dict(value) if isinstance(value, dict) else list(value)
+    copied[path[0]] = with_other(copied[path[0]], path[1:], other)
+    return copied
 
 
 def any_call(random, calls):
@@ -65,14 +89,14 @@ def any_call(random, calls):
 
 def of_call(random, top, calls):
     """One call, or one value of it, or an object in it, is spoiled."""
-    places = [at for at, call in enumerate(calls) if isinstance(call, dict) and any(call.get(key) for key in OBJECT_LISTS)]
-    places = on_passes(calls) or places
+    places = [at for at, call in enumerate(calls) if isinstance(call, dict) and inner_objects(call)]
+    places = on_passes(random, calls) or places
     at = random.choice(places) if places and random.random() < 0.8 else any_call(random, calls)
     if at is not None:
         call = dict(calls[at])
         calls[at] = call
-        if random.random() < 0.04:
-            calls[at] = automatic(random, call)
+        if random.random() < 0.12:
+            calls[at] = random.choice([automatic, queried])(random, call)
             return top
         if random.random() < 0.8 and spoil_object(random, call):
             return top
@@ -83,19 +107,14 @@ def of_call(random, top, calls):
 
 
 def spoil_object(random, call):
-    """Spoils an object in a list of a call, if there is one."""
-    lists = [key for key in OBJECT_LISTS if isinstance(call.get(key), list) and call[key]]
-    if not lists:
+    """Spoils an object inside a call, if there is one."""
+    places = inner_objects(call)
+    if not places:
         return False
-    key = random.choice(lists)
-    items = list(call[key])
-    at = random.randrange(len(items))
-    if not isinstance(items[at], dict):
-        return False
-    item = dict(items[at])
-    changed = random.choices(OBJECT_CHANGES, OBJECT_WEIGHTS)[0](random, item)
-    items[at] = item if changed is None else changed
-    call[key] = items
+    path = random.choice(places)
+    item = dict(at_place(call, path))
+    changed = random.choices(OBJECT_CHANGES, OBJECT_WEIGHTS)[0](random, item) if item else None
+    call.update(with_other(call, path, item if changed is None else changed))
     return True
 
 
@@ -134,9 +153,19 @@ def other_item(random, call):
         call[key] = items
 
 
+def null_item(random, call):
+    """A null in a list, which only `targets` and `colors` may have."""
+    lists = [key for key, value in call.items() if isinstance(value, list)]
+    if lists:
+        key = random.choice(lists)
+        call[key] = random.choice([[*call[key], None], [None, *call[key]], [None, *call[key][1:]]])
+
+
 def long_list(random, call):
-    entry = {"binding": 0, "visibility": 0, "kind": "sampler"}
-    for key, item in (("buffers", "x"), ("layouts", "x"), ("entries", entry), ("iface", entry), ("offsets", 0), ("size", 1)):
+    entry, of_pipeline = {"binding": 0, "visibility": 0, "kind": "sampler"}, {"stride": 0, "attributes": []}
+    used, buffer = {"group": 0, "binding": 0, "kind": "sampler"}, of_pipeline if call.get("do") == "createRenderPipeline" else "x"
+    lists = [("buffers", buffer), ("layouts", "x"), ("entries", entry), ("iface", used), ("offsets", 0), ("size", 1), ("targets", None)]
+    for key, item in [*lists, ("colors", None), ("attributes", {"format": "float32", "offset": 0, "location": 0})]:
         if key in call:
             call[key] = [item] * random.choice([1024, 1025])
 
@@ -152,18 +181,34 @@ def key_more(random, call):
 MORE_KEYS = [
     "x", "", "DO", "label", "mapped", "size", "usage", "as", "filter", "op", "queries", "depthSlice", "limits", "mode", "kind", "layout", "iface",
     "binding", "visibility", "group", "type", "dynamic", "minSize", "sample", "multi", "access", "buffer", "offset", "view", "sampler", "do",
-    "on", "index", "offsets", "x", "w", "pipeline", "timestampWrites",
+    "on", "index", "offsets", "x", "w", "pipeline", "timestampWrites", "stage", "stride", "step", "attributes", "location", "targets", "depth",
+    "samples", "colors", "resolve", "load", "store", "depthLoad", "depthReadOnly", "stencilStore", "slot", "vertices", "firstIndex", "depthWrite",
+    "depthSlice", "queries", "baseVertex",
 ]
 WRONG_WORDS = [
     "Filtering", "filtering", "nonfiltering", "storage", "readonly-storage", "write", "read-write", "sampled", "unfilterable", "sint", "auto",
     "", "2D", "all", "cube", "2d", "3d-array", "rgba8", "rgba8unorm-SRGB", "depth-only", "color", "Validation", "out-of-memory ", "outofmemory", "internal", None,
+    "load", "clear", "store", "discard", "dont-care", "vertex", "instance", "fragment", "compute", "uint16", "uint32", "float32", "float32x5",
+    "unorm8x2",
+]
+WORD_KEYS = [
+    "format", "dim", "aspect", "filter", "kind", "type", "sample", "access", "stage", "step", "load", "store", "depthLoad", "depthStore",
+    "stencilLoad", "stencilStore",
 ]
 
 
 def other_word(random, call):
-    words = [key for key in ("format", "dim", "aspect", "filter", "kind", "type", "sample", "access") if key in call]
+    words = [key for key in WORD_KEYS if key in call]
     if words:
         call[random.choice(words)] = random.choice(WRONG_WORDS)
+
+
+def other_target(random, call):
+    """A target that is no format, or may be one; of any other call something else."""
+    if not isinstance(call.get("targets"), list):
+        return other_value(random, call)
+    call["targets"] = [*call["targets"], random.choice([*WRONG_WORDS, *VALUES])]
+    return None
 
 
 def other_offsets(random, call):
@@ -192,9 +237,22 @@ def mapped(random, call):
 
 def automatic(random, call):
     """A layout of the name `auto`, which only a pipeline may not use, with something else wrong or not."""
-    made = {"do": random.choice(["createComputePipeline", "createComputePipeline", "createBindGroup"]), "layout": "auto", "as": "m"}
+    made = {"do": random.choice(["createComputePipeline", "createRenderPipeline", "createBindGroup"]), "layout": "auto", "as": "m"}
     made |= random.choice([{"iface": []}, {"entries": []}])
     return made | random.choice([{}, {}, {"x": 1}, {"as": None}, {"layout": ["auto"]}, {"layout": "Auto"}])
+
+
+def queried(random, call):
+    """A begin of a render pass with a key that is not built yet, or with that in another place, and something else wrong or not."""
+    color, colors = {"view": "v", "load": "load", "store": "store"}, [None]
+    slice = {"depthSlice": random.choice([0, None, "x"])}
+    places = [
+        {"colors": [color | slice]}, {"colors": [None, slice]}, {"colors": [5, [slice], slice]}, {"colors": [[slice]]}, {"colors": slice},
+        {"depth": {"view": "v"} | slice}, slice, {"colors": [color, color | {"queries": 0}]}, {"colors": [None] * 1024 + [slice]},
+    ]
+    places += [{"queries": value} for value in ("q", None, 0, [])]
+    made = {"do": random.choice(["beginRenderPass"] * 5 + ["beginComputePass"]), "on": "e", "colors": colors, "as": "m"} | random.choice(places)
+    return made | random.choice([{}, {}, {"x": 1}, {"as": None}, {"depth": None}])
 
 
 def other_kind(random, entry):
@@ -210,14 +268,20 @@ def other_kind(random, entry):
 
 def needed_gone(random, entry):
     """An object without a key that it needs."""
-    needed = [key for key in ("format", "kind", "group", "binding", "visibility", "buffer", "view", "sampler") if key in entry]
+    needed = [key for key in NEEDED_KEYS if key in entry]
     if needed:
         del entry[needed[0] if random.random() < 0.3 else random.choice(needed)]
 
 
+NEEDED_KEYS = [
+    "format", "kind", "group", "binding", "visibility", "buffer", "view", "sampler", "stage", "stride", "attributes", "offset", "location", "load",
+    "store",
+]
+
+
 def past_word(random, entry):
     """A number of 32 bits that is one too great."""
-    numbers = [key for key in ("group", "binding", "visibility") if key in entry]
+    numbers = [key for key in ("group", "binding", "visibility", "stride", "location") if key in entry]
     if numbers:
         entry[random.choice(numbers)] = WORD_LIMIT + 1
 
@@ -235,34 +299,55 @@ def repeated(random, call):
 
 
 CALL_CHANGES = [
-    other_value, other_number, border_number, other_item, other_offsets, long_list, key_gone, key_more, other_word, unbuilt, unknown, mapped,
-    no_object, repeated,
+    other_value, other_number, border_number, other_item, null_item, other_target, other_offsets, long_list, key_gone, key_more, other_word,
+    unbuilt, unknown, mapped, no_object, repeated,
 ]
-CALL_WEIGHTS = [4, 4, 3, 4, 3, 2, 4, 3, 3, 2, 3, 3, 2, 3]
+CALL_WEIGHTS = [4, 4, 3, 4, 3, 3, 3, 2, 4, 3, 3, 2, 3, 3, 2, 3]
 OBJECT_CHANGES = [
-    other_value, other_number, border_number, past_word, key_gone, needed_gone, key_more, other_word, other_kind, no_object, repeated,
+    other_value, other_number, border_number, past_word, key_gone, needed_gone, key_more, other_word, other_kind, no_object, repeated, long_list,
 ]
-OBJECT_WEIGHTS = [3, 3, 2, 5, 1, 6, 3, 4, 5, 2, 2]
+OBJECT_WEIGHTS = [3, 3, 2, 5, 1, 6, 3, 4, 5, 2, 2, 1]
 
 
 def given_by(calls):
     return [call["as"] for call in calls if isinstance(call, dict) and isinstance(call.get("as"), str)]
 
 
-def bound_in(call):
-    """The entries of a call that bind something."""
-    entries = call.get("entries")
-    return [entry for entry in entries if isinstance(entry, dict) and NAME_KEYS & set(entry)] if isinstance(entries, list) else []
+def naming_objects(call):
+    """The places of the objects inside a call that name something."""
+    return [path for path in inner_objects(call) if NAME_KEYS & set(at_place(call, path))]
 
 
 def uses_names(call):
-    return isinstance(call, dict) and (NAME_KEYS & set(call) or call.get("buffers") or call.get("layouts") or bound_in(call))
+    return isinstance(call, dict) and (NAME_KEYS & set(call) or call.get("buffers") or call.get("layouts") or naming_objects(call))
+
+
+# What stands for passes, encoders and pipelines, of which there are two kinds of some.
+KIN = ["beginComputePass", "beginRenderPass", "createEncoder", "createComputePipeline", "createRenderPipeline"]
+
+
+def crossed(random, calls):
+    """A call on a pass names a pass or a pipeline of the other kind, if there is one before it."""
+    places = [at for at, call in enumerate(calls) if isinstance(call, dict) and call.get("do") in PASS_WORDS and {"on", "pipeline"} & set(call)]
+    pipelines = [at for at in places if "pipeline" in calls[at]]
+    if places:
+        at = random.choice(pipelines if pipelines and random.random() < 0.5 else places)
+        key = "pipeline" if "pipeline" in calls[at] and random.random() < 0.7 else "on"
+        words = KIN[-2:] if key == "pipeline" else KIN[:-2]
+        before = [call for call in calls[:at] if isinstance(call, dict) and call.get("do") in words and isinstance(call.get("as"), str)]
+        mine = [call["do"] for call in before if call["as"] == calls[at].get(key)]
+        others = [call["as"] for call in before if call["do"] not in mine]
+        if others:
+            calls[at] = dict(calls[at]) | {key: random.choice(others)}
 
 
 def of_names(random, top, calls):
     """A name is malformed, given twice, unknown, of a wrong kind, or used before it is given."""
+    if random.random() < 0.15:
+        crossed(random, calls)
+        return top
     users = [at for at, call in enumerate(calls) if uses_names(call)]
-    users = on_passes(calls) if on_passes(calls) and random.random() < 0.6 else users
+    users = on_passes(random, calls) or users if random.random() < 0.6 else users
     at = random.choice(users) if users and random.random() < 0.6 else any_call(random, calls)
     if at is None:
         return top
@@ -270,15 +355,18 @@ def of_names(random, top, calls):
     earlier, names = given_by(calls[:at]), given_by(calls) or ["x"]
     other = random.choice(earlier if earlier and random.random() < 0.7 else names)
     used = [key for key in call if key in NAME_KEYS]
-    change = random.randrange(5)
-    if bound_in(call) and random.random() < 0.5:
-        rename_bound(random, call, random.choice(bound_in(call)), other)
+    change = random.choice([0, 1, 2, 3, 4, 5, 5])
+    if naming_objects(call) and random.random() < 0.5:
+        rename_inside(random, call, other)
     elif change == 0 and "as" in call:
         call["as"] = random.choice(BAD_NAMES + GOOD_NAMES)
     elif change == 1 and "as" in call:
         call["as"] = other
     elif change == 2 and used:
         call[random.choice(used)] = other
+    elif change == 5 and {"on", "pipeline"} & set(used):
+        kin = [each["as"] for each in calls[:at] if isinstance(each, dict) and each.get("do") in KIN and isinstance(each.get("as"), str)]
+        call[random.choice([key for key in used if key in ("on", "pipeline")])] = random.choice(kin or names)
     elif change == 3 and used:
         call[random.choice(used)] = random.choice(["unknown", "", "é", "a" * 65, names[0].upper(), names[0] + " "])
     elif isinstance(call.get("buffers", call.get("layouts")), list):
@@ -292,11 +380,12 @@ def of_names(random, top, calls):
     return top
 
 
-def rename_bound(random, call, entry, other):
-    """What an entry of a bind group binds has another name."""
-    key = random.choice(sorted(NAME_KEYS & set(entry)))
-    renamed = entry | {key: random.choice([other, other, "unknown", call.get("as", "x")])}
-    call["entries"] = [renamed if each is entry else each for each in call["entries"]]
+def rename_inside(random, call, other):
+    """What an object inside a call names has another name, as what an entry of a bind group binds."""
+    path = random.choice(naming_objects(call))
+    item = at_place(call, path)
+    key = random.choice(sorted(NAME_KEYS & set(item)))
+    call.update(with_other(call, path, item | {key: random.choice([other, other, "unknown", call.get("as", "x")])}))
 
 
 def of_top(random, top, calls):

@@ -1,10 +1,12 @@
-"""Ways to leave one rule of a compute pass unmet. A fault changes the list of the calls of a pass, from its begin to its end, on an
-encoder of some name; what it needs is made before."""
+"""Ways to leave one rule of a compute pass unmet, and those of passes of either kind. A fault changes the list of the calls of a pass,
+from its begin to its end, on an encoder of some name; what it needs is made before."""
 
 from dispatching import INDIRECT, STEP, buffers_in, dynamic_of, named, near_group, new_layout, pick, size_of
 from grouping import usable
+from targets import begin
 
 GREATEST_32, GREATEST_53 = 2**32 - 1, 2**53 - 1
+WORK = ["dispatch", "dispatchIndirect", "draw", "drawIndexed", "drawIndirect", "drawIndexedIndirect"]
 
 
 def places(calls, *words):
@@ -112,7 +114,7 @@ def offsets_turned(world, call, at):
 
 
 def no_pipeline(world, encoder, on, calls):
-    first = min(places(calls, "dispatch", "dispatchIndirect"), default=0)
+    first = min(places(calls, *WORK), default=0)
     calls[:first] = [call for call in calls[:first] if call["do"] != "setPipeline"]
 
 
@@ -188,15 +190,29 @@ def push_too_many(world, encoder, on, calls):
 
 
 def dead_pass(world, encoder, on, calls):
-    """A second pass within the first, with commands and mostly an end of its own; at times it goes on after the end of the first."""
-    random, name = world.random, world.new_name("q")
-    dead = [call | {"on": name} for call in random.sample(calls[1:], random.randint(0, min(len(calls) - 1, 3)))]
+    """A second pass within the first, with commands and mostly an end of its own; at times it goes on after the end of the first. It may
+    be of the other kind."""
+    random, name = world.random, world.new_name("d")
+    is_render = random.random() < 0.5
+    is_alike = is_render == (calls[0]["do"] == "beginRenderPass")
+    fit = [call for call in calls[1:] if is_alike or call["do"] in ("setBindGroup", "end", "pushDebugGroup", "popDebugGroup")]
+    dead = [call | {"on": name} for call in random.sample(fit, random.randint(0, min(len(fit), 3)))]
     dead += [{"do": "end", "on": name}] * random.choice([0, 1, 1, 2])
     at = random.randint(1, len(calls) - 1)
-    calls.insert(at, {"do": "beginComputePass", "on": encoder, "as": name})
+    calls.insert(at, some_begin(world, encoder, name, is_render))
     for call in dead:
         at = random.randint(at + 1, len(calls))
         calls.insert(at, call)
+
+
+def some_begin(world, encoder, name, is_render):
+    """The begin of a pass that need not be good."""
+    random = world.random
+    if not is_render:
+        return {"do": "beginComputePass", "on": encoder, "as": name}
+    if random.random() < 0.3:
+        return {"do": "beginRenderPass", "on": encoder, "as": name, "colors": random.choice([[], [None], [None] * 9])}
+    return begin(world, encoder, name).begin
 
 
 def on_encoder(world, encoder, on, calls):

@@ -1,5 +1,5 @@
-"""Scripts on compute passes: dispatches of what is bound, in passes of one or two encoders at once, with commands in a wrong order or
-of a wrong kind, and with drops, destroys and completions before and after.
+"""Scripts on passes: dispatches of what is bound, and draws to what is attached, in passes of one or two encoders at once, with commands
+in a wrong order or of a wrong kind, and with drops, destroys and completions before and after.
 
 The commands of an encoder are planned as a list of calls before they are added, and what they name is made before; so those of two
 encoders can be mixed.
@@ -8,24 +8,32 @@ encoders can be mixed.
 from bindings import is_written
 from commands import clear_buffer, copy_buffer, write_buffer, write_texture
 from dispatching import (
-    INDIRECT, buffers_in, clash, kit, moved, named, new_group, new_layout, new_pipeline, offsets_for, pick, pool, pool_buffer, pool_texture,
+    INDIRECT, bound_by, buffers_in, kit, new_layout, new_pipeline, offsets_for, pick, pool, pool_buffer, pool_texture, set_call,
     size_of,
 )
 from grouping import drop_all, usable
-from pass_faults import places, spoil
+from pass_faults import places, some_begin, spoil
+from pipelining import render_pipelines
 from regions import TEXELS, extent
+from render_faults import spoil_render
+from rendering import PAST, bare_calls, render_calls
 from resources import COLOR_FORMATS
+from targets import multisampled_pool, pool_target, target_pool
 from world import Thing, World
 from worlds import complete, last_before_loss, maps, scope, work_done
 
 BUDGETS = [2**53 - 1] * 16 + [40_000, 4_000]
 
 
-def passes(random, longest=10):
-    """A budget, and calls."""
-    world = World(random, random.choice([0.05, 0.3, 0.6]))
+def passes(random, longest=10, renders=0.1):
+    """A budget, and calls; so many of the passes are render passes."""
+    world = World(random, random.choice([0.05, 0.3, 0.6] if renders < 0.5 else [0.02, 0.05, 0.3, 0.5]))
+    world.renders = renders
     pool(world)
+    if random.random() < 3 * renders:
+        target_pool(world)
     kit(world)
+    acts = ACTS + RENDER_ACTS if renders > 0.5 else ACTS
     count = random.randint(min(3, longest), longest)
     last = last_before_loss(random, count, 0.12)
     for act in range(count):
@@ -34,11 +42,16 @@ def passes(random, longest=10):
         if act == 0 and random.random() < 0.7:
             without_faults(world)
         else:
-            random.choices(ACTS, WEIGHTS)[0](world)
+            random.choices(acts, (WEIGHTS + RENDER_WEIGHTS)[:len(acts)])[0](world)
     if random.random() < 0.5:
         drop_all(world)
         world.complete(world.issued)
     return random.choice(BUDGETS), world.calls
+
+
+def rendering(random, longest=10):
+    """The same, mostly of render passes."""
+    return passes(random, longest, 0.85)
 
 
 class Plan:
@@ -61,40 +74,6 @@ def some_pipeline(world):
     return random.choice(old[-4:]) if old and random.random() < 0.85 else kit(world)
 
 
-def groups_for(world, layout):
-    """The groups that will do for a layout, of which there is one as a rule."""
-    found = [thing for thing in usable(world, world.groups) if getattr(thing, "shape", None) == layout.shape]
-    found = [thing for thing in found if not any(is_gone(world, cell) for _, cells in thing.bound for cell in cells)]
-    if not found or world.random.random() < 0.05:
-        made = None if layout.dropped else new_group(world, layout)
-        found += [made] if made is not None else []
-    return found
-
-
-def is_gone(world, cell):
-    thing = named(world.buffers if cell[0] == "b" else world.textures, cell[1])
-    return thing.destroyed or thing.mapped
-
-
-def bound_by(world, pipeline, wanted, counts):
-    """A group and offsets for each index at which a pipeline asks for one, that clash as is wanted, or None.
-
-    `counts` is the name of the buffer of an indirect dispatch, or None.
-    """
-    asked = [(index, layout, groups_for(world, layout)) for index, layout in enumerate(pipeline.layouts) if layout.entries]
-    if not all(groups for _, _, groups in asked):
-        return None
-    for turn in range(10):
-        found = {}
-        for index, layout, groups in asked:
-            group = new_group(world, layout, wanted) if wanted is not None and turn in (0, 5) and not layout.dropped else None
-            group = group or world.random.choice(groups)
-            found[index] = (group, offsets_for(world, group))
-        if clash([moved(*one) for one in found.values()], counts) == wanted:
-            return found
-    return None
-
-
 def clashing(world, wanted, counts):
     """A pipeline that asks for what may clash, and the groups and offsets that do; or None."""
     for _ in range(4):
@@ -105,11 +84,6 @@ def clashing(world, wanted, counts):
             if found is not None:
                 return pipeline, found
     return None
-
-
-def set_call(random, on, index, group, offsets):
-    call = {"do": "setBindGroup", "on": on, "index": index, "group": group.name}
-    return call | ({"offsets": offsets} if offsets or random.random() < 0.2 else {})
 
 
 def dispatch_call(world, on, counts):
@@ -164,33 +138,49 @@ def stray(world, on, free, now):
 
 
 def one_pass(world, plan):
-    """A pass, good as a rule; else with a fault or two."""
+    """A pass of either kind, good as a rule; else with a fault or two."""
     random = world.random
-    on = world.new_name("q")
+    is_render = random.random() < world.renders
+    on = world.new_name("r" if is_render else "q")
     fault = world.has_fault()
-    wanted = random.choice([None] * 6 + ["overlap", "scope", "scope"]) if fault else None
-    body = dispatches(world, on, wanted)
-    calls = [{"do": "beginComputePass", "on": plan.encoder, "as": on}, *body, {"do": "end", "on": on}]
+    if is_render:
+        wanted = random.choice([None] * 16 + ["overlap", "scope", "scope", "scope", *PAST]) if fault else None
+        calls, clashes = render_calls(world, plan.encoder, on, wanted)
+    else:
+        wanted = random.choice([None] * 6 + ["overlap", "scope", "scope"]) if fault else None
+        calls = [{"do": "beginComputePass", "on": plan.encoder, "as": on}, *dispatches(world, on, wanted), {"do": "end", "on": on}]
+        clashes = wanted == "scope"
     if fault and wanted is None:
-        spoil(world, plan.encoder, on, calls)
+        (spoil_render if is_render else spoil)(world, plan.encoder, on, calls)
     plan.good = plan.good and not fault
-    plan.clashes = plan.clashes or wanted == "scope"
+    plan.clashes = plan.clashes or clashes
+    if not fault and random.random() < 0.12:
+        calls += again(world, on, calls)
     if random.random() < 0.1:
-        calls += late_on_pass(world, on)
+        calls += late_on_pass(world, on, is_render)
     plan.calls += calls
 
 
-def late_on_pass(world, on):
+def again(world, on, calls):
+    """The same pass once more, under another name."""
+    name = world.new_name("a")
+    return [call | ({"on": name} if call.get("on") == on else {"as": name}) for call in calls]
+
+
+def late_on_pass(world, on, is_render):
     """Calls on a pass after its end."""
-    calls = [
-        {"do": "end", "on": on}, {"do": "dispatch", "on": on, "x": 1}, {"do": "popDebugGroup", "on": on},
-        {"do": "dispatchIndirect", "on": on, "buffer": world.buffers[0].name, "offset": 1},
-    ]
-    if world.pipelines:
-        calls.append({"do": "setPipeline", "on": on, "pipeline": world.pipelines[-1].name})
-    if world.groups:
-        calls.append({"do": "setBindGroup", "on": on, "index": 0, "group": world.groups[-1].name})
-    return world.random.sample(calls, world.random.choice([1, 1, 2]))
+    random, buffer = world.random, world.buffers[0].name
+    calls = [{"do": "end"}, {"do": "popDebugGroup"}, {"do": "pushDebugGroup"}]
+    if is_render:
+        calls += [{"do": "draw", "vertices": 1}, {"do": "drawIndexed", "indices": 1}, {"do": "setVertexBuffer", "slot": 9, "buffer": buffer}]
+        calls += [{"do": word, "buffer": buffer, "offset": 1} for word in ("drawIndirect", "drawIndexedIndirect")]
+        calls.append({"do": "setIndexBuffer", "buffer": buffer, "format": "uint32", "offset": 1})
+    else:
+        calls += [{"do": "dispatch", "x": 1}, {"do": "dispatchIndirect", "buffer": buffer, "offset": 1}]
+    pipelines = world.render_pipelines if is_render else world.pipelines
+    calls += [{"do": "setPipeline", "pipeline": thing.name} for thing in pipelines[-1:]]
+    calls += [{"do": "setBindGroup", "index": 0, "group": thing.name} for thing in world.groups[-1:]]
+    return [call | {"on": on} for call in random.sample(calls, random.choice([1, 1, 2]))]
 
 
 def outside(world, plan):
@@ -198,7 +188,7 @@ def outside(world, plan):
     random = world.random
     encoder = Thing(plan.encoder, {}, True)
     for _ in range(random.choice([0, 0, 1, 1, 2])):
-        good = not world.has_fault() or random.random() < 0.8
+        good = not world.has_fault() or random.random() < (0.8 if world.renders < 0.5 else 0.95)
         kept, world.calls = world.calls, []
         random.choice([clear_buffer, copy_buffer, image_copy, image_copy] if good else [clear_buffer, copy_buffer])(world, encoder, good)
         added, world.calls = world.calls, kept
@@ -259,12 +249,21 @@ def planned(world):
         outside(world, plan)
     if world.has_fault() and world.random.random() < 0.12 and places(plan.calls, "end"):
         end_gone(world.random, plan)
-    everything = world.buffers + world.textures + world.groups + world.pipelines
-    names = {value for call in plan.calls for value in call.values() if isinstance(value, str)}
+    everything = world.buffers + world.textures + world.views + world.groups + world.pipelines + world.render_pipelines
+    names = {name for call in plan.calls for name in names_in(call)}
     plan.named = [thing for thing in everything if thing.name in names]
-    cells = [cell for thing in plan.named for _, cells in getattr(thing, "bound", []) for cell in cells]
-    plan.bound = [thing for thing in world.buffers + world.textures if any(cell[1] == thing.name for cell in cells)]
+    behind = {cell[1] for thing in plan.named for _, cells in getattr(thing, "bound", []) for cell in cells}
+    behind |= {thing.texture.name for thing in plan.named if hasattr(thing, "texture")}
+    plan.bound = [thing for thing in world.buffers + world.textures if thing.name in behind]
     return plan
+
+
+def names_in(value):
+    """The texts in a call, among them the names that it uses."""
+    if isinstance(value, str):
+        return [value]
+    items = value.values() if isinstance(value, dict) else value if isinstance(value, list) else []
+    return [name for item in items for name in names_in(item)]
 
 
 def make_encoder(world, plan):
@@ -273,7 +272,7 @@ def make_encoder(world, plan):
     if random.random() < (0.3 if plan.clashes else 0.04):
         drop_some(world, plan.named)
     elif random.random() < 0.06:
-        drop_some(world, plan.bound + world.views)
+        drop_some(world, [thing for thing in plan.bound + world.views if thing not in plan.named])
     plan.good = plan.good and not any(thing.dropped for thing in plan.named)
     thing = Thing(plan.encoder, {"do": "createEncoder"}, not world.is_lost)
     world.add({"do": "createEncoder", "as": plan.encoder})
@@ -288,14 +287,16 @@ def drop_some(world, things):
 
 
 def let_go(world, plans):
-    """A group that a plan names is dropped, with all that it binds and the views of it, in some order; some of it may be destroyed."""
+    """A group or a view that a plan names is dropped, with all that stands behind it and the views of that, in some order; some of it may
+    be destroyed."""
     random = world.random
-    group = pick(world, [thing for plan in plans for thing in plan.named if hasattr(thing, "bound")])
-    if group is None:
+    one = pick(world, [thing for plan in plans for thing in plan.named if hasattr(thing, "bound") or hasattr(thing, "texture")])
+    if one is None:
         return
-    names = {cell[1] for _, cells in group.bound for cell in cells}
+    names = {cell[1] for _, cells in getattr(one, "bound", []) for cell in cells}
+    names |= {one.texture.name} if hasattr(one, "texture") else set()
     things = [thing for thing in world.buffers + world.textures if thing.name in names]
-    things += [thing for thing in world.views if getattr(thing, "texture", None) in things] + [group]
+    things += [thing for thing in world.views if getattr(thing, "texture", None) in things and thing is not one] + [one]
     for thing in random.sample(things, len(things)):
         if thing in world.buffers + world.textures and not thing.dropped and not thing.destroyed and random.random() < 0.15:
             world.destroy(thing)
@@ -323,7 +324,7 @@ def work(world):
     elif random.random() < 0.06:
         let_go(world, plans)
     calls = mixed(random, [plan.calls for plan in plans])
-    early = random.randrange(len(calls)) if random.random() < 0.04 else None
+    early = random.randrange(len(calls)) if random.random() < 0.02 else None
     for place, call in enumerate(calls):
         if place == early:
             world.drop(encoders[0])
@@ -331,7 +332,7 @@ def work(world):
     made = []
     for plan, encoder in zip(plans, encoders):
         encoder.good = encoder.good and plan.good
-        if random.random() < 0.04:
+        if random.random() < 0.02:
             world.drop(encoder)
         if random.random() < 0.95:
             made.append((plan, world.finish(encoder)))
@@ -392,26 +393,53 @@ def between(world, plans):
 def late(world, plan):
     """Calls on an encoder that has ended, and on its passes; at times a pass that is begun only then."""
     random = world.random
-    begun = [call["as"] for call in plan.calls if call["do"] == "beginComputePass"]
+    begun = [(call["as"], call["do"] == "beginRenderPass") for call in plan.calls if call["do"] in ("beginComputePass", "beginRenderPass")]
     kind = random.randrange(3)
     if kind == 0:
         calls = [{"do": "pushDebugGroup"}, {"do": "clearBuffer", "buffer": world.buffers[0].name}]
         world.add(random.choice(calls) | {"on": plan.encoder})
     elif kind == 1:
-        for call in late_on_pass(world, random.choice(begun)):
+        for call in late_on_pass(world, *random.choice(begun)):
             world.add(call)
     else:
-        name = world.new_name("q")
-        world.add({"do": "beginComputePass", "on": plan.encoder, "as": name})
-        for call in late_on_pass(world, name):
+        name, is_render = world.new_name("d"), random.random() < max(world.renders, 0.2)
+        world.add(some_begin(world, plan.encoder, name, is_render))
+        for call in late_on_pass(world, name, is_render):
             world.add(call)
     if random.random() < 0.2:
         world.add({"do": "finish", "on": plan.encoder, "as": world.new_name("c")})
 
 
+def spoiled(world):
+    """A few encoders, each with one render pass that has a fault, and is not submitted as a rule."""
+    random = world.random
+    for _ in range(random.choice([2, 3, 4])):
+        encoder, on = world.new_name("e"), world.new_name("r")
+        wanted = random.choice([None] * 24 + ["overlap", "overlap", "scope", *PAST])
+        calls, _ = render_calls(world, encoder, on, wanted, counts=(1,))
+        if wanted is None:
+            spoil_render(world, encoder, on, calls)
+        thing = Thing(encoder, {"do": "createEncoder"}, False)
+        world.encoders.append(thing)
+        world.add({"do": "createEncoder", "as": encoder})
+        for call in calls:
+            world.add(call)
+        made = world.finish(thing)
+        if random.random() < 0.1:
+            world.submit([made])
+
+
 def bare(world):
     """A pass of few commands: with nothing set, or of a pipeline that asks for nothing."""
     random = world.random
+    if random.random() < world.renders:
+        on = world.new_name("r")
+        calls = bare_calls(world, None, on)
+        encoder = world.encoder()
+        for call in [calls[0] | {"on": encoder.name}, *calls[1:]]:
+            world.add(call)
+        world.submit([world.finish(encoder)])
+        return
     pipeline = new_pipeline(world, random.choice([[], [new_layout(world, [])]]))
     encoder, on = world.encoder(), world.new_name("q")
     world.add({"do": "beginComputePass", "on": encoder.name, "as": on})
@@ -431,7 +459,10 @@ def write(world):
 
 def more(world):
     """More of what there is, so that later work has it new."""
-    world.random.choice([pool_buffer, pool_texture, kit])(world)
+    if world.random.random() < world.renders:
+        world.random.choice([pool_buffer, pool_target, multisampled_pool, target_pool])(world)
+    else:
+        world.random.choice([pool_buffer, pool_texture, kit])(world)
 
 
 def destroy(world):
@@ -444,7 +475,7 @@ def drop(world):
     """Of what was not dropped; what holds something else more often."""
     random = world.random
     kept = [thing for thing in world.everything() if not thing.dropped]
-    holding = [thing for thing in kept if thing in world.groups + world.views + world.pipelines]
+    holding = [thing for thing in kept if thing in world.groups + world.views + world.pipelines + world.render_pipelines]
     if kept:
         world.drop(random.choice(holding if holding and random.random() < 0.5 else kept))
 
@@ -457,3 +488,7 @@ def unmap(world):
 
 ACTS = [work, bare, kit, more, write, destroy, drop, unmap, complete, maps, scope, work_done]
 WEIGHTS = [40, 2, 4, 3, 5, 1, 3, 4, 4, 1, 3, 1]
+
+# In scripts that are mostly of render passes these come besides.
+RENDER_ACTS = [spoiled, render_pipelines]
+RENDER_WEIGHTS = [25, 10]

@@ -45,6 +45,7 @@ class World:
         self.pipeline_layouts = []
         self.groups = []
         self.pipelines = []
+        self.render_pipelines = []
         self.encoders = []
         self.command_buffers = []
 
@@ -151,7 +152,7 @@ class World:
         thing.dropped_at = thing.dropped_at or len(self.calls)
 
     def everything(self):
-        bound = self.samplers + self.group_layouts + self.pipeline_layouts + self.groups + self.pipelines
+        bound = self.samplers + self.group_layouts + self.pipeline_layouts + self.groups + self.pipelines + self.render_pipelines
         return self.buffers + self.textures + self.views + bound + self.encoders + self.command_buffers
 
     def complete(self, number):

@@ -186,12 +186,19 @@ pub fn encoder_deed(alloc: Global, command: &Command) -> Result<Option<Deed>, No
             size,
         } => return clear_buffer(alloc, buffer, *offset, *size),
         Command::BeginComputePass
+        | Command::BeginRenderPass { .. }
         | Command::PushDebugGroup
         | Command::PopDebugGroup
         | Command::End
         | Command::SetPipeline { .. }
         | Command::SetBindGroup { .. }
         | Command::Dispatch { .. }
-        | Command::DispatchIndirect { .. } => return Ok(None),
+        | Command::DispatchIndirect { .. }
+        | Command::SetVertexBuffer { .. }
+        | Command::SetIndexBuffer { .. }
+        | Command::Draw { .. }
+        | Command::DrawIndexed { .. }
+        | Command::DrawIndirect { .. }
+        | Command::DrawIndexedIndirect { .. } => return Ok(None),
     }
 }

@@ -7,11 +7,14 @@ mod done;
 mod touches;
 mod touching;
 
-ghost use Rattle.std.specs.Prelude.{◌≡◌, Some, Option, map, IfOk, IfSome};
+ghost use Rattle.std.specs.Prelude.{◌≡◌, ℕ, List, Some, Option, map, slice_get, IfOk, IfSome};
+ghost use Rattle.wg_types.specs.Commands.{Command};
+ghost use Rattle.wg_types.specs.declared.commands.On.{On};
 ghost use Rattle.wg_orders.specs.Steps.{Step};
 ghost use Rattle.wg_model.specs.Touches.{placed, touching};
 ghost use Rattle.wg_model.specs.Recorded.{write_step, host_usage, host_kind, host_name, host_touches, host_step};
 ghost use Rattle.wg_model.specs.StepLaws.{IsOwnStep};
+ghost use Rattle.wg_model.specs.Walk.{DeedsOf};
 ghost use Rattle.wg_access.specs.Ranges.{IsInRange};
 
 pub use deeds::encoder_deed;
@@ -63,8 +66,8 @@ fn copied(place: StepPlace, deed: &Deed) -> Result<Step, NoMemory>
     })
 }
 
-/// What was done, as steps at a place, in order.
-pub fn steps(alloc: Global, deeds: &[Deed], place: StepPlace) -> Result<Steps, NoMemory>
+/// All deeds at a place, copied.
+fn all_copied(alloc: Global, deeds: &[Deed], place: StepPlace) -> Result<Steps, NoMemory>
     ensures { IfOk result (λ steps. steps ≡ map (placed place) deeds.now) }
 {
     let mut steps = Vec::with_capacity(alloc, deeds.len())?;
@@ -72,6 +75,16 @@ pub fn steps(alloc: Global, deeds: &[Deed], place: StepPlace) -> Result<Steps, N
         steps.push(copied(place, deed)?)?;
     }
     Ok(Items::from_vec(steps))
+}
+
+/// What was done, as steps at a place, in order.
+pub fn steps(alloc: Global, deeds: &[Deed], place: StepPlace) -> Result<Steps, NoMemory>
+    ensures steps { IfOk result (λ steps. steps ≡ map (placed place) deeds.now) }
+    // Where recorded commands did it, each is as the table of uses has it, as the theorem on orders asks.
+    ensures declared { (device : ℕ) (commands : List (On × Command)) → deeds.now ≡ DeedsOf device commands → IfOk result (λ steps. (k : ℕ) (s : Step) → slice_get steps k ≡ Some s → IsOwnStep s) }
+{
+    let steps = all_copied(alloc, deeds, place)?;
+    Ok(steps)
 }
 
 /// The step of a queue write, if it makes one.

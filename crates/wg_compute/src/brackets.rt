@@ -2,7 +2,7 @@
 ghost use Rattle.std.specs.Prelude.{◌≡◌, IfOk};
 ghost use Rattle.wg_model.specs.Rules.{first_unmet};
 ghost use Rattle.wg_model.specs.Commands.{group_rules};
-ghost use Rattle.wg_model.specs.Compute.{depth_after, end_rules};
+ghost use Rattle.wg_model.specs.Settings.{depth_after, end_rules};
 
 use wg_types::NoMemory;
 use wg_types::commands::{Bracket, Command};
@@ -20,7 +20,10 @@ pub fn depth_after(depth: u64, command: &Command) -> Result<u64, NoMemory>
             return Ok(depth + 1);
         }
         Bracket::PopGroup => return Ok(depth.saturating_sub(1)),
-        Bracket::BeginComputePass | Bracket::EndPass | Bracket::Neither => return Ok(depth),
+        Bracket::BeginComputePass
+        | Bracket::BeginRenderPass
+        | Bracket::EndPass
+        | Bracket::Neither => return Ok(depth),
     }
 }
 
@@ -35,12 +38,15 @@ pub fn check_group(depth: u64, command: &Command) -> Option<u16>
             }
             return None;
         }
-        Bracket::BeginComputePass | Bracket::EndPass | Bracket::PushGroup | Bracket::Neither =>
-            return None,
+        Bracket::BeginComputePass
+        | Bracket::BeginRenderPass
+        | Bracket::EndPass
+        | Bracket::PushGroup
+        | Bracket::Neither => return None,
     }
 }
 
-/// The rule of an end, 310, where so many groups of the pass are open.
+/// The rule of the end of a pass, 310, where so many groups of the pass are open (WebGPU, "end").
 pub fn check_end(depth: u64, command: &Command) -> Option<u16>
     ensures { result ≡ first_unmet (end_rules depth command.now) }
 {
@@ -51,7 +57,10 @@ pub fn check_end(depth: u64, command: &Command) -> Option<u16>
             }
             return None;
         }
-        Bracket::BeginComputePass | Bracket::PushGroup | Bracket::PopGroup | Bracket::Neither =>
-            return None,
+        Bracket::BeginComputePass
+        | Bracket::BeginRenderPass
+        | Bracket::PushGroup
+        | Bracket::PopGroup
+        | Bracket::Neither => return None,
     }
 }

@@ -1,9 +1,16 @@
-//! Compute passes: what is set in one, the rules of its commands, and the steps of its dispatches.
+//! What is set in passes, and compute passes: the rules of their commands, and the steps of their
+//! dispatches.
 #![tactic(auto)]
 
 mod brackets;
 mod dispatches;
+mod given;
+mod indirect;
+mod settings;
 mod state;
 
-pub use brackets::{check_group, depth_after};
+pub use brackets::{check_end, check_group, depth_after};
+pub use given::{GroupGiven, check_given, group_given, pipeline_given};
+pub use indirect::{check_indirect, indirect_touch};
+pub use settings::Settings;
 pub use state::ComputeState;

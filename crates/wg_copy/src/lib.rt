@@ -80,13 +80,20 @@ pub fn check(command: &Command) -> Option<u16>
             return buffers::check_clear(buffer, *offset, size);
         }
         Command::BeginComputePass
+        | Command::BeginRenderPass { .. }
         | Command::PushDebugGroup
         | Command::PopDebugGroup
         | Command::End
         | Command::SetPipeline { .. }
         | Command::SetBindGroup { .. }
         | Command::Dispatch { .. }
-        | Command::DispatchIndirect { .. } => return None,
+        | Command::DispatchIndirect { .. }
+        | Command::SetVertexBuffer { .. }
+        | Command::SetIndexBuffer { .. }
+        | Command::Draw { .. }
+        | Command::DrawIndexed { .. }
+        | Command::DrawIndirect { .. }
+        | Command::DrawIndexedIndirect { .. } => return None,
     }
 }
 

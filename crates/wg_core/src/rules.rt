@@ -394,6 +394,9 @@ pub fn first_rule(
         Event::CreateComputePipeline { layout, iface } => {
             group_rules::create_compute_pipeline(state, *layout, iface, made)
         }
+        Event::CreateRenderPipeline { layout, desc } => {
+            group_rules::create_render_pipeline(state, *layout, desc, made)
+        }
         Event::Finish { encoder, recording } => finish(state, *encoder, recording),
         Event::Late { .. } => Some(14),
         Event::Submit { buffers } => return submit(alloc, state, buffers.as_slice()),

@@ -13,7 +13,7 @@ or_assoc : {X : Type 0} (a b c : Option X) → or_else (or_else a b) c ≡ or_el
 or_assoc None b c = refl
 or_assoc (Some x) b c = refl
 
-or_none : {X : Type 0} (a : Option X) → or_else a None ≡ a
+pub or_none : {X : Type 0} (a : Option X) → or_else a None ≡ a
 or_none None = refl
 or_none (Some x) = refl
 

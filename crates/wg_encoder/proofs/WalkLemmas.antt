@@ -9,26 +9,22 @@ use Rattle.std.proofs.lemmas.List.{get_or_append_left}
 use Rattle.std.proofs.Math.Seq.{get_or-append_seam}
 use Rattle.wg_types.specs.Commands.{Command}
 use Rattle.wg_types.specs.declared.commands.On.TheVariants.{Encoder, Pass}
-use Rattle.wg_types.specs.declared.commands.CommandOf.TheVariants.{BeginComputePass}
+use Rattle.wg_types.specs.declared.commands.CommandOf.TheVariants.{BeginComputePass, BeginRenderPass}
 use Rattle.wg_model.proofs.Walks.{ended_new, open_number_below}
 use Rattle.wg_types.specs.Commands.{is_begin, is_end}
 use Rattle.wg_model.specs.Rules.{or_else, first_unmet}
 use Rattle.wg_model.specs.Commands.{command_rules}
-use Rattle.wg_model.specs.Compute.{depth_after}
+use Rattle.wg_model.specs.Settings.{depth_after}
 use Rattle.std.specs.Option.{option_to_list}
 use Rattle.wg_model.specs.Touches.{uses_in, deed_of, encoder_does}
 use Rattle.wg_model.specs.Scopes.{first_clash}
 use Rattle.wg_model.specs.Walk.{Kept, PassSoFar, pass_rule, pass_does, begins, open_pass, is_open, has_ended, encoder_depth, verdict, doings, deeds, scopes_of}
 use Rattle.wg_access.specs.Done.{done_by_encoder, done_by_pass, done_of}
 use Rattle.wg_encoder.specs.Walked.{IsStateOf, IsOpenOf, IsWalkOf, IsNext}
-use Rattle.wg_encoder.proofs.DoneLemmas.{after_nothing, after_encoder, after_pass}
+use Rattle.wg_encoder.proofs.DoneLemmas.{or_none, after_nothing, after_encoder, after_pass}
 use Rattle.wg_access.specs.declared.done.Done.{Done}
 use Rattle.wg_encoder.specs.declared.walk.Walk.{Walk}
 use Rattle.wg_encoder.specs.declared.walk.Opened.{Opened}
-
-pub or_none : {X : Type 0} (a : Option X) → or_else a None ≡ a
-or_none None = refl
-or_none (Some x) = refl
 
 -- of two that are none, both are
 or_first : {X : Type 0} (a b : Option X) → or_else a b ≡ None → a ≡ None
@@ -96,11 +92,13 @@ walk_dead_begun device kept command walk m l b = let q = some_is (open_pass kept
 -- a begin has no rule of the encoder, and leaves its debug groups
 begin_depth : (depth : ℕ) (command : Command) → is_begin command ≡ true → depth_after depth command ≡ depth
 begin_depth depth BeginComputePass b = refl
+begin_depth depth (BeginRenderPass begin) b = refl
 begin_depth depth _ b = absurd (cc)
 
 begin_does : (command : Command) → is_begin command ≡ true → encoder_does command ≡ None
 unfolding encoder_does
 begin_does BeginComputePass b = refl
+begin_does (BeginRenderPass begin) b = refl
 begin_does _ b = absurd (cc)
 
 -- a pass that is begun on an unlocked encoder

@@ -4,34 +4,56 @@ use Rattle.wg_types.specs.Commands.{Command, bracket}
 use Rattle.wg_types.specs.declared.commands.Bracket.{Bracket}
 use Rattle.wg_types.specs.declared.commands.Bracket.TheVariants as brackets
 use Rattle.wg_model.specs.Rules.{first_unmet, or_else}
-use Rattle.wg_model.specs.Commands.{named, common_rules}
-use Rattle.wg_model.specs.Compute.{ComputeSet, compute_set, compute_rules}
+use Rattle.wg_types.specs.Commands.{named_on}
+use Rattle.wg_types.specs.declared.wanted.Kind.TheVariants as kind
+use Rattle.wg_model.specs.Commands.{common_rules}
+use Rattle.wg_model.specs.Settings.{Settings, settings}
+use Rattle.wg_model.specs.Compute.{compute_rules}
+use Rattle.wg_model.specs.Attachments.{RenderBegin, begin_of}
+use Rattle.wg_model.specs.Render.{RenderSet, render_set, render_rules}
 use Rattle.wg_model.specs.Walk.{Kept, PassSoFar, pass_rule, pass_does, begins, open_pass, has_ended, encoder_depth, verdict}
 use Rattle.wg_access.specs.Done.{done_by_pass, done_of}
 use Rattle.wg_access.specs.declared.done.Done.{Done}
 use Rattle.wg_encoder.specs.declared.pass.PassState.{PassState}
-use Rattle.wg_encoder.specs.declared.pass.PassState.TheVariants.{Refused, Compute}
+use Rattle.wg_encoder.specs.declared.pass.PassState.TheVariants.{Refused, Compute, Render}
 use Rattle.wg_encoder.specs.declared.walk.Opened.{Opened}
 use Rattle.wg_encoder.specs.declared.walk.Walk.{Walk}
 
 -- the first unmet rule of a command of a compute pass, over what is set
-abbrev pub rule_over : ℕ → ComputeSet → Command → Option ℕ
-rule_over device set command = or_else (first_unmet (common_rules device (named command))) (first_unmet (compute_rules set command))
+abbrev pub compute_rule : ℕ → Settings → Command → Option ℕ
+compute_rule device set command = or_else (first_unmet (common_rules device (named_on kind.ComputePass command))) (first_unmet (compute_rules set command))
 
-abbrev pub IsComputeBy : Bracket → List Command → ComputeSet → Type 0
-IsComputeBy brackets.BeginComputePass earlier set = set ≡ compute_set earlier
+-- and of a command of a render pass
+abbrev pub render_rule : ℕ → RenderSet → Command → Option ℕ
+render_rule device set command = or_else (first_unmet (common_rules device (named_on kind.RenderPass command))) (first_unmet (render_rules set command))
+
+abbrev pub IsComputeBy : Bracket → List Command → Settings → Type 0
+IsComputeBy brackets.BeginComputePass earlier set = set ≡ settings earlier
+IsComputeBy brackets.BeginRenderPass earlier set = ⊥
 IsComputeBy brackets.EndPass earlier set = ⊥
 IsComputeBy brackets.PushGroup earlier set = ⊥
 IsComputeBy brackets.PopGroup earlier set = ⊥
 IsComputeBy brackets.Neither earlier set = ⊥
 
-abbrev pub IsComputeOf : Command → List Command → ComputeSet → Type 0
+abbrev pub IsComputeOf : Command → List Command → Settings → Type 0
 IsComputeOf begin earlier set = IsComputeBy (bracket begin) earlier set
+
+abbrev pub IsRenderBy : RenderBegin → Bracket → List Command → RenderSet → Type 0
+IsRenderBy begin brackets.BeginComputePass earlier set = ⊥
+IsRenderBy begin brackets.BeginRenderPass earlier set = set ≡ render_set begin earlier
+IsRenderBy begin brackets.EndPass earlier set = ⊥
+IsRenderBy begin brackets.PushGroup earlier set = ⊥
+IsRenderBy begin brackets.PopGroup earlier set = ⊥
+IsRenderBy begin brackets.Neither earlier set = ⊥
+
+abbrev pub IsRenderOf : Command → List Command → RenderSet → Type 0
+IsRenderOf begin earlier set = IsRenderBy (begin_of begin) (bracket begin) earlier set
 
 -- The state of a pass is what its commands give.
 abbrev pub IsStateOf : ℕ → Command → List Command → PassState → Type 0
 IsStateOf device begin earlier (Refused rule) = pass_rule device begin earlier ≡ Some rule
 IsStateOf device begin earlier (Compute set) = (pass_rule device begin earlier ≡ None) × IsComputeOf begin earlier set
+IsStateOf device begin earlier (Render set) = (pass_rule device begin earlier ≡ None) × IsRenderOf begin earlier set
 
 abbrev pub IsOpenOf : ℕ → Option PassSoFar → Option Opened → Type 0
 IsOpenOf device None None = Unit {0}

@@ -1,38 +1,59 @@
 //! One pass: its state, in place of a walk over its commands.
 ghost use Rattle.std.specs.Prelude.{◌≡◌, ◌∷◌, [], ℕ, List, true, IfOk, OnErr};
 ghost use Rattle.wg_types.specs.Commands.{Command, is_begin};
-ghost use Rattle.wg_encoder.specs.Walked.{IsStateOf, IsTaken, rule_over};
+ghost use Rattle.wg_encoder.specs.Walked.{IsStateOf, IsTaken, compute_rule, render_rule};
 
-use crate::named::check_named;
+use crate::named::{check_named, check_named_on};
 use std::alloc::Global;
 use wg_access::Done;
 use wg_compute::ComputeState;
+use wg_render::{RenderState, check_begin};
 use wg_types::NoMemory;
 use wg_types::commands::Command;
+use wg_types::wanted::Kind;
 
 /// The state of a pass: its first unmet rule, or what is set in it.
 #[derive(Drop)]
 pub enum PassState {
     Refused(u16),
     Compute(ComputeState),
+    Render(RenderState),
 }
 
 /// The state of a pass that was just begun.
-pub fn begin(device: u64, command: &Command) -> PassState
+#[tactic(auto, using(crate::proofs::PassLemmas::named_refused))]
+pub fn begin(alloc: Global, device: u64, command: &Command) -> Result<PassState, NoMemory>
     requires { is_begin command.now ≡ true }
-    ensures { IsStateOf device command.now [] result }
+    ensures { IfOk result (λ state. IsStateOf device command.now [] state) }
 {
     if let Some(rule) = check_named(device, command) {
-        return PassState::Refused(rule);
+        return Ok(PassState::Refused(rule));
     }
-    PassState::Compute(ComputeState::new())
+    let Some(begin) = command.render_begun() else {
+        return Ok(PassState::Compute(ComputeState::new()));
+    };
+    if let Some(rule) = check_begin(begin) {
+        return Ok(PassState::Refused(rule));
+    }
+    let state = RenderState::new(alloc, begin)?;
+    Ok(PassState::Render(state))
 }
 
 /// The first unmet rule of a command of a compute pass.
 fn check_compute(set: &ComputeState, device: u64, command: &Command) -> Option<u16>
-    ensures { result ≡ rule_over device set.now command.now }
+    ensures { result ≡ compute_rule device set.now command.now }
 {
-    if let Some(rule) = check_named(device, command) {
+    if let Some(rule) = check_named_on(device, Kind::ComputePass, command) {
+        return Some(rule);
+    }
+    set.rule(command)
+}
+
+/// The first unmet rule of a command of a render pass.
+fn check_render(set: &RenderState, device: u64, command: &Command) -> Option<u16>
+    ensures { result ≡ render_rule device set.now command.now }
+{
+    if let Some(rule) = check_named_on(device, Kind::RenderPass, command) {
         return Some(rule);
     }
     set.rule(command)
@@ -59,6 +80,14 @@ pub fn take(
                 return Ok(Some(rule));
             }
             set.take(done, alloc, command)?;
+            return Ok(None);
+        }
+        PassState::Render(pass) => {
+            if let Some(rule) = check_render(pass, device, command) {
+                *state = PassState::Refused(rule);
+                return Ok(Some(rule));
+            }
+            pass.take(done, alloc, command)?;
             return Ok(None);
         }
     }

@@ -48,6 +48,7 @@ pub fn bytes_of(info: &Info) -> Option<u64>
         | Info::PipelineLayout(_)
         | Info::Group(_)
         | Info::Compute(_)
+        | Info::Render(_)
         | Info::Encoder
         | Info::CommandBuffer => Some(0),
     }

@@ -1,15 +1,18 @@
 //! What is known of the objects that calls make of others.
 ghost use Rattle.std.specs.Prelude.{◌≡◌, IfOk, map, option_copied};
-ghost use Rattle.wg_model.specs.Making.{known_buffer, known_texture, known_view, known_sampler, known_group_layout, known_pipeline_layout, bound_resource, bound_entry, view_made, pipeline_layout_made, group_made, compute_made};
+ghost use Rattle.wg_model.specs.Making.{known_buffer, known_texture, known_view, known_sampler, known_group_layout, known_pipeline_layout, bound_resource, bound_entry, view_made, pipeline_layout_made, group_made, compute_made, render_made};
 
 use std::alloc::Global;
 use wg_formats::{no_texture, view_info};
 use wg_types::NoMemory;
 use wg_types::bindings::{BoundEntry, BoundResource, GroupEntryOf, ResourceOf, SamplerKind};
-use wg_types::groups::{ComputeInfo, GroupInfo, GroupLayoutInfo, Interface, PipelineLayoutInfo};
+use wg_types::groups::{
+    ComputeInfo, GroupInfo, GroupLayoutInfo, Interface, PipelineLayoutInfo, RenderInfo,
+};
 use wg_types::handles::{BufferInfo, Info, ObjRef};
 use wg_types::items::Items;
 use wg_types::refs::{Find, Known, map_items};
+use wg_types::render::RenderDesc;
 use wg_types::shared::Shared;
 use wg_types::textures::{AspectWord, TextureInfo, ViewDesc, ViewDim, ViewInfo};
 
@@ -237,5 +240,23 @@ pub fn compute_made<R, F: Find<R, ObjRef>, K: Known<R>>(
         layout: find.find(layout)?,
         layout_info: known_pipeline_layout(alloc, known.info(layout))?,
         iface: iface.share()?,
+    })
+}
+
+/// What is known of a new render pipeline (WebGPU, "GPURenderPipeline"). What is known of its layout and
+/// what it is asked for with are shared.
+pub fn render_made<R, F: Find<R, ObjRef>, K: Known<R>>(
+    alloc: Global,
+    find: &F,
+    known: &K,
+    layout: &R,
+    desc: &Shared<RenderDesc>,
+) -> Result<RenderInfo, NoMemory>
+    ensures { IfOk result (λ info. info ≡ render_made (F.finds find.now) (K.knows known.now) layout.now desc.now) }
+{
+    Ok(RenderInfo {
+        layout: find.find(layout)?,
+        layout_info: known_pipeline_layout(alloc, known.info(layout))?,
+        desc: desc.share()?,
     })
 }

@@ -2,7 +2,7 @@
 ghost use Rattle.std.specs.Prelude.{◌≡◌, slice_get};
 
 use crate::check_group;
-use crate::making::{compute_made, group_made, pipeline_layout_made, view_made};
+use crate::making::{compute_made, group_made, pipeline_layout_made, render_made, view_made};
 use std::alloc::Global;
 use std::test::Fail;
 use wg_types::NoMemory;
@@ -16,6 +16,7 @@ use wg_types::handles::{BufferInfo, Info, ObjRef};
 use wg_types::items::Items;
 use wg_types::limits::Limits;
 use wg_types::refs::{Find, Known};
+use wg_types::render::RenderDesc;
 use wg_types::shared::Shared;
 use wg_types::textures::{AspectWord, TextureDim, TextureInfo, ViewDesc, ViewDim, ViewInfo};
 
@@ -176,6 +177,20 @@ fn a_pipeline_shares_its_layout(rt: HostRuntime) -> Result<(), Fail> {
     assert_eq!(rt; pipeline.layout, reference(0));
     assert_eq!(rt; pipeline.layout_info.get().layouts.as_slice().len(), 1);
     assert_eq!(rt; pipeline.iface.get().entries.as_slice().len(), 0);
+    let desc = Shared::new(
+        alloc,
+        RenderDesc {
+            iface: Items::new(alloc),
+            buffers: Items::new(alloc),
+            targets: Items::new(alloc),
+            depth: None,
+            samples: 4,
+        },
+    )?;
+    let pipeline = render_made(alloc, &objects, &objects, &0, &desc)?;
+    assert_eq!(rt; pipeline.layout, reference(0));
+    assert_eq!(rt; pipeline.layout_info.get().layouts.as_slice().len(), 1);
+    assert_eq!(rt; pipeline.desc.get().samples, 4);
     Ok(())
 }
 

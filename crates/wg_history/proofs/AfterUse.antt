@@ -4,6 +4,7 @@ use Rattle.std.proofs.lemmas.List.{reverse-append}
 use Rattle.std.proofs.lemmas.List.Folds.{list_any-append}
 use Rattle.std.proofs.lemmas.Bool.{and_parts, or_cases, or_left, or_right, leb-true, ltb-true, eqb-true}
 use Rattle.std.proofs.Math.Nat.{zero-max}
+use Rattle.wg_model.proofs.NamedLemmas.{swap_heads}
 use Rattle.wg_model.proofs.Unmet.{all_met}
 use Rattle.std.specs.List.{list_any}
 use Rattle.wg_model.specs.Rules.{AreMet}
@@ -70,15 +71,9 @@ used_destroyed setup past buffers n destroyed used =
     buffers used
 
 -- A test that is passed where one of two others is passes on a list where one of them does.
-or_rest : (a b c d : Bool) → (a || b) || (c || d) ≡ (a || c) || (b || d)
-or_rest true b c d = refl
-or_rest false true true d = refl
-or_rest false true false d = refl
-or_rest false false c d = refl
-
 any_either : {X : Type 0} (p q r : X → Bool) → ((x : X) → r x ≡ p x || q x) → (xs : List X) → list_any r xs ≡ list_any p xs || list_any q xs
 any_either p q r is [] = refl
-any_either p q r is (x ∷ xs) = ap₂ ◌||◌ (is x) (any_either p q r is xs) ∙ or_rest (p x) (q x) (list_any p xs) (list_any q xs)
+any_either p q r is (x ∷ xs) = ap₂ ◌||◌ (is x) (any_either p q r is xs) ∙ swap_heads (p x) (list_any p xs) (q x) (list_any q xs)
 
 -- A resource is a buffer or a texture.
 any_resource_is : (test : ℕ → Bool) (commands : List (On × Command)) → any_resource test commands ≡ any_named buffers_of test commands || any_named textures_of test commands

@@ -1,5 +1,5 @@
 -- The tests of what is bound, and of infos, tell whether they are equal.
-use Rattle.std.proofs.Common.{◌≡◌, ℕ, ◌==◌, Bool, true, false, ◌&&◌, List, [], ◌∷◌, refl, ap, ap₂, ◌∙◌, if◌then◌else◌}
+use Rattle.std.proofs.Common.{◌≡◌, ℕ, ◌==◌, Bool, true, false, ◌&&◌, List, [], ◌∷◌, Option, Some, None, refl, ap, ap₂, ◌∙◌, if◌then◌else◌}
 use Rattle.std.specs.Prelude.{Decides}
 use Rattle.std.proofs.lemmas.Bool.{and_parts, and_from}
 use Rattle.std.proofs.lemmas.Bool.Decides.{Decides-and, Decides-like}
@@ -32,8 +32,17 @@ use Rattle.wg_types.specs.declared.groups.PipelineLayoutInfo.{PipelineLayoutInfo
 use Rattle.wg_types.specs.declared.groups.GroupInfo.{GroupInfo}
 use Rattle.wg_types.specs.declared.groups.Interface.{Interface}
 use Rattle.wg_types.specs.declared.groups.ComputeInfo.{ComputeInfo}
-use Rattle.wg_types.specs.declared.handles.Info.TheVariants.{Buffer, Texture, View, Sampler, GroupLayout, PipelineLayout, Group, Compute, Encoder, CommandBuffer}
-use Rattle.wg_model.specs.Equality.{same_bool, same_list, same_reference, same_buffer, sample_number, buffer_binding_number, sampler_number, access_number, stage_number, same_view_dim, same_sample, same_buffer_binding, same_sampler, same_access, same_stage, same_binding_kind, same_layout_entry, same_iface_entry, same_bound_resource, same_bound_entry, same_group_layout, same_pipeline_layout, same_group, same_compute}
+use Rattle.wg_types.specs.declared.groups.RenderInfo.{RenderInfo}
+use Rattle.wg_types.specs.declared.render.DepthState.{DepthState}
+use Rattle.wg_types.specs.declared.render.RenderDesc.{RenderDesc}
+use Rattle.wg_types.specs.declared.vertex.VertexFormat.{VertexFormat}
+use Rattle.wg_types.specs.declared.vertex.VertexFormat.TheVariants as vertex_format
+use Rattle.wg_types.specs.declared.vertex.VertexStep.{VertexStep}
+use Rattle.wg_types.specs.declared.vertex.VertexStep.TheVariants as vertex_step
+use Rattle.wg_types.specs.declared.vertex.VertexAttribute.{VertexAttribute}
+use Rattle.wg_types.specs.declared.vertex.VertexBuffer.{VertexBuffer}
+use Rattle.wg_types.specs.declared.handles.Info.TheVariants.{Buffer, Texture, View, Sampler, GroupLayout, PipelineLayout, Group, Compute, Render, Encoder, CommandBuffer}
+use Rattle.wg_model.specs.Equality.{same_bool, same_list, same_reference, same_buffer, sample_number, buffer_binding_number, sampler_number, access_number, stage_number, same_view_dim, same_sample, same_buffer_binding, same_sampler, same_access, same_stage, same_binding_kind, same_layout_entry, same_iface_entry, same_bound_resource, same_bound_entry, same_group_layout, same_pipeline_layout, same_group, same_compute, vertex_format_number, vertex_step_number, same_attribute, same_vertex_buffer, same_option, same_depth_state, same_render_desc, same_render}
 use Rattle.wg_history.specs.Infos.{SameInfoIs}
 use Rattle.wg_history.proofs.InfoLaws.{numbers_tell, words_tell, formats_tell, view_dims_tell, bools_tell, buffers_tell, textures_tell, references_tell, views_tell}
 
@@ -114,6 +123,9 @@ like_three f a p b q c r h = ap (λ x. f x b c) h.0.0 ∙ (ap (λ x. f p x c) h.
 
 like_four : {A B C D X : Type 0} (f : A → B → C → D → X) (a p : A) (b q : B) (c r : C) (d s : D) → (((a ≡ p) × (b ≡ q)) × (c ≡ r)) × (d ≡ s) → f a b c d ≡ f p q r s
 like_four f a p b q c r d s h = ap (λ x. f x b c d) h.0.0.0 ∙ (ap (λ x. f p x c d) h.0.0.1 ∙ (ap (λ x. f p q x d) h.0.1 ∙ ap (λ x. f p q r x) h.1))
+
+like_five : {A B C D E X : Type 0} (f : A → B → C → D → E → X) (a p : A) (b q : B) (c r : C) (d s : D) (e t : E) → ((((a ≡ p) × (b ≡ q)) × (c ≡ r)) × (d ≡ s)) × (e ≡ t) → f a b c d e ≡ f p q r s t
+like_five f a p b q c r d s e t h = like_four (λ a b c d. f a b c d e) a p b q c r d s h.0 ∙ ap (λ x. f p q r s x) h.1
 
 -- Kinds of bindings.
 binding_kinds_tell : (a b : BindingKind) → Decides (same_binding_kind a b) (a ≡ b)
@@ -208,6 +220,92 @@ computes_tell a b =
     (Decides-and (same_reference a.layout b.layout) (same_pipeline_layout a.layout_info b.layout_info) (references_tell a.layout b.layout) (pipeline_layouts_tell a.layout_info b.layout_info))
     (lists_tell same_iface_entry iface_entries_tell a.iface.entries b.iface.entries))
 
+-- Vertex buffers and render pipelines.
+abbrev vertex_format_at : ℕ → VertexFormat
+vertex_format_at n = if n == 0 then vertex_format.Uint8x2 else if n == 1 then vertex_format.Uint8x4 else if n == 2 then vertex_format.Unorm8x4 else if n == 3 then vertex_format.Uint16x2 else if n == 4 then vertex_format.Float16x2 else if n == 5 then vertex_format.Float32 else if n == 6 then vertex_format.Uint32 else if n == 7 then vertex_format.Sint32 else if n == 8 then vertex_format.Float16x4 else if n == 9 then vertex_format.Float32x2 else if n == 10 then vertex_format.Float32x3 else vertex_format.Float32x4
+
+vertex_format_back : (f : VertexFormat) → vertex_format_at (vertex_format_number f) ≡ f
+vertex_format_back vertex_format.Uint8x2 = refl
+vertex_format_back vertex_format.Uint8x4 = refl
+vertex_format_back vertex_format.Unorm8x4 = refl
+vertex_format_back vertex_format.Uint16x2 = refl
+vertex_format_back vertex_format.Float16x2 = refl
+vertex_format_back vertex_format.Float32 = refl
+vertex_format_back vertex_format.Uint32 = refl
+vertex_format_back vertex_format.Sint32 = refl
+vertex_format_back vertex_format.Float16x4 = refl
+vertex_format_back vertex_format.Float32x2 = refl
+vertex_format_back vertex_format.Float32x3 = refl
+vertex_format_back vertex_format.Float32x4 = refl
+
+abbrev vertex_step_at : ℕ → VertexStep
+vertex_step_at n = if n == 0 then vertex_step.Vertex else vertex_step.Instance
+
+vertex_step_back : (s : VertexStep) → vertex_step_at (vertex_step_number s) ≡ s
+vertex_step_back vertex_step.Vertex = refl
+vertex_step_back vertex_step.Instance = refl
+
+abbrev attribute_made : VertexFormat → ℕ → ℕ → VertexAttribute
+attribute_made format offset location = record { format = format; offset = offset; location = location }
+
+attributes_tell : (a b : VertexAttribute) → Decides (same_attribute a b) (a ≡ b)
+attributes_tell a b =
+    Decides-like _ (like_three attribute_made a.format b.format a.offset b.offset a.location b.location) (λ e. ((ap (λ (x : VertexAttribute). x.format) e, ap (λ (x : VertexAttribute). x.offset) e), ap (λ (x : VertexAttribute). x.location) e))
+    (Decides-and _ (a.location == b.location)
+    (Decides-and (vertex_format_number a.format == vertex_format_number b.format) (a.offset == b.offset) (words_tell vertex_format_number vertex_format_at vertex_format_back a.format b.format) (numbers_tell a.offset b.offset))
+    (numbers_tell a.location b.location))
+
+abbrev vertex_buffer_made : ℕ → VertexStep → List VertexAttribute → VertexBuffer
+vertex_buffer_made stride step attributes = record { stride = stride; step = step; attributes = attributes }
+
+vertex_buffers_tell : (a b : VertexBuffer) → Decides (same_vertex_buffer a b) (a ≡ b)
+vertex_buffers_tell a b =
+    Decides-like _ (like_three vertex_buffer_made a.stride b.stride a.step b.step a.attributes b.attributes) (λ e. ((ap (λ (x : VertexBuffer). x.stride) e, ap (λ (x : VertexBuffer). x.step) e), ap (λ (x : VertexBuffer). x.attributes) e))
+    (Decides-and _ (same_list same_attribute a.attributes b.attributes)
+    (Decides-and (a.stride == b.stride) (vertex_step_number a.step == vertex_step_number b.step) (numbers_tell a.stride b.stride) (words_tell vertex_step_number vertex_step_at vertex_step_back a.step b.step))
+    (lists_tell same_attribute attributes_tell a.attributes b.attributes))
+
+options_tell : {X : Type 0} (same : X → X → Bool) → ((x y : X) → Decides (same x y) (x ≡ y)) → (a b : Option X) → Decides (same_option same a b) (a ≡ b)
+options_tell same tell None None = (λ e. refl, λ e. refl)
+options_tell same tell None (Some b) = (λ e. absurd (cc), λ e. absurd (cc))
+options_tell same tell (Some a) None = (λ e. absurd (cc), λ e. absurd (cc))
+options_tell {X} same tell (Some a) (Some b) = let d = tell a b in (λ e. ap (λ (x : X). Some x) (d.0 e), λ e. d.1 (cc))
+
+abbrev depth_state_made : Format → Bool → Bool → DepthState
+depth_state_made format depth_write stencil_write = record { format = format; depth_write = depth_write; stencil_write = stencil_write }
+
+depth_states_tell : (a b : DepthState) → Decides (same_depth_state a b) (a ≡ b)
+depth_states_tell a b =
+    Decides-like _ (like_three depth_state_made a.format b.format a.depth_write b.depth_write a.stencil_write b.stencil_write) (λ e. ((ap (λ (x : DepthState). x.format) e, ap (λ (x : DepthState). x.depth_write) e), ap (λ (x : DepthState). x.stencil_write) e))
+    (Decides-and _ (same_bool a.stencil_write b.stencil_write)
+    (Decides-and (same_format a.format b.format) (same_bool a.depth_write b.depth_write) (formats_tell a.format b.format) (bools_tell a.depth_write b.depth_write))
+    (bools_tell a.stencil_write b.stencil_write))
+
+abbrev desc_made : List IfaceEntry → List VertexBuffer → List (Option Format) → Option DepthState → ℕ → RenderDesc
+desc_made iface buffers targets depth samples = record { iface = iface; buffers = buffers; targets = targets; depth = depth; samples = samples }
+
+descs_tell : (a b : RenderDesc) → Decides (same_render_desc a b) (a ≡ b)
+descs_tell a b =
+    Decides-like _ (like_five desc_made a.iface b.iface a.buffers b.buffers a.targets b.targets a.depth b.depth a.samples b.samples)
+    (λ e. ((((ap (λ (x : RenderDesc). x.iface) e, ap (λ (x : RenderDesc). x.buffers) e), ap (λ (x : RenderDesc). x.targets) e), ap (λ (x : RenderDesc). x.depth) e), ap (λ (x : RenderDesc). x.samples) e))
+    (Decides-and _ (a.samples == b.samples)
+    (Decides-and _ (same_option same_depth_state a.depth b.depth)
+    (Decides-and _ (same_list (same_option same_format) a.targets b.targets)
+    (Decides-and (same_list same_iface_entry a.iface b.iface) (same_list same_vertex_buffer a.buffers b.buffers) (lists_tell same_iface_entry iface_entries_tell a.iface b.iface) (lists_tell same_vertex_buffer vertex_buffers_tell a.buffers b.buffers))
+    (lists_tell (same_option same_format) (options_tell same_format formats_tell) a.targets b.targets))
+    (options_tell same_depth_state depth_states_tell a.depth b.depth))
+    (numbers_tell a.samples b.samples))
+
+abbrev render_made : ObjRef → PipelineLayoutInfo → RenderDesc → RenderInfo
+render_made layout layout_info desc = record { layout = layout; layout_info = layout_info; desc = desc }
+
+renders_tell : (a b : RenderInfo) → Decides (same_render a b) (a ≡ b)
+renders_tell a b =
+    Decides-like _ (like_three render_made a.layout b.layout a.layout_info b.layout_info a.desc b.desc) (λ e. ((ap (λ (x : RenderInfo). x.layout) e, ap (λ (x : RenderInfo). x.layout_info) e), ap (λ (x : RenderInfo). x.desc) e))
+    (Decides-and _ (same_render_desc a.desc b.desc)
+    (Decides-and (same_reference a.layout b.layout) (same_pipeline_layout a.layout_info b.layout_info) (references_tell a.layout b.layout) (pipeline_layouts_tell a.layout_info b.layout_info))
+    (descs_tell a.desc b.desc))
+
 -- Infos.
 pub infos_tell : SameInfoIs
 infos_tell (Buffer a) (Buffer b) = let d = buffers_tell a b in (λ e. ap Buffer (d.0 e), λ e. d.1 (cc))
@@ -218,6 +316,7 @@ infos_tell (GroupLayout a) (GroupLayout b) = let d = group_layouts_tell a b in (
 infos_tell (PipelineLayout a) (PipelineLayout b) = let d = pipeline_layouts_tell a b in (λ e. ap PipelineLayout (d.0 e), λ e. d.1 (cc))
 infos_tell (Group a) (Group b) = let d = groups_tell a b in (λ e. ap Group (d.0 e), λ e. d.1 (cc))
 infos_tell (Compute a) (Compute b) = let d = computes_tell a b in (λ e. ap Compute (d.0 e), λ e. d.1 (cc))
+infos_tell (Render a) (Render b) = let d = renders_tell a b in (λ e. ap Render (d.0 e), λ e. d.1 (cc))
 infos_tell Encoder Encoder = (λ e. refl, λ e. refl)
 infos_tell CommandBuffer CommandBuffer = (λ e. refl, λ e. refl)
 infos_tell _ _ = (λ e. absurd (cc), λ e. absurd (cc))

@@ -160,7 +160,7 @@ barred setup past encoder n commands bad names =
     (λ kept in_command. any_grows (λ (object : HandleValue × Wanted). not (is_genuine setup past object.0 && may_name setup past encoder object.0.reference.number)) (λ (object : HandleValue × Wanted). object.0.reference.number == n) (λ object same. ap not (bad object.0 (eqb-true object.0.reference.number n same))) (named kept.1) in_command)
     commands names
 
-genuine_below : (setup : Setup) (past : Past) (handle : HandleValue) → is_genuine setup past handle ≡ true → handle.reference.number < count past
+pub genuine_below : (setup : Setup) (past : Past) (handle : HandleValue) → is_genuine setup past handle ≡ true → handle.reference.number < count past
 genuine_below setup past handle h = own_below setup past _ handle.reference (and_parts _ _ (and_parts _ _ h).0).0
 
 -- Commands of which no handle is barred name objects that were made, and that their encoder may name.

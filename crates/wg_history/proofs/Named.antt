@@ -15,12 +15,13 @@ use Rattle.wg_model.specs.Holding.{is_among}
 use Rattle.wg_model.specs.Layouts.{pipeline_layout_rules}
 use Rattle.wg_model.specs.Groups.{group_rules}
 use Rattle.wg_model.specs.Pipelines.{compute_rules}
-use Rattle.wg_model.specs.Making.{bound_resource, bound_entry, pipeline_layout_made, group_made, compute_made}
+use Rattle.wg_model.specs.RenderPipelines.{render_pipeline_rules}
+use Rattle.wg_model.specs.Making.{bound_resource, bound_entry, pipeline_layout_made, group_made, compute_made, render_made}
 use Rattle.wg_model.proofs.Unmet.{all_met}
-use Rattle.wg_history.specs.Entries.{Setup, Event, CreateView, CreatePipelineLayout, CreateBindGroup, CreateComputePipeline, effects_of, Past}
+use Rattle.wg_history.specs.Entries.{Setup, Event, CreateView, CreatePipelineLayout, CreateBindGroup, CreateComputePipeline, CreateRenderPipeline, effects_of, Past}
 use Rattle.wg_history.specs.Objects.{ObjRef, count, unknown, known_in, is_made_valid}
 use Rattle.wg_history.specs.Rules.{is_dropped, create_view_list, create_view_rule}
-use Rattle.wg_history.specs.GroupRules.{named_rules, group_named, create_pipeline_layout_rule, create_bind_group_rule, create_compute_pipeline_rule}
+use Rattle.wg_history.specs.GroupRules.{named_rules, group_named, create_pipeline_layout_rule, create_bind_group_rule, create_compute_pipeline_rule, create_render_pipeline_rule}
 use Rattle.wg_history.specs.Held.{resource_number, refers_made}
 use Rattle.wg_history.specs.Loss.{is_lost}
 use Rattle.wg_history.specs.FirstRules.{first_rule}
@@ -63,7 +64,7 @@ entries_among (entry ∷ entries) n = ap₂ (λ m b. m == n || b) (resource_same
 
 -- What a valid object refers to when it is made was made, and was not dropped.
 pub object_refers : (setup : Setup) (older : Past) (event : Event) (n : ℕ) → is_made_valid (answer_by older (effects_of event).form (not (is_lost older) && is_none (first_rule setup older event))) ≡ true → is_among (refers_made event) n ≡ true → IsThere setup older n
-unfolding create_view_rule create_pipeline_layout_rule create_bind_group_rule create_compute_pipeline_rule
+unfolding create_view_rule create_pipeline_layout_rule create_bind_group_rule create_compute_pipeline_rule create_render_pipeline_rule
 object_refers setup older (CreateView texture desc) n made refers =
     let met = all_met (create_view_list setup older texture desc) (and_parts (not (is_lost older)) (is_none (create_view_rule setup older texture desc)) made).1 in
     let same : texture.number ≡ n = elim (or_cases (texture.number == n) false refers) [
@@ -86,5 +87,10 @@ object_refers setup older (CreateComputePipeline layout iface) n made refers =
     let rules : List Rule = named_rules setup older ((layout, wanted.PipelineLayout) ∷ []) in
     let more : List Rule = compute_rules (compute_made (λ r. r) (known_in older) layout iface).layout_info.layouts_info iface.entries in
     let met = all_met (rules ++ more) (and_parts (not (is_lost older)) (is_none (create_compute_pipeline_rule setup older layout iface)) made).1 in
+    named_met setup older ((layout, wanted.PipelineLayout) ∷ []) n (met_before rules more met) refers
+object_refers setup older (CreateRenderPipeline layout desc) n made refers =
+    let rules : List Rule = named_rules setup older ((layout, wanted.PipelineLayout) ∷ []) in
+    let more : List Rule = render_pipeline_rules setup.limits (render_made (λ r. r) (known_in older) layout desc).layout_info.layouts_info desc in
+    let met = all_met (rules ++ more) (and_parts (not (is_lost older)) (is_none (create_render_pipeline_rule setup older layout desc)) made).1 in
     named_met setup older ((layout, wanted.PipelineLayout) ∷ []) n (met_before rules more met) refers
 object_refers setup older _ n made refers = absurd (true≢false (sym refers))

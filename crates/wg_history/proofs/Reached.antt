@@ -25,11 +25,13 @@ use Rattle.wg_model.specs.Rules.{Rule, AreMet, first_unmet}
 use Rattle.wg_model.specs.Groups.{group_rules}
 use Rattle.wg_model.specs.Walk.{Verdict}
 use Rattle.wg_model.specs.Bound.{group_in, known_group}
+use Rattle.wg_model.specs.Attachments.{view_in, attached_view}
 use Rattle.wg_model.specs.Holding.{is_among}
 use Rattle.wg_model.specs.Making.{known_view, bound_resource, bound_entry, group_made}
-use Rattle.wg_model.specs.Recorded.{bound_buffer, bound_texture, in_group, buffers_as, textures_as, names_resource, names_by, names_within, resources, uses_resource}
+use Rattle.wg_model.specs.Recorded.{bound_buffer, bound_texture, in_group, in_view, buffers_as, textures_as, names_resource, names_by, names_within, resources, uses_resource}
 use Rattle.wg_model.proofs.Unmet.{all_met}
 use Rattle.wg_model.proofs.NamedLemmas.{any_resources}
+use Rattle.wg_model.proofs.Sparing.{or_first}
 use Rattle.wg_model.proofs.Holding.{referred_held}
 use Rattle.wg_history.specs.Entries.{Setup, Event, CreateBindGroup, Finish, effects_of, recorded_by, Entry, Past}
 use Rattle.wg_history.specs.Objects.{ObjRef, is_making, count, maker, info_made, unknown, known_in, info_at, is_own, is_valid, is_made_valid, commands_at}
@@ -45,7 +47,7 @@ use Rattle.wg_history.proofs.BindingLaws.{infos_tell}
 use Rattle.wg_history.proofs.Runs.{newest, others}
 use Rattle.wg_history.proofs.Tests.{not_true, was_not, met_before, neither}
 use Rattle.wg_history.proofs.Makers.{maker_stays, known_below, own_below, made_met, made_more}
-use Rattle.wg_history.proofs.Holders.{named_held, named_from, refers_same}
+use Rattle.wg_history.proofs.Holders.{named_held, named_from, refers_same, genuine_below}
 use Rattle.wg_history.proofs.Making.{refers_back, names_back}
 
 -- To what an object refers is told by what is known of it.
@@ -159,8 +161,8 @@ group_views setup (entry ∷ older) g n group run valid e among = viewed_later e
     by_maker true valid e rest = made_views setup older entry.event group n e (made_met setup entry older (newest setup entry older run) valid) among
     by_maker false valid e rest = rest valid e among
 
--- How commands reach a resource that they use: they name it, or a group that refers to it, or a group that refers to a view of
--- it.
+-- How commands reach a resource that they use: they name it, or a view or group that refers to it, or a group that refers to a
+-- view of it.
 pub data Reached (past : Past) (names : List ℕ) (n : ℕ) : Type 0 where
   Named : is_among names n ≡ true → Reached past names n
   Bound : (g : ℕ) → g < count past → is_among names g ≡ true → is_among (refers_at past g) n ≡ true → Reached past names n
@@ -204,9 +206,6 @@ genuine_knows setup past handle genuine valid =
       known = info_told handle.info (info_at past handle.reference.number) (or_after handle.valid _ valid front.1);
     }
 
-genuine_made : (setup : Setup) (past : Past) (handle : HandleValue) → is_genuine setup past handle ≡ true → handle.reference.number < count past
-genuine_made setup past handle genuine = own_below setup past _ handle.reference (and_parts _ _ (and_parts _ _ genuine).0).0
-
 among_self : (n : ℕ) → is_among (n ∷ []) n ≡ true
 among_self n = or_left (n == n) false (eq-eqb n n refl)
 
@@ -217,7 +216,7 @@ group_buffers setup past handle n genuine among = by_valid handle.valid refl amo
     by_info : (info : Info) → handle.info ≡ info → handle.valid ≡ true → is_among (in_group bound_buffer (group_in info)) n ≡ true → Reached past (handle.reference.number ∷ []) n
     by_info (Group group) same valid among =
         let knows = genuine_knows setup past handle genuine valid in
-        Bound handle.reference.number (genuine_made setup past handle genuine) (among_self handle.reference.number)
+        Bound handle.reference.number (genuine_below setup past handle genuine) (among_self handle.reference.number)
         (ap (λ (list : List ℕ). is_among list n) (refers_known past handle.reference.number (Group group) knows.valid (knows.known ∙ ap (λ (x : Info). Some x) same)) ∙ or_right (group.layout.number == n) _ (bound_refers n group.entries among))
     by_info _ same valid among = absurd (true≢false (sym among))
 
@@ -233,11 +232,26 @@ group_textures setup past handle n run genuine among = by_valid handle.valid ref
         let knows = genuine_knows setup past handle genuine valid in
         let known : info_at past handle.reference.number ≡ Some (Group group) = knows.known ∙ ap (λ (x : Info). Some x) same in
         let found = group_views setup past handle.reference.number n group run knows.valid known among in
-        Viewing handle.reference.number found.v (genuine_made setup past handle genuine) found.lt (among_self handle.reference.number)
+        Viewing handle.reference.number found.v (genuine_below setup past handle genuine) found.lt (among_self handle.reference.number)
         (ap (λ (list : List ℕ). is_among list found.v) (refers_known past handle.reference.number (Group group) knows.valid known) ∙ found.among) found.refers
     by_info _ same valid among = absurd (true≢false (sym among))
 
     by_valid : (b : Bool) → handle.valid ≡ b → is_among (in_group bound_texture (if b then group_in handle.info else None)) n ≡ true → Reached past (handle.reference.number ∷ []) n
+    by_valid true valid among = by_info handle.info refl valid among
+    by_valid false valid among = absurd (true≢false (sym among))
+
+-- what a genuine handle of a view gives is that to which the view refers
+view_textures : (setup : Setup) (past : Past) (handle : HandleValue) (n : ℕ) → is_genuine setup past handle ≡ true → is_among (in_view (attached_view handle)) n ≡ true → Reached past (handle.reference.number ∷ []) n
+view_textures setup past handle n genuine among = by_valid handle.valid refl among
+  where
+    by_info : (info : Info) → handle.info ≡ info → handle.valid ≡ true → is_among (in_view (view_in info)) n ≡ true → Reached past (handle.reference.number ∷ []) n
+    by_info (ViewInfo known) same valid among =
+        let knows = genuine_knows setup past handle genuine valid in
+        Bound handle.reference.number (genuine_below setup past handle genuine) (among_self handle.reference.number)
+        (ap (λ (list : List ℕ). is_among list n) (refers_known past handle.reference.number (ViewInfo known) knows.valid (knows.known ∙ ap (λ (x : Info). Some x) same)) ∙ among)
+    by_info _ same valid among = absurd (true≢false (sym among))
+
+    by_valid : (b : Bool) → handle.valid ≡ b → is_among (in_view (if b then view_in handle.info else None)) n ≡ true → Reached past (handle.reference.number ∷ []) n
     by_valid true valid among = by_info handle.info refl valid among
     by_valid false valid among = absurd (true≢false (sym among))
 
@@ -248,6 +262,7 @@ object_buffers setup past handle _ n genuine among = absurd (true≢false (sym a
 
 object_textures : (setup : Setup) (past : Past) (handle : HandleValue) (asked : Wanted) (n : ℕ) → IsRun setup past → is_genuine setup past handle ≡ true → is_among (textures_as asked handle) n ≡ true → Reached past (handle.reference.number ∷ []) n
 object_textures setup past handle wanted.Texture n run genuine among = Named among
+object_textures setup past handle wanted.View n run genuine among = view_textures setup past handle n genuine among
 object_textures setup past handle wanted.Group n run genuine among = group_textures setup past handle n run genuine among
 object_textures setup past handle _ n run genuine among = absurd (true≢false (sym among))
 
@@ -262,10 +277,6 @@ object_reaches setup past object n run genuine among = elim (or_cases (names_by 
 abbrev is_barred : Setup → Past → ℕ → HandleValue × Wanted → Bool
 is_barred setup past encoder object = not (is_genuine setup past object.0 && may_name setup past encoder object.0.reference.number)
 
-first_fails : (a b : Bool) → (a || b) ≡ false → a ≡ false
-first_fails true b e = e
-first_fails false b e = refl
-
 double_not : (b : Bool) → not b ≡ false → b ≡ true
 double_not true e = refl
 double_not false e = absurd (true≢false e)
@@ -274,7 +285,7 @@ objects_reach : (setup : Setup) (past : Past) (encoder : ℕ) (objects : List (H
 objects_reach setup past encoder [] n run spared among = absurd (true≢false (sym among))
 objects_reach setup past encoder (object ∷ objects) n run spared among = elim (or_cases (names_resource (λ r. r == n) object) (list_any (names_resource (λ r. r == n)) objects) among) [
   | inl here ↦ (
-      let genuine = (and_parts (is_genuine setup past object.0) _ (double_not _ (first_fails (is_barred setup past encoder object) _ spared))).0 in
+      let genuine = (and_parts (is_genuine setup past object.0) _ (double_not _ (or_first (is_barred setup past encoder object) _ spared))).0 in
       widened past (object.0.reference.number ∷ []) _ n (λ m e. elim (or_cases (object.0.reference.number == m) false e) [ inl same ↦ or_left (object.0.reference.number == m) _ same | inr none ↦ absurd (true≢false (sym none)) ])
       (object_reaches setup past object n run genuine here))
   | inr later ↦ widened past _ _ n (λ m e. or_right (object.0.reference.number == m) _ e) (objects_reach setup past encoder objects n run (was_not (is_barred setup past encoder object) _ spared) later)
@@ -290,7 +301,7 @@ commands_reach : (setup : Setup) (past : Past) (encoder : ℕ) (commands : List 
 commands_reach setup past encoder [] n run spared used = absurd (true≢false (sym used))
 commands_reach setup past encoder (kept ∷ commands) n run spared used = elim (or_cases (list_any (λ r. r == n) (resources kept.1)) (uses_resource commands n) used) [
   | inl here ↦ widened past _ _ n (among_left (map (λ (object : HandleValue × Wanted). object.0.reference.number) (named kept.1)) (names_within commands))
-      (objects_reach setup past encoder (named kept.1) n run (first_fails _ _ spared) (sym (any_resources (λ r. r == n) kept.1) ∙ here))
+      (objects_reach setup past encoder (named kept.1) n run (or_first _ _ spared) (sym (any_resources (λ r. r == n) kept.1) ∙ here))
   | inr later ↦ widened past _ _ n (among_right (map (λ (object : HandleValue × Wanted). object.0.reference.number) (named kept.1)) (names_within commands))
       (commands_reach setup past encoder commands n run (was_not (list_any (is_barred setup past encoder) (named kept.1)) _ spared) later)
 ]
@@ -343,7 +354,7 @@ listed_held setup past (buffer ∷ buffers) n run met consumed used = elim (or_c
       (λ m among.
       let less = names_back setup past buffer.number m run met.1.1.0 among in
       named_held setup past m (omega (arith, below, less)) (named_from setup past buffer.number m below
-      (and_from (is_valid past buffer.number) _ met.1.1.0 (and_from (not (is_consumed setup past buffer.number)) (not (is_dropped setup past buffer.number)) (ap not (first_fails (is_consumed setup past buffer.number) _ consumed)) met.1.0))
+      (and_from (is_valid past buffer.number) _ met.1.1.0 (and_from (not (is_consumed setup past buffer.number)) (not (is_dropped setup past buffer.number)) (ap not (or_first (is_consumed setup past buffer.number) _ consumed)) met.1.0))
       among))
       (used_reached setup past buffer.number n run met.1.1.0 here))
   | inr later ↦ listed_held setup past buffers n run met.1.1.1 (was_not (is_consumed setup past buffer.number) _ consumed) later

@@ -6,9 +6,9 @@ use Rattle.wg_model.specs.Rules.{Rule, first_unmet}
 use Rattle.wg_model.specs.Buffers.{create_buffer_rules}
 use Rattle.wg_model.specs.Textures.{create_texture_rules}
 use Rattle.wg_model.specs.Memory.{texture_bytes}
-use Rattle.wg_history.specs.Entries.{Setup, Event, CreateBuffer, CreateTexture, CreateView, CreateSampler, CreateBindGroupLayout, CreatePipelineLayout, CreateBindGroup, CreateComputePipeline, CreateEncoder, Finish, Late, Submit, WriteBuffer, WriteTexture, Destroy, Drop, Complete, PushErrorScope, PopErrorScope, Lose, WorkDone, MapAsync, Unmap, Past}
+use Rattle.wg_history.specs.Entries.{Setup, Event, CreateBuffer, CreateTexture, CreateView, CreateSampler, CreateBindGroupLayout, CreatePipelineLayout, CreateBindGroup, CreateComputePipeline, CreateRenderPipeline, CreateEncoder, Finish, Late, Submit, WriteBuffer, WriteTexture, Destroy, Drop, Complete, PushErrorScope, PopErrorScope, Lose, WorkDone, MapAsync, Unmap, Past}
 use Rattle.wg_history.specs.Rules.{create_view_rule, destroy_rule, drop_rule, unmap_rule, map_async_rule, write_buffer_rule, write_texture_rule, finish_rule, submit_rule}
-use Rattle.wg_history.specs.GroupRules.{create_bind_group_layout_rule, create_pipeline_layout_rule, create_bind_group_rule, create_compute_pipeline_rule}
+use Rattle.wg_history.specs.GroupRules.{create_bind_group_layout_rule, create_pipeline_layout_rule, create_bind_group_rule, create_compute_pipeline_rule, create_render_pipeline_rule}
 use Rattle.wg_history.specs.Budget.{live_bytes}
 
 -- 13 what is live before the event and the new bytes are within the budget
@@ -34,6 +34,7 @@ first_rule setup past (CreateBindGroupLayout info) = create_bind_group_layout_ru
 first_rule setup past (CreatePipelineLayout layouts) = create_pipeline_layout_rule setup past layouts
 first_rule setup past (CreateBindGroup layout entries) = create_bind_group_rule setup past layout entries
 first_rule setup past (CreateComputePipeline layout iface) = create_compute_pipeline_rule setup past layout iface
+first_rule setup past (CreateRenderPipeline layout desc) = create_render_pipeline_rule setup past layout desc
 first_rule setup past CreateEncoder = None
 first_rule setup past (Finish encoder recording) = finish_rule setup past encoder recording
 first_rule setup past (Late encoder) = Some 14

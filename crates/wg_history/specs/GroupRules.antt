@@ -13,7 +13,9 @@ use Rattle.wg_model.specs.Rules.{Rule, first_unmet}
 use Rattle.wg_model.specs.Layouts.{group_layout_rules, pipeline_layout_rules}
 use Rattle.wg_model.specs.Groups.{group_rules}
 use Rattle.wg_model.specs.Pipelines.{compute_rules}
-use Rattle.wg_model.specs.Making.{pipeline_layout_made, group_made, compute_made}
+use Rattle.wg_model.specs.RenderPipelines.{render_pipeline_rules}
+use Rattle.wg_types.specs.declared.render.RenderDesc.{RenderDesc}
+use Rattle.wg_model.specs.Making.{pipeline_layout_made, group_made, compute_made, render_made}
 use Rattle.wg_history.specs.Entries.{Setup, Past}
 use Rattle.wg_history.specs.Objects.{ObjRef, known_in, is_own, is_valid}
 use Rattle.wg_history.specs.Rules.{is_dropped}
@@ -52,3 +54,9 @@ unfoldable pub create_compute_pipeline_rule : Setup → Past → ObjRef → Inte
 create_compute_pipeline_rule setup past layout iface =
     first_unmet (named_rules setup past ((layout, wanted.PipelineLayout) ∷ [])
     ++ compute_rules (compute_made (λ r. r) (known_in past) layout iface).layout_info.layouts_info iface.entries)
+
+-- createRenderPipeline: likewise
+unfoldable pub create_render_pipeline_rule : Setup → Past → ObjRef → RenderDesc → Option ℕ
+create_render_pipeline_rule setup past layout desc =
+    first_unmet (named_rules setup past ((layout, wanted.PipelineLayout) ∷ [])
+    ++ render_pipeline_rules setup.limits (render_made (λ r. r) (known_in past) layout desc).layout_info.layouts_info desc)

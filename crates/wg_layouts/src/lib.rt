@@ -21,6 +21,4 @@ pub use setting::{check_set, group_in, known_group, layouts_in};
 pub use touching::bound_touches;
 
 #[cfg(test)]
-mod bound_tests;
-#[cfg(test)]
 mod tests;

@@ -40,6 +40,7 @@ pub fn layouts_in(info: &Info) -> &[Shared<GroupLayoutInfo>]
 {
     match info {
         Info::Compute(pipeline) => pipeline.layout_info.get().layouts_info.as_slice(),
+        Info::Render(pipeline) => pipeline.layout_info.get().layouts_info.as_slice(),
         _ => &[],
     }
 }

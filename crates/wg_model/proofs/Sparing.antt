@@ -9,7 +9,7 @@ use Rattle.wg_types.specs.declared.steps.StepName.TheVariants as name
 use Rattle.wg_types.specs.declared.commands.On.{On}
 use Rattle.wg_types.specs.declared.commands.On.TheVariants.{Encoder, Pass}
 use Rattle.wg_types.specs.Commands.{Command}
-use Rattle.wg_types.specs.declared.commands.CommandOf.TheVariants.{BeginComputePass, CopyBufferToBuffer, CopyBufferToTexture, CopyTextureToBuffer, CopyTextureToTexture, ClearBuffer, SetBindGroup, Dispatch, DispatchIndirect}
+use Rattle.wg_types.specs.declared.commands.CommandOf.TheVariants.{BeginComputePass, BeginRenderPass, CopyBufferToBuffer, CopyBufferToTexture, CopyTextureToBuffer, CopyTextureToTexture, ClearBuffer, SetBindGroup, Dispatch, DispatchIndirect, SetVertexBuffer, SetIndexBuffer, DrawIndirect, DrawIndexedIndirect}
 use Rattle.wg_types.specs.declared.mappings.Mapping.{Mapping}
 use Rattle.wg_types.specs.declared.textures.TextureInfo.{TextureInfo}
 use Rattle.wg_types.specs.declared.textures.TextureSpot.{TextureSpot}
@@ -24,11 +24,22 @@ use Rattle.wg_model.specs.Walk.{Kept, PassSoFar, open_pass, open_after, pass_aft
 use Rattle.wg_model.specs.Commands.{size_or_rest}
 use Rattle.wg_model.specs.Touches.{Doing, placed, touching, step_of, target_kind, copied_to, copied_from, range_touches, unless, encoder_does}
 use Rattle.wg_model.specs.Bound.{Place, known_group, entry_places, places_in, place_of, kind_touch, resource_cells, place_touches, set_places, index_places, has_entries, layouts_places, bound_touches}
-use Rattle.wg_model.specs.Compute.{compute_set, group_set, groups_set, layouts_set, dispatch_touches, indirect_touch, compute_does}
+use Rattle.wg_model.specs.Settings.{settings, group_set, groups_set, layouts_set, indirect_touch}
+use Rattle.wg_model.specs.Compute.{dispatch_touches, compute_does}
+use Rattle.wg_model.specs.Attachments.{RenderBegin, ColorTarget, DepthTarget, attached_view, view_parts, attach_kind, attached, attachment_usage, resolve_touches, color_touches, depth_touch, depth_touches, targets_touches}
+use Rattle.wg_model.specs.Render.{RenderSet, render_set, render_touches, command_touches, bound_group_touches, render_does, render_does_by}
+use Rattle.wg_types.specs.Render.{color_named, depth_named, targets_named}
+use Rattle.wg_types.specs.Refs.{maybe_wanted}
+use Rattle.wg_types.specs.Commands.{bracket}
+use Rattle.wg_types.specs.declared.commands.Bracket.{Bracket}
+use Rattle.wg_types.specs.declared.commands.Bracket.TheVariants as brackets
+use Rattle.wg_types.specs.declared.wanted.Wanted.{Wanted}
+use Rattle.wg_types.specs.declared.wanted.Wanted.TheVariants as wanted
+use Rattle.wg_rows.specs.Uses.{Usages, Kind, Write}
 use Rattle.wg_model.specs.Subresources.{level_runs, aspect_runs, view_runs, run_cells}
 use Rattle.wg_model.specs.Formats.{named_aspects}
 use Rattle.wg_model.specs.Textures.{layer_count}
-use Rattle.wg_model.specs.Recorded.{write_buffer_step, write_texture_step, host_name, host_touches, bound_buffer, bound_texture, in_group, resources, uses_resource}
+use Rattle.wg_model.specs.Recorded.{write_buffer_step, write_texture_step, host_name, host_touches, bound_buffer, bound_texture, in_group, in_view, buffers_as, textures_as, numbers_by, resources, uses_resource}
 use Rattle.wg_types.specs.Commands.{is_begin, is_end}
 use Rattle.wg_types.specs.Handles.{HandleValue}
 use Rattle.wg_types.specs.Bindings.{entry_of}
@@ -233,17 +244,96 @@ bound_away : (n : ℕ) (layouts : List GroupLayoutInfo) (groups : List (Option B
 unfolding bound_touches
 bound_away n layouts groups each = places_away n (layouts_places layouts groups 0) (layouts_away n layouts groups 0 each)
 
-dispatch_away : (n : ℕ) (earlier : List Command) → AreSparing n earlier → AreAway n (dispatch_touches (compute_set earlier))
-dispatch_away n earlier each = bound_away n (layouts_set (compute_set earlier)) (groups_set earlier) (group_spares n earlier 0 each, (group_spares n earlier 1 each, (group_spares n earlier 2 each, (group_spares n earlier 3 each, tt))))
+dispatch_away : (n : ℕ) (earlier : List Command) → AreSparing n earlier → AreAway n (dispatch_touches (settings earlier))
+dispatch_away n earlier each = bound_away n (layouts_set (settings earlier)) (groups_set earlier) (group_spares n earlier 0 each, (group_spares n earlier 1 each, (group_spares n earlier 2 each, (group_spares n earlier 3 each, tt))))
 
-compute_away : (n : ℕ) (earlier : List Command) (command : Command) → AreSparing n earlier → SparesCommand n command → AllAway n (option_to_list (compute_does (compute_set earlier) command))
+compute_away : (n : ℕ) (earlier : List Command) (command : Command) → AreSparing n earlier → SparesCommand n command → AllAway n (option_to_list (compute_does (settings earlier) command))
 unfolding compute_does
 compute_away n earlier (Dispatch x y z) each e = (dispatch_away n earlier each, tt)
-compute_away n earlier (DispatchIndirect buffer offset) each e = (joined_away n (dispatch_touches (compute_set earlier)) (indirect_touch buffer offset 12 ∷ []) (dispatch_away n earlier each) (or_first (buffer.reference.number == n) false e, tt), tt)
+compute_away n earlier (DispatchIndirect buffer offset) each e = (joined_away n (dispatch_touches (settings earlier)) (indirect_touch buffer offset 12 ∷ []) (dispatch_away n earlier each) (or_first (buffer.reference.number == n) false e, tt), tt)
 compute_away n earlier _ each e = tt
+
+-- Views of other textures are attached.
+abbrev SparesViews : ℕ → List (HandleValue × Wanted) → Type 0
+SparesViews n objects = list_any (λ r. r == n) (numbers_by textures_as objects) ≡ false
+
+views_parted : (n : ℕ) (xs ys : List (HandleValue × Wanted)) → SparesViews n (xs ++ ys) → SparesViews n xs × SparesViews n ys
+views_parted n [] ys e = (refl, e)
+views_parted n (x ∷ xs) ys e =
+    let both = both_none n (textures_as x.1 x.0) (numbers_by textures_as (xs ++ ys)) e in
+    let rest = views_parted n xs ys both.1 in
+    (none_both n (textures_as x.1 x.0) (numbers_by textures_as xs) both.0 rest.0, rest.1)
+
+attached_away : (n : ℕ) (how : Usages × Kind) (runs : List PartRun) → EachRow (RunAway n) runs → AreAway n (map (attached how) runs)
+attached_away n how [] each = tt
+attached_away n how (run ∷ runs) each = (each.0, attached_away n how runs each.1)
+
+known_away : (n : ℕ) (known : Option ViewInfo) → list_any (λ r. r == n) (in_view known) ≡ false → EachRow (RunAway n) (option_map_or view_runs known [])
+known_away n None e = tt
+known_away n (Some view) e = view_away n view (or_first (view.texture.number == n) false e)
+
+parts_away : (n : ℕ) (view : HandleValue) → list_any (λ r. r == n) (textures_as wanted.View view) ≡ false → EachRow (RunAway n) (view_parts view)
+parts_away n view e = known_away n (attached_view view) e
+
+resolve_away : (n : ℕ) (resolve : Option HandleValue) → SparesViews n (maybe_wanted wanted.View resolve) → AreAway n (resolve_touches resolve)
+resolve_away n None e = tt
+resolve_away n (Some view) e = attached_away n (attachment_usage, Write) (view_parts view) (parts_away n view (both_none n (textures_as wanted.View view) [] e).0)
+
+color_away : (n : ℕ) (color : Option ColorTarget) → SparesViews n (color_named color) → AreAway n (color_touches color)
+color_away n None e = tt
+color_away n (Some target) e =
+    let both = both_none n (textures_as wanted.View target.view) (numbers_by textures_as (maybe_wanted wanted.View target.resolve)) e in
+    joined_away n (map (attached (attachment_usage, attach_kind target.load target.store)) (view_parts target.view)) (resolve_touches target.resolve)
+    (attached_away n (attachment_usage, attach_kind target.load target.store) (view_parts target.view) (parts_away n target.view both.0))
+    (resolve_away n target.resolve both.1)
+
+colors_away : (n : ℕ) (colors : List (Option ColorTarget)) → SparesViews n (flat_map color_named colors) → AreAway n (flat_map color_touches colors)
+colors_away n [] e = tt
+colors_away n (color ∷ colors) e =
+    let both = views_parted n (color_named color) (flat_map color_named colors) e in
+    joined_away n (color_touches color) (flat_map color_touches colors) (color_away n color both.0) (colors_away n colors both.1)
+
+depth_parts_away : (n : ℕ) (target : DepthTarget) (runs : List PartRun) → EachRow (RunAway n) runs → AreAway n (map (depth_touch target) runs)
+depth_parts_away n target [] each = tt
+depth_parts_away n target (run ∷ runs) each = (each.0, depth_parts_away n target runs each.1)
+
+depth_away : (n : ℕ) (depth : Option DepthTarget) → SparesViews n (depth_named depth) → AreAway n (depth_touches depth)
+depth_away n None e = tt
+depth_away n (Some target) e = depth_parts_away n target (view_parts target.view) (parts_away n target.view (both_none n (textures_as wanted.View target.view) [] e).0)
+
+targets_away : (n : ℕ) (begin : RenderBegin) → SparesCommand n (BeginRenderPass begin) → AreAway n (targets_touches begin)
+unfolding targets_touches
+targets_away n begin e =
+    let views = (both_none n (numbers_by buffers_as (targets_named begin)) (numbers_by textures_as (targets_named begin)) e).1 in
+    let both = views_parted n (flat_map color_named begin.colors) (depth_named begin.depth) views in
+    joined_away n (flat_map color_touches begin.colors) (depth_touches begin.depth) (colors_away n begin.colors both.0) (depth_away n begin.depth both.1)
+
+-- What commands of a render pass touch.
+command_away : (n : ℕ) (command : Command) → SparesCommand n command → AreAway n (command_touches command)
+command_away n (SetBindGroup index group offsets) e =
+    joined_away n (bound_group_touches (Some (index, record { group = group; offsets = offsets }))) []
+    (places_away n (set_places (Some (record { group = group; offsets = offsets }))) (set_bound n index index group offsets None e tt true)) tt
+command_away n (SetVertexBuffer slot buffer offset size) e = (or_first (buffer.reference.number == n) false e, tt)
+command_away n (SetIndexBuffer buffer format offset size) e = (or_first (buffer.reference.number == n) false e, tt)
+command_away n (DrawIndirect buffer offset) e = (or_first (buffer.reference.number == n) false e, tt)
+command_away n (DrawIndexedIndirect buffer offset) e = (or_first (buffer.reference.number == n) false e, tt)
+command_away n _ e = tt
+
+render_away : (n : ℕ) (begin : RenderBegin) (earlier : List Command) → SparesCommand n (BeginRenderPass begin) → AreSparing n earlier → AreAway n (render_touches begin earlier)
+render_away n begin [] b each = targets_away n begin b
+render_away n begin (command ∷ earlier) b each = joined_away n (render_touches begin earlier) (command_touches command) (render_away n begin earlier b each.1) (command_away n command each.0)
+
+end_away : (n : ℕ) (render : RenderSet) (b : Bracket) → AreAway n render.touches → AllAway n (option_to_list (render_does_by render b))
+end_away n render brackets.EndPass away = (away, tt)
+end_away n render _ away = tt
+
+render_does_away : (n : ℕ) (begin : RenderBegin) (earlier : List Command) (command : Command) → SparesCommand n (BeginRenderPass begin) → AreSparing n earlier → AllAway n (option_to_list (render_does (render_set begin earlier) command))
+unfolding render_does
+render_does_away n begin earlier command b each = end_away n (render_set begin earlier) (bracket command) (render_away n begin earlier b each)
 
 pass_away : (n : ℕ) (begin : Command) (earlier : List Command) (command : Command) → SparesCommand n begin → AreSparing n earlier → SparesCommand n command → AllAway n (option_to_list (pass_does begin earlier command))
 pass_away n BeginComputePass earlier command b each e = compute_away n earlier command each e
+pass_away n (BeginRenderPass begin) earlier command b each e = render_does_away n begin earlier command b each
 pass_away n _ earlier command b each e = tt
 
 -- The open pass has only such commands where the kept ones are such.

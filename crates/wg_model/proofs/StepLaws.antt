@@ -6,7 +6,7 @@ use Rattle.wg_types.specs.declared.steps.StepName.TheVariants as name
 use Rattle.wg_types.specs.declared.commands.On.{On}
 use Rattle.wg_types.specs.declared.commands.On.TheVariants.{Encoder, Pass}
 use Rattle.wg_types.specs.Commands.{Command}
-use Rattle.wg_types.specs.declared.commands.CommandOf.TheVariants.{BeginComputePass, CopyBufferToBuffer, CopyBufferToTexture, CopyTextureToBuffer, CopyTextureToTexture, ClearBuffer, Dispatch, DispatchIndirect}
+use Rattle.wg_types.specs.declared.commands.CommandOf.TheVariants.{BeginComputePass, BeginRenderPass, CopyBufferToBuffer, CopyBufferToTexture, CopyTextureToBuffer, CopyTextureToTexture, ClearBuffer, SetBindGroup, Dispatch, DispatchIndirect, SetVertexBuffer, SetIndexBuffer, DrawIndirect, DrawIndexedIndirect}
 use Rattle.wg_types.specs.declared.mappings.Mapping.{Mapping}
 use Rattle.wg_types.specs.declared.mappings.MapMode.{MapMode}
 use Rattle.wg_types.specs.declared.mappings.MapMode.TheVariants.{Read as ReadMode, Write as WriteMode}
@@ -33,7 +33,23 @@ use Rattle.wg_types.specs.declared.commands.BoundGroup.{BoundGroup}
 use Rattle.wg_rows.specs.Rows.{EachRow}
 use Rattle.wg_orders.specs.Steps.{is_clear_name}
 use Rattle.wg_model.specs.Bound.{Place, kind_touch, resource_cells, place_touches, layouts_places, bound_touches}
-use Rattle.wg_model.specs.Compute.{ComputeSet, compute_set, compute_does, layouts_set, dispatch_touches, indirect_touch}
+use Rattle.wg_model.specs.Bound.{set_places}
+use Rattle.wg_model.specs.Settings.{Settings, settings, layouts_set, indirect_touch}
+use Rattle.wg_model.specs.Compute.{compute_does, dispatch_touches}
+use Rattle.wg_model.specs.Attachments.{RenderBegin, ColorTarget, DepthTarget, view_parts, attach_kind, attached, attachment_usage, resolve_touches, color_touches, aspect_how, depth_how, run_aspect, depth_touch, depth_touches, targets_touches}
+use Rattle.wg_model.specs.Render.{RenderSet, render_set, render_touches, command_touches, bound_group_touches, render_does, render_does_by}
+use Rattle.wg_types.specs.declared.handles.Info.{Info}
+use Rattle.wg_types.specs.Handles.{HandleValue}
+use Rattle.wg_types.specs.declared.parts.Aspect.{Aspect}
+use Rattle.wg_types.specs.declared.parts.Aspect.TheVariants as aspect
+use Rattle.wg_types.specs.declared.commands.Bracket.{Bracket}
+use Rattle.wg_types.specs.declared.commands.Bracket.TheVariants as brackets
+use Rattle.wg_types.specs.Commands.{bracket}
+use Rattle.wg_types.specs.declared.render.LoadOp.{LoadOp}
+use Rattle.wg_types.specs.declared.render.StoreOp.{StoreOp}
+use Rattle.wg_rows.specs.Runs.{PartRun}
+use Rattle.wg_rows.specs.Uses.{Usages, kind_writes, only_reads}
+use Rattle.wg_model.specs.Subresources.{run_cells}
 use Rattle.wg_model.specs.Recorded.{write_buffer_step, write_texture_step, host_name, host_touches, host_step}
 use Rattle.wg_model.specs.StepLaws.{IsOwnStep, WritesAreDeclared, RecordedAreDeclared}
 use Rattle.wg_model.proofs.Touching.{IsProper, AreProper, touching_own, read_proper, written_proper, joined_proper}
@@ -146,14 +162,77 @@ bound_own : (layouts : List GroupLayoutInfo) (groups : List (Option BoundGroup))
 unfolding bound_touches
 bound_own layouts groups = places_own (layouts_places layouts groups 0)
 
-compute_own : (set : ComputeSet) (command : Command) → AreOwn (option_to_list (compute_does set command))
+compute_own : (set : Settings) (command : Command) → AreOwn (option_to_list (compute_does set command))
 unfolding compute_does
 compute_own set (Dispatch x y z) = ((refl, bound_own (layouts_set set) set.groups), tt)
 compute_own set (DispatchIndirect buffer offset) = ((refl, joined_proper (dispatch_touches set) (indirect_touch buffer offset 12 ∷ []) (bound_own (layouts_set set) set.groups) (λ e. absurd (cc), tt)), tt)
 compute_own set _ = tt
 
+-- What attachments touch.
+abbrev IsFair : Usages × Kind → Type 0
+IsFair how = kind_writes how.1 ≡ true → only_reads how.0 ≡ false
+
+attached_own : (how : Usages × Kind) → IsFair how → (runs : List PartRun) → AreProper (map (attached how) runs)
+attached_own how fair [] = tt
+attached_own how fair (run ∷ runs) = (fair, attached_own how fair runs)
+
+resolve_own : (resolve : Option HandleValue) → AreProper (resolve_touches resolve)
+resolve_own None = tt
+resolve_own (Some view) = attached_own (attachment_usage, Write) (λ e. refl) (view_parts view)
+
+color_own : (color : Option ColorTarget) → AreProper (color_touches color)
+color_own None = tt
+color_own (Some target) = joined_proper (map (attached (attachment_usage, attach_kind target.load target.store)) (view_parts target.view)) (resolve_touches target.resolve) (attached_own (attachment_usage, attach_kind target.load target.store) (λ e. refl) (view_parts target.view)) (resolve_own target.resolve)
+
+colors_own : (colors : List (Option ColorTarget)) → AreProper (flat_map color_touches colors)
+colors_own [] = tt
+colors_own (color ∷ colors) = joined_proper (color_touches color) (flat_map color_touches colors) (color_own color) (colors_own colors)
+
+aspect_fair : (read_only : Bool) (load : Option LoadOp) (store : Option StoreOp) → IsFair (aspect_how read_only load store)
+aspect_fair true load store e = absurd (cc)
+aspect_fair false load store e = refl
+
+depth_fair : (target : DepthTarget) (of : Aspect) → IsFair (depth_how target of)
+depth_fair target aspect.Color = aspect_fair target.depth_read_only target.depth_load target.depth_store
+depth_fair target aspect.Depth = aspect_fair target.depth_read_only target.depth_load target.depth_store
+depth_fair target aspect.Stencil = aspect_fair target.stencil_read_only target.stencil_load target.stencil_store
+
+parts_own : (target : DepthTarget) (runs : List PartRun) → AreProper (map (depth_touch target) runs)
+parts_own target [] = tt
+parts_own target (run ∷ runs) = (depth_fair target (run_aspect run), parts_own target runs)
+
+depth_own : (depth : Option DepthTarget) → AreProper (depth_touches depth)
+depth_own None = tt
+depth_own (Some target) = parts_own target (view_parts target.view)
+
+targets_own : (begin : RenderBegin) → AreProper (targets_touches begin)
+unfolding targets_touches
+targets_own begin = joined_proper (flat_map color_touches begin.colors) (depth_touches begin.depth) (colors_own begin.colors) (depth_own begin.depth)
+
+-- What render passes touch.
+command_own : (command : Command) → AreProper (command_touches command)
+command_own (SetBindGroup index group offsets) = joined_proper (bound_group_touches (Some (index, record { group = group; offsets = offsets }))) [] (places_own (set_places (Some (record { group = group; offsets = offsets })))) tt
+command_own (SetVertexBuffer slot buffer offset size) = (λ e. absurd (cc), tt)
+command_own (SetIndexBuffer buffer format offset size) = (λ e. absurd (cc), tt)
+command_own (DrawIndirect buffer offset) = (λ e. absurd (cc), tt)
+command_own (DrawIndexedIndirect buffer offset) = (λ e. absurd (cc), tt)
+command_own _ = tt
+
+touches_own : (begin : RenderBegin) (earlier : List Command) → AreProper (render_touches begin earlier)
+touches_own begin [] = targets_own begin
+touches_own begin (command ∷ earlier) = joined_proper (render_touches begin earlier) (command_touches command) (touches_own begin earlier) (command_own command)
+
+render_own : (render : RenderSet) (b : Bracket) → AreProper render.touches → AreOwn (option_to_list (render_does_by render b))
+render_own render brackets.EndPass proper = ((refl, proper), tt)
+render_own render _ proper = tt
+
+render_does_own : (begin : RenderBegin) (earlier : List Command) (command : Command) → AreOwn (option_to_list (render_does (render_set begin earlier) command))
+unfolding render_does
+render_does_own begin earlier command = render_own (render_set begin earlier) (bracket command) (touches_own begin earlier)
+
 pass_own : (begin : Command) (earlier : List Command) (command : Command) → AreOwn (option_to_list (pass_does begin earlier command))
-pass_own BeginComputePass earlier command = compute_own (compute_set earlier) command
+pass_own BeginComputePass earlier command = compute_own (settings earlier) command
+pass_own (BeginRenderPass begin) earlier command = render_does_own begin earlier command
 pass_own _ earlier command = tt
 
 within_own : (opened : Option PassSoFar) (command : Command) → AreOwn (option_to_list (does_within opened command))

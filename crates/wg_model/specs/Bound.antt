@@ -40,6 +40,7 @@ known_group handle = if handle.valid then group_in handle.info else None
 -- the layouts of the groups of a pipeline
 abbrev pub layouts_in : Info → List GroupLayoutInfo
 layouts_in (info.Compute pipeline) = pipeline.layout_info.layouts_info
+layouts_in (info.Render pipeline) = pipeline.layout_info.layouts_info
 layouts_in _ = []
 
 -- how many of a layout's bindings take a dynamic offset

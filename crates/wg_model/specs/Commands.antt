@@ -15,7 +15,7 @@ pub use Rattle.wg_types.specs.Commands.{Command, named}
 use Rattle.wg_types.specs.Commands.{bracket}
 use Rattle.wg_types.specs.declared.commands.Bracket.{Bracket}
 use Rattle.wg_types.specs.declared.commands.Bracket.TheVariants as brackets
-use Rattle.wg_types.specs.declared.commands.CommandOf.TheVariants.{BeginComputePass, CopyBufferToBuffer, CopyBufferToTexture, CopyTextureToBuffer, CopyTextureToTexture, ClearBuffer, PushDebugGroup, PopDebugGroup, End, SetPipeline, SetBindGroup, Dispatch, DispatchIndirect}
+use Rattle.wg_types.specs.declared.commands.CommandOf.TheVariants.{BeginComputePass, BeginRenderPass, CopyBufferToBuffer, CopyBufferToTexture, CopyTextureToBuffer, CopyTextureToTexture, ClearBuffer, PushDebugGroup, PopDebugGroup, End, SetPipeline, SetBindGroup, Dispatch, DispatchIndirect, SetVertexBuffer, SetIndexBuffer, Draw, DrawIndexed, DrawIndirect, DrawIndexedIndirect}
 use Rattle.wg_model.specs.Rules.{Rule}
 use Rattle.wg_model.specs.Buffers.{copy_src, copy_dst, has_usage}
 use Rattle.wg_model.specs.TexelCopies.{buffer_to_texture_rules, texture_to_buffer_rules, texture_to_texture_rules, whole_spot}
@@ -99,6 +99,7 @@ clear_buffer_rules buffer offset size =
 -- a command's own rules, but for those that look at the commands before it
 abbrev pub own_rules : Command → List Rule
 own_rules BeginComputePass = []
+own_rules (BeginRenderPass begin) = []
 own_rules (CopyBufferToBuffer source source_offset target target_offset size) = copy_buffer_rules source source_offset target target_offset size
 own_rules (CopyBufferToTexture buffer layout texture spot size) = buffer_to_texture_rules (buffer_of buffer) layout (texture_of texture) spot size
 own_rules (CopyTextureToBuffer buffer layout texture spot size) = texture_to_buffer_rules (buffer_of buffer) layout (texture_of texture) spot size
@@ -111,10 +112,17 @@ own_rules (SetPipeline pipeline) = []
 own_rules (SetBindGroup index group offsets) = []
 own_rules (Dispatch x y z) = []
 own_rules (DispatchIndirect buffer offset) = []
+own_rules (SetVertexBuffer slot buffer offset size) = []
+own_rules (SetIndexBuffer buffer format offset size) = []
+own_rules (Draw vertices instances first_vertex first_instance) = []
+own_rules (DrawIndexed indices instances first_index first_instance) = []
+own_rules (DrawIndirect buffer offset) = []
+own_rules (DrawIndexedIndirect buffer offset) = []
 
 -- popDebugGroup (WebGPU, "Debug Markers"), by how many groups of its place are open: 285 one is.
 abbrev pub group_rules_by : ℕ → Bracket → List Rule
 group_rules_by depth brackets.BeginComputePass = []
+group_rules_by depth brackets.BeginRenderPass = []
 group_rules_by depth brackets.EndPass = []
 group_rules_by depth brackets.PushGroup = []
 group_rules_by depth brackets.PopGroup = (285, nat_lt 0 depth) ∷ []

@@ -1,5 +1,5 @@
 -- When what is bound is the same, which is to say equal.
-use Rattle.std.specs.Prelude.{ℕ, Bool, true, false, not, ◌&&◌, ◌==◌, List, [], ◌∷◌, length, if◌then◌else◌}
+use Rattle.std.specs.Prelude.{ℕ, Bool, true, false, not, ◌&&◌, ◌==◌, List, [], ◌∷◌, Option, Some, None, length, if◌then◌else◌}
 use Rattle.std.specs.List.{list_all}
 use Rattle.wg_types.specs.Formats.{same_format}
 use Rattle.wg_types.specs.Textures.{view_dim_number, same_view}
@@ -27,6 +27,15 @@ use Rattle.wg_types.specs.declared.groups.GroupLayoutInfo.{GroupLayoutInfo}
 use Rattle.wg_types.specs.declared.groups.PipelineLayoutInfo.{PipelineLayoutInfo}
 use Rattle.wg_types.specs.declared.groups.GroupInfo.{GroupInfo}
 use Rattle.wg_types.specs.declared.groups.ComputeInfo.{ComputeInfo}
+use Rattle.wg_types.specs.declared.groups.RenderInfo.{RenderInfo}
+use Rattle.wg_types.specs.declared.render.DepthState.{DepthState}
+use Rattle.wg_types.specs.declared.render.RenderDesc.{RenderDesc}
+use Rattle.wg_types.specs.declared.vertex.VertexFormat.{VertexFormat}
+use Rattle.wg_types.specs.declared.vertex.VertexFormat.TheVariants as vertex_format
+use Rattle.wg_types.specs.declared.vertex.VertexStep.{VertexStep}
+use Rattle.wg_types.specs.declared.vertex.VertexStep.TheVariants as vertex_step
+use Rattle.wg_types.specs.declared.vertex.VertexAttribute.{VertexAttribute}
+use Rattle.wg_types.specs.declared.vertex.VertexBuffer.{VertexBuffer}
 
 abbrev pub same_bool : Bool → Bool → Bool
 same_bool a b = if a then b else not b
@@ -123,6 +132,52 @@ same_group a b = same_reference a.layout b.layout && same_group_layout a.layout_
 
 abbrev pub same_compute : ComputeInfo → ComputeInfo → Bool
 same_compute a b = same_reference a.layout b.layout && same_pipeline_layout a.layout_info b.layout_info && same_list same_iface_entry a.iface.entries b.iface.entries
+
+-- the place of a vertex format among those that there are
+abbrev pub vertex_format_number : VertexFormat → ℕ
+vertex_format_number vertex_format.Uint8x2 = 0
+vertex_format_number vertex_format.Uint8x4 = 1
+vertex_format_number vertex_format.Unorm8x4 = 2
+vertex_format_number vertex_format.Uint16x2 = 3
+vertex_format_number vertex_format.Float16x2 = 4
+vertex_format_number vertex_format.Float32 = 5
+vertex_format_number vertex_format.Uint32 = 6
+vertex_format_number vertex_format.Sint32 = 7
+vertex_format_number vertex_format.Float16x4 = 8
+vertex_format_number vertex_format.Float32x2 = 9
+vertex_format_number vertex_format.Float32x3 = 10
+vertex_format_number vertex_format.Float32x4 = 11
+
+abbrev pub vertex_step_number : VertexStep → ℕ
+vertex_step_number vertex_step.Vertex = 0
+vertex_step_number vertex_step.Instance = 1
+
+abbrev pub same_attribute : VertexAttribute → VertexAttribute → Bool
+same_attribute a b = vertex_format_number a.format == vertex_format_number b.format && a.offset == b.offset && a.location == b.location
+
+abbrev pub same_vertex_buffer : VertexBuffer → VertexBuffer → Bool
+same_vertex_buffer a b = a.stride == b.stride && vertex_step_number a.step == vertex_step_number b.step && same_list same_attribute a.attributes b.attributes
+
+-- whether two are left out, or are the same
+abbrev pub same_option : {X : Type 0} → (X → X → Bool) → Option X → Option X → Bool
+same_option same None None = true
+same_option same None (Some b) = false
+same_option same (Some a) None = false
+same_option same (Some a) (Some b) = same a b
+
+abbrev pub same_depth_state : DepthState → DepthState → Bool
+same_depth_state a b = same_format a.format b.format && same_bool a.depth_write b.depth_write && same_bool a.stencil_write b.stencil_write
+
+abbrev pub same_render_desc : RenderDesc → RenderDesc → Bool
+same_render_desc a b =
+    same_list same_iface_entry a.iface b.iface
+    && same_list same_vertex_buffer a.buffers b.buffers
+    && same_list (same_option same_format) a.targets b.targets
+    && same_option same_depth_state a.depth b.depth
+    && a.samples == b.samples
+
+abbrev pub same_render : RenderInfo → RenderInfo → Bool
+same_render a b = same_reference a.layout b.layout && same_pipeline_layout a.layout_info b.layout_info && same_render_desc a.desc b.desc
 
 -- the entries of one binding
 abbrev pub of_binding : ℕ → List LayoutEntry → List LayoutEntry

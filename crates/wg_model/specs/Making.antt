@@ -23,6 +23,8 @@ use Rattle.wg_types.specs.declared.groups.PipelineLayoutInfo.{PipelineLayoutInfo
 use Rattle.wg_types.specs.declared.groups.GroupInfo.{GroupInfo}
 use Rattle.wg_types.specs.declared.groups.Interface.{Interface}
 use Rattle.wg_types.specs.declared.groups.ComputeInfo.{ComputeInfo}
+use Rattle.wg_types.specs.declared.groups.RenderInfo.{RenderInfo}
+use Rattle.wg_types.specs.declared.render.RenderDesc.{RenderDesc}
 use Rattle.wg_model.specs.Commands.{no_buffer, buffer_or_none, no_texture, texture_or_none}
 use Rattle.wg_model.specs.Views.{view_info}
 
@@ -93,3 +95,6 @@ group_made reference known layout entries = record { layout = reference layout; 
 
 abbrev pub compute_made : {R : Type 0} → (R → ObjRef) → (R → Option Info) → R → Interface → ComputeInfo
 compute_made reference known layout iface = record { layout = reference layout; layout_info = known_pipeline_layout (known layout); iface = iface }
+
+abbrev pub render_made : {R : Type 0} → (R → ObjRef) → (R → Option Info) → R → RenderDesc → RenderInfo
+render_made reference known layout desc = record { layout = reference layout; layout_info = known_pipeline_layout (known layout); desc = desc }

@@ -1,7 +1,7 @@
 -- How many bytes a resource takes of the budget.
 use Rattle.std.specs.Prelude.{ℕ, zero, suc, ◌+◌, ◌*◌}
 use Rattle.wg_types.specs.declared.handles.Info.{Info}
-use Rattle.wg_types.specs.declared.handles.Info.TheVariants.{Buffer, Texture, View, Sampler, GroupLayout, PipelineLayout, Group, Compute, Encoder, CommandBuffer}
+use Rattle.wg_types.specs.declared.handles.Info.TheVariants.{Buffer, Texture, View, Sampler, GroupLayout, PipelineLayout, Group, Compute, Render, Encoder, CommandBuffer}
 use Rattle.wg_types.specs.declared.textures.TextureInfo.{TextureInfo}
 use Rattle.wg_types.specs.Formats.{row}
 use Rattle.wg_types.specs.Textures.{width, height, depth}
@@ -29,5 +29,6 @@ bytes_of (GroupLayout info) = 0
 bytes_of (PipelineLayout info) = 0
 bytes_of (Group info) = 0
 bytes_of (Compute info) = 0
+bytes_of (Render info) = 0
 bytes_of Encoder = 0
 bytes_of CommandBuffer = 0

@@ -20,12 +20,14 @@ use Rattle.wg_types.specs.declared.mappings.MapMode.{MapMode}
 use Rattle.wg_types.specs.declared.mappings.MapMode.TheVariants.{Read as ReadMode, Write as WriteMode}
 use Rattle.wg_types.specs.declared.textures.TextureInfo.{TextureInfo}
 use Rattle.wg_types.specs.declared.textures.TextureSpot.{TextureSpot}
+use Rattle.wg_types.specs.declared.textures.ViewInfo.{ViewInfo}
 use Rattle.wg_rows.specs.Runs.{Bytes}
 use Rattle.wg_rows.specs.Uses.{Usages, Kind, Read, Both}
 use Rattle.wg_orders.specs.Steps.{Step, StepPlace}
 use Rattle.wg_model.specs.Subresources.{has_no_texel}
 use Rattle.wg_model.specs.Touches.{Touch, range_touches, copied_to, touching, step_of, placed}
 use Rattle.wg_model.specs.Bound.{known_group}
+use Rattle.wg_model.specs.Attachments.{attached_view}
 use Rattle.wg_model.specs.Walk.{Kept, doings, DeedsOf}
 
 abbrev pub write_buffer_step : StepPlace → ℕ → ℕ → ℕ → Step
@@ -92,9 +94,15 @@ buffers_as wanted.Buffer object = object.reference.number ∷ []
 buffers_as wanted.Group object = in_group bound_buffer (known_group object)
 buffers_as _ object = []
 
--- likewise of the textures that it is, or of which it binds a view
+-- the number of the texture of a view, if it is known
+abbrev pub in_view : Option ViewInfo → List ℕ
+in_view None = []
+in_view (Some view) = view.texture.number ∷ []
+
+-- likewise of the textures that it is, of which it is a view, or of which it binds a view
 abbrev pub textures_as : Wanted → HandleValue → List ℕ
 textures_as wanted.Texture object = object.reference.number ∷ []
+textures_as wanted.View object = in_view (attached_view object)
 textures_as wanted.Group object = in_group bound_texture (known_group object)
 textures_as _ object = []
 
@@ -102,7 +110,7 @@ abbrev pub numbers_by : (Wanted → HandleValue → List ℕ) → List (HandleVa
 numbers_by which [] = []
 numbers_by which (object ∷ objects) = which object.1 object.0 ++ numbers_by which objects
 
--- the numbers of the buffers that a command names, directly or through a group, whether or not a step comes of it
+-- the numbers of the buffers that a command names, directly, through a view or through a group, whether or not a step comes of it
 abbrev pub buffers_of : Command → List ℕ
 buffers_of command = numbers_by buffers_as (named command)
 

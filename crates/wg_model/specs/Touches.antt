@@ -5,7 +5,7 @@ use Rattle.wg_types.specs.declared.steps.StepName.{StepName}
 use Rattle.wg_types.specs.declared.steps.StepName.TheVariants as name
 use Rattle.wg_types.specs.declared.steps.Deed.{Deed}
 use Rattle.wg_types.specs.Commands.{Command}
-use Rattle.wg_types.specs.declared.commands.CommandOf.TheVariants.{BeginComputePass, CopyBufferToBuffer, CopyBufferToTexture, CopyTextureToBuffer, CopyTextureToTexture, ClearBuffer, PushDebugGroup, PopDebugGroup, End, SetPipeline, SetBindGroup, Dispatch, DispatchIndirect}
+use Rattle.wg_types.specs.declared.commands.CommandOf.TheVariants.{BeginComputePass, BeginRenderPass, CopyBufferToBuffer, CopyBufferToTexture, CopyTextureToBuffer, CopyTextureToTexture, ClearBuffer, PushDebugGroup, PopDebugGroup, End, SetPipeline, SetBindGroup, Dispatch, DispatchIndirect, SetVertexBuffer, SetIndexBuffer, Draw, DrawIndexed, DrawIndirect, DrawIndexedIndirect}
 use Rattle.wg_types.specs.declared.textures.TextureInfo.{TextureInfo}
 use Rattle.wg_types.specs.declared.textures.TextureSpot.{TextureSpot}
 use Rattle.wg_types.specs.declared.textures.DataLayout.{DataLayout}
@@ -140,6 +140,7 @@ unless nothing doing = if nothing then None else Some doing
 -- what a command on an encoder does, if it makes a step; a copy or clear of size 0 makes none
 unfoldable pub encoder_does : Command → Option Doing
 encoder_does BeginComputePass = None
+encoder_does (BeginRenderPass begin) = None
 encoder_does (CopyBufferToBuffer source source_offset target target_offset size) = unless (size == 0) (name.CopyBufferToBuffer, buffer_to_buffer_touches source.reference.number source_offset target.reference.number target_offset size)
 encoder_does (CopyBufferToTexture buffer layout texture spot size) = unless (has_no_texel size) (name.CopyBufferToTexture, buffer_to_texture_touches buffer.reference.number layout texture.reference.number (texture_of texture) spot size)
 encoder_does (CopyTextureToBuffer buffer layout texture spot size) = unless (has_no_texel size) (name.CopyTextureToBuffer, texture_to_buffer_touches buffer.reference.number layout texture.reference.number (texture_of texture) spot size)
@@ -152,3 +153,9 @@ encoder_does (SetPipeline pipeline) = None
 encoder_does (SetBindGroup index group offsets) = None
 encoder_does (Dispatch x y z) = None
 encoder_does (DispatchIndirect buffer offset) = None
+encoder_does (SetVertexBuffer slot buffer offset size) = None
+encoder_does (SetIndexBuffer buffer format offset size) = None
+encoder_does (Draw vertices instances first_vertex first_instance) = None
+encoder_does (DrawIndexed indices instances first_index first_instance) = None
+encoder_does (DrawIndirect buffer offset) = None
+encoder_does (DrawIndexedIndirect buffer offset) = None

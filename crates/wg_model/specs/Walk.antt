@@ -6,11 +6,15 @@ use Rattle.wg_types.specs.declared.commands.On.TheVariants.{Encoder, Pass}
 use Rattle.wg_types.specs.Commands.{Command}
 use Rattle.wg_types.specs.declared.commands.Bracket.{Bracket}
 use Rattle.wg_types.specs.declared.commands.Bracket.TheVariants as brackets
-use Rattle.wg_types.specs.Commands.{bracket, is_begin, is_end}
+use Rattle.wg_types.specs.Commands.{bracket, is_begin, is_end, named_on}
+use Rattle.wg_types.specs.declared.wanted.Kind.TheVariants as kind
 use Rattle.wg_model.specs.Rules.{first_unmet, or_else}
 use Rattle.wg_model.specs.Commands.{named, common_rules, command_rules}
 use Rattle.wg_model.specs.Touches.{Doing, uses_in, deed_of, encoder_does}
-use Rattle.wg_model.specs.Compute.{depth_after, compute_set, compute_rules, compute_does}
+use Rattle.wg_model.specs.Settings.{depth_after, settings}
+use Rattle.wg_model.specs.Compute.{compute_rules, compute_does}
+use Rattle.wg_model.specs.Attachments.{RenderBegin, begin_of, begun_rules}
+use Rattle.wg_model.specs.Render.{render_set, render_rules, render_does}
 use Rattle.wg_model.specs.Scopes.{Use}
 use Rattle.wg_types.specs.declared.steps.Deed.{Deed}
 
@@ -26,20 +30,21 @@ pub record PassSoFar : Type 0 where
 
 -- One pass. It keeps its own first unmet rule.
 
--- the first unmet rule of the begin of a pass: of the objects that it names; a compute pass has none of its own
+-- the first unmet rule of the begin of a pass: of the objects that it names, and then of a render pass its own
 abbrev pub begun_rule : ℕ → Command → Option ℕ
-begun_rule device begin = first_unmet (common_rules device (named begin))
+begun_rule device begin = or_else (first_unmet (common_rules device (named begin))) (first_unmet (begun_rules begin))
 
 -- the first unmet rule of a command of a pass, after the earlier ones; only a begin begins a pass
-abbrev pub rule_by : ℕ → Bracket → List Command → Command → Option ℕ
-rule_by device brackets.BeginComputePass earlier command = or_else (first_unmet (common_rules device (named command))) (first_unmet (compute_rules (compute_set earlier) command))
-rule_by device brackets.EndPass earlier command = None
-rule_by device brackets.PushGroup earlier command = None
-rule_by device brackets.PopGroup earlier command = None
-rule_by device brackets.Neither earlier command = None
+abbrev pub rule_by : ℕ → RenderBegin → Bracket → List Command → Command → Option ℕ
+rule_by device begin brackets.BeginComputePass earlier command = or_else (first_unmet (common_rules device (named_on kind.ComputePass command))) (first_unmet (compute_rules (settings earlier) command))
+rule_by device begin brackets.BeginRenderPass earlier command = or_else (first_unmet (common_rules device (named_on kind.RenderPass command))) (first_unmet (render_rules (render_set begin earlier) command))
+rule_by device begin brackets.EndPass earlier command = None
+rule_by device begin brackets.PushGroup earlier command = None
+rule_by device begin brackets.PopGroup earlier command = None
+rule_by device begin brackets.Neither earlier command = None
 
 abbrev pub rule_in : ℕ → Command → List Command → Command → Option ℕ
-rule_in device begin earlier command = rule_by device (bracket begin) earlier command
+rule_in device begin earlier command = rule_by device (begin_of begin) (bracket begin) earlier command
 
 -- a pass's own first unmet rule
 abbrev pub pass_rule : ℕ → Command → List Command → Option ℕ
@@ -47,15 +52,16 @@ pass_rule device begin [] = begun_rule device begin
 pass_rule device begin (command ∷ earlier) = or_else (pass_rule device begin earlier) (rule_in device begin earlier command)
 
 -- what a command of a pass completes, if it does: a step, whose uses are a usage scope
-abbrev pub does_by : Bracket → List Command → Command → Option Doing
-does_by brackets.BeginComputePass earlier command = compute_does (compute_set earlier) command
-does_by brackets.EndPass earlier command = None
-does_by brackets.PushGroup earlier command = None
-does_by brackets.PopGroup earlier command = None
-does_by brackets.Neither earlier command = None
+abbrev pub does_by : RenderBegin → Bracket → List Command → Command → Option Doing
+does_by begin brackets.BeginComputePass earlier command = compute_does (settings earlier) command
+does_by begin brackets.BeginRenderPass earlier command = render_does (render_set begin earlier) command
+does_by begin brackets.EndPass earlier command = None
+does_by begin brackets.PushGroup earlier command = None
+does_by begin brackets.PopGroup earlier command = None
+does_by begin brackets.Neither earlier command = None
 
 abbrev pub pass_does : Command → List Command → Command → Option Doing
-pass_does begin earlier command = does_by (bracket begin) earlier command
+pass_does begin earlier command = does_by (begin_of begin) (bracket begin) earlier command
 
 -- The encoder.
 

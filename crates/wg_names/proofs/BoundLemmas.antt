@@ -1,17 +1,25 @@
 -- Of a draft of which no name is refused each used name was made by an earlier visible call.
-use Rattle.std.proofs.Common.{◌≡◌, ℕ, ◌+◌, ◌<◌, List, [], ◌∷◌, ◌++◌, Bool, true, false, Option, Some, None, Ok, refl, sym, ap, subst, inl, inr, arith, append_assoc}
+use Rattle.std.proofs.Common.{◌≡◌, ℕ, ◌+◌, ◌<◌, List, [], ◌∷◌, ◌++◌, map, Bool, true, false, Option, Some, None, Ok, refl, sym, ap, subst, inl, inr, arith, append_assoc, ◌∙◌}
 use Rattle.std.specs.Prelude.{◌⊎◌, ◌&&◌, ◌==◌, nat_lt, bytes_eq, All, Contains, ⊤, if◌then◌else◌}
 use Rattle.std.specs.List.{flat_map}
-use Rattle.std.specs.Option.{option_to_list}
+use Rattle.std.specs.Option.{option_to_list, option_map_or}
 use Rattle.std.proofs.lemmas.List.{append-nil}
 use Rattle.std.proofs.lemmas.Bool.{or_cases, and_parts, ltb-true, eqb-true}
-use Rattle.std.proofs.lemmas.List.Elements.{All-nil, All-cons, Contains-append_left, Contains-append_right, Contains-push}
+use Rattle.std.proofs.lemmas.List.Elements.{All-nil, All-cons, All-head, All-tail, Contains-append_left, Contains-append_right, Contains-push}
 use Rattle.std.proofs.lemmas.Slice.Eq.{bytes_eq-Decides}
 use Rattle.wg_script.specs.CallOf.{Call}
-use Rattle.wg_names.specs.Uses.{uses_of, made_of}
-use Rattle.wg_names.specs.Names.{Names, is_visible, check_use}
-use Rattle.wg_names.specs.Script.{check_uses, call_bound, walk, lane_bound, phase_bound}
-use Rattle.wg_names.specs.Bound.{Made, made_by, made_in, IsFound, LaneIsBound, PhasesAreBound}
+use Rattle.wg_names.specs.Uses.{uses_of, made_of, admits}
+use Rattle.wg_names.specs.Names.{Names, kind_in, is_visible, check_use}
+use Rattle.wg_names.specs.Script.{check_uses, uses_by, call_bound, walk, lane_bound, phase_bound}
+use Rattle.wg_names.specs.Bound.{Made, made_by, made_in, IsFound, IsOn, CallIsBound, LaneIsBound, PhasesAreBound}
+use Rattle.wg_script.specs.declared.calls.CallOf.{CallOf}
+use Rattle.wg_script.specs.declared.calls.CallOf.TheVariants.{Record, Ask}
+use Rattle.wg_types.specs.declared.commands.CommandOf.{CommandOf}
+use Rattle.wg_types.specs.Commands.{place_wanted, named, named_on}
+use Rattle.wg_types.specs.Requests.{named as asked_of}
+use Rattle.wg_types.specs.Wanted.{within}
+use Rattle.wg_types.specs.declared.wanted.Kind.TheVariants as kind
+use Rattle.wg_types.specs.declared.wanted.Wanted.TheVariants as wanted
 use Rattle.wg_types.specs.declared.wanted.Kind.{Kind}
 use Rattle.wg_types.specs.declared.wanted.Wanted.{Wanted}
 use Rattle.wg_names.specs.declared.known.Mark.{Mark}
@@ -34,6 +42,54 @@ uses_found p l names made sees (u ∷ us) fine e =
     All-cons (IsFound made) u us
     (record { kind = found.mark.kind; stands = sees u.0 found.mark found.is found.visible; fits = found.admits })
     (uses_found p l names made sees us fine step.2)
+
+-- a recording call, and a call of the device
+on_found : (p l : ℕ) (names : Names) (made : MadeNames) → Sees p l names made → (on : List ℕ) (command : CommandOf (List ℕ)) (fine : ⊤)
+    → check_uses names p l ((on, place_wanted command) ∷ named_on (kind_in names on) command) ≡ Ok fine → IsOn made on command
+on_found p l names made sees on command fine e =
+    let step = bind_ok (check_use names p l (on, place_wanted command)) (λ done. check_uses names p l (named_on (kind_in names on) command)) fine e in
+    let found = stands_of p l (place_wanted command) (names.marks on) step.0 step.1 in
+    let same : kind_in names on ≡ found.mark.kind = ap (λ mark. option_map_or (λ m. m.kind) mark kind.Encoder) found.is in
+    record {
+      place = kind_in names on;
+      stands = let P : Kind → Type 0 = λ k. Contains made (on, k) in subst P (sym same) (sees on found.mark found.is found.visible);
+      takes = ap (admits (place_wanted command)) same ∙ found.admits;
+      found = uses_found p l names made sees (named_on (kind_in names on) command) fine step.2;
+    }
+
+call_found : (p l : ℕ) (names : Names) (made : MadeNames) → Sees p l names made → (call : Call) (fine : ⊤) → check_uses names p l (uses_by names call) ≡ Ok fine → CallIsBound made call
+call_found p l names made sees (Record on command name) fine e = on_found p l names made sees on command fine e
+call_found p l names made sees (Ask request name) fine e = uses_found p l names made sees (asked_of request) fine e
+
+-- What is wanted on something of a kind is wanted.
+compute_pipeline : (k : Kind) → admits wanted.ComputePipeline k ≡ true → admits wanted.Pipeline k ≡ true
+compute_pipeline kind.Compute e = refl
+compute_pipeline _ e = absurd (cc)
+
+render_pipeline : (k : Kind) → admits wanted.RenderPipeline k ≡ true → admits wanted.Pipeline k ≡ true
+render_pipeline kind.Render e = refl
+render_pipeline _ e = absurd (cc)
+
+within_admits : (place : Kind) (want : Wanted) (k : Kind) → admits (within place want) k ≡ true → admits want k ≡ true
+within_admits kind.ComputePass wanted.Pipeline k e = compute_pipeline k e
+within_admits kind.RenderPass wanted.Pipeline k e = render_pipeline k e
+within_admits _ _ k e = e
+
+found_within : {R : Type 0} (made : Made R) (place : Kind) (keys : List (R × Wanted)) → All (IsFound made) (map (λ key. (key.0, within place key.1)) keys) → All (IsFound made) keys
+found_within made place [] all = All-nil (IsFound made)
+found_within made place (key ∷ keys) all =
+    let first = All-head (IsFound made) (key.0, within place key.1) (map (λ key. (key.0, within place key.1)) keys) all in
+    All-cons (IsFound made) key keys
+    (record { kind = first.kind; stands = first.stands; fits = within_admits place key.1 first.kind first.fits })
+    (found_within made place keys (All-tail (IsFound made) (key.0, within place key.1) (map (λ key. (key.0, within place key.1)) keys) all))
+
+-- each name that a call uses was made, and stands for what is wanted
+pub found_uses : {R : Type 0} (made : Made R) (call : CallOf R) → CallIsBound made call → All (IsFound made) (uses_of call)
+found_uses made (Record on command name) bound =
+    All-cons (IsFound made) (on, place_wanted command) (named command)
+    (record { kind = bound.place; stands = bound.stands; fits = bound.takes })
+    (found_within made bound.place (named command) bound.found)
+found_uses made (Ask request name) bound = bound
 
 -- ---- what calls of a lane add
 
@@ -94,7 +150,7 @@ lane_is_bound p l i names made sees [] end e = tt
 lane_is_bound p l i names made sees (call ∷ calls) end e =
     let step = bind_ok (call_bound p l i names call) (λ more. walk (call_bound p l) (i + 1) more calls) end e in
     let passes = passes_of p l i names step.0 call step.1 in (
-      uses_found p l names made sees (uses_of call) passes.fine passes.uses,
+      call_found p l names made sees call passes.fine passes.uses,
       lane_is_bound p l (i + 1) step.0 (made ++ made_by call)
           (sees_more p l names step.0 made (made_by call) sees (adds_made p l names step.0 (made_of call) passes.makes)) calls end step.2,
     )

@@ -7,22 +7,28 @@ use Rattle.std.proofs.lemmas.List.{map-append}
 use Rattle.std.proofs.lemmas.List.Elements.{All-nil, All-cons, All-map, All-weaker, All-contains, Contains-append_left, Contains-append_right, Contains-push}
 use Rattle.wg_types.specs.declared.wanted.Kind.{Kind}
 use Rattle.wg_types.specs.declared.wanted.Wanted.{Wanted}
-use Rattle.wg_types.specs.Refs.{all_wanted}
+use Rattle.wg_types.specs.declared.wanted.Wanted.TheVariants as wanted
+use Rattle.wg_types.specs.Wanted.{within}
+use Rattle.wg_types.specs.Refs.{all_wanted, maybe_wanted}
+use Rattle.wg_types.specs.Render.{color_named, depth_named, targets_named, map_color, map_depth, map_begin}
+use Rattle.wg_types.specs.declared.render.ColorTargetOf.{ColorTargetOf}
+use Rattle.wg_types.specs.declared.render.DepthTargetOf.{DepthTargetOf}
+use Rattle.wg_types.specs.declared.render.RenderBeginOf.{RenderBeginOf}
 use Rattle.wg_types.specs.Bindings.{resource_named, entries_named, map_resource, map_entry}
 use Rattle.wg_types.specs.declared.bindings.ResourceOf.{ResourceOf}
 use Rattle.wg_types.specs.declared.bindings.ResourceOf.TheVariants.{Buffer, View, Sampler}
 use Rattle.wg_types.specs.declared.bindings.GroupEntryOf.{GroupEntryOf}
-use Rattle.wg_types.specs.Commands.{place_wanted, kind_begun, named, map_refs}
+use Rattle.wg_types.specs.Commands.{place_wanted, kind_begun, named, named_on, map_refs}
 use Rattle.wg_types.specs.declared.commands.CommandOf.{CommandOf}
 use Rattle.wg_types.specs.Requests.{kind_made, named as asked_of, map_refs as map_asked}
 use Rattle.wg_types.specs.declared.requests.RequestOf.{RequestOf}
 use Rattle.wg_script.specs.CallOf.{Call, map_call}
 use Rattle.wg_script.specs.declared.calls.CallOf.{CallOf}
 use Rattle.wg_script.specs.declared.calls.CallOf.TheVariants.{Record, Ask}
-use Rattle.wg_names.specs.Uses.{uses_of, made_as}
+use Rattle.wg_names.specs.Uses.{made_as, admits}
 use Rattle.wg_names.specs.Names.{Names, no_names, slot_in}
 use Rattle.wg_names.specs.Script.{phases_bound, map_lane, map_phase, map_phases}
-use Rattle.wg_names.specs.Bound.{Made, made_by, made_in, IsFound, LaneIsBound, PhasesAreBound, all_made, IsBound, IsBoundFrom}
+use Rattle.wg_names.specs.Bound.{Made, made_by, made_in, IsFound, CallIsBound, LaneIsBound, PhasesAreBound, all_made, IsBound, IsBoundFrom}
 use Rattle.wg_names.proofs.BoundLemmas.{Splits, phases_are_bound}
 use Rattle.wg_names.proofs.Keeping.{all_keep}
 
@@ -32,8 +38,28 @@ other f x = (f x.0, x.1)
 
 -- ---- a call
 
+-- the views of attachments
+resolve_mapped : {R S : Type 0} (f : R → S) (resolve : Option R) → maybe_wanted wanted.View (option_map f resolve) ≡ map (other f) (maybe_wanted wanted.View resolve)
+resolve_mapped f None = refl
+resolve_mapped f (Some view) = refl
+
+color_mapped : {R S : Type 0} (f : R → S) (color : Option (ColorTargetOf R)) → color_named (option_map (map_color f) color) ≡ map (other f) (color_named color)
+color_mapped f None = refl
+color_mapped f (Some target) = ap (λ rest. (f target.view, wanted.View) ∷ rest) (resolve_mapped f target.resolve)
+
+colors_mapped : {R S : Type 0} (f : R → S) (colors : List (Option (ColorTargetOf R))) → flat_map color_named (map (option_map (map_color f)) colors) ≡ map (other f) (flat_map color_named colors)
+colors_mapped f [] = refl
+colors_mapped f (color ∷ colors) = ap₂ (λ a b. a ++ b) (color_mapped f color) (colors_mapped f colors) ∙ sym (map-append (other f) (color_named color) (flat_map color_named colors))
+
+depth_mapped : {R S : Type 0} (f : R → S) (depth : Option (DepthTargetOf R)) → depth_named (option_map (map_depth f) depth) ≡ map (other f) (depth_named depth)
+depth_mapped f None = refl
+depth_mapped f (Some target) = refl
+
+begin_mapped : {R S : Type 0} (f : R → S) (begin : RenderBeginOf R) → targets_named (map_begin f begin) ≡ map (other f) (targets_named begin)
+begin_mapped f begin = ap₂ (λ a b. a ++ b) (colors_mapped f begin.colors) (depth_mapped f begin.depth) ∙ sym (map-append (other f) (flat_map color_named begin.colors) (depth_named begin.depth))
+
 command_named : {R S : Type 0} (f : R → S) (command : CommandOf R) → named (map_refs f command) ≡ map (other f) (named command)
-command_named f command = grind arith
+command_named f command = grind (arith, begin_mapped)
 
 command_place : {R S : Type 0} (f : R → S) (command : CommandOf R) → place_wanted (map_refs f command) ≡ place_wanted command
 command_place f command = grind arith
@@ -60,9 +86,12 @@ request_named f request = grind (arith, all_named, entries_mapped)
 request_kind : {R S : Type 0} (f : R → S) (request : RequestOf R) → kind_made (map_asked f request) ≡ kind_made request
 request_kind f request = grind arith
 
-uses_mapped : {R S : Type 0} (f : R → S) (call : CallOf R) → uses_of (map_call f call) ≡ map (other f) (uses_of call)
-uses_mapped f (Record on command made) = ap₂ (λ want rest. (f on, want) ∷ rest) (command_place f command) (command_named f command)
-uses_mapped f (Ask request made) = request_named f request
+wanted_mapped : {R S : Type 0} (f : R → S) (place : Kind) (keys : List (R × Wanted)) → map (λ key. (key.0, within place key.1)) (map (other f) keys) ≡ map (other f) (map (λ key. (key.0, within place key.1)) keys)
+wanted_mapped f place [] = refl
+wanted_mapped f place (key ∷ keys) = ap (λ rest. (f key.0, within place key.1) ∷ rest) (wanted_mapped f place keys)
+
+on_mapped : {R S : Type 0} (f : R → S) (place : Kind) (command : CommandOf R) → named_on place (map_refs f command) ≡ map (other f) (named_on place command)
+on_mapped f place command = ap (map (λ key. (key.0, within place key.1))) (command_named f command) ∙ wanted_mapped f place (named command)
 
 as_mapped : {R S : Type 0} (f : R → S) (made : Option R) (kind : Option Kind) → option_to_list (made_as (option_map f made) kind) ≡ map (other f) (option_to_list (made_as made kind))
 as_mapped f None kind = refl
@@ -110,12 +139,21 @@ found_mapped f made key found = record {
   fits = found.fits;
 }
 
-uses_found : {R S : Type 0} (f : R → S) (made : Made R) (call : CallOf R) → All (IsFound made) (uses_of call) → All (IsFound (map (other f) made)) (uses_of (map_call f call))
-uses_found {R} {S} f made call all =
+all_mapped : {R S : Type 0} (f : R → S) (made : Made R) (keys : List (R × Wanted)) (mapped : List (S × Wanted)) → mapped ≡ map (other f) keys → All (IsFound made) keys → All (IsFound (map (other f) made)) mapped
+all_mapped {R} {S} f made keys mapped same all =
     let P : List (S × Wanted) → Type 0 = λ us. All (IsFound (map (other f) made)) us in
-    subst P (sym (uses_mapped f call))
-    (All-map (IsFound (map (other f) made)) (other f) (uses_of call)
-    (All-weaker (IsFound made) (λ u. IsFound (map (other f) made) (other f u)) (found_mapped f made) (uses_of call) all))
+    subst P (sym same)
+    (All-map (IsFound (map (other f) made)) (other f) keys
+    (All-weaker (IsFound made) (λ u. IsFound (map (other f) made) (other f u)) (found_mapped f made) keys all))
+
+call_mapped : {R S : Type 0} (f : R → S) (made : Made R) (call : CallOf R) → CallIsBound made call → CallIsBound (map (other f) made) (map_call f call)
+call_mapped f made (Record on command name) bound = record {
+  place = bound.place;
+  stands = All-contains (λ m. Contains (map (other f) made) (other f m)) made (on, bound.place) (contained (other f) made) bound.stands;
+  takes = ap (λ want. admits want bound.place) (command_place f command) ∙ bound.takes;
+  found = all_mapped f made (named_on bound.place command) (named_on bound.place (map_refs f command)) (on_mapped f bound.place command) bound.found;
+}
+call_mapped f made (Ask request name) bound = all_mapped f made (asked_of request) (asked_of (map_asked f request)) (request_named f request) bound
 
 lane_mapped : {R S : Type 0} (f : R → S) (made : Made R) (calls : List (CallOf R)) → LaneIsBound made calls → LaneIsBound (map (other f) made) (map_lane f calls)
 lane_mapped f made [] bound = tt
@@ -123,7 +161,7 @@ lane_mapped {R} {S} f made (call ∷ calls) bound =
     let P : Made S → Type 0 = λ ms. LaneIsBound ms (map_lane f calls) in
     let grown : map (other f) (made ++ made_by call) ≡ map (other f) made ++ made_by (map_call f call)
     = map-append (other f) made (made_by call) ∙ ap (λ ms. map (other f) made ++ ms) (sym (made_mapped f call)) in
-    (uses_found f made call bound.0, subst P grown (lane_mapped f (made ++ made_by call) calls bound.1))
+    (call_mapped f made call bound.0, subst P grown (lane_mapped f (made ++ made_by call) calls bound.1))
 
 bound_mapped : {R S : Type 0} (f : R → S) (made : Made R) (phases : List (List (List (CallOf R)))) → PhasesAreBound made phases → PhasesAreBound (map (other f) made) (map_phases f phases)
 bound_mapped f made [] bound = tt

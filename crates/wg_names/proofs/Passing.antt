@@ -6,9 +6,9 @@ use Rattle.wg_script.specs.Draft.{at}
 use Rattle.wg_script.specs.CallOf.{Call}
 use Rattle.wg_script.specs.declared.draft.Place.{Place}
 use Rattle.wg_script.specs.declared.draft.Place.TheVariants as place
-use Rattle.wg_names.specs.Uses.{admits, uses_of, made_of}
+use Rattle.wg_names.specs.Uses.{admits, made_of}
 use Rattle.wg_names.specs.Names.{Names, with_name, is_name, is_visible, check_wanted, check_mark}
-use Rattle.wg_names.specs.Script.{check_uses, with_made, call_bound}
+use Rattle.wg_names.specs.Script.{check_uses, uses_by, with_made, call_bound}
 use Rattle.wg_types.specs.declared.wanted.Kind.{Kind}
 use Rattle.wg_types.specs.declared.wanted.Wanted.{Wanted}
 use Rattle.wg_names.specs.declared.known.Mark.{Mark}
@@ -75,15 +75,15 @@ makes_of p l names more (Some m) e = made_new p l names more m (is_name m.0 && i
 -- what a call that is not refused has tested
 pub record Passes (p l : ℕ) (names more : Names) (call : Call) : Type 0 where
   pub fine : ⊤
-  pub uses : check_uses names p l (uses_of call) ≡ Ok fine
+  pub uses : check_uses names p l (uses_by names call) ≡ Ok fine
   pub makes : Makes p l names more (made_of call)
 
 pub passes_of : (p l c : ℕ) (names more : Names) (call : Call) → call_bound p l c names call ≡ Ok more → Passes p l names more call
 unfolding call_bound
 passes_of p l c names more call e =
-    let both = bind_ok (at (place.Call p l c) (check_uses names p l (uses_of call))) (λ fine. at (place.Call p l c) (with_made p l names (made_of call))) more e in
+    let both = bind_ok (at (place.Call p l c) (check_uses names p l (uses_by names call))) (λ fine. at (place.Call p l c) (with_made p l names (made_of call))) more e in
     record {
       fine = both.0;
-      uses = at_ok (place.Call p l c) (check_uses names p l (uses_of call)) both.0 both.1;
+      uses = at_ok (place.Call p l c) (check_uses names p l (uses_by names call)) both.0 both.1;
       makes = makes_of p l names more (made_of call) (at_ok (place.Call p l c) (with_made p l names (made_of call)) more both.2);
     }

@@ -6,7 +6,11 @@ use Rattle.wg_script.specs.CallOf.{Call, BoundCall}
 use Rattle.wg_script.specs.Draft.{draft_of}
 use Rattle.wg_script.specs.declared.calls.CallOf.{CallOf}
 use Rattle.wg_script.specs.declared.draft.Draft.{Draft}
-use Rattle.wg_names.specs.Uses.{uses_of, made_of, admits}
+use Rattle.wg_types.specs.declared.commands.CommandOf.{CommandOf}
+use Rattle.wg_types.specs.Commands.{place_wanted, named_on}
+use Rattle.wg_types.specs.Requests.{named as asked_of}
+use Rattle.wg_script.specs.declared.calls.CallOf.TheVariants.{Record, Ask}
+use Rattle.wg_names.specs.Uses.{made_of, admits}
 use Rattle.wg_names.specs.Names.{is_name}
 use Rattle.wg_names.specs.Script.{map_phases}
 use Rattle.wg_types.specs.declared.wanted.Kind.{Kind}
@@ -30,11 +34,23 @@ pub record IsFound {R : Type 0} (made : Made R) (key : R × Wanted) : Type 0 whe
   pub stands : Contains made (key.0, kind)
   pub fits : admits key.1 kind ≡ true
 
+-- what a recording call stands on was made and takes the call, and so was what the command names, each of which stands for what
+-- is wanted on something of that kind
+pub record IsOn {R : Type 0} (made : Made R) (on : R) (command : CommandOf R) : Type 0 where
+  pub place : Kind
+  pub stands : Contains made (on, place)
+  pub takes : admits (place_wanted command) place ≡ true
+  pub found : All (IsFound made) (named_on place command)
+
+abbrev pub CallIsBound : {R : Type 0} → Made R → CallOf R → Type 0
+CallIsBound made (Record on command name) = IsOn made on command
+CallIsBound made (Ask request name) = All (IsFound made) (asked_of request)
+
 -- each name that a call of a lane uses is found among what was made before the phase, and what the
 -- lane made before the call
 abbrev pub LaneIsBound : {R : Type 0} → Made R → List (CallOf R) → Type 0
 LaneIsBound made [] = Unit {0}
-LaneIsBound made (call ∷ calls) = All (IsFound made) (uses_of call) × LaneIsBound (made ++ made_by call) calls
+LaneIsBound made (call ∷ calls) = CallIsBound made call × LaneIsBound (made ++ made_by call) calls
 
 -- the lanes of a phase see what earlier phases made, and not one another
 abbrev pub PhasesAreBound : {R : Type 0} → Made R → List (List (List (CallOf R))) → Type 0

@@ -5,6 +5,7 @@ use Rattle.std.specs.List.{list_all}
 use Rattle.std.specs.Option.{option_map_or}
 use Rattle.wg_names.specs.Uses.{admits}
 use Rattle.wg_types.specs.declared.wanted.Kind.{Kind}
+use Rattle.wg_types.specs.declared.wanted.Kind.TheVariants as kind
 use Rattle.wg_types.specs.declared.wanted.Wanted.{Wanted}
 use Rattle.wg_names.specs.declared.known.Mark.{Mark}
 
@@ -38,6 +39,10 @@ with_name p l name kind names = record {
 -- the slot of a name; each name that a call uses or makes was made, so that the 0 is not met
 abbrev pub slot_in : Names → List ℕ → ℕ
 slot_in names name = option_map_or (λ mark. mark.slot) (names.marks name) 0
+
+-- the kind of what a name stands for; likewise
+abbrev pub kind_in : Names → List ℕ → Kind
+kind_in names name = option_map_or (λ mark. mark.kind) (names.marks name) kind.Encoder
 
 -- a call of phase p and lane l sees what earlier phases made, and what its own lane made
 abbrev pub is_visible : ℕ → ℕ → Mark → Bool

@@ -9,14 +9,23 @@ use Rattle.wg_script.specs.declared.draft.Place.TheVariants as place
 use Rattle.wg_script.specs.declared.draft.Draft.{Draft}
 use Rattle.wg_script.specs.declared.draft.Script.{Script}
 use Rattle.wg_script.specs.declared.draft.ScriptFault.{ScriptFault}
-use Rattle.wg_names.specs.Uses.{uses_of, made_of}
-use Rattle.wg_names.specs.Names.{Names, no_names, with_name, slot_in, is_name, check_use}
+use Rattle.wg_types.specs.Commands.{place_wanted, named_on}
+use Rattle.wg_types.specs.Requests.{named as asked_of}
+use Rattle.wg_script.specs.declared.calls.CallOf.TheVariants.{Record, Ask}
+use Rattle.wg_names.specs.Uses.{made_of}
+use Rattle.wg_names.specs.Names.{Names, no_names, with_name, slot_in, kind_in, is_name, check_use}
 use Rattle.wg_types.specs.declared.wanted.Kind.{Kind}
 use Rattle.wg_types.specs.declared.wanted.Wanted.{Wanted}
 
 -- ---- a call
 
--- the names that a call uses, one after another
+-- the names that a call uses, with what each must stand for: what a recording call stands on comes first, and by its kind goes
+-- which pipelines the call may set
+abbrev pub uses_by : Names → Call → List (List ℕ × Wanted)
+uses_by names (Record on command made) = (on, place_wanted command) ∷ named_on (kind_in names on) command
+uses_by names (Ask request made) = asked_of request
+
+-- one after another
 abbrev pub check_uses : Names → ℕ → ℕ → List (List ℕ × Wanted) → Result ⊤ ℕ
 check_uses names p l [] = Ok tt
 check_uses names p l (u ∷ us) = check_use names p l u >>= λ fine. check_uses names p l us
@@ -29,7 +38,7 @@ with_made p l names (Some m) = if is_name m.0 && is_none (names.marks m.0) then 
 -- the names after call c of phase p and lane l: it uses its names first, and makes its own last
 unfoldable pub call_bound : ℕ → ℕ → ℕ → Names → Call → Result Names Stop
 call_bound p l c names call = do
-  fine ← at (place.Call p l c) (check_uses names p l (uses_of call))
+  fine ← at (place.Call p l c) (check_uses names p l (uses_by names call))
   at (place.Call p l c) (with_made p l names (made_of call))
 
 -- ---- a list

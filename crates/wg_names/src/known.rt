@@ -1,6 +1,6 @@
 //! The names that calls have made so far.
 ghost use Rattle.std.specs.Prelude.{◌≡◌, ◌||◌, ◌&&◌, ◌==◌, nat_lt, OnOk, OnErr, is_none};
-ghost use Rattle.wg_names.specs.Names.{no_names, with_name, slot_in, is_visible, check_use};
+ghost use Rattle.wg_names.specs.Names.{no_names, with_name, slot_in, kind_in, is_visible, check_use};
 
 use std::alloc::Global;
 use std::collections::BTreeMap;
@@ -51,6 +51,16 @@ impl<'a> Known<'a> {
         match self.find(name.as_str()) {
             Some(mark) => mark.slot,
             None => 0,
+        }
+    }
+
+    /// The kind of what a name stands for that a call has made.
+    pub fn kind(&self, name: &Name) -> Kind
+        ensures { result ≡ kind_in (names_in self.now) name.now }
+    {
+        match self.find(name.as_str()) {
+            Some(mark) => mark.kind,
+            None => Kind::Encoder,
         }
     }
 

@@ -1,12 +1,13 @@
 //! The names that a call uses, and the name that it makes.
-ghost use Rattle.std.specs.Prelude.{◌≡◌};
-ghost use Rattle.wg_types.specs.Commands.{named};
+ghost use Rattle.std.specs.Prelude.{◌≡◌, ◌∷◌};
+ghost use Rattle.wg_types.specs.Commands.{place_wanted, named_on};
+ghost use Rattle.wg_types.specs.Wanted.{within};
 ghost use Rattle.wg_types.specs.Requests.{named as asked_of};
 ghost use Rattle.std.specs.Option.{option_map};
-ghost use Rattle.wg_names.specs.Names.{check_use};
+ghost use Rattle.wg_names.specs.Names.{kind_in, check_use};
 ghost use Rattle.wg_names.specs.Known.{names_in};
-ghost use Rattle.wg_names.specs.Uses.{uses_of, made_as, made_of, broken, refused};
-ghost use Rattle.wg_names.specs.Script.{check_uses};
+ghost use Rattle.wg_names.specs.Uses.{made_as, made_of, broken, refused};
+ghost use Rattle.wg_names.specs.Script.{check_uses, uses_by};
 
 use crate::known::Known;
 use wg_script::{Call, Name};
@@ -44,18 +45,34 @@ fn refused(found: Option<u8>) -> Result<(), u8>
     }
 }
 
-/// Tests the names that a command uses.
-#[tactic(auto, using(crate::proofs::Asking::uses_asked))]
+/// The same in a recording call on something of this kind.
+#[derive(Drop)]
+struct UseOn<'a, 'k> {
+    used: Use<'a, 'k>,
+    place: Kind,
+}
+
+impl Ask<Name, u8> for UseOn<'_, '_> {
+    ghost asks = { λ asked name. broken (check_use (names_in asked.used.known.now) asked.used.phase asked.used.lane (name.0, within asked.place name.1)) };
+
+    fn ask(&self, object: &Name, wanted: Wanted) -> Option<u8> {
+        self.used.ask(object, wanted.within(self.place))
+    }
+}
+
+/// Tests the names that a command uses which stands on something of this kind.
+#[tactic(auto, using(crate::proofs::Asking::uses_asked_on))]
 fn check_command(
     known: &Known<'_>,
     phase: u32,
     lane: u32,
+    place: Kind,
     command: &CommandOf<Name>,
 ) -> Result<(), u8>
-    ensures { result ≡ check_uses (names_in known.now) phase lane (named command.now) }
+    ensures { result ≡ check_uses (names_in known.now) phase lane (named_on place command.now) }
 {
-    let asked = Use { known, phase, lane };
-    refused(command.first(&asked))
+    let used = Use { known, phase, lane };
+    refused(command.first(&UseOn { used, place }))
 }
 
 /// Tests the names that a request uses.
@@ -72,15 +89,26 @@ fn check_request(
     refused(request.first(&asked))
 }
 
+/// Tests what a recording call stands on, and then the names that its command uses.
+fn check_record(
+    known: &Known<'_>,
+    phase: u32,
+    lane: u32,
+    on: &Name,
+    command: &CommandOf<Name>,
+) -> Result<(), u8>
+    ensures { result ≡ check_uses (names_in known.now) phase lane ((on.now, place_wanted command.now) ∷ named_on (kind_in (names_in known.now) on.now) command.now) }
+{
+    known.check_use(phase, lane, on, command.place_wanted())?;
+    check_command(known, phase, lane, known.kind(on), command)
+}
+
 /// Tests the names that a call uses, in the order of its keys: what a recording call stands on comes first.
 pub fn check_uses(known: &Known<'_>, phase: u32, lane: u32, call: &Call) -> Result<(), u8>
-    ensures { result ≡ check_uses (names_in known.now) phase lane (uses_of call.now) }
+    ensures { result ≡ check_uses (names_in known.now) phase lane (uses_by (names_in known.now) call.now) }
 {
     match call {
-        Call::Record { on, command, .. } => {
-            known.check_use(phase, lane, on, command.place_wanted())?;
-            check_command(known, phase, lane, command)
-        }
+        Call::Record { on, command, .. } => check_record(known, phase, lane, on, command),
         Call::Ask { request, .. } => check_request(known, phase, lane, request),
     }
 }

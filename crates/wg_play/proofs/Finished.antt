@@ -19,13 +19,14 @@ use Rattle.wg_types.specs.declared.commands.On.{On}
 use Rattle.wg_types.specs.declared.commands.On.TheVariants.{Encoder, Pass}
 use Rattle.wg_types.specs.Requests.{named as asked_of}
 use Rattle.wg_types.specs.declared.requests.RequestOf.{RequestOf}
-use Rattle.wg_types.specs.declared.requests.RequestOf.TheVariants.{CreateBuffer, CreateTexture, CreateView, CreateSampler, CreateBindGroupLayout, CreatePipelineLayout, CreateBindGroup, CreateComputePipeline, CreateEncoder, Finish, Submit, WriteBuffer, WriteTexture, Destroy, Drop, Complete, PushErrorScope, PopErrorScope, Lose, WorkDone, MapAsync, Unmap}
+use Rattle.wg_types.specs.declared.requests.RequestOf.TheVariants.{CreateBuffer, CreateTexture, CreateView, CreateSampler, CreateBindGroupLayout, CreatePipelineLayout, CreateBindGroup, CreateComputePipeline, CreateRenderPipeline, CreateEncoder, Finish, Submit, WriteBuffer, WriteTexture, Destroy, Drop, Complete, PushErrorScope, PopErrorScope, Lose, WorkDone, MapAsync, Unmap}
 use Rattle.wg_model.specs.Walk.{has_ended}
 use Rattle.wg_encoder.specs.Recorders.{RecorderValue, has_taken}
 use Rattle.wg_history.specs.declared.events.Setup.{Setup}
 use Rattle.wg_script.specs.CallOf.{BoundCall}
 use Rattle.wg_script.specs.declared.calls.CallOf.TheVariants.{Record, Ask}
 use Rattle.wg_names.specs.Uses.{uses_of, made_of}
+use Rattle.wg_names.proofs.BoundLemmas.{found_uses}
 use Rattle.wg_names.specs.Bound.{Made, made_by, made_in, IsFound, LaneIsBound, numbers_below}
 use Rattle.wg_play.specs.declared.objects.Object.{Object}
 use Rattle.wg_play.specs.declared.objects.Object.TheVariants as object
@@ -35,7 +36,7 @@ use Rattle.wg_play.specs.Play.{Played, start, played, lane_played}
 use Rattle.wg_play.specs.Late.{finishes, pass_ended, has_pass_ended, LateIsFinished}
 use Rattle.wg_play.proofs.Slots.{stand_encoder, stand_pass}
 use Rattle.wg_play.proofs.Lateness.{or_false, call_keeps, call_leaves}
-use Rattle.wg_play.proofs.Making.{call_length, encoder_made, pass_made, pass_begun, place_of_begin, is_encoder, stands_on}
+use Rattle.wg_play.proofs.Making.{call_length, encoder_made, pass_made, pass_begun, place_of_begin, is_encoder, is_pass, stands_on}
 
 abbrev Slots : Type 0
 Slots = Made ℕ
@@ -97,6 +98,7 @@ request_unborn made count n (CreateBindGroupLayout known) below from all = refl
 request_unborn made count n (CreatePipelineLayout layouts) below from all = refl
 request_unborn made count n (CreateBindGroup layout entries) below from all = refl
 request_unborn made count n (CreateComputePipeline layout iface) below from all = refl
+request_unborn made count n (CreateRenderPipeline layout desc) below from all = refl
 request_unborn made count n CreateEncoder below from all = refl
 request_unborn made count n (Submit buffers) below from all = refl
 request_unborn made count n (WriteBuffer buffer offset size) below from all = refl
@@ -118,7 +120,7 @@ call_unborn made count n (Ask request made_slot) below from all = request_unborn
 -- ---- a lane up to one of its calls
 
 lane_at : (made : Slots) (front : List BoundCall) (call : BoundCall) (rest : List BoundCall) → LaneIsBound made (front ++ call ∷ rest) → All (IsFound (made ++ made_in front)) (uses_of call)
-lane_at made [] call rest bound = subst (λ ms. All (IsFound ms) (uses_of call)) (sym (append-nil made)) bound.0
+lane_at made [] call rest bound = subst (λ ms. All (IsFound ms) (uses_of call)) (sym (append-nil made)) (found_uses made call bound.0)
 lane_at made (x ∷ front) call rest bound =
     subst (λ ms. All (IsFound ms) (uses_of call)) (append_assoc made (made_by x) (made_in front)) (lane_at (made ++ made_by x) front call rest bound.1)
 
@@ -151,7 +153,7 @@ record Stands (objects : List Object) (before : List BoundCall) : Type 0 where
   below : All (λ m. m.0 < length objects) (made_in before)
   unborn : (n : ℕ) → length objects ≤ n → list_any (finishes n) before ≡ false
   encoders : (slot : ℕ) → Contains (made_in before) (slot, kind.Encoder) → IsEncoder objects before slot
-  passes : (slot : ℕ) → Contains (made_in before) (slot, kind.ComputePass) → IsPass objects before slot
+  passes : (slot : ℕ) (k : Kind) → is_pass k ≡ true → Contains (made_in before) (slot, k) → IsPass objects before slot
 
 no_calls : Stands [] []
 no_calls = record {
@@ -159,7 +161,7 @@ no_calls = record {
   below = All-nil (λ (m : ℕ × Kind). m.0 < 0);
   unborn = λ n from. refl;
   encoders = λ slot there. absurd (omega (arith, there.1));
-  passes = λ slot there. absurd (omega (arith, there.1));
+  passes = λ slot k p there. absurd (omega (arith, there.1));
 }
 
 made_more : (before : List BoundCall) (call : BoundCall) → made_in (before ++ call ∷ []) ≡ made_in before ++ made_by call
@@ -215,10 +217,10 @@ begun_on before objects on command made was uses place =
     let found = All-head (IsFound (made_in before)) (on, place_wanted command) (named command) uses in
     was.encoders on (subst (λ k. Contains (made_in before) (on, k)) (is_encoder found.kind (ap (λ w. admits w found.kind) (sym place) ∙ found.fits)) found.stands)
 
-pass_on : (setup : Setup) (state : Played) (before : List BoundCall) (on made slot : ℕ) (command : CommandOf ℕ) → IsEncoder state.objects before on → slot ≡ length state.objects
-    → kind_begun command ≡ Some kind.ComputePass → IsPass (played setup state (Record on command (Some made))).objects (before ++ Record on command (Some made) ∷ []) slot
-pass_on setup state before on made slot command holder here begins =
-    let new = pass_begun setup state on made command holder.recorder holder.is begins in
+pass_on : (setup : Setup) (state : Played) (before : List BoundCall) (on made slot : ℕ) (command : CommandOf ℕ) (k : Kind) → IsEncoder state.objects before on → slot ≡ length state.objects
+    → kind_begun command ≡ Some k → IsPass (played setup state (Record on command (Some made))).objects (before ++ Record on command (Some made) ∷ []) slot
+pass_on setup state before on made slot command k holder here begins =
+    let new = pass_begun setup state on made command holder.recorder k holder.is begins in
     record {
       encoder = on;
       number = holder.recorder.passes;
@@ -231,12 +233,12 @@ pass_on setup state before on made slot command holder here begins =
       begun = new.begun;
     }
 
-pass_first : (setup : Setup) (state : Played) (before : List BoundCall) (call : BoundCall) (slot : ℕ) → Stands state.objects before → All (IsFound (made_in before)) (uses_of call)
-    → slot ≡ length state.objects → made_of call ≡ Some (slot, kind.ComputePass) → IsPass (played setup state call).objects (before ++ call ∷ []) slot
-pass_first setup state before call slot was uses here makes =
-    let begins = pass_made call slot makes in
-    let holder = begun_on before state.objects begins.on begins.command (Some begins.slot) was (subst (λ c. All (IsFound (made_in before)) (uses_of c)) begins.is uses) (place_of_begin begins.command begins.kind_is) in
-    subst (λ c. IsPass (played setup state c).objects (before ++ c ∷ []) slot) (sym begins.is) (pass_on setup state before begins.on begins.slot slot begins.command holder here begins.kind_is)
+pass_first : (setup : Setup) (state : Played) (before : List BoundCall) (call : BoundCall) (slot : ℕ) (k : Kind) → is_pass k ≡ true → Stands state.objects before → All (IsFound (made_in before)) (uses_of call)
+    → slot ≡ length state.objects → made_of call ≡ Some (slot, k) → IsPass (played setup state call).objects (before ++ call ∷ []) slot
+pass_first setup state before call slot k p was uses here makes =
+    let begins = pass_made call slot k p makes in
+    let holder = begun_on before state.objects begins.on begins.command (Some begins.slot) was (subst (λ c. All (IsFound (made_in before)) (uses_of c)) begins.is uses) (place_of_begin begins.command begins.kind begins.kind_is) in
+    subst (λ c. IsPass (played setup state c).objects (before ++ c ∷ []) slot) (sym begins.is) (pass_on setup state before begins.on begins.slot slot begins.command begins.kind holder here begins.kind_is)
 
 below_more : (made : Slots) (found : Option (ℕ × Kind)) (old new : ℕ) → All (λ m. m.0 < old) made → new ≡ old + length (option_to_list found) → ((m : ℕ × Kind) → found ≡ Some m → m.0 ≡ old)
     → All (λ m. m.0 < new) (made ++ option_to_list found)
@@ -268,10 +270,10 @@ one_more setup state before call was uses here =
         | inr new ↦ let makes : made_of call ≡ Some (slot, kind.Encoder) = only (made_of call) (slot, kind.Encoder) new in
             encoder_first setup state before call slot was uses (here (slot, kind.Encoder) makes) makes
       ];
-      passes = λ slot there. elim (Contains-append_cases (made_in before) (made_by call) (slot, kind.ComputePass) (subst (λ ms. Contains ms (slot, kind.ComputePass)) new_made there)) [
-        | inl earlier ↦ pass_after setup state before call slot (was.passes slot earlier)
-        | inr new ↦ let makes : made_of call ≡ Some (slot, kind.ComputePass) = only (made_of call) (slot, kind.ComputePass) new in
-            pass_first setup state before call slot was uses (here (slot, kind.ComputePass) makes) makes
+      passes = λ slot k p there. elim (Contains-append_cases (made_in before) (made_by call) (slot, k) (subst (λ ms. Contains ms (slot, k)) new_made there)) [
+        | inl earlier ↦ pass_after setup state before call slot (was.passes slot k p earlier)
+        | inr new ↦ let makes : made_of call ≡ Some (slot, k) = only (made_of call) (slot, k) new in
+            pass_first setup state before call slot k p was uses (here (slot, k) makes) makes
       ];
     }
 
@@ -284,7 +286,7 @@ all_after setup (call ∷ calls) before state was bound from =
     let grown : length (played setup state call).objects ≡ length state.objects + length (made_by call) = call_length setup state call in
     subst (λ cs. Stands (lane_played setup (played setup state call) calls).objects cs) (append_assoc before (call ∷ []) calls)
     (all_after setup calls (before ++ call ∷ []) (played setup state call)
-    (one_more setup state before call was bound.0 (first_from (length state.objects) (made_of call) (made_in calls) from))
+    (one_more setup state before call was (found_uses (made_in before) call bound.0) (first_from (length state.objects) (made_of call) (made_in calls) from))
     (subst (λ ms. LaneIsBound ms calls) (sym (made_more before call)) bound.1)
     (subst (λ n. AreFrom n (slots_of (made_in calls))) (sym grown) (rest_from (length state.objects) (made_of call) (made_in calls) from)))
 
@@ -318,7 +320,7 @@ late_pass objects before slot at =
 late_found : (objects : List Object) (before : List BoundCall) (slot : ℕ) (command : CommandOf ℕ) → Stands objects before → IsFound (made_in before) (slot, place_wanted command) → LateAt objects before (stand_at objects slot)
 late_found objects before slot command was found = elim (stands_on command found.kind found.fits) [
   | inl encoder ↦ late_encoder objects before slot (was.encoders slot (subst (λ k. Contains (made_in before) (slot, k)) encoder found.stands))
-  | inr pass ↦ late_pass objects before slot (was.passes slot (subst (λ k. Contains (made_in before) (slot, k)) pass found.stands))
+  | inr pass ↦ late_pass objects before slot (was.passes slot found.kind pass found.stands)
 ]
 
 pub late_is_finished : LateIsFinished

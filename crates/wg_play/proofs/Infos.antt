@@ -12,7 +12,7 @@ use Rattle.wg_types.specs.declared.bindings.ResourceOf.TheVariants.{Buffer, View
 use Rattle.wg_types.specs.declared.bindings.GroupEntryOf.{GroupEntryOf}
 use Rattle.wg_types.specs.Refs.{all_wanted}
 use Rattle.wg_types.specs.Bindings.{resource_named, map_resource, map_entry, entries_named}
-use Rattle.wg_types.specs.declared.requests.RequestOf.TheVariants.{CreateBuffer, CreateTexture, CreateView, CreateSampler, CreateBindGroupLayout, CreatePipelineLayout, CreateBindGroup, CreateComputePipeline, CreateEncoder, Finish, Submit, WriteBuffer, WriteTexture, Destroy, Drop, Complete, PushErrorScope, PopErrorScope, Lose, WorkDone, MapAsync, Unmap}
+use Rattle.wg_types.specs.declared.requests.RequestOf.TheVariants.{CreateBuffer, CreateTexture, CreateView, CreateSampler, CreateBindGroupLayout, CreatePipelineLayout, CreateBindGroup, CreateComputePipeline, CreateRenderPipeline, CreateEncoder, Finish, Submit, WriteBuffer, WriteTexture, Destroy, Drop, Complete, PushErrorScope, PopErrorScope, Lose, WorkDone, MapAsync, Unmap}
 use Rattle.wg_model.specs.Making.{known_group_layout, bound_resource, bound_entry}
 use Rattle.wg_play.specs.declared.objects.Object.{Object}
 use Rattle.wg_play.specs.Objects.{reference_at, knows_at}
@@ -63,6 +63,9 @@ info_is_made objects known (CreateBindGroup layout entries) all =
     ap₂ (λ found bound. Some (info.Group (record { layout = reference_at objects layout; layout_info = known_group_layout found; entries = bound }))) (sym e)
     (bounds objects known entries (All-tail (Knows objects known) (layout, wanted.GroupLayout) (entries_named entries) all))
 info_is_made objects known (CreateComputePipeline layout iface) all =
+    let e : known (reference_at objects layout) ≡ knows_at objects layout = All-head (Knows objects known) (layout, wanted.PipelineLayout) [] all in
+    rw e refl
+info_is_made objects known (CreateRenderPipeline layout desc) all =
     let e : known (reference_at objects layout) ≡ knows_at objects layout = All-head (Knows objects known) (layout, wanted.PipelineLayout) [] all in
     rw e refl
 info_is_made objects known CreateEncoder all = refl

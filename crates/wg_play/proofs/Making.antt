@@ -1,5 +1,5 @@
 -- What calls make: how many objects there are after a call, and what stands at the new slot.
-use Rattle.std.proofs.Common.{◌≡◌, ℕ, ◌+◌, nat_lt, Bool, true, false, Option, Some, None, List, [], ◌∷◌, ◌++◌, length, refl, sym, ap, subst, ◌∙◌, ◌⊎◌, inl, inr, arith, if◌then◌else◌}
+use Rattle.std.proofs.Common.{◌≡◌, ℕ, ◌+◌, nat_lt, Bool, true, false, Option, Some, None, List, [], ◌∷◌, ◌++◌, length, refl, sym, ap, subst, ◌∙◌, ◌⊎◌, inl, inr, arith, if◌then◌else◌, true≢false}
 use Rattle.std.specs.Prelude.{option_map, slice_get}
 use Rattle.std.specs.Option.{option_map_or, option_to_list}
 use Rattle.std.proofs.lemmas.Bool.Decides.{nat_tests}
@@ -14,11 +14,11 @@ use Rattle.wg_types.specs.declared.commands.On.TheVariants.{Encoder}
 use Rattle.wg_types.specs.declared.commands.Bracket.{Bracket}
 use Rattle.wg_types.specs.declared.commands.Bracket.TheVariants as brackets
 use Rattle.wg_types.specs.declared.commands.CommandOf.{CommandOf}
-use Rattle.wg_types.specs.declared.commands.CommandOf.TheVariants.{BeginComputePass, CopyBufferToBuffer, CopyBufferToTexture, CopyTextureToBuffer, CopyTextureToTexture, ClearBuffer, PushDebugGroup, PopDebugGroup, End, SetPipeline, SetBindGroup, Dispatch, DispatchIndirect}
+use Rattle.wg_types.specs.declared.commands.CommandOf.TheVariants.{BeginComputePass, BeginRenderPass, CopyBufferToBuffer, CopyBufferToTexture, CopyTextureToBuffer, CopyTextureToTexture, ClearBuffer, PushDebugGroup, PopDebugGroup, End, SetPipeline, SetBindGroup, Dispatch, DispatchIndirect, SetVertexBuffer, SetIndexBuffer, Draw, DrawIndexed, DrawIndirect, DrawIndexedIndirect}
 use Rattle.wg_types.specs.Commands.{Command, map_refs, bracket, place_wanted, kind_begun_by, kind_begun, begins_pass_by, is_begin}
 use Rattle.wg_types.specs.Requests.{kind_made}
 use Rattle.wg_types.specs.declared.requests.RequestOf.{RequestOf}
-use Rattle.wg_types.specs.declared.requests.RequestOf.TheVariants.{CreateBuffer, CreateTexture, CreateView, CreateSampler, CreateBindGroupLayout, CreatePipelineLayout, CreateBindGroup, CreateComputePipeline, CreateEncoder, Finish, Submit, WriteBuffer, WriteTexture, Destroy, Drop, Complete, PushErrorScope, PopErrorScope, Lose, WorkDone, MapAsync, Unmap}
+use Rattle.wg_types.specs.declared.requests.RequestOf.TheVariants.{CreateBuffer, CreateTexture, CreateView, CreateSampler, CreateBindGroupLayout, CreatePipelineLayout, CreateBindGroup, CreateComputePipeline, CreateRenderPipeline, CreateEncoder, Finish, Submit, WriteBuffer, WriteTexture, Destroy, Drop, Complete, PushErrorScope, PopErrorScope, Lose, WorkDone, MapAsync, Unmap}
 use Rattle.wg_encoder.specs.Recorders.{RecorderValue, has_taken}
 use Rattle.wg_history.specs.declared.events.Setup.{Setup}
 use Rattle.wg_script.specs.CallOf.{BoundCall}
@@ -37,6 +37,7 @@ use Rattle.wg_play.proofs.Lateness.{recorded_objects, taken_length}
 
 bracket_mapped : {R S : Type 0} (f : R → S) (command : CommandOf R) → bracket (map_refs f command) ≡ bracket command
 bracket_mapped f BeginComputePass = refl
+bracket_mapped f (BeginRenderPass begin) = refl
 bracket_mapped f (CopyBufferToBuffer source source_offset target target_offset size) = refl
 bracket_mapped f (CopyBufferToTexture buffer layout texture spot size) = refl
 bracket_mapped f (CopyTextureToBuffer buffer layout texture spot size) = refl
@@ -49,40 +50,57 @@ bracket_mapped f (SetPipeline pipeline) = refl
 bracket_mapped f (SetBindGroup index group offsets) = refl
 bracket_mapped f (Dispatch x y z) = refl
 bracket_mapped f (DispatchIndirect buffer offset) = refl
+bracket_mapped f (SetVertexBuffer slot buffer offset size) = refl
+bracket_mapped f (SetIndexBuffer buffer format offset size) = refl
+bracket_mapped f (Draw vertices instances first_vertex first_instance) = refl
+bracket_mapped f (DrawIndexed indices instances first_index first_instance) = refl
+bracket_mapped f (DrawIndirect buffer offset) = refl
+bracket_mapped f (DrawIndexedIndirect buffer offset) = refl
 
 -- it stands on an encoder
-pub place_of_begin : {R : Type 0} (command : CommandOf R) → kind_begun command ≡ Some kind.ComputePass → place_wanted command ≡ wanted.Encoder
-place_of_begin BeginComputePass e = refl
-place_of_begin (CopyBufferToBuffer source source_offset target target_offset size) e = refl
-place_of_begin (CopyBufferToTexture buffer layout texture spot size) e = refl
-place_of_begin (CopyTextureToBuffer buffer layout texture spot size) e = refl
-place_of_begin (CopyTextureToTexture source source_mip source_origin target target_mip target_origin size) e = refl
-place_of_begin (ClearBuffer buffer offset size) e = refl
-place_of_begin PushDebugGroup e = absurd (cc)
-place_of_begin PopDebugGroup e = absurd (cc)
-place_of_begin End e = absurd (cc)
-place_of_begin (SetPipeline pipeline) e = absurd (cc)
-place_of_begin (SetBindGroup index group offsets) e = absurd (cc)
-place_of_begin (Dispatch x y z) e = absurd (cc)
-place_of_begin (DispatchIndirect buffer offset) e = absurd (cc)
+pub place_of_begin : {R : Type 0} (command : CommandOf R) (k : Kind) → kind_begun command ≡ Some k → place_wanted command ≡ wanted.Encoder
+place_of_begin BeginComputePass k e = refl
+place_of_begin (BeginRenderPass begin) k e = refl
+place_of_begin (CopyBufferToBuffer source source_offset target target_offset size) k e = refl
+place_of_begin (CopyBufferToTexture buffer layout texture spot size) k e = refl
+place_of_begin (CopyTextureToBuffer buffer layout texture spot size) k e = refl
+place_of_begin (CopyTextureToTexture source source_mip source_origin target target_mip target_origin size) k e = refl
+place_of_begin (ClearBuffer buffer offset size) k e = refl
+place_of_begin PushDebugGroup k e = absurd (cc)
+place_of_begin PopDebugGroup k e = absurd (cc)
+place_of_begin End k e = absurd (cc)
+place_of_begin (SetPipeline pipeline) k e = absurd (cc)
+place_of_begin (SetBindGroup index group offsets) k e = absurd (cc)
+place_of_begin (Dispatch x y z) k e = absurd (cc)
+place_of_begin (DispatchIndirect buffer offset) k e = absurd (cc)
+place_of_begin (SetVertexBuffer slot buffer offset size) k e = absurd (cc)
+place_of_begin (SetIndexBuffer buffer format offset size) k e = absurd (cc)
+place_of_begin (Draw vertices instances first_vertex first_instance) k e = absurd (cc)
+place_of_begin (DrawIndexed indices instances first_index first_instance) k e = absurd (cc)
+place_of_begin (DrawIndirect buffer offset) k e = absurd (cc)
+place_of_begin (DrawIndexedIndirect buffer offset) k e = absurd (cc)
 
-begins_by : (b : Bracket) → kind_begun_by b ≡ Some kind.ComputePass → begins_pass_by b ≡ true
-begins_by brackets.BeginComputePass e = refl
-begins_by brackets.EndPass e = absurd (cc)
-begins_by brackets.PushGroup e = absurd (cc)
-begins_by brackets.PopGroup e = absurd (cc)
-begins_by brackets.Neither e = absurd (cc)
+begins_by : (b : Bracket) (k : Kind) → kind_begun_by b ≡ Some k → begins_pass_by b ≡ true
+begins_by brackets.BeginComputePass k e = refl
+begins_by brackets.BeginRenderPass k e = refl
+begins_by brackets.EndPass k e = absurd (cc)
+begins_by brackets.PushGroup k e = absurd (cc)
+begins_by brackets.PopGroup k e = absurd (cc)
+begins_by brackets.Neither k e = absurd (cc)
 
--- a command stands on an encoder or a compute pass
+-- a command stands on an encoder or a pass
 abbrev is_place : Wanted → Bool
 is_place wanted.Encoder = true
 is_place wanted.ComputePass = true
 is_place wanted.Pass = true
+is_place wanted.Binding = true
+is_place wanted.Drawing = true
 is_place wanted.Recording = true
 is_place _ = false
 
 place_is : {R : Type 0} (command : CommandOf R) → is_place (place_wanted command) ≡ true
 place_is BeginComputePass = refl
+place_is (BeginRenderPass begin) = refl
 place_is (CopyBufferToBuffer source source_offset target target_offset size) = refl
 place_is (CopyBufferToTexture buffer layout texture spot size) = refl
 place_is (CopyTextureToBuffer buffer layout texture spot size) = refl
@@ -95,6 +113,12 @@ place_is (SetPipeline pipeline) = refl
 place_is (SetBindGroup index group offsets) = refl
 place_is (Dispatch x y z) = refl
 place_is (DispatchIndirect buffer offset) = refl
+place_is (SetVertexBuffer slot buffer offset size) = refl
+place_is (SetIndexBuffer buffer format offset size) = refl
+place_is (Draw vertices instances first_vertex first_instance) = refl
+place_is (DrawIndexed indices instances first_index first_instance) = refl
+place_is (DrawIndirect buffer offset) = refl
+place_is (DrawIndexedIndirect buffer offset) = refl
 
 -- ---- how many objects there are
 
@@ -107,6 +131,7 @@ request_length setup state (CreateBindGroupLayout known) slot = length-append st
 request_length setup state (CreatePipelineLayout layouts) slot = length-append state.objects _
 request_length setup state (CreateBindGroup layout entries) slot = length-append state.objects _
 request_length setup state (CreateComputePipeline layout iface) slot = length-append state.objects _
+request_length setup state (CreateRenderPipeline layout desc) slot = length-append state.objects _
 request_length setup state CreateEncoder slot = length-append state.objects _
 request_length setup state (Finish encoder) slot = length-append (taken_on state.objects encoder) _ ∙ ap (λ n. n + 1) (taken_length state.objects (Some encoder))
 request_length setup state (Submit buffers) slot = omega arith
@@ -161,6 +186,7 @@ encoder_new setup state (CreateBindGroupLayout known) slot e = absurd (cc)
 encoder_new setup state (CreatePipelineLayout layouts) slot e = absurd (cc)
 encoder_new setup state (CreateBindGroup layout entries) slot e = absurd (cc)
 encoder_new setup state (CreateComputePipeline layout iface) slot e = absurd (cc)
+encoder_new setup state (CreateRenderPipeline layout desc) slot e = absurd (cc)
 encoder_new setup state (Finish encoder) slot e = absurd (cc)
 encoder_new setup state (Submit buffers) slot e = absurd (cc)
 encoder_new setup state (WriteBuffer buffer offset size) slot e = absurd (cc)
@@ -181,6 +207,7 @@ same_kind slot on (Some x) k e = let same : (slot, x) ≡ (on, k) = cc in ap (λ
 
 no_encoder : (b : Bracket) (slot on : ℕ) → made_as (Some slot) (kind_begun_by b) ≡ Some (on, kind.Encoder) → ⊥
 no_encoder brackets.BeginComputePass slot on e = let same : Some kind.ComputePass ≡ Some kind.Encoder = same_kind slot on (Some kind.ComputePass) kind.Encoder e in cc
+no_encoder brackets.BeginRenderPass slot on e = let same : Some kind.RenderPass ≡ Some kind.Encoder = same_kind slot on (Some kind.RenderPass) kind.Encoder e in cc
 no_encoder brackets.EndPass slot on e = cc
 no_encoder brackets.PushGroup slot on e = cc
 no_encoder brackets.PopGroup slot on e = cc
@@ -194,29 +221,39 @@ encoder_made setup state (Ask request (Some slot)) on e = encoder_new setup stat
 
 -- ---- the pass that a call makes
 
-no_pass : (request : RequestOf ℕ) → kind_made request ≡ Some kind.ComputePass → ⊥
-no_pass (CreateBuffer known) e = cc
-no_pass (CreateTexture known) e = cc
-no_pass (CreateView texture asked) e = cc
-no_pass (CreateSampler known) e = cc
-no_pass (CreateBindGroupLayout known) e = cc
-no_pass (CreatePipelineLayout layouts) e = cc
-no_pass (CreateBindGroup layout entries) e = cc
-no_pass (CreateComputePipeline layout iface) e = cc
-no_pass CreateEncoder e = cc
-no_pass (Finish encoder) e = cc
-no_pass (Submit buffers) e = cc
-no_pass (WriteBuffer buffer offset size) e = cc
-no_pass (WriteTexture texture spot layout size data_size) e = cc
-no_pass (Destroy object) e = cc
-no_pass (Drop object) e = cc
-no_pass (Complete op) e = cc
-no_pass (PushErrorScope filter) e = cc
-no_pass PopErrorScope e = cc
-no_pass Lose e = cc
-no_pass WorkDone e = cc
-no_pass (MapAsync buffer mode offset size) e = cc
-no_pass (Unmap buffer) e = cc
+-- the kinds of passes
+abbrev pub is_pass : Kind → Bool
+is_pass kind.ComputePass = true
+is_pass kind.RenderPass = true
+is_pass _ = false
+
+no_pass_made : (request : RequestOf ℕ) → option_map_or is_pass (kind_made request) false ≡ false
+no_pass_made (CreateBuffer known) = refl
+no_pass_made (CreateTexture known) = refl
+no_pass_made (CreateView texture asked) = refl
+no_pass_made (CreateSampler known) = refl
+no_pass_made (CreateBindGroupLayout known) = refl
+no_pass_made (CreatePipelineLayout layouts) = refl
+no_pass_made (CreateBindGroup layout entries) = refl
+no_pass_made (CreateComputePipeline layout iface) = refl
+no_pass_made (CreateRenderPipeline layout desc) = refl
+no_pass_made CreateEncoder = refl
+no_pass_made (Finish encoder) = refl
+no_pass_made (Submit buffers) = refl
+no_pass_made (WriteBuffer buffer offset size) = refl
+no_pass_made (WriteTexture texture spot layout size data_size) = refl
+no_pass_made (Destroy object) = refl
+no_pass_made (Drop object) = refl
+no_pass_made (Complete op) = refl
+no_pass_made (PushErrorScope filter) = refl
+no_pass_made PopErrorScope = refl
+no_pass_made Lose = refl
+no_pass_made WorkDone = refl
+no_pass_made (MapAsync buffer mode offset size) = refl
+no_pass_made (Unmap buffer) = refl
+
+no_pass : (request : RequestOf ℕ) (k : Kind) → is_pass k ≡ true → kind_made request ≡ Some k → ⊥
+no_pass request k p e = true≢false (sym p ∙ (sym (ap (λ found. option_map_or is_pass found false) e) ∙ no_pass_made request))
 
 -- The call that makes a pass begins one.
 pub record Begins (call : BoundCall) : Type 0 where
@@ -224,13 +261,14 @@ pub record Begins (call : BoundCall) : Type 0 where
   pub command : CommandOf ℕ
   pub slot : ℕ
   pub is : call ≡ Record on command (Some slot)
-  pub kind_is : kind_begun command ≡ Some kind.ComputePass
+  pub kind : Kind
+  pub kind_is : kind_begun command ≡ Some kind
 
-pub pass_made : (call : BoundCall) (at : ℕ) → made_of call ≡ Some (at, kind.ComputePass) → Begins call
-pass_made (Record on command None) at e = absurd (cc)
-pass_made (Record on command (Some slot)) at e = record { on = on; command = command; slot = slot; is = refl; kind_is = same_kind slot at (kind_begun command) kind.ComputePass e }
-pass_made (Ask request None) at e = absurd (cc)
-pass_made (Ask request (Some slot)) at e = absurd (no_pass request (same_kind slot at (kind_made request) kind.ComputePass e))
+pub pass_made : (call : BoundCall) (at : ℕ) (k : Kind) → is_pass k ≡ true → made_of call ≡ Some (at, k) → Begins call
+pass_made (Record on command None) at k p e = absurd (cc)
+pass_made (Record on command (Some slot)) at k p e = record { on = on; command = command; slot = slot; is = refl; kind = k; kind_is = same_kind slot at (kind_begun command) k e }
+pass_made (Ask request None) at k p e = absurd (cc)
+pass_made (Ask request (Some slot)) at k p e = absurd (no_pass request k p (same_kind slot at (kind_made request) k e))
 
 -- A pass that was begun, and its encoder's recorder.
 pub record Begun (objects : List Object) (slot on : ℕ) (old : RecorderValue) : Type 0 where
@@ -240,9 +278,9 @@ pub record Begun (objects : List Object) (slot on : ℕ) (old : RecorderValue) :
   pub taken : has_taken recorder ≡ has_taken old
   pub begun : nat_lt old.passes recorder.passes ≡ true
 
-begun_is : (objects : List Object) (on slot : ℕ) (command : Command) (r : RecorderValue) → recorder_at objects on ≡ Some r → kind_begun command ≡ Some kind.ComputePass
+begun_is : (objects : List Object) (on slot : ℕ) (command : Command) (r : RecorderValue) (kind_of : Kind) → recorder_at objects on ≡ Some r → kind_begun command ≡ Some kind_of
     → begun_by objects on command (Some slot) ≡ object.Pass on r.passes ∷ []
-begun_is objects on slot command r e k =
+begun_is objects on slot command r kind_of e k =
     ap (λ (found : Option Kind). option_map_or (λ (x : Kind). object.Pass on (passes_at objects on) ∷ []) found []) k
     ∙ ap (λ (found : Option RecorderValue). object.Pass on (option_map_or (λ (recorder : RecorderValue). recorder.passes) found 0) ∷ []) e
 
@@ -250,9 +288,9 @@ next : (n : ℕ) (b : Bool) → b ≡ true → nat_lt n (if b then n + 1 else n)
 next n true e = grind (arith, nat_tests)
 next n false e = absurd (cc)
 
-begun_at : (objects : List Object) (on : ℕ) (command : Command) (r : RecorderValue) → recorder_at objects on ≡ Some r → kind_begun command ≡ Some kind.ComputePass
+begun_at : (objects : List Object) (on : ℕ) (command : Command) (r : RecorderValue) (kind_of : Kind) → recorder_at objects on ≡ Some r → kind_begun command ≡ Some kind_of
     → Begun (with_recorder objects on (recorded_by Encoder command) ++ object.Pass on r.passes ∷ []) (length objects) on r
-begun_at objects on command r e k =
+begun_at objects on command r kind_of e k =
     let kept : List Object = with_recorder objects on (recorded_by Encoder command) in
     let count : length kept ≡ length objects = length_with (recorded_by Encoder command) objects on in
     record {
@@ -260,110 +298,48 @@ begun_at objects on command r e k =
       recorder = recorded_by Encoder command r;
       recorder_is = recorder_append kept (object.Pass on r.passes ∷ []) on (recorded_by Encoder command r) (own_recorder (recorded_by Encoder command) objects on ∙ ap (option_map (recorded_by Encoder command)) e);
       taken = refl;
-      begun = next r.passes (is_begin command) (begins_by (bracket command) k);
+      begun = next r.passes (is_begin command) (begins_by (bracket command) kind_of k);
     }
 
-pub pass_begun : (setup : Setup) (state : Played) (on slot : ℕ) (command : CommandOf ℕ) (r : RecorderValue) → recorder_at state.objects on ≡ Some r → kind_begun command ≡ Some kind.ComputePass
+pub pass_begun : (setup : Setup) (state : Played) (on slot : ℕ) (command : CommandOf ℕ) (r : RecorderValue) (kind_of : Kind) → recorder_at state.objects on ≡ Some r → kind_begun command ≡ Some kind_of
     → Begun (played setup state (Record on command (Some slot))).objects (length state.objects) on r
-pass_begun setup state on slot command r e k =
+pass_begun setup state on slot command r kind_of e k =
     let found : Command = map_refs (handle_at state.objects) command in
-    let begins : kind_begun found ≡ Some kind.ComputePass = begun_mapped (handle_at state.objects) command ∙ k in
+    let begins : kind_begun found ≡ Some kind_of = begun_mapped (handle_at state.objects) command ∙ k in
     let whole : (played setup state (Record on command (Some slot))).objects ≡ with_recorder state.objects on (recorded_by Encoder found) ++ object.Pass on r.passes ∷ []
     = recorded_objects setup state (stand_at state.objects on) found (Some slot)
     ∙ (ap (λ (stand : Stand). recorded_on state.objects stand found ++ begun_by state.objects stand.encoder found (Some slot)) (stand_encoder state.objects on r e)
-    ∙ ap (λ (pass : List Object). with_recorder state.objects on (recorded_by Encoder found) ++ pass) (begun_is state.objects on slot found r e begins)) in
-    subst (λ objects. Begun objects (length state.objects) on r) (sym whole) (begun_at state.objects on found r e begins)
+    ∙ ap (λ (pass : List Object). with_recorder state.objects on (recorded_by Encoder found) ++ pass) (begun_is state.objects on slot found r kind_of e begins)) in
+    subst (λ objects. Begun objects (length state.objects) on r) (sym whole) (begun_at state.objects on found r kind_of e begins)
 
 -- ---- where a command stands
 
 pub is_encoder : (k : Kind) → admits wanted.Encoder k ≡ true → k ≡ kind.Encoder
-is_encoder kind.Buffer e = absurd (cc)
-is_encoder kind.Texture e = absurd (cc)
-is_encoder kind.View e = absurd (cc)
-is_encoder kind.Sampler e = absurd (cc)
-is_encoder kind.GroupLayout e = absurd (cc)
-is_encoder kind.PipelineLayout e = absurd (cc)
-is_encoder kind.Group e = absurd (cc)
-is_encoder kind.Compute e = absurd (cc)
 is_encoder kind.Encoder e = refl
-is_encoder kind.CommandBuffer e = absurd (cc)
-is_encoder kind.ComputePass e = absurd (cc)
+is_encoder _ e = absurd (cc)
 
--- what a command may stand on
-abbrev takes_commands : Kind → Bool
-takes_commands kind.Encoder = true
-takes_commands kind.ComputePass = true
-takes_commands _ = false
+abbrev EncoderOrPass : Kind → Type 0
+EncoderOrPass k = (k ≡ kind.Encoder) ⊎ (is_pass k ≡ true)
 
-admitted : (w : Wanted) (k : Kind) → is_place w ≡ true → admits w k ≡ true → takes_commands k ≡ true
-admitted wanted.Buffer k p e = absurd (cc)
-admitted wanted.Texture k p e = absurd (cc)
-admitted wanted.View k p e = absurd (cc)
-admitted wanted.Sampler k p e = absurd (cc)
-admitted wanted.GroupLayout k p e = absurd (cc)
-admitted wanted.PipelineLayout k p e = absurd (cc)
-admitted wanted.Group k p e = absurd (cc)
-admitted wanted.Pipeline k p e = absurd (cc)
-admitted wanted.Destroyable k p e = absurd (cc)
-admitted wanted.Encoder kind.Buffer p e = absurd (cc)
-admitted wanted.Encoder kind.Texture p e = absurd (cc)
-admitted wanted.Encoder kind.View p e = absurd (cc)
-admitted wanted.Encoder kind.Sampler p e = absurd (cc)
-admitted wanted.Encoder kind.GroupLayout p e = absurd (cc)
-admitted wanted.Encoder kind.PipelineLayout p e = absurd (cc)
-admitted wanted.Encoder kind.Group p e = absurd (cc)
-admitted wanted.Encoder kind.Compute p e = absurd (cc)
-admitted wanted.Encoder kind.Encoder p e = refl
-admitted wanted.Encoder kind.CommandBuffer p e = absurd (cc)
-admitted wanted.Encoder kind.ComputePass p e = absurd (cc)
-admitted wanted.CommandBuffer k p e = absurd (cc)
-admitted wanted.ComputePass kind.Buffer p e = absurd (cc)
-admitted wanted.ComputePass kind.Texture p e = absurd (cc)
-admitted wanted.ComputePass kind.View p e = absurd (cc)
-admitted wanted.ComputePass kind.Sampler p e = absurd (cc)
-admitted wanted.ComputePass kind.GroupLayout p e = absurd (cc)
-admitted wanted.ComputePass kind.PipelineLayout p e = absurd (cc)
-admitted wanted.ComputePass kind.Group p e = absurd (cc)
-admitted wanted.ComputePass kind.Compute p e = absurd (cc)
-admitted wanted.ComputePass kind.Encoder p e = absurd (cc)
-admitted wanted.ComputePass kind.CommandBuffer p e = absurd (cc)
-admitted wanted.ComputePass kind.ComputePass p e = refl
-admitted wanted.Pass kind.Buffer p e = absurd (cc)
-admitted wanted.Pass kind.Texture p e = absurd (cc)
-admitted wanted.Pass kind.View p e = absurd (cc)
-admitted wanted.Pass kind.Sampler p e = absurd (cc)
-admitted wanted.Pass kind.GroupLayout p e = absurd (cc)
-admitted wanted.Pass kind.PipelineLayout p e = absurd (cc)
-admitted wanted.Pass kind.Group p e = absurd (cc)
-admitted wanted.Pass kind.Compute p e = absurd (cc)
-admitted wanted.Pass kind.Encoder p e = absurd (cc)
-admitted wanted.Pass kind.CommandBuffer p e = absurd (cc)
-admitted wanted.Pass kind.ComputePass p e = refl
-admitted wanted.Recording kind.Buffer p e = absurd (cc)
-admitted wanted.Recording kind.Texture p e = absurd (cc)
-admitted wanted.Recording kind.View p e = absurd (cc)
-admitted wanted.Recording kind.Sampler p e = absurd (cc)
-admitted wanted.Recording kind.GroupLayout p e = absurd (cc)
-admitted wanted.Recording kind.PipelineLayout p e = absurd (cc)
-admitted wanted.Recording kind.Group p e = absurd (cc)
-admitted wanted.Recording kind.Compute p e = absurd (cc)
-admitted wanted.Recording kind.Encoder p e = refl
-admitted wanted.Recording kind.CommandBuffer p e = absurd (cc)
-admitted wanted.Recording kind.ComputePass p e = refl
-admitted wanted.Object k p e = absurd (cc)
+-- what is asked of what a command stands on is met by encoders and passes alone
+admitted : (w : Wanted) (k : Kind) → is_place w ≡ true → admits w k ≡ true → EncoderOrPass k
+admitted wanted.Encoder kind.Encoder p e = inl refl
+admitted wanted.ComputePass kind.ComputePass p e = inr refl
+admitted wanted.Pass kind.ComputePass p e = inr refl
+admitted wanted.Pass kind.RenderPass p e = inr refl
+admitted wanted.Binding kind.ComputePass p e = inr refl
+admitted wanted.Binding kind.RenderPass p e = inr refl
+admitted wanted.Drawing kind.RenderPass p e = inr refl
+admitted wanted.Recording kind.Encoder p e = inl refl
+admitted wanted.Recording kind.ComputePass p e = inr refl
+admitted wanted.Recording kind.RenderPass p e = inr refl
+admitted wanted.Encoder _ p e = absurd (cc)
+admitted wanted.ComputePass _ p e = absurd (cc)
+admitted wanted.Pass _ p e = absurd (cc)
+admitted wanted.Binding _ p e = absurd (cc)
+admitted wanted.Drawing _ p e = absurd (cc)
+admitted wanted.Recording _ p e = absurd (cc)
+admitted _ k p e = absurd (cc)
 
-encoder_or_pass : (k : Kind) → takes_commands k ≡ true → (k ≡ kind.Encoder) ⊎ (k ≡ kind.ComputePass)
-encoder_or_pass kind.Buffer e = absurd (cc)
-encoder_or_pass kind.Texture e = absurd (cc)
-encoder_or_pass kind.View e = absurd (cc)
-encoder_or_pass kind.Sampler e = absurd (cc)
-encoder_or_pass kind.GroupLayout e = absurd (cc)
-encoder_or_pass kind.PipelineLayout e = absurd (cc)
-encoder_or_pass kind.Group e = absurd (cc)
-encoder_or_pass kind.Compute e = absurd (cc)
-encoder_or_pass kind.Encoder e = inl refl
-encoder_or_pass kind.CommandBuffer e = absurd (cc)
-encoder_or_pass kind.ComputePass e = inr refl
-
-pub stands_on : {R : Type 0} (command : CommandOf R) (k : Kind) → admits (place_wanted command) k ≡ true → (k ≡ kind.Encoder) ⊎ (k ≡ kind.ComputePass)
-stands_on command k e = encoder_or_pass k (admitted (place_wanted command) k (place_is command) e)
+pub stands_on : {R : Type 0} (command : CommandOf R) (k : Kind) → admits (place_wanted command) k ≡ true → EncoderOrPass k
+stands_on command k e = admitted (place_wanted command) k (place_is command) e

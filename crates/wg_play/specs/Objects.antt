@@ -13,9 +13,9 @@ use Rattle.wg_types.specs.declared.commands.On.TheVariants.{Encoder, Pass}
 use Rattle.wg_types.specs.Commands.{Command, kind_begun}
 use Rattle.wg_types.specs.Bindings.{map_entry}
 use Rattle.wg_types.specs.declared.requests.RequestOf.{RequestOf}
-use Rattle.wg_types.specs.declared.requests.RequestOf.TheVariants.{CreateBuffer, CreateTexture, CreateView, CreateSampler, CreateBindGroupLayout, CreatePipelineLayout, CreateBindGroup, CreateComputePipeline, CreateEncoder, Finish, Submit, WriteBuffer, WriteTexture, Destroy, Drop, Complete, PushErrorScope, PopErrorScope, Lose, WorkDone, MapAsync, Unmap}
+use Rattle.wg_types.specs.declared.requests.RequestOf.TheVariants.{CreateBuffer, CreateTexture, CreateView, CreateSampler, CreateBindGroupLayout, CreatePipelineLayout, CreateBindGroup, CreateComputePipeline, CreateRenderPipeline, CreateEncoder, Finish, Submit, WriteBuffer, WriteTexture, Destroy, Drop, Complete, PushErrorScope, PopErrorScope, Lose, WorkDone, MapAsync, Unmap}
 use Rattle.wg_model.specs.Commands.{texture_of, no_texture, size_or_rest}
-use Rattle.wg_model.specs.Making.{view_made, pipeline_layout_made, group_made, compute_made}
+use Rattle.wg_model.specs.Making.{view_made, pipeline_layout_made, group_made, compute_made, render_made}
 use Rattle.wg_model.specs.Views.{view_of}
 use Rattle.wg_encoder.specs.Recorders.{RecorderValue, RecordingValue, is_late, recorded, after_take}
 use Rattle.wg_history.specs.declared.events.Event.{Event}
@@ -127,6 +127,7 @@ event_asked objects (CreateBindGroupLayout known) = event.CreateBindGroupLayout 
 event_asked objects (CreatePipelineLayout layouts) = event.CreatePipelineLayout (map (reference_at objects) layouts)
 event_asked objects (CreateBindGroup layout entries) = event.CreateBindGroup (reference_at objects layout) (map (map_entry (reference_at objects)) entries)
 event_asked objects (CreateComputePipeline layout iface) = event.CreateComputePipeline (reference_at objects layout) iface
+event_asked objects (CreateRenderPipeline layout desc) = event.CreateRenderPipeline (reference_at objects layout) desc
 event_asked objects CreateEncoder = event.CreateEncoder
 event_asked objects (Finish on) = event.Finish (reference_at objects on) (taken_from objects on)
 event_asked objects (Submit buffers) = event.Submit (map (reference_at objects) buffers)
@@ -153,6 +154,7 @@ ended_by (CreateBindGroupLayout known) = None
 ended_by (CreatePipelineLayout layouts) = None
 ended_by (CreateBindGroup layout entries) = None
 ended_by (CreateComputePipeline layout iface) = None
+ended_by (CreateRenderPipeline layout desc) = None
 ended_by CreateEncoder = None
 ended_by (Submit buffers) = None
 ended_by (WriteBuffer buffer offset size) = None
@@ -182,6 +184,7 @@ info_asked objects (CreateBindGroupLayout known) = Some (info.GroupLayout known)
 info_asked objects (CreatePipelineLayout layouts) = Some (info.PipelineLayout (pipeline_layout_made (reference_at objects) (knows_at objects) layouts))
 info_asked objects (CreateBindGroup layout entries) = Some (info.Group (group_made (reference_at objects) (knows_at objects) layout entries))
 info_asked objects (CreateComputePipeline layout iface) = Some (info.Compute (compute_made (reference_at objects) (knows_at objects) layout iface))
+info_asked objects (CreateRenderPipeline layout desc) = Some (info.Render (render_made (reference_at objects) (knows_at objects) layout desc))
 info_asked objects CreateEncoder = Some info.Encoder
 info_asked objects (Finish encoder) = Some info.CommandBuffer
 info_asked objects (Submit buffers) = None
@@ -211,6 +214,7 @@ recorder_for encoder (info.GroupLayout known) = None
 recorder_for encoder (info.PipelineLayout known) = None
 recorder_for encoder (info.Group known) = None
 recorder_for encoder (info.Compute known) = None
+recorder_for encoder (info.Render known) = None
 recorder_for encoder info.CommandBuffer = None
 
 -- an object that was made, an encoder with a recorder that has kept nothing

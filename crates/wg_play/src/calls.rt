@@ -12,7 +12,7 @@ use crate::objects::{
 };
 use std::alloc::Global;
 use wg_entry::NoMemory;
-use wg_groups::making::{compute_made, group_made, pipeline_layout_made, view_made};
+use wg_groups::making::{compute_made, group_made, pipeline_layout_made, render_made, view_made};
 use wg_history::events::Event;
 use wg_textures::{Asked, view_of};
 use wg_types::bindings::map_entries;
@@ -126,6 +126,10 @@ fn making_asked(
             layout: reference_at(objects, *layout),
             iface: iface.share()?,
         }),
+        RequestOf::CreateRenderPipeline { layout, desc } => Ok(Event::CreateRenderPipeline {
+            layout: reference_at(objects, *layout),
+            desc: desc.share()?,
+        }),
         RequestOf::CreateEncoder => Ok(Event::CreateEncoder),
         RequestOf::Finish { encoder } => Ok(Event::Finish {
             encoder: reference_at(objects, *encoder),
@@ -193,6 +197,7 @@ pub fn event_asked(
         | RequestOf::CreatePipelineLayout { .. }
         | RequestOf::CreateBindGroup { .. }
         | RequestOf::CreateComputePipeline { .. }
+        | RequestOf::CreateRenderPipeline { .. }
         | RequestOf::CreateEncoder
         | RequestOf::Finish { .. } => making_asked(alloc, objects, request),
         RequestOf::Submit { .. } | RequestOf::WriteBuffer { .. } | RequestOf::WriteTexture { .. } =>
@@ -254,6 +259,9 @@ pub fn info_asked(
         }
         RequestOf::CreateComputePipeline { layout, iface } => {
             Info::Compute(compute_made(alloc, &find, &known, layout, iface)?)
+        }
+        RequestOf::CreateRenderPipeline { layout, desc } => {
+            Info::Render(render_made(alloc, &find, &known, layout, desc)?)
         }
         RequestOf::CreateEncoder => Info::Encoder,
         RequestOf::Finish { .. } => Info::CommandBuffer,

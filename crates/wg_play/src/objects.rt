@@ -245,6 +245,7 @@ fn recorder_for(alloc: Global, reference: ObjRef, valid: bool, info: &Info) -> O
         | Info::PipelineLayout(_)
         | Info::Group(_)
         | Info::Compute(_)
+        | Info::Render(_)
         | Info::CommandBuffer => None,
     }
 }

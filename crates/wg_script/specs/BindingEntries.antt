@@ -19,7 +19,7 @@ use Rattle.wg_script.specs.Giving.{◌>>=◌}
 use Rattle.wg_script.specs.Values.{whole_at, whole_or, whole_if, most_whole, most_short, flag_or, name_at}
 use Rattle.wg_script.specs.Words.{word_at, word_or}
 use Rattle.wg_script.specs.TextureWords.{format_words, view_dim_words}
-use Rattle.wg_script.specs.BindingWords.{kind_words, sampler_words, sample_words, access_words}
+use Rattle.wg_script.specs.BindingWords.{kind_words, sampler_words, sample_words, access_words, stage_words}
 use Rattle.wg_script.specs.declared.binding_words.KindWord.{KindWord}
 use Rattle.wg_script.specs.declared.binding_words.KindWord.TheVariants as kind
 use Rattle.wg_script.specs.Readers.{Reader, gives, need, may, has, all_of, ◌▹◌, inner_by}
@@ -83,6 +83,18 @@ iface_entry_keys word = gives (λ group binding kind. record { group = group; bi
 -- an entry of what a compute shader uses
 unfoldable pub iface_entry_of : Data → Result IfaceEntry ℕ
 iface_entry_of d = kinded_by iface_entry_keys d
+
+abbrev pub staged_entry_keys : KindWord → Reader IfaceEntry
+staged_entry_keys word = gives (λ group binding stage kind. record { group = group; binding = binding; stage = stage; kind = kind })
+    ▹ need (codes "group") (whole_at most_short)
+    ▹ need (codes "binding") (whole_at most_short)
+    ▹ need (codes "stage") (word_at stage_words)
+    ▹ has (codes "kind")
+    ▹ all_of (kind_keys word)
+
+-- an entry of what a shader of a render pipeline uses, which names its stage
+unfoldable pub staged_entry_of : Data → Result IfaceEntry ℕ
+staged_entry_of d = kinded_by staged_entry_keys d
 
 -- ---- entries of bind groups
 

@@ -1,10 +1,13 @@
--- The words of bindings: of their kinds, of samplers, of what is sampled, and of how storage textures are accessed.
+-- The words of bindings: of their kinds, of samplers, of what is sampled, of how storage textures are accessed, and of the
+-- stages of a render pipeline.
 use Rattle.std.specs.Prelude.{ℕ, List, [], ◌∷◌, codes}
 use Rattle.wg_types.specs.declared.bindings.BufferBinding.TheVariants as buffer
 use Rattle.wg_types.specs.declared.bindings.SamplerKind.{SamplerKind}
 use Rattle.wg_types.specs.declared.bindings.SamplerKind.TheVariants as sampler
 use Rattle.wg_types.specs.declared.bindings.StorageAccess.{StorageAccess}
 use Rattle.wg_types.specs.declared.bindings.StorageAccess.TheVariants as access
+use Rattle.wg_types.specs.declared.bindings.Stage.{Stage}
+use Rattle.wg_types.specs.declared.bindings.Stage.TheVariants as stage
 use Rattle.wg_types.specs.declared.formats.SampleType.{SampleType}
 use Rattle.wg_types.specs.declared.formats.SampleType.TheVariants as sample
 use Rattle.wg_script.specs.declared.binding_words.KindWord.{KindWord}
@@ -26,3 +29,6 @@ sample_words =
 
 abbrev pub access_words : List (List ℕ × StorageAccess)
 access_words = (codes "read-only", access.ReadOnly) ∷ (codes "write-only", access.WriteOnly) ∷ (codes "read-write", access.ReadWrite) ∷ []
+
+abbrev pub stage_words : List (List ℕ × Stage)
+stage_words = (codes "vertex", stage.Vertex) ∷ (codes "fragment", stage.Fragment) ∷ []

@@ -1,6 +1,6 @@
 -- Which call an object is, or the first script rule that it breaks: for each call that is built, its
--- keys, and what each holds, in the order in which they are read. Calls on textures, bindings and
--- passes have definitions of their own.
+-- keys, and what each holds, in the order in which they are read. Calls on textures, bindings, compute
+-- passes and rendering have definitions of their own.
 use Rattle.std.specs.Prelude.{ℕ, List, [], ◌∷◌, false, codes, Option, Some, None, option_and_then, Result, Err}
 use Rattle.serde_json.specs.Data.{Data}
 use Rattle.serde_json.specs.Find.{get, as_str}
@@ -11,6 +11,7 @@ use Rattle.wg_script.specs.Readers.{Reader, gives, need, may, ◌▹◌, read_by
 use Rattle.wg_script.specs.TextureCalls.{create_texture_of, create_view_of, write_texture_of, copy_buffer_to_texture_of, copy_texture_to_buffer_of, copy_texture_to_texture_of}
 use Rattle.wg_script.specs.BindingCalls.{create_sampler_of, create_group_layout_of, create_pipeline_layout_of, create_group_of, create_compute_of}
 use Rattle.wg_script.specs.PassCalls.{begin_compute_pass_of, end_of, set_pipeline_of, set_bind_group_of, dispatch_of, dispatch_indirect_of}
+use Rattle.wg_script.specs.RenderCalls.{create_render_of, begin_render_pass_of, set_vertex_buffer_of, set_index_buffer_of, draw_of, draw_indexed_of, draw_indirect_of, draw_indexed_indirect_of}
 use Rattle.wg_types.specs.Words.{word_of}
 use Rattle.wg_types.specs.declared.words.Word.{Word}
 use Rattle.wg_types.specs.declared.words.Word.TheVariants as word
@@ -165,6 +166,7 @@ call_as word.CreateBindGroupLayout d = create_group_layout_of d
 call_as word.CreatePipelineLayout d = create_pipeline_layout_of d
 call_as word.CreateBindGroup d = create_group_of d
 call_as word.CreateComputePipeline d = create_compute_of d
+call_as word.CreateRenderPipeline d = create_render_of d
 call_as word.CreateEncoder d = create_encoder_of d
 call_as word.Finish d = finish_of d
 call_as word.Submit d = submit_of d
@@ -192,21 +194,20 @@ call_as word.SetPipeline d = set_pipeline_of d
 call_as word.SetBindGroup d = set_bind_group_of d
 call_as word.Dispatch d = dispatch_of d
 call_as word.DispatchIndirect d = dispatch_indirect_of d
-call_as word.CreateRenderPipeline d = Err 13
+call_as word.BeginRenderPass d = begin_render_pass_of d
+call_as word.SetVertexBuffer d = set_vertex_buffer_of d
+call_as word.SetIndexBuffer d = set_index_buffer_of d
+call_as word.Draw d = draw_of d
+call_as word.DrawIndexed d = draw_indexed_of d
+call_as word.DrawIndirect d = draw_indirect_of d
+call_as word.DrawIndexedIndirect d = draw_indexed_indirect_of d
 call_as word.CreateQuerySet d = Err 13
 call_as word.CreateBundleEncoder d = Err 13
-call_as word.BeginRenderPass d = Err 13
 call_as word.FinishBundle d = Err 13
 call_as word.ResolveQuerySet d = Err 13
-call_as word.SetVertexBuffer d = Err 13
-call_as word.SetIndexBuffer d = Err 13
 call_as word.BeginOcclusionQuery d = Err 13
 call_as word.EndOcclusionQuery d = Err 13
 call_as word.ExecuteBundles d = Err 13
-call_as word.Draw d = Err 13
-call_as word.DrawIndexed d = Err 13
-call_as word.DrawIndirect d = Err 13
-call_as word.DrawIndexedIndirect d = Err 13
 call_as word.CreateCanvas d = Err 13
 call_as word.ConfigureCanvas d = Err 13
 call_as word.CurrentTexture d = Err 13

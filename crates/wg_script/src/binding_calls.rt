@@ -64,7 +64,7 @@ pub fn create_bind_group(alloc: Global, call: &Value) -> Result<Call, Refusal>
 }
 
 /// Script rule 13: refuses a pipeline that is to derive its layout, which is not built yet.
-fn check_layout_built(call: &Value) -> Result<(), u8>
+pub fn check_layout_built(call: &Value) -> Result<(), u8>
     ensures { result ≡ check_layout_built (view call.now) }
 {
     match call.get("layout").and_then(Value::as_str) {

@@ -1,13 +1,15 @@
 //! Reads the objects inside calls on bindings: kinds of bindings, and the entries of lists.
 ghost use Rattle.std.specs.Prelude.{◌≡◌, ◌++◌, map};
+ghost use Rattle.serde_json.specs.Find.{get};
 ghost use Rattle.serde_json.specs.View.{view};
 ghost use Rattle.wg_script.specs.Giving.{Gives};
 ghost use Rattle.wg_script.specs.Readers.{inner_by};
+ghost use Rattle.wg_script.specs.Lists.{list_or_empty};
 ghost use Rattle.wg_script.specs.Values.{check_inner};
-ghost use Rattle.wg_script.specs.BindingEntries.{kind_keys, layout_entry_of, iface_entry_of, group_entry_of, buffer_entry_keys, view_entry_keys, sampler_entry_keys};
+ghost use Rattle.wg_script.specs.BindingEntries.{kind_keys, layout_entry_of, iface_entry_of, staged_entry_of, group_entry_of, buffer_entry_keys, view_entry_keys, sampler_entry_keys};
 
-use crate::binding_words::{ACCESSES, KINDS, KindWord, SAMPLERS, SAMPLES};
-use crate::lists::ReadItem;
+use crate::binding_words::{ACCESSES, KINDS, KindWord, SAMPLERS, SAMPLES, STAGES};
+use crate::lists::{ReadItem, list_as_or_empty};
 use crate::name::Name;
 use crate::texture_words::{FORMATS, VIEW_DIMS};
 use crate::values::{
@@ -22,6 +24,7 @@ use wg_types::bindings::{
     StorageAccess,
 };
 use wg_types::formats::SampleType;
+use wg_types::items::Items;
 use wg_types::textures::ViewDim;
 
 /// Script rule 8: refuses what is no object with just these keys and those of its kind.
@@ -65,7 +68,7 @@ fn kind_of(object: &Value, word: KindWord) -> Result<BindingKind, u8>
     }
 }
 
-impl ReadItem for LayoutEntry {
+impl ReadItem<LayoutEntry> for LayoutEntry {
     ghost reads = { layout_entry_of };
 
     #[tactic(auto, unfolding(crate::specs::BindingEntries::layout_entry_of))]
@@ -84,7 +87,7 @@ impl ReadItem for LayoutEntry {
 }
 
 /// What a compute shader uses.
-impl ReadItem for IfaceEntry {
+impl ReadItem<IfaceEntry> for IfaceEntry {
     ghost reads = { iface_entry_of };
 
     #[tactic(auto, unfolding(crate::specs::BindingEntries::iface_entry_of))]
@@ -101,6 +104,40 @@ impl ReadItem for IfaceEntry {
             kind,
         })
     }
+}
+
+/// The form of what a shader of a render pipeline uses, which names its stage.
+enum Staged {}
+
+impl ReadItem<IfaceEntry> for Staged {
+    ghost reads = { staged_entry_of };
+
+    #[tactic(auto, unfolding(crate::specs::BindingEntries::staged_entry_of))]
+    fn read_item(_alloc: Global, value: &Value) -> Result<IfaceEntry, Refusal> {
+        let word = word_at(value, "kind", &KINDS)?;
+        check_kinded(value, &["group", "binding", "stage", "kind"], word)?;
+        let group = short_at(value, "group")?;
+        let binding = short_at(value, "binding")?;
+        let stage = word_at(value, "stage", &STAGES)?;
+        let kind = kind_of(value, word)?;
+        Ok(IfaceEntry {
+            group,
+            binding,
+            stage,
+            kind,
+        })
+    }
+}
+
+/// What the shaders of a render pipeline use, or nothing where the key is left out.
+pub fn staged_or_empty(
+    alloc: Global,
+    object: &Value,
+    key: &str,
+) -> Result<Items<IfaceEntry>, Refusal>
+    ensures { Gives result (list_or_empty staged_entry_of (get key.now (view object.now))) }
+{
+    list_as_or_empty::<IfaceEntry, Staged>(alloc, object, key)
 }
 
 fn buffer_entry(alloc: Global, value: &Value) -> Result<GroupEntryOf<Name>, Refusal>
@@ -132,7 +169,7 @@ fn sampler_entry(alloc: Global, value: &Value) -> Result<GroupEntryOf<Name>, Ref
         => GroupEntryOf { binding, resource: ResourceOf::Sampler { sampler } })
 }
 
-impl ReadItem for GroupEntryOf<Name> {
+impl ReadItem<GroupEntryOf<Name>> for GroupEntryOf<Name> {
     ghost reads = { group_entry_of };
 
     #[tactic(auto, unfolding(crate::specs::BindingEntries::group_entry_of))]

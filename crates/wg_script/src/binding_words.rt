@@ -1,7 +1,7 @@
-//! The words of bindings: of their kinds, of samplers, of what is sampled, and of how storage textures are
-//! accessed.
+//! The words of bindings: of their kinds, of samplers, of what is sampled, of how storage textures are
+//! accessed, and of the stages of a render pipeline.
 
-use wg_types::bindings::{BufferBinding, SamplerKind, StorageAccess};
+use wg_types::bindings::{BufferBinding, SamplerKind, Stage, StorageAccess};
 use wg_types::formats::SampleType;
 
 /// What the key `kind` of a binding says. Its other keys hang on it.
@@ -44,3 +44,5 @@ pub const ACCESSES: [(&str, StorageAccess); 3] = [
     ("write-only", StorageAccess::WriteOnly),
     ("read-write", StorageAccess::ReadWrite),
 ];
+
+pub const STAGES: [(&str, Stage); 2] = [("vertex", Stage::Vertex), ("fragment", Stage::Fragment)];

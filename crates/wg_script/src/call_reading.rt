@@ -1,5 +1,5 @@
-//! Reads a call: a function for each call that is built, with its keys. Those of calls on textures, bindings
-//! and passes stand in files of their own.
+//! Reads a call: a function for each call that is built, with its keys. Those of calls on textures, bindings,
+//! compute passes and rendering stand in files of their own.
 ghost use Rattle.std.specs.Prelude.{◌≡◌};
 ghost use Rattle.serde_json.specs.View.{view};
 ghost use Rattle.wg_script.specs.Giving.{Gives};
@@ -15,6 +15,10 @@ use crate::lists::list_at;
 use crate::name::Name;
 use crate::pass_calls::{
     begin_compute_pass, dispatch, dispatch_indirect, end, set_bind_group, set_pipeline,
+};
+use crate::render_calls::{
+    begin_render_pass, create_render_pipeline, draw, draw_indexed, draw_indexed_indirect,
+    draw_indirect, set_index_buffer, set_vertex_buffer,
 };
 use crate::texture_calls::{
     copy_buffer_to_texture, copy_texture_to_buffer, copy_texture_to_texture, create_texture,
@@ -238,6 +242,7 @@ fn call_as(alloc: Global, word: Word, call: &Value) -> Result<Call, Refusal>
         Word::CreatePipelineLayout => create_pipeline_layout(alloc, call),
         Word::CreateBindGroup => create_bind_group(alloc, call),
         Word::CreateComputePipeline => create_compute_pipeline(alloc, call),
+        Word::CreateRenderPipeline => create_render_pipeline(alloc, call),
         Word::CreateEncoder => create_encoder(alloc, call),
         Word::Finish => finish(alloc, call),
         Word::Submit => submit(alloc, call),
@@ -265,21 +270,20 @@ fn call_as(alloc: Global, word: Word, call: &Value) -> Result<Call, Refusal>
         Word::SetBindGroup => set_bind_group(alloc, call),
         Word::Dispatch => dispatch(alloc, call),
         Word::DispatchIndirect => dispatch_indirect(alloc, call),
-        Word::CreateRenderPipeline
-        | Word::CreateQuerySet
+        Word::BeginRenderPass => begin_render_pass(alloc, call),
+        Word::SetVertexBuffer => set_vertex_buffer(alloc, call),
+        Word::SetIndexBuffer => set_index_buffer(alloc, call),
+        Word::Draw => draw(alloc, call),
+        Word::DrawIndexed => draw_indexed(alloc, call),
+        Word::DrawIndirect => draw_indirect(alloc, call),
+        Word::DrawIndexedIndirect => draw_indexed_indirect(alloc, call),
+        Word::CreateQuerySet
         | Word::CreateBundleEncoder
-        | Word::BeginRenderPass
         | Word::FinishBundle
         | Word::ResolveQuerySet
-        | Word::SetVertexBuffer
-        | Word::SetIndexBuffer
         | Word::BeginOcclusionQuery
         | Word::EndOcclusionQuery
         | Word::ExecuteBundles
-        | Word::Draw
-        | Word::DrawIndexed
-        | Word::DrawIndirect
-        | Word::DrawIndexedIndirect
         | Word::CreateCanvas
         | Word::ConfigureCanvas
         | Word::CurrentTexture

@@ -52,3 +52,31 @@ fn bytes_that_are_no_text(rt: HostRuntime) -> Result<(), Fail> {
     assert_eq!(rt; fault, Some(ScriptFault::Bad { rule: 1, place }));
     Ok(())
 }
+
+#[test]
+fn calls_of_rendering_are_read(rt: HostRuntime) -> Result<(), Fail> {
+    let text = br#"{"budget":0,"phases":[[[
+        {"do":"createRenderPipeline","as":"k","layout":"l",
+            "iface":[{"group":0,"binding":1,"stage":"fragment","kind":"sampler"}],
+            "buffers":[{"stride":16,"attributes":[{"format":"float32x4","offset":0,"location":1}]}],
+            "targets":[null,"rgba8unorm"],"depth":{"format":"depth24plus","depthWrite":true}},
+        {"do":"beginRenderPass","on":"e","as":"p",
+            "colors":[null,{"view":"v","resolve":"w","load":"clear","store":"discard"}],
+            "depth":{"view":"d","depthLoad":"load","depthStore":"store"}},
+        {"do":"setVertexBuffer","on":"p","slot":0,"buffer":"b"},
+        {"do":"setIndexBuffer","on":"p","buffer":"i","format":"uint16"},
+        {"do":"draw","on":"p","vertices":3},
+        {"do":"drawIndexed","on":"p","indices":3},
+        {"do":"drawIndirect","on":"p","buffer":"c","offset":4},
+        {"do":"drawIndexedIndirect","on":"p","buffer":"c","offset":4}
+    ]]]}"#;
+    let draft = read(rt.alloc(), text).ok().ok_or("no script")?;
+    let [phase] = draft.phases.as_slice() else {
+        return Err(Fail::from("one phase"));
+    };
+    let [lane] = phase.as_slice() else {
+        return Err(Fail::from("one lane"));
+    };
+    assert_eq!(rt; lane.as_slice().len(), 8);
+    Ok(())
+}

@@ -10,4 +10,5 @@ pub mod BudgetLemmas
 pub mod AddLemmas
 pub mod KeptLemmas
 pub mod UsesLemmas
+pub mod Gathering
 pub mod SettleLemmas

@@ -148,6 +148,7 @@ impl Book {
                 | Info::PipelineLayout(_)
                 | Info::Group(_)
                 | Info::Compute(_)
+                | Info::Render(_)
                 | Info::Encoder
                 | Info::CommandBuffer,
             )

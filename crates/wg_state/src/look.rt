@@ -40,6 +40,7 @@ pub fn buffer_at(book: &Book, number: u64) -> Option<BufferInfo>
             | Info::PipelineLayout(_)
             | Info::Group(_)
             | Info::Compute(_)
+            | Info::Render(_)
             | Info::Encoder
             | Info::CommandBuffer,
         )

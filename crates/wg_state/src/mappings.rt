@@ -85,6 +85,7 @@ fn mapped_made(answer: Answer, made: &Option<Info>) -> Option<Mapping>
             | Info::PipelineLayout(_)
             | Info::Group(_)
             | Info::Compute(_)
+            | Info::Render(_)
             | Info::Encoder
             | Info::CommandBuffer,
         )

@@ -5,7 +5,8 @@ ghost use Rattle.std.specs.Prelude.{option_to_list};
 ghost use Rattle.std.specs.List.{flat_map};
 ghost use Rattle.wg_types.specs.declared.bindings.BoundEntry.{BoundEntry as BoundEntryOf};
 ghost use Rattle.wg_model.specs.Bound.{known_group};
-ghost use Rattle.wg_state.specs.Uses.{resource_uses, group_uses, uses_in, uses_within, uses_of};
+ghost use Rattle.wg_model.specs.Attachments.{attached_view};
+ghost use Rattle.wg_state.specs.Uses.{resource_uses, group_uses, view_uses, uses_as, uses_in, uses_within, uses_of};
 
 use crate::book::Book;
 use crate::look;
@@ -14,7 +15,9 @@ use wg_history::NoMemory;
 use wg_types::bindings::{BoundEntry, BoundResource};
 use wg_types::commands::{Command, On};
 use wg_types::handles::{Handle, Info, ObjRef};
+use wg_types::refs::Gather;
 use wg_types::steps::Sort;
+use wg_types::wanted::Wanted;
 
 /// A resource that an operation uses: its number, and as what it is wanted.
 #[derive(Clone, Copy)]
@@ -76,43 +79,53 @@ fn push_group(uses: &mut Vec<Used>, group: &Handle) -> Result<(), NoMemory>
     }
 }
 
+/// Adds the texture of a view to a list; nothing is known of an invalid one.
+fn push_view(uses: &mut Vec<Used>, view: &Handle) -> Result<(), NoMemory>
+    ensures { OnOk result (uses.new.items ≡ uses.old.items ++ view_uses (attached_view view.now)) }
+{
+    if !view.valid() {
+        return Ok(());
+    }
+    match view.info() {
+        Info::View(known) => {
+            uses.push(Used {
+                number: known.texture.number,
+                sort: Sort::Texture,
+            })?;
+            Ok(())
+        }
+        _ => Ok(()),
+    }
+}
+
+/// The resources that objects are or bind.
+#[derive(Drop)]
+struct Resources;
+
+impl Gather<Handle, Used> for Resources {
+    ghost gathers = { λ _ object. uses_as object.1 object.0 };
+
+    fn gather(
+        &self,
+        found: &mut Vec<Used>,
+        object: &Handle,
+        wanted: Wanted,
+    ) -> Result<(), NoMemory> {
+        match wanted {
+            Wanted::Buffer => push_used(found, object, Sort::Buffer),
+            Wanted::Texture => push_used(found, object, Sort::Texture),
+            Wanted::View => push_view(found, object),
+            Wanted::Group => push_group(found, object),
+            _ => Ok(()),
+        }
+    }
+}
+
 /// Adds the resources of the objects that a command names to a list.
 fn push_named(uses: &mut Vec<Used>, command: &Command) -> Result<(), NoMemory>
     ensures { OnOk result (uses.new.items ≡ uses.old.items ++ uses_in (named command.now)) }
 {
-    match command {
-        Command::CopyBufferToBuffer { source, target, .. } => {
-            push_used(uses, source, Sort::Buffer)?;
-            push_used(uses, target, Sort::Buffer)
-        }
-        Command::CopyBufferToTexture {
-            buffer,
-            texture,
-            ..
-        }
-        | Command::CopyTextureToBuffer {
-            buffer,
-            texture,
-            ..
-        } => {
-            push_used(uses, buffer, Sort::Buffer)?;
-            push_used(uses, texture, Sort::Texture)
-        }
-        Command::CopyTextureToTexture { source, target, .. } => {
-            push_used(uses, source, Sort::Texture)?;
-            push_used(uses, target, Sort::Texture)
-        }
-        Command::ClearBuffer { buffer, .. } | Command::DispatchIndirect { buffer, .. } => {
-            push_used(uses, buffer, Sort::Buffer)
-        }
-        Command::SetBindGroup { group, .. } => push_group(uses, group),
-        Command::BeginComputePass
-        | Command::PushDebugGroup
-        | Command::PopDebugGroup
-        | Command::End
-        | Command::SetPipeline { .. }
-        | Command::Dispatch { .. } => Ok(()),
-    }
+    command.gather(&Resources, uses)
 }
 
 /// Adds the resource that recorded commands name to a list.

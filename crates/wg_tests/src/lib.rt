@@ -4,4 +4,8 @@
 #[cfg(test)]
 mod compute;
 #[cfg(test)]
+mod groups;
+#[cfg(test)]
+mod render;
+#[cfg(test)]
 mod tests;

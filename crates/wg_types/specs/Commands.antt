@@ -1,13 +1,16 @@
 -- Where commands may stand, which begin and end a pass, and the objects that they name.
-use Rattle.std.specs.Prelude.{Bool, true, false, List, [], ◌∷◌, Option, Some, None}
+use Rattle.std.specs.Prelude.{Bool, true, false, List, [], ◌∷◌, map, Option, Some, None}
 use Rattle.wg_types.specs.Handles.{HandleValue}
+use Rattle.wg_types.specs.Render.{targets_named, map_begin}
 pub use Rattle.wg_types.specs.Refs.{first_of, all_wanted}
 use Rattle.wg_types.specs.declared.wanted.Wanted.{Wanted}
 use Rattle.wg_types.specs.declared.wanted.Wanted.TheVariants as wanted
 use Rattle.wg_types.specs.declared.wanted.Kind.{Kind}
 use Rattle.wg_types.specs.declared.wanted.Kind.TheVariants as kind
+use Rattle.wg_types.specs.Wanted.{within}
+use Rattle.wg_types.specs.declared.render.RenderBeginOf.{RenderBeginOf}
 pub use Rattle.wg_types.specs.declared.commands.CommandOf.{CommandOf}
-use Rattle.wg_types.specs.declared.commands.CommandOf.TheVariants.{BeginComputePass, CopyBufferToBuffer, CopyBufferToTexture, CopyTextureToBuffer, CopyTextureToTexture, ClearBuffer, PushDebugGroup, PopDebugGroup, End, SetPipeline, SetBindGroup, Dispatch, DispatchIndirect}
+use Rattle.wg_types.specs.declared.commands.CommandOf.TheVariants.{BeginComputePass, BeginRenderPass, CopyBufferToBuffer, CopyBufferToTexture, CopyTextureToBuffer, CopyTextureToTexture, ClearBuffer, PushDebugGroup, PopDebugGroup, End, SetPipeline, SetBindGroup, Dispatch, DispatchIndirect, SetVertexBuffer, SetIndexBuffer, Draw, DrawIndexed, DrawIndirect, DrawIndexedIndirect}
 use Rattle.wg_types.specs.declared.commands.Bracket.{Bracket}
 use Rattle.wg_types.specs.declared.commands.Bracket.TheVariants as brackets
 use Rattle.wg_types.specs.declared.commands.CommandPlace.{CommandPlace}
@@ -17,51 +20,25 @@ use Rattle.wg_types.specs.declared.commands.CommandPlace.TheVariants.{Encoder, C
 abbrev pub Command : Type 0
 Command = CommandOf HandleValue
 
-abbrev pub is_encoder : CommandPlace → Bool
-is_encoder Encoder = true
-is_encoder ComputePass = false
-is_encoder RenderPass = false
-is_encoder Bundle = false
-
-abbrev pub is_pass : CommandPlace → Bool
-is_pass Encoder = false
-is_pass ComputePass = true
-is_pass RenderPass = true
-is_pass Bundle = false
-
-abbrev pub is_compute_pass : CommandPlace → Bool
-is_compute_pass Encoder = false
-is_compute_pass ComputePass = true
-is_compute_pass RenderPass = false
-is_compute_pass Bundle = false
-
--- a place that binds pipelines and groups
-abbrev pub binds : CommandPlace → Bool
-binds Encoder = false
-binds ComputePass = true
-binds RenderPass = true
-binds Bundle = true
-
--- whether a command may stand on a place of a kind: debug groups anywhere, an end on a pass, what sets pipelines and groups on
--- passes and bundle encoders, dispatches on a compute pass, the others on an encoder
-abbrev pub fits : {R : Type 0} → CommandOf R → CommandPlace → Bool
-fits BeginComputePass place = is_encoder place
-fits (CopyBufferToBuffer source source_offset target target_offset size) place = is_encoder place
-fits (CopyBufferToTexture buffer layout texture spot size) place = is_encoder place
-fits (CopyTextureToBuffer buffer layout texture spot size) place = is_encoder place
-fits (CopyTextureToTexture source source_mip source_origin target target_mip target_origin size) place = is_encoder place
-fits (ClearBuffer buffer offset size) place = is_encoder place
-fits PushDebugGroup place = true
-fits PopDebugGroup place = true
-fits End place = is_pass place
-fits (SetPipeline pipeline) place = binds place
-fits (SetBindGroup index group offsets) place = binds place
-fits (Dispatch x y z) place = is_compute_pass place
-fits (DispatchIndirect buffer offset) place = is_compute_pass place
+-- whether what a command asks of what it stands on is met by a place of a kind: debug groups stand anywhere, an end on a pass,
+-- what sets pipelines and groups on passes and bundle encoders, what draws on render passes and these
+abbrev pub stands : Wanted → CommandPlace → Bool
+stands wanted.Encoder Encoder = true
+stands wanted.ComputePass ComputePass = true
+stands wanted.Pass ComputePass = true
+stands wanted.Pass RenderPass = true
+stands wanted.Binding ComputePass = true
+stands wanted.Binding RenderPass = true
+stands wanted.Binding Bundle = true
+stands wanted.Drawing RenderPass = true
+stands wanted.Drawing Bundle = true
+stands wanted.Recording _ = true
+stands _ _ = false
 
 -- what a command asks of what it stands on, where that has a name
 abbrev pub place_wanted : {R : Type 0} → CommandOf R → Wanted
 place_wanted BeginComputePass = wanted.Encoder
+place_wanted (BeginRenderPass begin) = wanted.Encoder
 place_wanted (CopyBufferToBuffer source source_offset target target_offset size) = wanted.Encoder
 place_wanted (CopyBufferToTexture buffer layout texture spot size) = wanted.Encoder
 place_wanted (CopyTextureToBuffer buffer layout texture spot size) = wanted.Encoder
@@ -70,14 +47,25 @@ place_wanted (ClearBuffer buffer offset size) = wanted.Encoder
 place_wanted PushDebugGroup = wanted.Recording
 place_wanted PopDebugGroup = wanted.Recording
 place_wanted End = wanted.Pass
-place_wanted (SetPipeline pipeline) = wanted.Pass
-place_wanted (SetBindGroup index group offsets) = wanted.Pass
+place_wanted (SetPipeline pipeline) = wanted.Binding
+place_wanted (SetBindGroup index group offsets) = wanted.Binding
 place_wanted (Dispatch x y z) = wanted.ComputePass
 place_wanted (DispatchIndirect buffer offset) = wanted.ComputePass
+place_wanted (SetVertexBuffer slot buffer offset size) = wanted.Drawing
+place_wanted (SetIndexBuffer buffer format offset size) = wanted.Drawing
+place_wanted (Draw vertices instances first_vertex first_instance) = wanted.Drawing
+place_wanted (DrawIndexed indices instances first_index first_instance) = wanted.Drawing
+place_wanted (DrawIndirect buffer offset) = wanted.Drawing
+place_wanted (DrawIndexedIndirect buffer offset) = wanted.Drawing
+
+-- whether a command may stand on a place of a kind
+abbrev pub fits : {R : Type 0} → CommandOf R → CommandPlace → Bool
+fits command place = stands (place_wanted command) place
 
 -- what a command opens or closes, if it does
 abbrev pub bracket : {R : Type 0} → CommandOf R → Bracket
 bracket BeginComputePass = brackets.BeginComputePass
+bracket (BeginRenderPass begin) = brackets.BeginRenderPass
 bracket (CopyBufferToBuffer source source_offset target target_offset size) = brackets.Neither
 bracket (CopyBufferToTexture buffer layout texture spot size) = brackets.Neither
 bracket (CopyTextureToBuffer buffer layout texture spot size) = brackets.Neither
@@ -90,10 +78,17 @@ bracket (SetPipeline pipeline) = brackets.Neither
 bracket (SetBindGroup index group offsets) = brackets.Neither
 bracket (Dispatch x y z) = brackets.Neither
 bracket (DispatchIndirect buffer offset) = brackets.Neither
+bracket (SetVertexBuffer slot buffer offset size) = brackets.Neither
+bracket (SetIndexBuffer buffer format offset size) = brackets.Neither
+bracket (Draw vertices instances first_vertex first_instance) = brackets.Neither
+bracket (DrawIndexed indices instances first_index first_instance) = brackets.Neither
+bracket (DrawIndirect buffer offset) = brackets.Neither
+bracket (DrawIndexedIndirect buffer offset) = brackets.Neither
 
 -- the kind of the pass that a command begins, if it begins one
 abbrev pub kind_begun_by : Bracket → Option Kind
 kind_begun_by brackets.BeginComputePass = Some kind.ComputePass
+kind_begun_by brackets.BeginRenderPass = Some kind.RenderPass
 kind_begun_by brackets.EndPass = None
 kind_begun_by brackets.PushGroup = None
 kind_begun_by brackets.PopGroup = None
@@ -105,6 +100,7 @@ kind_begun command = kind_begun_by (bracket command)
 -- whether a command begins a pass
 abbrev pub begins_pass_by : Bracket → Bool
 begins_pass_by brackets.BeginComputePass = true
+begins_pass_by brackets.BeginRenderPass = true
 begins_pass_by brackets.EndPass = false
 begins_pass_by brackets.PushGroup = false
 begins_pass_by brackets.PopGroup = false
@@ -116,6 +112,7 @@ is_begin command = begins_pass_by (bracket command)
 -- whether a command ends a pass
 abbrev pub ends_pass_by : Bracket → Bool
 ends_pass_by brackets.BeginComputePass = false
+ends_pass_by brackets.BeginRenderPass = false
 ends_pass_by brackets.EndPass = true
 ends_pass_by brackets.PushGroup = false
 ends_pass_by brackets.PopGroup = false
@@ -124,9 +121,33 @@ ends_pass_by brackets.Neither = false
 abbrev pub is_end : {R : Type 0} → CommandOf R → Bool
 is_end command = ends_pass_by (bracket command)
 
+-- what the render pass begins with that a command begins, if it begins one
+abbrev pub render_begun : {R : Type 0} → CommandOf R → Option (RenderBeginOf R)
+render_begun BeginComputePass = None
+render_begun (BeginRenderPass begin) = Some begin
+render_begun (CopyBufferToBuffer source source_offset target target_offset size) = None
+render_begun (CopyBufferToTexture buffer layout texture spot size) = None
+render_begun (CopyTextureToBuffer buffer layout texture spot size) = None
+render_begun (CopyTextureToTexture source source_mip source_origin target target_mip target_origin size) = None
+render_begun (ClearBuffer buffer offset size) = None
+render_begun PushDebugGroup = None
+render_begun PopDebugGroup = None
+render_begun End = None
+render_begun (SetPipeline pipeline) = None
+render_begun (SetBindGroup index group offsets) = None
+render_begun (Dispatch x y z) = None
+render_begun (DispatchIndirect buffer offset) = None
+render_begun (SetVertexBuffer slot buffer offset size) = None
+render_begun (SetIndexBuffer buffer format offset size) = None
+render_begun (Draw vertices instances first_vertex first_instance) = None
+render_begun (DrawIndexed indices instances first_index first_instance) = None
+render_begun (DrawIndirect buffer offset) = None
+render_begun (DrawIndexedIndirect buffer offset) = None
+
 -- the objects that a command names, in the order of its keys, with what is wanted of each
 abbrev pub named : {R : Type 0} → CommandOf R → List (R × Wanted)
 named BeginComputePass = []
+named (BeginRenderPass begin) = targets_named begin
 named (CopyBufferToBuffer source source_offset target target_offset size) = (source, wanted.Buffer) ∷ (target, wanted.Buffer) ∷ []
 named (CopyBufferToTexture buffer layout texture spot size) = (buffer, wanted.Buffer) ∷ (texture, wanted.Texture) ∷ []
 named (CopyTextureToBuffer buffer layout texture spot size) = (buffer, wanted.Buffer) ∷ (texture, wanted.Texture) ∷ []
@@ -139,10 +160,21 @@ named (SetPipeline pipeline) = (pipeline, wanted.Pipeline) ∷ []
 named (SetBindGroup index group offsets) = (group, wanted.Group) ∷ []
 named (Dispatch x y z) = []
 named (DispatchIndirect buffer offset) = (buffer, wanted.Buffer) ∷ []
+named (SetVertexBuffer slot buffer offset size) = (buffer, wanted.Buffer) ∷ []
+named (SetIndexBuffer buffer format offset size) = (buffer, wanted.Buffer) ∷ []
+named (Draw vertices instances first_vertex first_instance) = []
+named (DrawIndexed indices instances first_index first_instance) = []
+named (DrawIndirect buffer offset) = (buffer, wanted.Buffer) ∷ []
+named (DrawIndexedIndirect buffer offset) = (buffer, wanted.Buffer) ∷ []
+
+-- the same in a call on something of a kind, where a pipeline has to be one of such passes
+abbrev pub named_on : {R : Type 0} → Kind → CommandOf R → List (R × Wanted)
+named_on place command = map (λ object. (object.0, within place object.1)) (named command)
 
 -- the command with other objects in place of those that it names
 abbrev pub map_refs : {R S : Type 0} → (R → S) → CommandOf R → CommandOf S
 map_refs f BeginComputePass = BeginComputePass
+map_refs f (BeginRenderPass begin) = BeginRenderPass (map_begin f begin)
 map_refs f (CopyBufferToBuffer source source_offset target target_offset size) = CopyBufferToBuffer (f source) source_offset (f target) target_offset size
 map_refs f (CopyBufferToTexture buffer layout texture spot size) = CopyBufferToTexture (f buffer) layout (f texture) spot size
 map_refs f (CopyTextureToBuffer buffer layout texture spot size) = CopyTextureToBuffer (f buffer) layout (f texture) spot size
@@ -155,3 +187,9 @@ map_refs f (SetPipeline pipeline) = SetPipeline (f pipeline)
 map_refs f (SetBindGroup index group offsets) = SetBindGroup index (f group) offsets
 map_refs f (Dispatch x y z) = Dispatch x y z
 map_refs f (DispatchIndirect buffer offset) = DispatchIndirect (f buffer) offset
+map_refs f (SetVertexBuffer slot buffer offset size) = SetVertexBuffer slot (f buffer) offset size
+map_refs f (SetIndexBuffer buffer format offset size) = SetIndexBuffer (f buffer) format offset size
+map_refs f (Draw vertices instances first_vertex first_instance) = Draw vertices instances first_vertex first_instance
+map_refs f (DrawIndexed indices instances first_index first_instance) = DrawIndexed indices instances first_index first_instance
+map_refs f (DrawIndirect buffer offset) = DrawIndirect (f buffer) offset
+map_refs f (DrawIndexedIndirect buffer offset) = DrawIndexedIndirect (f buffer) offset

@@ -1,14 +1,16 @@
 //! The commands of recorders, and where they stand.
-ghost use Rattle.std.specs.Prelude.{◌≡◌, IfOk};
-ghost use Rattle.std.specs.List.{list_any};
-ghost use Rattle.wg_types.specs.Commands.{fits, place_wanted, kind_begun, bracket, is_begin, is_end, named, map_refs, first_of};
+ghost use Rattle.std.specs.Prelude.{◌≡◌, ◌++◌, IfOk, OnOk, option_copied};
+ghost use Rattle.std.specs.List.{list_any, flat_map};
+ghost use Rattle.wg_types.specs.Commands.{fits, stands, place_wanted, kind_begun, bracket, is_begin, is_end, render_begun, named, map_refs, first_of};
 
 use crate::NoMemory;
 use crate::handles::Handle;
 use crate::items::Items;
-use crate::refs::{self, Ask, Find, Test, Tested};
+use crate::refs::{self, Ask, Find, Gather, Test, Tested};
+use crate::render::RenderBeginOf;
 use crate::shared::Shared;
 use crate::textures::{DataLayout, TextureSpot};
+use crate::vertex::IndexFormat;
 use crate::wanted::{Kind, Wanted};
 use std::alloc::Global;
 
@@ -35,6 +37,7 @@ pub enum CommandPlace {
 #[derive(Clone, Copy, PartialEq, Eq, Debug)]
 pub enum Bracket {
     BeginComputePass,
+    BeginRenderPass,
     EndPass,
     PushGroup,
     PopGroup,
@@ -44,10 +47,15 @@ pub enum Bracket {
 /// One command, with the objects that it names as `R`: handles, or names of a script. Offsets and sizes
 /// of buffers are in bytes, origins and sizes of textures in texels (WebGPU, "Command Encoding"). A copy
 /// from texture to texture copies all aspects. Dynamic offsets stand in the order of the bindings' numbers,
-/// and a dispatch has a count of workgroups in each dimension (WebGPU, "Compute Passes").
+/// and a dispatch has a count of workgroups in each dimension (WebGPU, "Compute Passes"). Vertex buffers
+/// are set by slot, and a draw goes over a range of vertices or indexes, and of instances (WebGPU,
+/// "GPURenderCommandsMixin").
 #[derive(Drop)]
 pub enum CommandOf<R> {
     BeginComputePass,
+    BeginRenderPass {
+        begin: RenderBeginOf<R>,
+    },
     CopyBufferToBuffer {
         source: R,
         source_offset: u64,
@@ -103,6 +111,38 @@ pub enum CommandOf<R> {
         buffer: R,
         offset: u64,
     },
+    SetVertexBuffer {
+        slot: u32,
+        buffer: R,
+        offset: u64,
+        size: Option<u64>,
+    },
+    SetIndexBuffer {
+        buffer: R,
+        format: IndexFormat,
+        offset: u64,
+        size: Option<u64>,
+    },
+    Draw {
+        vertices: u32,
+        instances: u32,
+        first_vertex: u32,
+        first_instance: u32,
+    },
+    DrawIndexed {
+        indices: u32,
+        instances: u32,
+        first_index: u32,
+        first_instance: u32,
+    },
+    DrawIndirect {
+        buffer: R,
+        offset: u64,
+    },
+    DrawIndexedIndirect {
+        buffer: R,
+        offset: u64,
+    },
 }
 
 /// A command as its caller holds its objects.
@@ -115,32 +155,28 @@ pub struct BoundGroup {
     pub offsets: Shared<Items<u32>>,
 }
 
+/// Whether what is asked of what a command stands on is met by a place of this kind.
+fn stands(wanted: Wanted, place: CommandPlace) -> bool
+    ensures { result ≡ stands wanted place }
+{
+    match (wanted, place) {
+        (Wanted::Encoder, CommandPlace::Encoder) => true,
+        (Wanted::ComputePass, CommandPlace::ComputePass) => true,
+        (Wanted::Pass, CommandPlace::ComputePass | CommandPlace::RenderPass) => true,
+        (Wanted::Binding, CommandPlace::ComputePass) => true,
+        (Wanted::Binding | Wanted::Drawing, CommandPlace::RenderPass | CommandPlace::Bundle) =>
+            true,
+        (Wanted::Recording, _) => true,
+        _ => false,
+    }
+}
+
 impl<R> CommandOf<R> {
     /// Whether the command may stand on a place of this kind.
     pub fn fits(&self, place: CommandPlace) -> bool
         ensures { result ≡ fits self.now place }
     {
-        match self {
-            CommandOf::PushDebugGroup | CommandOf::PopDebugGroup => true,
-            CommandOf::End => {
-                matches!(place, CommandPlace::ComputePass | CommandPlace::RenderPass)
-            }
-            CommandOf::SetPipeline { .. } | CommandOf::SetBindGroup { .. } => {
-                matches!(
-                    place,
-                    CommandPlace::ComputePass | CommandPlace::RenderPass | CommandPlace::Bundle
-                )
-            }
-            CommandOf::Dispatch { .. } | CommandOf::DispatchIndirect { .. } => {
-                matches!(place, CommandPlace::ComputePass)
-            }
-            CommandOf::BeginComputePass
-            | CommandOf::CopyBufferToBuffer { .. }
-            | CommandOf::CopyBufferToTexture { .. }
-            | CommandOf::CopyTextureToBuffer { .. }
-            | CommandOf::CopyTextureToTexture { .. }
-            | CommandOf::ClearBuffer { .. } => { matches!(place, CommandPlace::Encoder) }
-        }
+        stands(self.place_wanted(), place)
     }
 
     /// What the command asks of what it stands on, where that has a name.
@@ -149,10 +185,17 @@ impl<R> CommandOf<R> {
     {
         match self {
             CommandOf::PushDebugGroup | CommandOf::PopDebugGroup => Wanted::Recording,
-            CommandOf::End | CommandOf::SetPipeline { .. } | CommandOf::SetBindGroup { .. } =>
-                Wanted::Pass,
+            CommandOf::End => Wanted::Pass,
+            CommandOf::SetPipeline { .. } | CommandOf::SetBindGroup { .. } => Wanted::Binding,
             CommandOf::Dispatch { .. } | CommandOf::DispatchIndirect { .. } => Wanted::ComputePass,
+            CommandOf::SetVertexBuffer { .. }
+            | CommandOf::SetIndexBuffer { .. }
+            | CommandOf::Draw { .. }
+            | CommandOf::DrawIndexed { .. }
+            | CommandOf::DrawIndirect { .. }
+            | CommandOf::DrawIndexedIndirect { .. } => Wanted::Drawing,
             CommandOf::BeginComputePass
+            | CommandOf::BeginRenderPass { .. }
             | CommandOf::CopyBufferToBuffer { .. }
             | CommandOf::CopyBufferToTexture { .. }
             | CommandOf::CopyTextureToBuffer { .. }
@@ -167,6 +210,7 @@ impl<R> CommandOf<R> {
     {
         match self.bracket() {
             Bracket::BeginComputePass => Some(Kind::ComputePass),
+            Bracket::BeginRenderPass => Some(Kind::RenderPass),
             Bracket::EndPass | Bracket::PushGroup | Bracket::PopGroup | Bracket::Neither => None,
         }
     }
@@ -177,6 +221,7 @@ impl<R> CommandOf<R> {
     {
         match self {
             CommandOf::BeginComputePass => Bracket::BeginComputePass,
+            CommandOf::BeginRenderPass { .. } => Bracket::BeginRenderPass,
             CommandOf::CopyBufferToBuffer { .. }
             | CommandOf::CopyBufferToTexture { .. }
             | CommandOf::CopyTextureToBuffer { .. }
@@ -185,7 +230,13 @@ impl<R> CommandOf<R> {
             | CommandOf::SetPipeline { .. }
             | CommandOf::SetBindGroup { .. }
             | CommandOf::Dispatch { .. }
-            | CommandOf::DispatchIndirect { .. } => Bracket::Neither,
+            | CommandOf::DispatchIndirect { .. }
+            | CommandOf::SetVertexBuffer { .. }
+            | CommandOf::SetIndexBuffer { .. }
+            | CommandOf::Draw { .. }
+            | CommandOf::DrawIndexed { .. }
+            | CommandOf::DrawIndirect { .. }
+            | CommandOf::DrawIndexedIndirect { .. } => Bracket::Neither,
             CommandOf::PushDebugGroup => Bracket::PushGroup,
             CommandOf::PopDebugGroup => Bracket::PopGroup,
             CommandOf::End => Bracket::EndPass,
@@ -197,7 +248,7 @@ impl<R> CommandOf<R> {
         ensures { result ≡ is_begin self.now }
     {
         match self.bracket() {
-            Bracket::BeginComputePass => true,
+            Bracket::BeginComputePass | Bracket::BeginRenderPass => true,
             Bracket::EndPass | Bracket::PushGroup | Bracket::PopGroup | Bracket::Neither => false,
         }
     }
@@ -208,8 +259,39 @@ impl<R> CommandOf<R> {
     {
         match self.bracket() {
             Bracket::EndPass => true,
-            Bracket::BeginComputePass | Bracket::PushGroup | Bracket::PopGroup | Bracket::Neither =>
-                false,
+            Bracket::BeginComputePass
+            | Bracket::BeginRenderPass
+            | Bracket::PushGroup
+            | Bracket::PopGroup
+            | Bracket::Neither => false,
+        }
+    }
+
+    /// What the render pass begins with that the command begins, if it begins one.
+    pub fn render_begun(&self) -> Option<&RenderBeginOf<R>>
+        ensures { option_copied result ≡ render_begun self.now }
+    {
+        match self {
+            CommandOf::BeginRenderPass { begin } => Some(begin),
+            CommandOf::BeginComputePass
+            | CommandOf::CopyBufferToBuffer { .. }
+            | CommandOf::CopyBufferToTexture { .. }
+            | CommandOf::CopyTextureToBuffer { .. }
+            | CommandOf::CopyTextureToTexture { .. }
+            | CommandOf::ClearBuffer { .. }
+            | CommandOf::PushDebugGroup
+            | CommandOf::PopDebugGroup
+            | CommandOf::End
+            | CommandOf::SetPipeline { .. }
+            | CommandOf::SetBindGroup { .. }
+            | CommandOf::Dispatch { .. }
+            | CommandOf::DispatchIndirect { .. }
+            | CommandOf::SetVertexBuffer { .. }
+            | CommandOf::SetIndexBuffer { .. }
+            | CommandOf::Draw { .. }
+            | CommandOf::DrawIndexed { .. }
+            | CommandOf::DrawIndirect { .. }
+            | CommandOf::DrawIndexedIndirect { .. } => None,
         }
     }
 
@@ -218,6 +300,7 @@ impl<R> CommandOf<R> {
         ensures { result ≡ first_of (A.asks asked.now) (named self.now) }
     {
         match self {
+            CommandOf::BeginRenderPass { begin } => begin.first(asked),
             CommandOf::CopyBufferToBuffer { source, target, .. } => {
                 refs::two(asked, (source, Wanted::Buffer), (target, Wanted::Buffer))
             }
@@ -234,15 +317,21 @@ impl<R> CommandOf<R> {
             CommandOf::CopyTextureToTexture { source, target, .. } => {
                 refs::two(asked, (source, Wanted::Texture), (target, Wanted::Texture))
             }
-            CommandOf::ClearBuffer { buffer, .. } => asked.ask(buffer, Wanted::Buffer),
+            CommandOf::ClearBuffer { buffer, .. }
+            | CommandOf::DispatchIndirect { buffer, .. }
+            | CommandOf::SetVertexBuffer { buffer, .. }
+            | CommandOf::SetIndexBuffer { buffer, .. }
+            | CommandOf::DrawIndirect { buffer, .. }
+            | CommandOf::DrawIndexedIndirect { buffer, .. } => asked.ask(buffer, Wanted::Buffer),
             CommandOf::SetPipeline { pipeline } => asked.ask(pipeline, Wanted::Pipeline),
             CommandOf::SetBindGroup { group, .. } => asked.ask(group, Wanted::Group),
-            CommandOf::DispatchIndirect { buffer, .. } => asked.ask(buffer, Wanted::Buffer),
             CommandOf::BeginComputePass
             | CommandOf::PushDebugGroup
             | CommandOf::PopDebugGroup
             | CommandOf::End
-            | CommandOf::Dispatch { .. } => None,
+            | CommandOf::Dispatch { .. }
+            | CommandOf::Draw { .. }
+            | CommandOf::DrawIndexed { .. } => None,
         }
     }
 
@@ -254,6 +343,72 @@ impl<R> CommandOf<R> {
         self.first(&Tested { test }).is_some()
     }
 
+    /// Gathers what there is of the objects that the command names, in order.
+    pub fn gather<T, G: Gather<R, T>>(&self, gather: &G, found: &mut Vec<T>) -> Result<(), NoMemory>
+        ensures { OnOk result (found.new.items ≡ found.old.items ++ flat_map (G.gathers gather.now) (named self.now)) }
+    {
+        match self {
+            CommandOf::BeginRenderPass { begin } => begin.gather(gather, found),
+            CommandOf::CopyBufferToBuffer { source, target, .. } => {
+                refs::gather_two(
+                    gather,
+                    found,
+                    (source, Wanted::Buffer),
+                    (target, Wanted::Buffer),
+                )
+            }
+            CommandOf::CopyBufferToTexture {
+                buffer,
+                texture,
+                ..
+            } => refs::gather_two(
+                gather,
+                found,
+                (buffer, Wanted::Buffer),
+                (texture, Wanted::Texture),
+            ),
+            CommandOf::CopyTextureToBuffer {
+                buffer,
+                texture,
+                ..
+            } => refs::gather_two(
+                gather,
+                found,
+                (buffer, Wanted::Buffer),
+                (texture, Wanted::Texture),
+            ),
+            CommandOf::CopyTextureToTexture { source, target, .. } => {
+                refs::gather_two(
+                    gather,
+                    found,
+                    (source, Wanted::Texture),
+                    (target, Wanted::Texture),
+                )
+            }
+            CommandOf::ClearBuffer { buffer, .. }
+            | CommandOf::DispatchIndirect { buffer, .. }
+            | CommandOf::SetVertexBuffer { buffer, .. }
+            | CommandOf::SetIndexBuffer { buffer, .. }
+            | CommandOf::DrawIndirect { buffer, .. }
+            | CommandOf::DrawIndexedIndirect { buffer, .. } => {
+                refs::gather_one(gather, found, buffer, Wanted::Buffer)
+            }
+            CommandOf::SetPipeline { pipeline } => {
+                refs::gather_one(gather, found, pipeline, Wanted::Pipeline)
+            }
+            CommandOf::SetBindGroup { group, .. } => {
+                refs::gather_one(gather, found, group, Wanted::Group)
+            }
+            CommandOf::BeginComputePass
+            | CommandOf::PushDebugGroup
+            | CommandOf::PopDebugGroup
+            | CommandOf::End
+            | CommandOf::Dispatch { .. }
+            | CommandOf::Draw { .. }
+            | CommandOf::DrawIndexed { .. } => Ok(()),
+        }
+    }
+
     /// The command with other objects in place of those that it names. Dynamic offsets are shared.
     pub fn map<S: Drop, F: Find<R, S>>(
         &self,
@@ -262,9 +417,11 @@ impl<R> CommandOf<R> {
     ) -> Result<CommandOf<S>, NoMemory>
         ensures { IfOk result (λ command. command ≡ map_refs (F.finds find.now) self.now) }
     {
-        let _ = alloc;
         match self {
             CommandOf::BeginComputePass => Ok(CommandOf::BeginComputePass),
+            CommandOf::BeginRenderPass { begin } => Ok(CommandOf::BeginRenderPass {
+                begin: begin.map(alloc, find)?,
+            }),
             CommandOf::CopyBufferToBuffer {
                 source,
                 source_offset,
@@ -354,6 +511,60 @@ impl<R> CommandOf<R> {
                 buffer: find.find(buffer)?,
                 offset: *offset,
             }),
+            CommandOf::SetVertexBuffer {
+                slot,
+                buffer,
+                offset,
+                size,
+            } => Ok(CommandOf::SetVertexBuffer {
+                slot: *slot,
+                buffer: find.find(buffer)?,
+                offset: *offset,
+                size: *size,
+            }),
+            CommandOf::SetIndexBuffer {
+                buffer,
+                format,
+                offset,
+                size,
+            } => Ok(CommandOf::SetIndexBuffer {
+                buffer: find.find(buffer)?,
+                format: *format,
+                offset: *offset,
+                size: *size,
+            }),
+            CommandOf::Draw {
+                vertices,
+                instances,
+                first_vertex,
+                first_instance,
+            } => Ok(CommandOf::Draw {
+                vertices: *vertices,
+                instances: *instances,
+                first_vertex: *first_vertex,
+                first_instance: *first_instance,
+            }),
+            CommandOf::DrawIndexed {
+                indices,
+                instances,
+                first_index,
+                first_instance,
+            } => Ok(CommandOf::DrawIndexed {
+                indices: *indices,
+                instances: *instances,
+                first_index: *first_index,
+                first_instance: *first_instance,
+            }),
+            CommandOf::DrawIndirect { buffer, offset } => Ok(CommandOf::DrawIndirect {
+                buffer: find.find(buffer)?,
+                offset: *offset,
+            }),
+            CommandOf::DrawIndexedIndirect { buffer, offset } => Ok(
+                CommandOf::DrawIndexedIndirect {
+                    buffer: find.find(buffer)?,
+                    offset: *offset,
+                },
+            ),
         }
     }
 }

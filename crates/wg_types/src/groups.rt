@@ -1,8 +1,9 @@
-//! What is known of bind groups, of their layouts, and of compute pipelines.
+//! What is known of bind groups, of their layouts, and of pipelines.
 
 use crate::bindings::{BoundEntry, IfaceEntry, LayoutEntry};
 use crate::handles::ObjRef;
 use crate::items::Items;
+use crate::render::RenderDesc;
 use crate::shared::Shared;
 
 /// What a bind group layout was made with (WebGPU, "GPUBindGroupLayout").
@@ -38,4 +39,12 @@ pub struct ComputeInfo {
     pub layout: ObjRef,
     pub layout_info: Shared<PipelineLayoutInfo>,
     pub iface: Shared<Interface>,
+}
+
+/// What a render pipeline was made with (WebGPU, "GPURenderPipeline").
+#[derive(Clone, Drop)]
+pub struct RenderInfo {
+    pub layout: ObjRef,
+    pub layout_info: Shared<PipelineLayoutInfo>,
+    pub desc: Shared<RenderDesc>,
 }

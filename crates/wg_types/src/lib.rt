@@ -11,6 +11,7 @@ pub mod limits;
 pub mod mappings;
 pub mod parts;
 pub mod refs;
+pub mod render;
 pub mod replies;
 pub mod requests;
 pub mod same;
@@ -18,6 +19,7 @@ pub mod shared;
 pub mod steps;
 pub mod textures;
 pub mod usages;
+pub mod vertex;
 pub mod wanted;
 pub mod words;
 

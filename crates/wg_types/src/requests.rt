@@ -9,6 +9,7 @@ use crate::groups::{GroupLayoutInfo, Interface};
 use crate::handles::BufferInfo;
 use crate::items::Items;
 use crate::refs::{self, Ask, Find};
+use crate::render::RenderDesc;
 use crate::replies::Filter;
 use crate::shared::Shared;
 use crate::textures::{DataLayout, TextureInfo, TextureSpot, ViewAsked};
@@ -44,6 +45,10 @@ pub enum RequestOf<R> {
     CreateComputePipeline {
         layout: R,
         iface: Shared<Interface>,
+    },
+    CreateRenderPipeline {
+        layout: R,
+        desc: Shared<RenderDesc>,
     },
     CreateEncoder,
     Finish {
@@ -104,6 +109,7 @@ impl<R> RequestOf<R> {
             RequestOf::CreatePipelineLayout { .. } => Some(Kind::PipelineLayout),
             RequestOf::CreateBindGroup { .. } => Some(Kind::Group),
             RequestOf::CreateComputePipeline { .. } => Some(Kind::Compute),
+            RequestOf::CreateRenderPipeline { .. } => Some(Kind::Render),
             RequestOf::CreateEncoder => Some(Kind::Encoder),
             RequestOf::Finish { .. } => Some(Kind::CommandBuffer),
             RequestOf::Submit { .. }
@@ -136,7 +142,8 @@ impl<R> RequestOf<R> {
                 }
                 each_entry(asked, entries.as_slice())
             }
-            RequestOf::CreateComputePipeline { layout, .. } => {
+            RequestOf::CreateComputePipeline { layout, .. }
+            | RequestOf::CreateRenderPipeline { layout, .. } => {
                 asked.ask(layout, Wanted::PipelineLayout)
             }
             RequestOf::Finish { encoder } => asked.ask(encoder, Wanted::Encoder),
@@ -192,6 +199,12 @@ impl<R> RequestOf<R> {
                 Ok(RequestOf::CreateComputePipeline {
                     layout: find.find(layout)?,
                     iface: iface.share()?,
+                })
+            }
+            RequestOf::CreateRenderPipeline { layout, desc } => {
+                Ok(RequestOf::CreateRenderPipeline {
+                    layout: find.find(layout)?,
+                    desc: desc.share()?,
                 })
             }
             RequestOf::CreateEncoder => Ok(RequestOf::CreateEncoder),

@@ -1,0 +1,142 @@
+//! What is set in any pass.
+ghost use Rattle.std.specs.Prelude.{◌≡◌, option_copied, IfOk, OnOk, OnErr};
+ghost use Rattle.wg_model.specs.Rules.{first_unmet, or_else};
+ghost use Rattle.wg_model.specs.Settings.{layouts_set, ready_rules};
+ghost use Rattle.wg_compute.specs.After.{slots_after, settings_after};
+
+use crate::brackets::depth_after;
+use crate::given::{GroupGiven, group_given, pipeline_given};
+use std::marker::Model;
+use wg_layouts::{check_bound, layouts_in};
+use wg_types::NoMemory;
+use wg_types::commands::{BoundGroup, Command};
+use wg_types::groups::GroupLayoutInfo;
+use wg_types::handles::Handle;
+use wg_types::shared::Shared;
+
+/// What is set in any pass: the pipeline, the bind group at each index, and how many debug groups are
+/// open (WebGPU, "Programmable Passes" and "Debug Markers").
+#[derive(Drop)]
+pub struct Settings {
+    pipeline: Option<Handle>,
+    groups: [Option<BoundGroup>; 4],
+    depth: u64,
+}
+
+impl Model for Settings {
+    ghost use Rattle.std.specs.Prelude.{◌≡◌, length};
+    ghost use Rattle.wg_model.specs.Settings.{Settings};
+
+    ghost Value = { Settings };
+
+    ghost view = { λ s. record { pipeline = s.pipeline; groups = s.groups; depth = s.depth } };
+
+    ghost invariant = { λ s. length s.groups ≡ 4 };
+}
+
+impl Settings {
+    ghost use Rattle.wg_model.specs.Settings.{settings};
+    ghost use Rattle.std.specs.Prelude.{[]};
+
+    /// Nothing is set.
+    pub fn new() -> Settings
+        ensures { result ≡ settings [] }
+    {
+        Settings {
+            pipeline: None,
+            groups: [None, None, None, None],
+            depth: 0,
+        }
+    }
+
+    /// How many debug groups are open.
+    pub fn depth(&self) -> u64
+        ensures { result ≡ self.now.depth }
+    {
+        self.depth
+    }
+
+    /// The pipeline that is set, if one is.
+    pub fn pipeline(&self) -> Option<&Handle>
+        ensures { option_copied result ≡ self.now.pipeline }
+    {
+        self.pipeline.as_ref()
+    }
+
+    /// The groups that are set, by index.
+    pub fn groups(&self) -> &[Option<BoundGroup>]
+        ensures { result.now ≡ self.now.groups }
+    {
+        &self.groups
+    }
+
+    /// The layouts of the groups of the pipeline that is set.
+    pub fn layouts(&self) -> &[Shared<GroupLayoutInfo>]
+        ensures { result.now ≡ layouts_set self.now }
+    {
+        match &self.pipeline {
+            Some(pipeline) => layouts_in(pipeline.info()),
+            None => &[],
+        }
+    }
+
+    /// The first unmet rule of what dispatches or draws: a pipeline is set, and so are its groups.
+    pub fn ready_rule(&self) -> Option<u16>
+        ensures { result ≡ first_unmet (ready_rules self.now) }
+    {
+        if self.pipeline.is_none() {
+            return Some(340);
+        }
+        check_bound(self.layouts(), &self.groups)
+    }
+
+    fn set_pipeline(&mut self, given: Option<Handle>)
+        ensures { self.new ≡ record self.old { pipeline = or_else given self.old.pipeline } }
+    {
+        if let Some(pipeline) = given {
+            self.pipeline = Some(pipeline);
+        }
+    }
+
+    #[tactic(auto, using(crate::proofs::Slots::slots_unset, crate::proofs::Slots::slot_set))]
+    fn set_group(&mut self, given: Option<GroupGiven>) -> Result<(), NoMemory>
+        ensures ok { OnOk result (self.new ≡ record self.old { groups = slots_after given.entry 0 self.old.groups }) }
+        ensures err { OnErr result (self.new ≡ self.old) }
+    {
+        let Some(given) = given else { return Ok(()) };
+        if given.index >= 4 {
+            return Err(NoMemory);
+        }
+        let group = given.group.share()?;
+        let offsets = given.offsets.share()?;
+        self.groups[given.index as usize] = Some(BoundGroup { group, offsets });
+        Ok(())
+    }
+
+    /// Takes what a command sets in any pass. The index of a group past the last, which rule 325 refuses,
+    /// is answered as want of memory.
+    pub fn take(&mut self, command: &Command) -> Result<(), NoMemory>
+        ensures set { OnOk result (self.new ≡ settings_after self.old command.now) }
+        ensures unchanged { OnErr result (self.new ≡ self.old) }
+    {
+        let depth = depth_after(self.depth, command)?;
+        let pipeline = shared(pipeline_given(command))?;
+        self.set_group(group_given(command))?;
+        self.set_pipeline(pipeline);
+        self.depth = depth;
+        Ok(())
+    }
+}
+
+/// The same handle once more, if there is one.
+fn shared(handle: Option<&Handle>) -> Result<Option<Handle>, NoMemory>
+    ensures { IfOk result (λ shared. shared ≡ option_copied handle.entry) }
+{
+    match handle {
+        Some(handle) => {
+            let shared = handle.share()?;
+            return Ok(Some(shared));
+        }
+        None => return Ok(None),
+    }
+}

@@ -1,0 +1,249 @@
+-- The attachments of render passes (WebGPU, "Render Pass Encoder Creation" and "Render Pass Attachments"): the rules of the
+-- begin, to what the pass draws, and what the attachments touch.
+use Rattle.std.specs.Prelude.{ℕ, ◌==◌, nat_le, Bool, true, false, not, ◌&&◌, ◌||◌, List, [], ◌∷◌, ◌++◌, map, Option, Some, None, is_some, unwrap_or, option_map, length, if◌then◌else◌}
+use Rattle.std.specs.List.{list_all, list_any, flat_map}
+use Rattle.std.specs.Option.{option_map_or, option_to_list}
+use Rattle.wg_types.specs.Handles.{HandleValue}
+use Rattle.wg_types.specs.Commands.{Command, render_begun}
+use Rattle.wg_types.specs.Formats.{row, same_format}
+use Rattle.wg_types.specs.Textures.{width, height}
+use Rattle.wg_types.specs.declared.formats.Format.{Format}
+use Rattle.wg_types.specs.declared.handles.Info.{Info}
+use Rattle.wg_types.specs.declared.handles.Info.TheVariants as info
+use Rattle.wg_types.specs.declared.parts.Aspect.{Aspect}
+use Rattle.wg_types.specs.declared.parts.Aspect.TheVariants as aspect
+use Rattle.wg_types.specs.declared.textures.AspectWord.TheVariants.{All}
+use Rattle.wg_types.specs.declared.textures.ViewDim.{ViewDim}
+use Rattle.wg_types.specs.declared.textures.ViewDim.TheVariants.{One, Two, TwoArray, Cube, CubeArray, Three}
+use Rattle.wg_types.specs.declared.textures.ViewInfo.{ViewInfo}
+use Rattle.wg_types.specs.declared.render.LoadOp.{LoadOp}
+use Rattle.wg_types.specs.declared.render.LoadOp.TheVariants.{Load, Clear}
+use Rattle.wg_types.specs.declared.render.StoreOp.{StoreOp}
+use Rattle.wg_types.specs.declared.render.StoreOp.TheVariants.{Store, Discard}
+use Rattle.wg_types.specs.declared.render.ColorTargetOf.{ColorTargetOf}
+use Rattle.wg_types.specs.declared.render.DepthTargetOf.{DepthTargetOf}
+use Rattle.wg_types.specs.declared.render.RenderBeginOf.{RenderBeginOf}
+use Rattle.wg_types.specs.declared.render.TargetInfo.{TargetInfo}
+use Rattle.wg_rows.specs.Runs.{PartRun, BufferPart, LayerParts, QueryPart}
+use Rattle.wg_rows.specs.Uses.{Usages, Kind, Read, Write, Both, Drop, ReadDrop}
+use Rattle.wg_model.specs.Rules.{Rule}
+use Rattle.wg_model.specs.Equality.{same_bool}
+use Rattle.wg_model.specs.Buffers.{has_usage}
+use Rattle.wg_model.specs.Formats.{is_color, has_depth, has_stencil, named_aspects}
+use Rattle.wg_model.specs.Textures.{render_attachment, extent}
+use Rattle.wg_model.specs.Subresources.{view_runs, views_meet, run_cells}
+use Rattle.wg_model.specs.Making.{no_view}
+use Rattle.wg_model.specs.Touches.{Touch}
+
+abbrev pub RenderBegin : Type 0
+RenderBegin = RenderBeginOf HandleValue
+
+abbrev pub ColorTarget : Type 0
+ColorTarget = ColorTargetOf HandleValue
+
+abbrev pub DepthTarget : Type 0
+DepthTarget = DepthTargetOf HandleValue
+
+-- what is known of a view, if it is one
+abbrev pub view_in : Info → Option ViewInfo
+view_in (info.View view) = Some view
+view_in _ = None
+
+-- what a handle knows of a view, which of an invalid one is nothing
+abbrev pub attached_view : HandleValue → Option ViewInfo
+attached_view handle = if handle.valid then view_in handle.info else None
+
+-- the same where rules 10 and 12 have found a valid view
+abbrev pub view_of : HandleValue → ViewInfo
+view_of handle = unwrap_or (attached_view handle) no_view
+
+-- Lists of attachments: those that are not left out, and the views of all.
+
+abbrev pub colors_given : RenderBegin → List ColorTarget
+colors_given begin = flat_map (λ (color : Option ColorTarget). option_to_list color) begin.colors
+
+abbrev pub depth_view : DepthTarget → ViewInfo
+depth_view target = view_of target.view
+
+abbrev pub color_view : ColorTarget → ViewInfo
+color_view target = view_of target.view
+
+-- the views to which a pass draws
+abbrev pub drawn_views : RenderBegin → List ViewInfo
+drawn_views begin = map color_view (colors_given begin) ++ option_to_list (option_map depth_view begin.depth)
+
+-- the views of a color attachment: its own, and that to which it is resolved
+abbrev pub target_views : ColorTarget → List ViewInfo
+target_views target = color_view target ∷ option_to_list (option_map view_of target.resolve)
+
+-- all views that are attached
+abbrev pub attached_views : RenderBegin → List ViewInfo
+attached_views begin = flat_map target_views (colors_given begin) ++ option_to_list (option_map depth_view begin.depth)
+
+-- What a view has to be that is drawn to: of a texture with RENDER_ATTACHMENT, of dimension 2d or 2d-array, with one mip level
+-- and one layer.
+
+abbrev pub is_flat : ViewDim → Bool
+is_flat One = false
+is_flat Two = true
+is_flat TwoArray = true
+is_flat Cube = false
+is_flat CubeArray = false
+is_flat Three = false
+
+abbrev pub is_renderable : ViewInfo → Bool
+is_renderable view = has_usage view.texture_info.usage render_attachment && (is_flat view.dim && (view.mips == 1 && view.layers == 1))
+
+abbrev pub color_fits : ViewInfo → Bool
+color_fits view = is_renderable view && is_color view.texture_info.format
+
+-- whether a view has all aspects of its texture's format
+abbrev pub has_all_aspects : ViewInfo → Bool
+has_all_aspects view = length (named_aspects view.aspect (row view.texture_info.format).aspects) == length (named_aspects All (row view.texture_info.format).aspects)
+
+abbrev pub depth_fits : ViewInfo → Bool
+depth_fits view = is_renderable view && (not (is_color view.texture_info.format) && has_all_aspects view)
+
+-- whether load and store of an aspect are given exactly where they are wanted
+abbrev pub ops_fit : Bool → Option LoadOp → Option StoreOp → Bool
+ops_fit wanted load store = same_bool (is_some load) wanted && same_bool (is_some store) wanted
+
+abbrev pub depth_ops_fit : DepthTarget → Bool
+depth_ops_fit target =
+    ops_fit (has_depth (row (depth_view target).texture_info.format).aspects && not target.depth_read_only) target.depth_load target.depth_store
+    && ops_fit (has_stencil (row (depth_view target).texture_info.format).aspects && not target.stencil_read_only) target.stencil_load target.stencil_store
+
+-- the extent of the mip level of a view: a view has the width and the height of its first level
+abbrev pub view_width : ViewInfo → ℕ
+view_width view = width (extent view.texture_info view.base_mip)
+
+abbrev pub view_height : ViewInfo → ℕ
+view_height view = height (extent view.texture_info view.base_mip)
+
+abbrev pub same_extent : ViewInfo → ViewInfo → Bool
+same_extent a b = view_width a == view_width b && view_height a == view_height b
+
+-- whether two views are of one extent and one count of samples
+abbrev pub are_alike : ViewInfo → ViewInfo → Bool
+are_alike a b = same_extent a b && a.texture_info.samples == b.texture_info.samples
+
+-- whether all views are
+abbrev pub all_alike : List ViewInfo → Bool
+all_alike [] = true
+all_alike (view ∷ views) = list_all (are_alike view) views
+
+-- whether no subresource is in two of the views
+abbrev pub are_apart : List ViewInfo → Bool
+are_apart [] = true
+are_apart (view ∷ views) = not (list_any (views_meet view) views) && are_apart views
+
+-- whether a view of 4 samples may be resolved to another: to one of 1 sample that can be drawn to, of the same format and extent
+abbrev pub resolves_to : ViewInfo → ViewInfo → Bool
+resolves_to view target =
+    view.texture_info.samples == 4
+    && (target.texture_info.samples == 1
+    && (color_fits target
+    && (same_format view.texture_info.format target.texture_info.format && same_extent view target)))
+
+abbrev pub resolve_fits : ColorTarget → Bool
+resolve_fits target = option_map_or (λ (resolve : HandleValue). resolves_to (color_view target) (view_of resolve)) target.resolve true
+
+-- how many color attachments there may be
+abbrev pub most_colors : ℕ
+most_colors = 8
+
+-- beginRenderPass: 300 there are no more color attachments than may be, those left out too; 301 some attachment is given; 302
+-- each color view can be drawn to and has a color format; 303 so can the depth view, which has a depth or stencil format and
+-- all its aspects; 304 load and store of depth and of stencil are given exactly where the format has it and it is not only
+-- read; 305 extents and counts of samples are equal; 306 no subresource is attached twice, resolve targets included; 307 what
+-- is resolved goes to a view that will do.
+unfoldable pub begin_rules : RenderBegin → List Rule
+begin_rules begin =
+    (300, nat_le (length begin.colors) most_colors)
+    ∷ ((301, list_any (λ (color : Option ColorTarget). is_some color) begin.colors || is_some begin.depth)
+    ∷ ((302, list_all (λ (target : ColorTarget). color_fits (color_view target)) (colors_given begin))
+    ∷ ((303, option_map_or (λ (target : DepthTarget). depth_fits (depth_view target)) begin.depth true)
+    ∷ ((304, option_map_or depth_ops_fit begin.depth true)
+    ∷ ((305, all_alike (drawn_views begin))
+    ∷ ((306, are_apart (attached_views begin))
+    ∷ ((307, list_all resolve_fits (colors_given begin))
+    ∷ [])))))))
+
+-- what the begin of a pass begins with, which for what begins no render pass is nothing
+abbrev pub no_begin : RenderBegin
+no_begin = record { colors = []; depth = None }
+
+abbrev pub begin_of : Command → RenderBegin
+begin_of command = unwrap_or (render_begun command) no_begin
+
+abbrev pub begun_rules : Command → List Rule
+begun_rules command = option_map_or begin_rules (render_begun command) []
+
+-- To what a pass draws: the formats of its attachments, and their count of samples, which all of them have.
+abbrev pub samples_of : List ViewInfo → ℕ
+samples_of [] = 1
+samples_of (view ∷ views) = view.texture_info.samples
+
+abbrev pub targets_of : RenderBegin → TargetInfo
+targets_of begin = record {
+  colors = map (option_map (λ (target : ColorTarget). (color_view target).texture_info.format)) begin.colors;
+  depth = option_map (λ (target : DepthTarget). (depth_view target).texture_info.format) begin.depth;
+  samples = samples_of (drawn_views begin);
+  depth_read_only = option_map_or (λ (target : DepthTarget). target.depth_read_only) begin.depth false;
+  stencil_read_only = option_map_or (λ (target : DepthTarget). target.stencil_read_only) begin.depth false;
+}
+
+-- What attachments touch: each subresource of their views.
+
+abbrev pub attachment_usage : Usages
+attachment_usage = record { 0 = 16 }
+
+abbrev pub attachment_read_usage : Usages
+attachment_read_usage = record { 0 = 32 }
+
+abbrev pub view_parts : HandleValue → List PartRun
+view_parts handle = option_map_or view_runs (attached_view handle) []
+
+-- how an attachment is accessed: read where it is loaded, and left unset where it is discarded
+abbrev pub attach_kind : LoadOp → StoreOp → Kind
+attach_kind Load Store = Both
+attach_kind Clear Store = Write
+attach_kind Load Discard = ReadDrop
+attach_kind Clear Discard = Drop
+
+abbrev pub attached : Usages × Kind → PartRun → Touch
+attached how run = (run_cells run, how)
+
+-- a resolve target is written
+abbrev pub resolve_touches : Option HandleValue → List Touch
+resolve_touches None = []
+resolve_touches (Some view) = map (attached (attachment_usage, Write)) (view_parts view)
+
+abbrev pub color_touches : Option ColorTarget → List Touch
+color_touches None = []
+color_touches (Some target) = map (attached (attachment_usage, attach_kind target.load target.store)) (view_parts target.view) ++ resolve_touches target.resolve
+
+-- how an aspect is accessed: it is read alone, or as its load and store say, which rule 304 asks for there
+abbrev pub aspect_how : Bool → Option LoadOp → Option StoreOp → Usages × Kind
+aspect_how true load store = (attachment_read_usage, Read)
+aspect_how false load store = (attachment_usage, attach_kind (unwrap_or load Load) (unwrap_or store Store))
+
+abbrev pub depth_how : DepthTarget → Aspect → Usages × Kind
+depth_how target aspect.Color = aspect_how target.depth_read_only target.depth_load target.depth_store
+depth_how target aspect.Depth = aspect_how target.depth_read_only target.depth_load target.depth_store
+depth_how target aspect.Stencil = aspect_how target.stencil_read_only target.stencil_load target.stencil_store
+
+abbrev pub run_aspect : PartRun → Aspect
+run_aspect (BufferPart object) = aspect.Color
+run_aspect (LayerParts object of mip lo hi) = of
+run_aspect (QueryPart object) = aspect.Color
+
+abbrev pub depth_touch : DepthTarget → PartRun → Touch
+depth_touch target run = attached (depth_how target (run_aspect run)) run
+
+abbrev pub depth_touches : Option DepthTarget → List Touch
+depth_touches None = []
+depth_touches (Some target) = map (depth_touch target) (view_parts target.view)
+
+unfoldable pub targets_touches : RenderBegin → List Touch
+targets_touches begin = flat_map color_touches begin.colors ++ depth_touches begin.depth

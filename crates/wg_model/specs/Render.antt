@@ -1,0 +1,289 @@
+-- Render passes (WebGPU, "Render Passes" and "GPURenderCommandsMixin"): what is set, the rules of the commands, and what the
+-- whole pass touches. The commands of a pass so far stand newest first.
+use Rattle.std.specs.Prelude.{ℕ, ◌+◌, ◌*◌, ◌%◌, ◌==◌, nat_le, nat_lt, Bool, true, false, not, ◌&&◌, ◌||◌, List, [], ◌∷◌, ◌++◌, Option, Some, None, is_some, is_none, unwrap_or, option_and_then, slice_index_or, if◌then◌else◌}
+use Rattle.std.specs.List.{list_all, flat_map}
+use Rattle.std.specs.Option.{option_map_or, option_map}
+use Rattle.wg_types.specs.Handles.{HandleValue}
+use Rattle.wg_types.specs.Formats.{same_format}
+use Rattle.wg_types.specs.Vertex.{index_bytes}
+use Rattle.wg_types.specs.Commands.{Command, bracket}
+use Rattle.wg_types.specs.declared.formats.Format.{Format}
+use Rattle.wg_types.specs.declared.handles.Info.{Info}
+use Rattle.wg_types.specs.declared.handles.Info.TheVariants as info
+use Rattle.wg_types.specs.declared.vertex.IndexFormat.{IndexFormat}
+use Rattle.wg_types.specs.declared.vertex.VertexBuffer.{VertexBuffer}
+use Rattle.wg_types.specs.declared.render.DepthState.{DepthState}
+use Rattle.wg_types.specs.declared.render.RenderDesc.{RenderDesc}
+use Rattle.wg_types.specs.declared.render.TargetInfo.{TargetInfo}
+use Rattle.wg_types.specs.declared.commands.BoundGroup.{BoundGroup}
+use Rattle.wg_types.specs.declared.commands.Bracket.{Bracket}
+use Rattle.wg_types.specs.declared.commands.Bracket.TheVariants as brackets
+use Rattle.wg_types.specs.declared.commands.CommandOf.TheVariants.{BeginComputePass, BeginRenderPass, CopyBufferToBuffer, CopyBufferToTexture, CopyTextureToBuffer, CopyTextureToTexture, ClearBuffer, PushDebugGroup, PopDebugGroup, End, SetPipeline, SetBindGroup, Dispatch, DispatchIndirect, SetVertexBuffer, SetIndexBuffer, Draw, DrawIndexed, DrawIndirect, DrawIndexedIndirect}
+use Rattle.wg_types.specs.declared.steps.StepName.TheVariants as name
+use Rattle.wg_rows.specs.Uses.{Read}
+use Rattle.wg_model.specs.Rules.{Rule, or_else}
+use Rattle.wg_model.specs.Equality.{same_option}
+use Rattle.wg_model.specs.Buffers.{has_usage}
+use Rattle.wg_model.specs.Commands.{group_rules, buffer_of, size_or_rest}
+use Rattle.wg_model.specs.Touches.{Touch, Doing, bytes_at, input_usage}
+use Rattle.wg_model.specs.Bound.{set_places, place_touches}
+use Rattle.wg_model.specs.Vertex.{draw_fits}
+use Rattle.wg_model.specs.Attachments.{RenderBegin, targets_of, targets_touches}
+use Rattle.wg_model.specs.Settings.{Settings, settings, slot_after, group_given, pipeline_given, given_rules, end_rules, ready_rules, indirect_rules, indirect_touch}
+
+-- what a handle knows of a render pipeline, which of an invalid one is nothing
+abbrev pub desc_in : Info → Option RenderDesc
+desc_in (info.Render pipeline) = Some pipeline.desc
+desc_in _ = None
+
+abbrev pub known_pipeline : HandleValue → Option RenderDesc
+known_pipeline handle = if handle.valid then desc_in handle.info else None
+
+-- the vertex buffers of the pipeline that is set
+abbrev pub buffers_in : Option RenderDesc → List VertexBuffer
+buffers_in None = []
+buffers_in (Some desc) = desc.buffers
+
+abbrev pub buffers_wanted : Settings → List VertexBuffer
+buffers_wanted set = buffers_in (option_and_then known_pipeline set.pipeline)
+
+-- the range that a command sets as a vertex buffer, by its slot and its size, if it sets one
+abbrev pub vertex_given : Command → Option (ℕ × ℕ)
+vertex_given BeginComputePass = None
+vertex_given (BeginRenderPass begin) = None
+vertex_given (CopyBufferToBuffer source source_offset target target_offset size) = None
+vertex_given (CopyBufferToTexture buffer layout texture spot size) = None
+vertex_given (CopyTextureToBuffer buffer layout texture spot size) = None
+vertex_given (CopyTextureToTexture source source_mip source_origin target target_mip target_origin size) = None
+vertex_given (ClearBuffer buffer offset size) = None
+vertex_given PushDebugGroup = None
+vertex_given PopDebugGroup = None
+vertex_given End = None
+vertex_given (SetPipeline pipeline) = None
+vertex_given (SetBindGroup index group offsets) = None
+vertex_given (Dispatch x y z) = None
+vertex_given (DispatchIndirect buffer offset) = None
+vertex_given (SetVertexBuffer slot buffer offset size) = Some (slot, size_or_rest buffer offset size)
+vertex_given (SetIndexBuffer buffer format offset size) = None
+vertex_given (Draw vertices instances first_vertex first_instance) = None
+vertex_given (DrawIndexed indices instances first_index first_instance) = None
+vertex_given (DrawIndirect buffer offset) = None
+vertex_given (DrawIndexedIndirect buffer offset) = None
+
+-- the size of the range that is set as the vertex buffer of a slot: of the last
+abbrev pub vertex_set : List Command → ℕ → Option ℕ
+vertex_set [] at = None
+vertex_set (command ∷ earlier) at = slot_after (vertex_given command) at (vertex_set earlier at)
+
+-- by slot
+abbrev pub ranges_set : List Command → List (Option ℕ)
+ranges_set earlier =
+    vertex_set earlier 0
+    ∷ (vertex_set earlier 1
+    ∷ (vertex_set earlier 2
+    ∷ (vertex_set earlier 3
+    ∷ (vertex_set earlier 4
+    ∷ (vertex_set earlier 5
+    ∷ (vertex_set earlier 6
+    ∷ (vertex_set earlier 7
+    ∷ [])))))))
+
+-- the range that a command sets as the index buffer, by its format and its size, if it sets one
+abbrev pub index_given : Command → Option (IndexFormat × ℕ)
+index_given BeginComputePass = None
+index_given (BeginRenderPass begin) = None
+index_given (CopyBufferToBuffer source source_offset target target_offset size) = None
+index_given (CopyBufferToTexture buffer layout texture spot size) = None
+index_given (CopyTextureToBuffer buffer layout texture spot size) = None
+index_given (CopyTextureToTexture source source_mip source_origin target target_mip target_origin size) = None
+index_given (ClearBuffer buffer offset size) = None
+index_given PushDebugGroup = None
+index_given PopDebugGroup = None
+index_given End = None
+index_given (SetPipeline pipeline) = None
+index_given (SetBindGroup index group offsets) = None
+index_given (Dispatch x y z) = None
+index_given (DispatchIndirect buffer offset) = None
+index_given (SetVertexBuffer slot buffer offset size) = None
+index_given (SetIndexBuffer buffer format offset size) = Some (format, size_or_rest buffer offset size)
+index_given (Draw vertices instances first_vertex first_instance) = None
+index_given (DrawIndexed indices instances first_index first_instance) = None
+index_given (DrawIndirect buffer offset) = None
+index_given (DrawIndexedIndirect buffer offset) = None
+
+-- the index buffer that is set: the last
+abbrev pub index_set : List Command → Option (IndexFormat × ℕ)
+index_set [] = None
+index_set (command ∷ earlier) = or_else (index_given command) (index_set earlier)
+
+-- What a command touches: all that is set counts, drawn or not, and what an indirect draw reads.
+
+abbrev pub bound_group_touches : Option (ℕ × BoundGroup) → List Touch
+bound_group_touches None = []
+bound_group_touches (Some given) = flat_map place_touches (set_places (Some given.1))
+
+-- the range of a buffer that draws read
+abbrev pub input_touch : HandleValue → ℕ → ℕ → Touch
+input_touch buffer offset size = (bytes_at buffer.reference.number offset size, (input_usage, Read))
+
+abbrev pub input_touches : Command → List Touch
+input_touches BeginComputePass = []
+input_touches (BeginRenderPass begin) = []
+input_touches (CopyBufferToBuffer source source_offset target target_offset size) = []
+input_touches (CopyBufferToTexture buffer layout texture spot size) = []
+input_touches (CopyTextureToBuffer buffer layout texture spot size) = []
+input_touches (CopyTextureToTexture source source_mip source_origin target target_mip target_origin size) = []
+input_touches (ClearBuffer buffer offset size) = []
+input_touches PushDebugGroup = []
+input_touches PopDebugGroup = []
+input_touches End = []
+input_touches (SetPipeline pipeline) = []
+input_touches (SetBindGroup index group offsets) = []
+input_touches (Dispatch x y z) = []
+input_touches (DispatchIndirect buffer offset) = []
+input_touches (SetVertexBuffer slot buffer offset size) = input_touch buffer offset (size_or_rest buffer offset size) ∷ []
+input_touches (SetIndexBuffer buffer format offset size) = input_touch buffer offset (size_or_rest buffer offset size) ∷ []
+input_touches (Draw vertices instances first_vertex first_instance) = []
+input_touches (DrawIndexed indices instances first_index first_instance) = []
+input_touches (DrawIndirect buffer offset) = indirect_touch buffer offset 16 ∷ []
+input_touches (DrawIndexedIndirect buffer offset) = indirect_touch buffer offset 20 ∷ []
+
+abbrev pub command_touches : Command → List Touch
+command_touches command = bound_group_touches (group_given command) ++ input_touches command
+
+-- what a pass touches: its attachments, and then what its commands do
+abbrev pub render_touches : RenderBegin → List Command → List Touch
+render_touches begin [] = targets_touches begin
+render_touches begin (command ∷ earlier) = render_touches begin earlier ++ command_touches command
+
+-- What is set in a render pass: what is set in any pass, the sizes of the ranges that are set as vertex buffers by slot, the
+-- index buffer; to what it draws, and what it touches so far.
+pub record RenderSet : Type 0 where
+  pub set : Settings
+  pub ranges : List (Option ℕ)
+  pub index : Option (IndexFormat × ℕ)
+  pub targets : TargetInfo
+  pub touches : List Touch
+
+abbrev pub render_set : RenderBegin → List Command → RenderSet
+render_set begin earlier = record {
+  set = settings earlier;
+  ranges = ranges_set earlier;
+  index = index_set earlier;
+  targets = targets_of begin;
+  touches = render_touches begin earlier;
+}
+
+-- setPipeline: whether the formats of targets are those of a pass, where what is left out at the end does not count
+
+abbrev pub none_given : List (Option Format) → Bool
+none_given targets = list_all (λ (target : Option Format). is_none target) targets
+
+abbrev pub same_targets : List (Option Format) → List (Option Format) → Bool
+same_targets [] others = none_given others
+same_targets (target ∷ targets) [] = none_given (target ∷ targets)
+same_targets (target ∷ targets) (other ∷ others) = same_option same_format target other && same_targets targets others
+
+abbrev pub draws_to : TargetInfo → RenderDesc → Bool
+draws_to targets desc =
+    same_targets desc.targets targets.colors
+    && (same_option same_format (option_map (λ (depth : DepthState). depth.format) desc.depth) targets.depth
+    && desc.samples == targets.samples)
+
+-- whether what is only read is not written
+abbrev pub spares : TargetInfo → DepthState → Bool
+spares targets depth = not (targets.depth_read_only && depth.depth_write) && not (targets.stencil_read_only && depth.stencil_write)
+
+-- 320 targets, depth format and samples are those of the pass; 321 what the pass only reads the pipeline does not write
+abbrev pub pipeline_rules : TargetInfo → Option RenderDesc → List Rule
+pipeline_rules targets None = []
+pipeline_rules targets (Some desc) = (320, draws_to targets desc) ∷ ((321, option_map_or (spares targets) desc.depth true) ∷ [])
+
+abbrev pub pipeline_given_rules : TargetInfo → Option HandleValue → List Rule
+pipeline_given_rules targets None = []
+pipeline_given_rules targets (Some pipeline) = pipeline_rules targets (known_pipeline pipeline)
+
+-- how many vertex buffers may be set
+abbrev pub most_slots : ℕ
+most_slots = 8
+
+-- setVertexBuffer: 330 the buffer has VERTEX 32; 331 the slot is one that a pass has; 332 the offset is a multiple of 4; 333
+-- the range fits
+abbrev pub vertex_rules : ℕ → HandleValue → ℕ → ℕ → List Rule
+vertex_rules slot buffer offset size =
+    (330, has_usage (buffer_of buffer).usage 32)
+    ∷ ((331, nat_lt slot most_slots)
+    ∷ ((332, offset % 4 == 0)
+    ∷ ((333, nat_le (offset + size) (buffer_of buffer).size)
+    ∷ [])))
+
+-- setIndexBuffer: 335 the buffer has INDEX 16; 336 the offset is a multiple of the bytes of an index; 337 the range fits
+abbrev pub index_rules : HandleValue → IndexFormat → ℕ → ℕ → List Rule
+index_rules buffer format offset size =
+    (335, has_usage (buffer_of buffer).usage 16)
+    ∷ ((336, offset % index_bytes format == 0)
+    ∷ ((337, nat_le (offset + size) (buffer_of buffer).size)
+    ∷ []))
+
+-- whether a range is set for each of these vertex buffers, the first of which has this slot
+abbrev pub are_set : List VertexBuffer → List (Option ℕ) → ℕ → Bool
+are_set [] ranges slot = true
+are_set (buffer ∷ buffers) ranges slot = is_some (slice_index_or ranges slot None) && are_set buffers ranges (slot + 1)
+
+-- whether so many indexes, from the first on, fit the range of the index buffer
+abbrev pub indices_fit : ℕ → ℕ → Option (IndexFormat × ℕ) → Bool
+indices_fit first indices None = false
+indices_fit first indices (Some index) = nat_le ((first + indices) * index_bytes index.0) index.1
+
+-- Draws (WebGPU, "valid to draw" and "valid to draw indexed"): 350 each vertex buffer of the pipeline is set; 352 an index
+-- buffer is set; 353 the indexes fit its range; 351 the vertices and instances fit the ranges of the vertex buffers
+abbrev pub vertex_buffers_rule : RenderSet → Rule
+vertex_buffers_rule render = (350, are_set (buffers_wanted render.set) render.ranges 0)
+
+abbrev pub draw_rule : RenderSet → Option ℕ → ℕ → Rule
+draw_rule render vertices instances = (351, draw_fits (buffers_wanted render.set) render.ranges vertices instances)
+
+abbrev pub index_buffer_rule : RenderSet → Rule
+index_buffer_rule render = (352, is_some render.index)
+
+abbrev pub drawing_rules : RenderSet → Command → List Rule
+drawing_rules render BeginComputePass = []
+drawing_rules render (BeginRenderPass begin) = []
+drawing_rules render (CopyBufferToBuffer source source_offset target target_offset size) = []
+drawing_rules render (CopyBufferToTexture buffer layout texture spot size) = []
+drawing_rules render (CopyTextureToBuffer buffer layout texture spot size) = []
+drawing_rules render (CopyTextureToTexture source source_mip source_origin target target_mip target_origin size) = []
+drawing_rules render (ClearBuffer buffer offset size) = []
+drawing_rules render PushDebugGroup = []
+drawing_rules render PopDebugGroup = []
+drawing_rules render End = []
+drawing_rules render (SetPipeline pipeline) = []
+drawing_rules render (SetBindGroup index group offsets) = []
+drawing_rules render (Dispatch x y z) = []
+drawing_rules render (DispatchIndirect buffer offset) = []
+drawing_rules render (SetVertexBuffer slot buffer offset size) = vertex_rules slot buffer offset (size_or_rest buffer offset size)
+drawing_rules render (SetIndexBuffer buffer format offset size) = index_rules buffer format offset (size_or_rest buffer offset size)
+drawing_rules render (Draw vertices instances first_vertex first_instance) = ready_rules render.set ++ vertex_buffers_rule render ∷ (draw_rule render (Some (first_vertex + vertices)) (first_instance + instances) ∷ [])
+drawing_rules render (DrawIndexed indices instances first_index first_instance) = ready_rules render.set ++ vertex_buffers_rule render ∷ (index_buffer_rule render ∷ ((353, indices_fit first_index indices render.index) ∷ (draw_rule render None (first_instance + instances) ∷ [])))
+drawing_rules render (DrawIndirect buffer offset) = ready_rules render.set ++ (indirect_rules buffer offset 16 ++ vertex_buffers_rule render ∷ [])
+drawing_rules render (DrawIndexedIndirect buffer offset) = ready_rules render.set ++ (indirect_rules buffer offset 20 ++ vertex_buffers_rule render ∷ (index_buffer_rule render ∷ []))
+
+-- the rules of a command of the pass, over what is set, but for those on the objects that it names
+abbrev pub render_rules : RenderSet → Command → List Rule
+render_rules render command =
+    group_rules render.set.depth command
+    ++ (end_rules render.set.depth command
+    ++ (pipeline_given_rules render.targets (pipeline_given command)
+    ++ (given_rules (group_given command) ++ drawing_rules render command)))
+
+-- the whole pass is one step, which its end completes
+abbrev pub render_does_by : RenderSet → Bracket → Option Doing
+render_does_by render brackets.BeginComputePass = None
+render_does_by render brackets.BeginRenderPass = None
+render_does_by render brackets.EndPass = Some (name.RenderPass, render.touches)
+render_does_by render brackets.PushGroup = None
+render_does_by render brackets.PopGroup = None
+render_does_by render brackets.Neither = None
+
+unfoldable pub render_does : RenderSet → Command → Option Doing
+render_does render command = render_does_by render (bracket command)

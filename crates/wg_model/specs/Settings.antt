@@ -1,0 +1,149 @@
+-- What is set in passes (WebGPU, "Programmable Passes"): the pipeline and the bind groups, with the rules that go by them, and
+-- how many debug groups are open. The commands of a pass so far stand newest first.
+use Rattle.std.specs.Prelude.{ℕ, ◌+◌, ◌-◌, ◌%◌, ◌==◌, nat_le, List, [], ◌∷◌, Option, Some, None, is_some, if◌then◌else◌}
+use Rattle.wg_types.specs.Handles.{HandleValue}
+use Rattle.wg_types.specs.Commands.{Command, bracket}
+use Rattle.wg_types.specs.declared.commands.BoundGroup.{BoundGroup}
+use Rattle.wg_types.specs.declared.commands.CommandOf.TheVariants.{BeginComputePass, BeginRenderPass, CopyBufferToBuffer, CopyBufferToTexture, CopyTextureToBuffer, CopyTextureToTexture, ClearBuffer, PushDebugGroup, PopDebugGroup, End, SetPipeline, SetBindGroup, Dispatch, DispatchIndirect, SetVertexBuffer, SetIndexBuffer, Draw, DrawIndexed, DrawIndirect, DrawIndexedIndirect}
+use Rattle.wg_types.specs.declared.groups.GroupLayoutInfo.{GroupLayoutInfo}
+use Rattle.wg_types.specs.declared.commands.Bracket.{Bracket}
+use Rattle.wg_types.specs.declared.commands.Bracket.TheVariants as brackets
+use Rattle.wg_model.specs.Rules.{Rule, or_else}
+use Rattle.wg_rows.specs.Uses.{Read}
+use Rattle.wg_model.specs.Buffers.{has_usage}
+use Rattle.wg_model.specs.Commands.{buffer_of}
+use Rattle.wg_model.specs.Touches.{Touch, bytes_at, input_usage}
+use Rattle.wg_model.specs.Bound.{known_group, layouts_in, set_rules, bound_rules}
+
+-- how many debug groups are open after one more command
+abbrev pub depth_by : ℕ → Bracket → ℕ
+depth_by depth brackets.BeginComputePass = depth
+depth_by depth brackets.BeginRenderPass = depth
+depth_by depth brackets.EndPass = depth
+depth_by depth brackets.PushGroup = depth + 1
+depth_by depth brackets.PopGroup = depth - 1
+depth_by depth brackets.Neither = depth
+
+abbrev pub depth_after : ℕ → Command → ℕ
+depth_after depth command = depth_by depth (bracket command)
+
+-- how many debug groups of the pass are open
+abbrev pub debug_depth : List Command → ℕ
+debug_depth [] = 0
+debug_depth (command ∷ earlier) = depth_after (debug_depth earlier) command
+
+-- the pipeline that a command sets, if it sets one
+abbrev pub pipeline_given : Command → Option HandleValue
+pipeline_given BeginComputePass = None
+pipeline_given (BeginRenderPass begin) = None
+pipeline_given (CopyBufferToBuffer source source_offset target target_offset size) = None
+pipeline_given (CopyBufferToTexture buffer layout texture spot size) = None
+pipeline_given (CopyTextureToBuffer buffer layout texture spot size) = None
+pipeline_given (CopyTextureToTexture source source_mip source_origin target target_mip target_origin size) = None
+pipeline_given (ClearBuffer buffer offset size) = None
+pipeline_given PushDebugGroup = None
+pipeline_given PopDebugGroup = None
+pipeline_given End = None
+pipeline_given (SetPipeline pipeline) = Some pipeline
+pipeline_given (SetBindGroup index group offsets) = None
+pipeline_given (Dispatch x y z) = None
+pipeline_given (DispatchIndirect buffer offset) = None
+pipeline_given (SetVertexBuffer slot buffer offset size) = None
+pipeline_given (SetIndexBuffer buffer format offset size) = None
+pipeline_given (Draw vertices instances first_vertex first_instance) = None
+pipeline_given (DrawIndexed indices instances first_index first_instance) = None
+pipeline_given (DrawIndirect buffer offset) = None
+pipeline_given (DrawIndexedIndirect buffer offset) = None
+
+-- the pipeline that is set: the last
+abbrev pub pipeline_set : List Command → Option HandleValue
+pipeline_set [] = None
+pipeline_set (command ∷ earlier) = or_else (pipeline_given command) (pipeline_set earlier)
+
+-- what stands in a slot after one more command, which may put something into a slot
+abbrev pub slot_after : {X : Type 0} → Option (ℕ × X) → ℕ → Option X → Option X
+slot_after None at before = before
+slot_after (Some given) at before = if given.0 == at then Some given.1 else before
+
+-- the bind group that a command sets, with its index, if it sets one
+abbrev pub group_given : Command → Option (ℕ × BoundGroup)
+group_given BeginComputePass = None
+group_given (BeginRenderPass begin) = None
+group_given (CopyBufferToBuffer source source_offset target target_offset size) = None
+group_given (CopyBufferToTexture buffer layout texture spot size) = None
+group_given (CopyTextureToBuffer buffer layout texture spot size) = None
+group_given (CopyTextureToTexture source source_mip source_origin target target_mip target_origin size) = None
+group_given (ClearBuffer buffer offset size) = None
+group_given PushDebugGroup = None
+group_given PopDebugGroup = None
+group_given End = None
+group_given (SetPipeline pipeline) = None
+group_given (SetBindGroup index group offsets) = Some (index, record { group = group; offsets = offsets })
+group_given (Dispatch x y z) = None
+group_given (DispatchIndirect buffer offset) = None
+group_given (SetVertexBuffer slot buffer offset size) = None
+group_given (SetIndexBuffer buffer format offset size) = None
+group_given (Draw vertices instances first_vertex first_instance) = None
+group_given (DrawIndexed indices instances first_index first_instance) = None
+group_given (DrawIndirect buffer offset) = None
+group_given (DrawIndexedIndirect buffer offset) = None
+
+-- the group that is set at an index: the last
+abbrev pub group_set : List Command → ℕ → Option BoundGroup
+group_set [] at = None
+group_set (command ∷ earlier) at = slot_after (group_given command) at (group_set earlier at)
+
+-- the groups that are set, by index
+abbrev pub groups_set : List Command → List (Option BoundGroup)
+groups_set earlier = group_set earlier 0 ∷ (group_set earlier 1 ∷ (group_set earlier 2 ∷ (group_set earlier 3 ∷ [])))
+
+-- What is set in a pass.
+pub record Settings : Type 0 where
+  pub pipeline : Option HandleValue
+  pub groups : List (Option BoundGroup)
+  pub depth : ℕ
+
+abbrev pub settings : List Command → Settings
+settings earlier = record { pipeline = pipeline_set earlier; groups = groups_set earlier; depth = debug_depth earlier }
+
+-- the layouts of the groups of the pipeline that is set
+abbrev pub pipeline_layouts : Option HandleValue → List GroupLayoutInfo
+pipeline_layouts None = []
+pipeline_layouts (Some pipeline) = layouts_in pipeline.info
+
+abbrev pub layouts_set : Settings → List GroupLayoutInfo
+layouts_set set = pipeline_layouts set.pipeline
+
+-- the end of a pass (WebGPU, "end"): 310 no debug group of the pass is open
+abbrev pub end_rules_by : ℕ → Bracket → List Rule
+end_rules_by depth brackets.BeginComputePass = []
+end_rules_by depth brackets.BeginRenderPass = []
+end_rules_by depth brackets.EndPass = (310, depth == 0) ∷ []
+end_rules_by depth brackets.PushGroup = []
+end_rules_by depth brackets.PopGroup = []
+end_rules_by depth brackets.Neither = []
+
+abbrev pub end_rules : ℕ → Command → List Rule
+end_rules depth command = end_rules_by depth (bracket command)
+
+-- the rules of a bind group that is set, if one is
+abbrev pub given_rules : Option (ℕ × BoundGroup) → List Rule
+given_rules None = []
+given_rules (Some given) = set_rules given.0 (known_group given.1.group) given.1.offsets
+
+-- dispatches and draws: 340 a pipeline is set, and then the rules of the groups
+abbrev pub ready_rules : Settings → List Rule
+ready_rules set = (340, is_some set.pipeline) ∷ bound_rules (layouts_set set) set.groups
+
+-- what is asked of an indirect buffer (WebGPU, "dispatchWorkgroupsIndirect" and "drawIndirect"): 344 it has INDIRECT 256; 345
+-- the offset is a multiple of 4; 346 the bytes from there on fit
+abbrev pub indirect_rules : HandleValue → ℕ → ℕ → List Rule
+indirect_rules buffer offset bytes =
+    (344, has_usage (buffer_of buffer).usage 256)
+    ∷ ((345, offset % 4 == 0)
+    ∷ ((346, nat_le (offset + bytes) (buffer_of buffer).size)
+    ∷ []))
+
+-- an indirect call reads its numbers
+abbrev pub indirect_touch : HandleValue → ℕ → ℕ → Touch
+indirect_touch buffer offset bytes = (bytes_at buffer.reference.number offset bytes, (input_usage, Read))

@@ -1,0 +1,72 @@
+-- Vertex buffers: their layouts in render pipelines, and what draws ask of those that are set (WebGPU, "Vertex State" and
+-- "valid to draw").
+use Rattle.std.specs.Prelude.{ℕ, ◌+◌, ◌-◌, ◌*◌, ◌%◌, ◌==◌, nat_le, nat_lt, min, max, Bool, true, not, ◌&&◌, ◌||◌, List, [], ◌∷◌, Option, Some, None, unwrap_or, length, slice_index_or, if◌then◌else◌}
+use Rattle.std.specs.List.{list_all, list_any, flat_map}
+use Rattle.wg_types.specs.Vertex.{vertex_bytes}
+use Rattle.wg_types.specs.declared.limits.Limits.{Limits}
+use Rattle.wg_types.specs.declared.vertex.VertexStep.{VertexStep}
+use Rattle.wg_types.specs.declared.vertex.VertexStep.TheVariants.{Vertex, Instance}
+use Rattle.wg_types.specs.declared.vertex.VertexAttribute.{VertexAttribute}
+use Rattle.wg_types.specs.declared.vertex.VertexBuffer.{VertexBuffer}
+use Rattle.wg_model.specs.Rules.{Rule}
+
+-- the attributes of all vertex buffers
+abbrev pub all_attributes : List VertexBuffer → List VertexAttribute
+all_attributes buffers = flat_map (λ (buffer : VertexBuffer). buffer.attributes) buffers
+
+-- whether a stride is a multiple of 4 within the limit
+abbrev pub stride_fits : Limits → VertexBuffer → Bool
+stride_fits limits buffer = buffer.stride % 4 == 0 && nat_le buffer.stride limits.max_vertex_buffer_array_stride
+
+-- whether locations are distinct
+abbrev pub are_apart : List VertexAttribute → Bool
+are_apart [] = true
+are_apart (attribute ∷ attributes) = not (list_any (λ (other : VertexAttribute). other.location == attribute.location) attributes) && are_apart attributes
+
+-- where an attribute ends
+abbrev pub attribute_end : VertexAttribute → ℕ
+attribute_end attribute = attribute.offset + vertex_bytes attribute.format
+
+-- where the attributes of a buffer may end: at the stride, or where that is 0 at the limit of strides
+abbrev pub attribute_room : Limits → VertexBuffer → ℕ
+attribute_room limits buffer = if buffer.stride == 0 then limits.max_vertex_buffer_array_stride else buffer.stride
+
+-- whether an attribute ends there at the most, and has an offset that is a multiple of the lesser of 4 and its bytes
+abbrev pub attribute_fits : ℕ → VertexAttribute → Bool
+attribute_fits room attribute = nat_le (attribute_end attribute) room && attribute.offset % min 4 (vertex_bytes attribute.format) == 0
+
+abbrev pub attributes_fit : Limits → VertexBuffer → Bool
+attributes_fit limits buffer = list_all (attribute_fits (attribute_room limits buffer)) buffer.attributes
+
+-- createRenderPipeline: 161 there are no more vertex buffers than may be, and no more attributes in all of them together;
+-- strides are multiples of 4 within the limit. 162 locations are below the limit of attributes, and distinct in all buffers
+-- together; each attribute fits its buffer.
+unfoldable pub layout_rules : Limits → List VertexBuffer → List Rule
+layout_rules limits buffers =
+    (161, nat_le (length buffers) limits.max_vertex_buffers && (nat_le (length (all_attributes buffers)) limits.max_vertex_attributes && list_all (stride_fits limits) buffers))
+    ∷ ((162, list_all (λ (attribute : VertexAttribute). nat_lt attribute.location limits.max_vertex_attributes) (all_attributes buffers) && (are_apart (all_attributes buffers) && list_all (attributes_fit limits) buffers))
+    ∷ [])
+
+-- the greatest end of an attribute, or 0 where there is none
+abbrev pub last_end : List VertexAttribute → ℕ
+last_end [] = 0
+last_end (attribute ∷ attributes) = max (attribute_end attribute) (last_end attributes)
+
+-- over how many vertices or instances a draw goes in a buffer: up to and with the last, counted from the first of the buffer;
+-- none where it is not told, as of the vertices of an indexed draw
+abbrev pub count_by : VertexStep → Option ℕ → ℕ → Option ℕ
+count_by Vertex vertices instances = vertices
+count_by Instance vertices instances = Some instances
+
+-- whether so many bytes will do: each but the last takes the stride, and the last what its attributes take
+abbrev pub bytes_serve : VertexBuffer → ℕ → Option ℕ → Bool
+bytes_serve buffer bytes None = true
+bytes_serve buffer bytes (Some count) = (count == 0) || nat_le ((count - 1) * buffer.stride + last_end buffer.attributes) bytes
+
+-- the same of each buffer, the first of which has this slot; where no range is set there are no bytes
+abbrev pub ranges_serve : List VertexBuffer → List (Option ℕ) → ℕ → Option ℕ → ℕ → Bool
+ranges_serve [] ranges slot vertices instances = true
+ranges_serve (buffer ∷ buffers) ranges slot vertices instances = bytes_serve buffer (unwrap_or (slice_index_or ranges slot None) 0) (count_by buffer.step vertices instances) && ranges_serve buffers ranges (slot + 1) vertices instances
+
+unfoldable pub draw_fits : List VertexBuffer → List (Option ℕ) → Option ℕ → ℕ → Bool
+draw_fits buffers ranges vertices instances = ranges_serve buffers ranges 0 vertices instances

@@ -1,0 +1,113 @@
+//! To what a render pipeline draws: the rules of its color targets, of its depth and stencil, and of its
+//! samples.
+ghost use Rattle.std.specs.Prelude.{◌≡◌, true, Option, is_some};
+ghost use Rattle.std.specs.List.{list_all, list_any};
+ghost use Rattle.std.specs.Option.{option_map_or};
+ghost use Rattle.wg_types.specs.declared.formats.Format.{Format};
+ghost use Rattle.wg_types.specs.declared.render.DepthState.{DepthState};
+ghost use Rattle.wg_model.specs.Rules.{first_unmet};
+ghost use Rattle.wg_model.specs.Formats.{is_color, has_depth, has_stencil};
+ghost use Rattle.wg_model.specs.RenderPipelines.{passes, depth_fits, is_multisampled, samples_fit, target_rules};
+
+use wg_types::formats::{Format, FormatAspects};
+use wg_types::limits::Limits;
+use wg_types::render::{DepthState, RenderDesc};
+
+/// Whether the format has a color aspect.
+fn is_color(format: Format) -> bool
+    ensures { result ≡ is_color format }
+{
+    match format.row().aspects {
+        FormatAspects::Color => true,
+        _ => false,
+    }
+}
+
+/// Whether there is a depth aspect.
+fn has_depth(aspects: FormatAspects) -> bool
+    ensures { result ≡ has_depth aspects }
+{
+    match aspects {
+        FormatAspects::Depth | FormatAspects::DepthStencil => true,
+        _ => false,
+    }
+}
+
+/// Whether there is a stencil aspect.
+fn has_stencil(aspects: FormatAspects) -> bool
+    ensures { result ≡ has_stencil aspects }
+{
+    match aspects {
+        FormatAspects::Stencil | FormatAspects::DepthStencil => true,
+        _ => false,
+    }
+}
+
+/// Whether textures of the format may have four samples.
+fn is_multisampled(format: Format) -> bool
+    ensures { result ≡ is_multisampled format }
+{
+    format.row().multisampled
+}
+
+/// Whether all targets that are not left out have color formats.
+fn are_color(targets: &[Option<Format>]) -> bool
+    ensures { result ≡ list_all (passes is_color) targets.now }
+{
+    targets.iter().all(|target| target.is_none_or(is_color))
+}
+
+/// Whether some target is not left out.
+fn has_target(targets: &[Option<Format>]) -> bool
+    ensures { result ≡ list_any (λ (target : Option Format). is_some target) targets.now }
+{
+    targets.iter().any(|target| target.is_some())
+}
+
+/// Whether all targets that are not left out may have four samples.
+fn are_multisampled(targets: &[Option<Format>]) -> bool
+    ensures { result ≡ list_all (passes is_multisampled) targets.now }
+{
+    targets
+        .iter()
+        .all(|target| target.is_none_or(is_multisampled))
+}
+
+/// Whether the format is one of depth or stencil, and has what is written.
+fn depth_fits(depth: DepthState) -> bool
+    ensures { result ≡ depth_fits depth }
+{
+    let aspects = depth.format.row().aspects;
+    !is_color(depth.format)
+        && (!depth.depth_write || has_depth(aspects))
+        && (!depth.stencil_write || has_stencil(aspects))
+}
+
+/// Whether there may be so many samples.
+fn samples_fit(samples: u32, targets: &[Option<Format>], depth: Option<DepthState>) -> bool
+    ensures { result ≡ samples_fit samples targets.now (option_map_or (λ (depth : DepthState). is_multisampled depth.format) depth true) }
+{
+    let depth_allows = depth.is_none_or(|depth| is_multisampled(depth.format));
+    samples == 1 || samples == 4 && are_multisampled(targets) && depth_allows
+}
+
+/// The first unmet rule of what a render pipeline draws to (WebGPU, "Color Target State", "Depth/Stencil
+/// State" and "Multisample State").
+pub fn check_targets(desc: &RenderDesc, limits: &Limits) -> Option<u16>
+    ensures { result ≡ first_unmet (target_rules limits.now desc.now) }
+{
+    let targets = desc.targets.as_slice();
+    if targets.len() as u64 > u64::from(limits.max_color_attachments) || !are_color(targets) {
+        return Some(163);
+    }
+    if !desc.depth.is_none_or(depth_fits) {
+        return Some(164);
+    }
+    if !has_target(targets) && desc.depth.is_none() {
+        return Some(165);
+    }
+    if !samples_fit(desc.samples, targets, desc.depth) {
+        return Some(166);
+    }
+    None
+}

@@ -1,0 +1,27 @@
+-- The views of attachments, by the attachments that are left.
+use Rattle.std.specs.Prelude.{◌≡◌, Bool, ◌&&◌, List, Option, ◌++◌, map, option_map}
+use Rattle.std.specs.List.{flat_map}
+use Rattle.std.specs.Option.{option_to_list}
+use Rattle.wg_types.specs.declared.textures.ViewInfo.{ViewInfo}
+use Rattle.wg_model.specs.Attachments.{ColorTarget, DepthTarget, color_view, depth_view, target_views, are_apart}
+
+-- the color attachments that are not left out
+abbrev pub given_of : List (Option ColorTarget) → List ColorTarget
+given_of colors = flat_map (λ (color : Option ColorTarget). option_to_list color) colors
+
+-- the view of a depth attachment, if there is one
+abbrev pub depth_views : Option DepthTarget → List ViewInfo
+depth_views depth = option_to_list (option_map depth_view depth)
+
+-- the views to which a pass draws
+abbrev pub drawn_in : List (Option ColorTarget) → Option DepthTarget → List ViewInfo
+drawn_in colors depth = map color_view (given_of colors) ++ depth_views depth
+
+-- all views that are attached
+abbrev pub attached_in : List (Option ColorTarget) → Option DepthTarget → List ViewInfo
+attached_in colors depth = flat_map target_views (given_of colors) ++ depth_views depth
+
+-- The answer to whether views share no subresource among themselves and with those that come after them. These are not looked
+-- at among themselves.
+abbrev pub AreApartBefore : List ViewInfo → List ViewInfo → Bool → Type 0
+AreApartBefore views later answer = are_apart (views ++ later) ≡ (answer && are_apart later)

@@ -1,0 +1,296 @@
+//! The rules of the begin of a render pass.
+ghost use Rattle.std.specs.Prelude.{◌≡◌, ◌||◌, true, is_some};
+ghost use Rattle.std.specs.List.{list_all, list_any};
+ghost use Rattle.std.specs.Option.{option_map_or};
+ghost use Rattle.wg_model.specs.Rules.{first_unmet};
+ghost use Rattle.wg_model.specs.Subresources.{views_meet};
+ghost use Rattle.wg_model.specs.Attachments.{color_view, depth_view, target_views, is_flat, is_renderable, color_fits, has_all_aspects, depth_fits, ops_fit, depth_ops_fit, same_extent, are_alike, all_alike, are_apart, resolves_to, resolve_fits, begin_rules};
+ghost use Rattle.wg_render.specs.Attached.{given_of, drawn_in, attached_in, AreApartBefore};
+
+use crate::views::{ColorTarget, DepthTarget, RenderBegin, view_of};
+use wg_formats::{extent, has_named, is_color, named_aspects};
+use wg_subres::views_meet;
+use wg_types::render::{LoadOp, StoreOp};
+use wg_types::textures::{AspectWord, ViewDim, ViewInfo};
+
+/// How many color attachments there may be.
+const MOST_COLORS: usize = 8;
+
+/// The usage bit that a texture needs to be drawn to.
+const RENDER_ATTACHMENT: u32 = 16;
+
+/// Whether a view of this dimension may be drawn to.
+fn is_flat(dim: ViewDim) -> bool
+    ensures { result ≡ is_flat dim }
+{
+    match dim {
+        ViewDim::Two | ViewDim::TwoArray => true,
+        ViewDim::One | ViewDim::Cube | ViewDim::CubeArray | ViewDim::Three => false,
+    }
+}
+
+/// Whether a view may be drawn to, whatever its format.
+fn is_renderable(view: &ViewInfo) -> bool
+    ensures { result ≡ is_renderable view.now }
+{
+    view.texture_info.usage & RENDER_ATTACHMENT != 0
+        && is_flat(view.dim)
+        && view.mips == 1
+        && view.layers == 1
+}
+
+/// Whether a view may be a color attachment.
+fn color_fits(view: &ViewInfo) -> bool
+    ensures { result ≡ color_fits view.now }
+{
+    is_renderable(view) && is_color(view.texture_info.format)
+}
+
+/// Whether a view has all aspects of its texture's format.
+fn has_all_aspects(view: &ViewInfo) -> bool
+    ensures { result ≡ has_all_aspects view.now }
+{
+    let format = view.texture_info.format;
+    named_aspects(view.aspect, format).len() == named_aspects(AspectWord::All, format).len()
+}
+
+/// Whether a view may be a depth attachment.
+fn depth_fits(view: &ViewInfo) -> bool
+    ensures { result ≡ depth_fits view.now }
+{
+    is_renderable(view) && !is_color(view.texture_info.format) && has_all_aspects(view)
+}
+
+/// Whether load and store are given exactly where they are wanted.
+fn ops_fit(wanted: bool, load: Option<LoadOp>, store: Option<StoreOp>) -> bool
+    ensures { result ≡ ops_fit wanted load store }
+{
+    load.is_some() == wanted && store.is_some() == wanted
+}
+
+/// Whether they are for depth and for stencil.
+fn depth_ops_fit(target: &DepthTarget) -> bool
+    ensures { result ≡ depth_ops_fit target.now }
+{
+    let format = view_of(&target.view).texture_info.format;
+    let depth = has_named(AspectWord::DepthOnly, format) && !target.depth_read_only;
+    let stencil = has_named(AspectWord::StencilOnly, format) && !target.stencil_read_only;
+    ops_fit(depth, target.depth_load, target.depth_store)
+        && ops_fit(stencil, target.stencil_load, target.stencil_store)
+}
+
+/// Whether the mip levels of two views are equally wide and high.
+fn same_extent(a: &ViewInfo, b: &ViewInfo) -> bool
+    ensures { result ≡ same_extent a.now b.now }
+{
+    let size = extent(&a.texture_info, a.base_mip);
+    let other = extent(&b.texture_info, b.base_mip);
+    size[0] == other[0] && size[1] == other[1]
+}
+
+/// Whether two views have one extent and one count of samples.
+fn are_alike(a: &ViewInfo, b: &ViewInfo) -> bool
+    ensures { result ≡ are_alike a.now b.now }
+{
+    same_extent(a, b) && a.texture_info.samples == b.texture_info.samples
+}
+
+/// Whether a view may be resolved to another.
+fn resolves_to(view: &ViewInfo, target: &ViewInfo) -> bool
+    ensures { result ≡ resolves_to view.now target.now }
+{
+    view.texture_info.samples == 4
+        && target.texture_info.samples == 1
+        && color_fits(target)
+        && view.texture_info.format == target.texture_info.format
+        && same_extent(view, target)
+}
+
+/// Whether what an attachment is resolved to will do.
+fn resolve_fits(target: &ColorTarget) -> bool
+    ensures { result ≡ resolve_fits target.now }
+{
+    match &target.resolve {
+        Some(resolve) => resolves_to(&view_of(&target.view), &view_of(resolve)),
+        None => true,
+    }
+}
+
+/// Whether some color attachment is given.
+fn some_color(colors: &[Option<ColorTarget>]) -> bool
+    ensures { result ≡ list_any (λ color. is_some color) colors.now }
+{
+    colors.iter().any(|color| color.is_some())
+}
+
+/// Whether some attachment is given.
+fn some_given(begin: &RenderBegin) -> bool
+    ensures { result ≡ (list_any (λ color. is_some color) begin.now.colors || is_some begin.now.depth) }
+{
+    some_color(begin.colors.as_slice()) || begin.depth.is_some()
+}
+
+/// Whether each color view may be a color attachment.
+fn colors_fit(colors: &[Option<ColorTarget>]) -> bool
+    ensures { result ≡ list_all (λ target. color_fits (color_view target)) (given_of colors.now) }
+{
+    for color in colors {
+        let Some(target) = color else { continue };
+        if !color_fits(&view_of(&target.view)) {
+            return false;
+        }
+    }
+    true
+}
+
+/// Whether what each color attachment is resolved to will do.
+fn resolves_fit(colors: &[Option<ColorTarget>]) -> bool
+    ensures { result ≡ list_all resolve_fits (given_of colors.now) }
+{
+    for color in colors {
+        let Some(target) = color else { continue };
+        if !resolve_fits(target) {
+            return false;
+        }
+    }
+    true
+}
+
+/// Whether a view is like all to which a pass draws.
+fn is_like_all(view: &ViewInfo, colors: &[Option<ColorTarget>], depth: &Option<DepthTarget>) -> bool
+    ensures { result ≡ list_all (are_alike view.now) (drawn_in colors.now depth.now) }
+{
+    for color in colors {
+        let Some(target) = color else { continue };
+        if !are_alike(view, &view_of(&target.view)) {
+            return false;
+        }
+    }
+    match depth {
+        Some(target) => are_alike(view, &view_of(&target.view)),
+        None => true,
+    }
+}
+
+/// Whether all views to which a pass draws are alike.
+#[tactic(auto, using(crate::proofs::Alike::alike_first))]
+fn all_alike(colors: &[Option<ColorTarget>], depth: &Option<DepthTarget>) -> bool
+    ensures { result ≡ all_alike (drawn_in colors.now depth.now) }
+{
+    for (i, color) in colors.iter().enumerate() {
+        let Some(target) = color else { continue };
+        return is_like_all(&view_of(&target.view), &colors[i..], depth);
+    }
+    true
+}
+
+/// Whether a view has a subresource in common with one of those that are attached.
+fn meets_some(view: &ViewInfo, colors: &[Option<ColorTarget>], depth: &Option<DepthTarget>) -> bool
+    ensures { result ≡ list_any (views_meet view.now) (attached_in colors.now depth.now) }
+{
+    for color in colors {
+        let Some(target) = color else { continue };
+        if views_meet(view, &view_of(&target.view)) {
+            return true;
+        }
+        if let Some(resolve) = &target.resolve {
+            if views_meet(view, &view_of(resolve)) {
+                return true;
+            }
+        }
+    }
+    match depth {
+        Some(target) => views_meet(view, &view_of(&target.view)),
+        None => false,
+    }
+}
+
+/// Whether a color attachment's views have no subresource in common, and none with those that are
+/// attached behind it.
+fn is_apart(
+    target: &ColorTarget,
+    colors: &[Option<ColorTarget>],
+    depth: &Option<DepthTarget>,
+) -> bool
+    ensures { AreApartBefore (target_views target.now) (attached_in colors.now depth.now) result }
+{
+    let view = view_of(&target.view);
+    if meets_some(&view, colors, depth) {
+        return false;
+    }
+    match &target.resolve {
+        Some(resolve) => {
+            let resolve = view_of(resolve);
+            !views_meet(&view, &resolve) && !meets_some(&resolve, colors, depth)
+        }
+        None => true,
+    }
+}
+
+/// Whether no subresource is attached twice.
+#[tactic(auto, using(crate::proofs::Alike::attached_cons))]
+fn are_apart(colors: &[Option<ColorTarget>], depth: &Option<DepthTarget>) -> bool
+    ensures { result ≡ are_apart (attached_in colors.now depth.now) }
+{
+    for (i, color) in colors.iter().enumerate() {
+        let Some(target) = color else { continue };
+        if !is_apart(target, &colors[i + 1..], depth) {
+            return false;
+        }
+    }
+    true
+}
+
+/// Whether a depth attachment will do, if there is one.
+fn depth_view_fits(depth: &Option<DepthTarget>) -> bool
+    ensures { result ≡ option_map_or (λ target. depth_fits (depth_view target)) depth.now true }
+{
+    match depth {
+        Some(target) => depth_fits(&view_of(&target.view)),
+        None => true,
+    }
+}
+
+/// Whether load and store are given as a depth attachment wants them, if there is one.
+fn ops_given_fit(depth: &Option<DepthTarget>) -> bool
+    ensures { result ≡ option_map_or depth_ops_fit depth.now true }
+{
+    match depth {
+        Some(target) => depth_ops_fit(target),
+        None => true,
+    }
+}
+
+/// The number of the first unmet rule of beginRenderPass, but for those on the objects that it names
+/// (WebGPU, "Render Pass Encoder Creation" and "Render Pass Attachments"); none where the pass may begin.
+#[tactic(auto, unfolding(wg_model::specs::Attachments::begin_rules))]
+pub fn check_begin(begin: &RenderBegin) -> Option<u16>
+    ensures { result ≡ first_unmet (begin_rules begin.now) }
+{
+    let colors = begin.colors.as_slice();
+    if colors.len() > MOST_COLORS {
+        return Some(300);
+    }
+    if !some_given(begin) {
+        return Some(301);
+    }
+    if !colors_fit(colors) {
+        return Some(302);
+    }
+    if !depth_view_fits(&begin.depth) {
+        return Some(303);
+    }
+    if !ops_given_fit(&begin.depth) {
+        return Some(304);
+    }
+    if !all_alike(colors, &begin.depth) {
+        return Some(305);
+    }
+    if !are_apart(colors, &begin.depth) {
+        return Some(306);
+    }
+    if !resolves_fit(colors) {
+        return Some(307);
+    }
+    None
+}

@@ -1,0 +1,101 @@
+//! What draws go by: the vertex and index buffers that are set.
+ghost use Rattle.std.specs.Prelude.{◌≡◌, ◌+◌, ◌%◌, ◌==◌, None, nat_le, is_some, slice_index_or};
+ghost use Rattle.wg_types.specs.Vertex.{index_bytes};
+ghost use Rattle.wg_model.specs.Rules.{first_unmet};
+ghost use Rattle.wg_model.specs.Render.{vertex_rules, index_rules, are_set, indices_fit};
+
+use wg_formats::buffer_of;
+use wg_types::handles::Handle;
+use wg_types::vertex::{IndexFormat, VertexBuffer};
+
+/// How many vertex buffers may be set.
+pub const MOST_SLOTS: u32 = 8;
+
+/// The usage bit that an index buffer needs.
+const INDEX: u32 = 16;
+
+/// The usage bit that a vertex buffer needs.
+const VERTEX: u32 = 32;
+
+/// Whether a range fits so many bytes.
+fn range_fits(offset: u64, size: u64, bytes: u64) -> bool
+    ensures { result ≡ nat_le (offset + size) bytes }
+{
+    u128::from(offset) + u128::from(size) <= u128::from(bytes)
+}
+
+/// The first unmet rule of setVertexBuffer (WebGPU, "setVertexBuffer").
+pub fn check_vertex(slot: u32, buffer: &Handle, offset: u64, size: u64) -> Option<u16>
+    ensures { result ≡ first_unmet (vertex_rules slot buffer.now offset size) }
+{
+    let info = buffer_of(buffer);
+    if info.usage & VERTEX == 0 {
+        return Some(330);
+    }
+    if slot >= MOST_SLOTS {
+        return Some(331);
+    }
+    if offset % 4 != 0 {
+        return Some(332);
+    }
+    if !range_fits(offset, size, info.size) {
+        return Some(333);
+    }
+    None
+}
+
+/// Whether an offset is a multiple of the bytes of an index.
+fn is_aligned(format: IndexFormat, offset: u64) -> bool
+    ensures { result ≡ (offset % index_bytes format == 0) }
+{
+    match format {
+        IndexFormat::Uint16 => offset % 2 == 0,
+        IndexFormat::Uint32 => offset % 4 == 0,
+    }
+}
+
+/// The first unmet rule of setIndexBuffer (WebGPU, "setIndexBuffer").
+pub fn check_index(buffer: &Handle, format: IndexFormat, offset: u64, size: u64) -> Option<u16>
+    ensures { result ≡ first_unmet (index_rules buffer.now format offset size) }
+{
+    let info = buffer_of(buffer);
+    if info.usage & INDEX == 0 {
+        return Some(335);
+    }
+    if !is_aligned(format, offset) {
+        return Some(336);
+    }
+    if !range_fits(offset, size, info.size) {
+        return Some(337);
+    }
+    None
+}
+
+/// Whether a range is set in a slot.
+fn is_set(ranges: &[Option<u64>], slot: usize) -> bool
+    ensures { result ≡ is_some (slice_index_or ranges.now slot None) }
+{
+    slot < ranges.len() && ranges[slot].is_some()
+}
+
+/// Whether a range is set for each of these vertex buffers, by slot.
+pub fn are_set(buffers: &[VertexBuffer], ranges: &[Option<u64>]) -> bool
+    ensures { result ≡ are_set buffers.now ranges.now 0 }
+{
+    for (slot, _) in buffers.iter().enumerate() {
+        if !is_set(ranges, slot) {
+            return false;
+        }
+    }
+    true
+}
+
+/// Whether so many indexes, from the first on, fit the range of the index buffer.
+pub fn indices_fit(first: u32, indices: u32, index: Option<(IndexFormat, u64)>) -> bool
+    ensures { result ≡ indices_fit first indices index }
+{
+    match index {
+        Some((format, size)) => (u64::from(first) + u64::from(indices)) * format.bytes() <= size,
+        None => false,
+    }
+}

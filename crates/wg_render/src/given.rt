@@ -1,0 +1,73 @@
+//! What a command sets in render passes alone: a vertex buffer, or the index buffer.
+ghost use Rattle.std.specs.Prelude.{◌≡◌};
+ghost use Rattle.wg_model.specs.Render.{vertex_given, index_given};
+
+use wg_formats::size_or_rest;
+use wg_types::commands::Command;
+use wg_types::vertex::IndexFormat;
+
+/// The slot and the size of the range that a command sets as a vertex buffer, if it sets one.
+pub fn vertex_given(command: &Command) -> Option<(u32, u64)>
+    ensures { result ≡ vertex_given command.now }
+{
+    match command {
+        Command::SetVertexBuffer {
+            slot,
+            buffer,
+            offset,
+            size,
+        } => Some((*slot, size_or_rest(buffer, *offset, *size))),
+        Command::BeginComputePass
+        | Command::BeginRenderPass { .. }
+        | Command::CopyBufferToBuffer { .. }
+        | Command::CopyBufferToTexture { .. }
+        | Command::CopyTextureToBuffer { .. }
+        | Command::CopyTextureToTexture { .. }
+        | Command::ClearBuffer { .. }
+        | Command::PushDebugGroup
+        | Command::PopDebugGroup
+        | Command::End
+        | Command::SetPipeline { .. }
+        | Command::SetBindGroup { .. }
+        | Command::Dispatch { .. }
+        | Command::DispatchIndirect { .. }
+        | Command::SetIndexBuffer { .. }
+        | Command::Draw { .. }
+        | Command::DrawIndexed { .. }
+        | Command::DrawIndirect { .. }
+        | Command::DrawIndexedIndirect { .. } => None,
+    }
+}
+
+/// The format and the size of the range that a command sets as the index buffer, if it sets one.
+pub fn index_given(command: &Command) -> Option<(IndexFormat, u64)>
+    ensures { result ≡ index_given command.now }
+{
+    match command {
+        Command::SetIndexBuffer {
+            buffer,
+            format,
+            offset,
+            size,
+        } => Some((*format, size_or_rest(buffer, *offset, *size))),
+        Command::BeginComputePass
+        | Command::BeginRenderPass { .. }
+        | Command::CopyBufferToBuffer { .. }
+        | Command::CopyBufferToTexture { .. }
+        | Command::CopyTextureToBuffer { .. }
+        | Command::CopyTextureToTexture { .. }
+        | Command::ClearBuffer { .. }
+        | Command::PushDebugGroup
+        | Command::PopDebugGroup
+        | Command::End
+        | Command::SetPipeline { .. }
+        | Command::SetBindGroup { .. }
+        | Command::Dispatch { .. }
+        | Command::DispatchIndirect { .. }
+        | Command::SetVertexBuffer { .. }
+        | Command::Draw { .. }
+        | Command::DrawIndexed { .. }
+        | Command::DrawIndirect { .. }
+        | Command::DrawIndexedIndirect { .. } => None,
+    }
+}

@@ -1,0 +1,324 @@
+//! Render passes: what is set in one, the rules of their commands, and the step of a whole pass.
+ghost use Rattle.std.specs.Prelude.{◌≡◌, IfOk, OnOk, OnErr};
+ghost use Rattle.wg_types.specs.declared.commands.CommandOf.TheVariants.{Draw, DrawIndexed, DrawIndirect, DrawIndexedIndirect};
+ghost use Rattle.wg_model.specs.Rules.{first_unmet, or_else};
+ghost use Rattle.wg_model.specs.Vertex.{draw_fits};
+ghost use Rattle.wg_model.specs.Render.{buffers_wanted, are_set, drawing_rules, render_rules, render_does};
+ghost use Rattle.wg_access.specs.Done.{done_by_pass};
+ghost use Rattle.wg_compute.specs.After.{slots_after};
+ghost use Rattle.wg_render.specs.After.{render_after};
+
+use crate::draws::{MOST_SLOTS, are_set, check_index, check_vertex, indices_fit};
+use crate::given::{index_given, vertex_given};
+use crate::pipelines::{buffers_wanted, check_pipeline};
+use crate::targets::{targets_of, targets_touches};
+use crate::touches::{DRAW_BYTES, DRAW_INDEXED_BYTES, command_touches};
+use crate::views::RenderBegin;
+use std::alloc::Global;
+use std::marker::Model;
+use wg_access::Done;
+use wg_compute::{Settings, check_end, check_given, check_group, check_indirect, pipeline_given};
+use wg_formats::size_or_rest;
+use wg_types::NoMemory;
+use wg_types::commands::Command;
+use wg_types::handles::Handle;
+use wg_types::render::TargetInfo;
+use wg_types::steps::{StepName, Touch};
+use wg_types::vertex::IndexFormat;
+
+/// What is set in a render pass: what is set in any pass, the sizes of the ranges that are set as vertex
+/// buffers by slot, and the index buffer; to what the pass draws, and what it touches so far.
+#[derive(Drop)]
+pub struct RenderState {
+    set: Settings,
+    ranges: [Option<u64>; 8],
+    index: Option<(IndexFormat, u64)>,
+    targets: TargetInfo,
+    touches: Vec<Touch>,
+}
+
+impl Model for RenderState {
+    ghost use Rattle.std.specs.Prelude.{◌≡◌, length};
+    ghost use Rattle.wg_model.specs.Render.{RenderSet};
+
+    ghost Value = { RenderSet };
+
+    ghost view = { λ s. record { set = s.set; ranges = s.ranges; index = s.index; targets = s.targets; touches = s.touches.items } };
+
+    ghost invariant = { λ s. length s.ranges ≡ 8 };
+}
+
+impl RenderState {
+    ghost use Rattle.wg_model.specs.Render.{render_set};
+    ghost use Rattle.std.specs.Prelude.{[]};
+
+    /// Nothing is set but the attachments.
+    pub fn new(alloc: Global, begin: &RenderBegin) -> Result<RenderState, NoMemory>
+        ensures { IfOk result (λ state. state ≡ render_set begin.now []) }
+    {
+        let targets = targets_of(alloc, begin)?;
+        let touches = targets_touches(alloc, begin)?;
+        Ok(RenderState {
+            set: Settings::new(),
+            ranges: [None; 8],
+            index: None,
+            targets,
+            touches: touches.into_vec(),
+        })
+    }
+
+    /// Whether each vertex buffer of the pipeline is set.
+    fn buffers_are_set(&self) -> bool
+        ensures { result ≡ are_set (buffers_wanted self.now.set) self.now.ranges 0 }
+    {
+        are_set(buffers_wanted(&self.set), &self.ranges)
+    }
+
+    /// Whether so many vertices and instances fit the ranges of the vertex buffers.
+    fn draw_fits(&self, vertices: Option<u64>, instances: u64) -> bool
+        ensures { result ≡ draw_fits (buffers_wanted self.now.set) self.now.ranges vertices instances }
+    {
+        wg_vertex::fits(buffers_wanted(&self.set), &self.ranges, vertices, instances)
+    }
+
+    #[tactic(auto, using(wg_model::proofs::Unmet::first_unmet_joined))]
+    fn check_draw(
+        &self,
+        vertices: u32,
+        instances: u32,
+        first_vertex: u32,
+        first_instance: u32,
+    ) -> Option<u16>
+        ensures { result ≡ first_unmet (drawing_rules self.now (Draw vertices instances first_vertex first_instance)) }
+    {
+        if let Some(rule) = self.set.ready_rule() {
+            return Some(rule);
+        }
+        if !self.buffers_are_set() {
+            return Some(350);
+        }
+        let vertices = u64::from(first_vertex) + u64::from(vertices);
+        let instances = u64::from(first_instance) + u64::from(instances);
+        if !self.draw_fits(Some(vertices), instances) {
+            return Some(351);
+        }
+        None
+    }
+
+    #[tactic(auto, using(wg_model::proofs::Unmet::first_unmet_joined))]
+    fn check_draw_indexed(
+        &self,
+        indices: u32,
+        instances: u32,
+        first_index: u32,
+        first_instance: u32,
+    ) -> Option<u16>
+        ensures { result ≡ first_unmet (drawing_rules self.now (DrawIndexed indices instances first_index first_instance)) }
+    {
+        if let Some(rule) = self.set.ready_rule() {
+            return Some(rule);
+        }
+        if !self.buffers_are_set() {
+            return Some(350);
+        }
+        if self.index.is_none() {
+            return Some(352);
+        }
+        if !indices_fit(first_index, indices, self.index) {
+            return Some(353);
+        }
+        let instances = u64::from(first_instance) + u64::from(instances);
+        if !self.draw_fits(None, instances) {
+            return Some(351);
+        }
+        None
+    }
+
+    #[tactic(auto, using(wg_model::proofs::Unmet::first_unmet_joined))]
+    fn check_draw_indirect(&self, buffer: &Handle, offset: u64) -> Option<u16>
+        ensures { result ≡ first_unmet (drawing_rules self.now (DrawIndirect buffer.now offset)) }
+    {
+        if let Some(rule) = self.set.ready_rule() {
+            return Some(rule);
+        }
+        if let Some(rule) = check_indirect(buffer, offset, DRAW_BYTES) {
+            return Some(rule);
+        }
+        if !self.buffers_are_set() {
+            return Some(350);
+        }
+        None
+    }
+
+    #[tactic(auto, using(wg_model::proofs::Unmet::first_unmet_joined))]
+    fn check_draw_indexed_indirect(&self, buffer: &Handle, offset: u64) -> Option<u16>
+        ensures { result ≡ first_unmet (drawing_rules self.now (DrawIndexedIndirect buffer.now offset)) }
+    {
+        if let Some(rule) = self.set.ready_rule() {
+            return Some(rule);
+        }
+        if let Some(rule) = check_indirect(buffer, offset, DRAW_INDEXED_BYTES) {
+            return Some(rule);
+        }
+        if !self.buffers_are_set() {
+            return Some(350);
+        }
+        if self.index.is_none() {
+            return Some(352);
+        }
+        None
+    }
+
+    /// The first unmet rule of what draws, or sets a vertex buffer or the index buffer.
+    fn drawing_rule(&self, command: &Command) -> Option<u16>
+        ensures { result ≡ first_unmet (drawing_rules self.now command.now) }
+    {
+        match command {
+            Command::SetVertexBuffer {
+                slot,
+                buffer,
+                offset,
+                size,
+            } => check_vertex(*slot, buffer, *offset, size_or_rest(buffer, *offset, *size)),
+            Command::SetIndexBuffer {
+                buffer,
+                format,
+                offset,
+                size,
+            } => check_index(
+                buffer,
+                *format,
+                *offset,
+                size_or_rest(buffer, *offset, *size),
+            ),
+            Command::Draw {
+                vertices,
+                instances,
+                first_vertex,
+                first_instance,
+            } => self.check_draw(*vertices, *instances, *first_vertex, *first_instance),
+            Command::DrawIndexed {
+                indices,
+                instances,
+                first_index,
+                first_instance,
+            } => self.check_draw_indexed(*indices, *instances, *first_index, *first_instance),
+            Command::DrawIndirect { buffer, offset } => self.check_draw_indirect(buffer, *offset),
+            Command::DrawIndexedIndirect { buffer, offset } => {
+                self.check_draw_indexed_indirect(buffer, *offset)
+            }
+            Command::BeginComputePass
+            | Command::BeginRenderPass { .. }
+            | Command::CopyBufferToBuffer { .. }
+            | Command::CopyBufferToTexture { .. }
+            | Command::CopyTextureToBuffer { .. }
+            | Command::CopyTextureToTexture { .. }
+            | Command::ClearBuffer { .. }
+            | Command::PushDebugGroup
+            | Command::PopDebugGroup
+            | Command::End
+            | Command::SetPipeline { .. }
+            | Command::SetBindGroup { .. }
+            | Command::Dispatch { .. }
+            | Command::DispatchIndirect { .. } => None,
+        }
+    }
+
+    /// The number of the first unmet rule of a command, but for those on the objects that it names
+    /// (WebGPU, "GPURenderCommandsMixin"); none where the command may be taken.
+    #[tactic(auto, using(crate::proofs::Rules::rules_parted))]
+    pub fn rule(&self, command: &Command) -> Option<u16>
+        ensures { result ≡ first_unmet (render_rules self.now command.now) }
+    {
+        if let Some(rule) = check_group(self.set.depth(), command) {
+            return Some(rule);
+        }
+        if let Some(rule) = check_end(self.set.depth(), command) {
+            return Some(rule);
+        }
+        if let Some(rule) = check_pipeline(&self.targets, pipeline_given(command)) {
+            return Some(rule);
+        }
+        if let Some(rule) = check_given(command) {
+            return Some(rule);
+        }
+        self.drawing_rule(command)
+    }
+
+    /// Sets the range of a vertex buffer. There is no slot past the last, so nothing is set there.
+    #[tactic(auto, using(wg_compute::proofs::Slots::slots_unset, wg_compute::proofs::Slots::slot_set, wg_compute::proofs::Slots::slots_past))]
+    fn set_range(&mut self, given: Option<(u32, u64)>)
+        ensures { self.new ≡ record self.old { ranges = slots_after given 0 self.old.ranges } }
+    {
+        if let Some((slot, size)) = given {
+            if slot < MOST_SLOTS {
+                self.ranges[slot as usize] = Some(size);
+            }
+        }
+    }
+
+    fn set_index(&mut self, given: Option<(IndexFormat, u64)>)
+        ensures { self.new ≡ record self.old { index = or_else given self.old.index } }
+    {
+        if given.is_some() {
+            self.index = given;
+        }
+    }
+
+    /// Takes what a command sets, and adds what it touches.
+    fn add(&mut self, alloc: Global, command: &Command) -> Result<(), NoMemory>
+        ensures set { OnOk result (self.new ≡ render_after self.old command.now) }
+        ensures unchanged { OnErr result (self.new ≡ self.old) }
+    {
+        let more = command_touches(alloc, command)?;
+        let more = more.as_slice();
+        self.touches.reserve(more.len())?;
+        self.set.take(command)?;
+        // There is room for these, so that this does not fail.
+        self.touches.extend_from_slice(more)?;
+        self.set_range(vertex_given(command));
+        self.set_index(index_given(command));
+        Ok(())
+    }
+
+    /// Takes a command no rule of which is unmet, and adds the step of the whole pass to what is done
+    /// where the command ends it. A setBindGroup of an index that no device has, and ranges that end past
+    /// every number, which such commands don't have, are answered as want of memory.
+    #[tactic(auto, unfolding(wg_model::specs::Render::render_does), using(crate::proofs::Grown::after_end))]
+    pub fn take(
+        &mut self,
+        done: &mut Done,
+        alloc: Global,
+        command: &Command,
+    ) -> Result<(), NoMemory>
+        ensures set { OnOk result (self.new ≡ render_after self.old command.now) }
+        ensures done { OnOk result (done.new ≡ done_by_pass done.old (render_does self.old command.now)) }
+        ensures unchanged { OnErr result (self.new ≡ self.old) }
+        ensures none_done { OnErr result (done.new ≡ done.old) }
+    {
+        match command {
+            Command::End => {
+                return done.add(alloc, StepName::RenderPass, self.touches.as_slice());
+            }
+            Command::BeginComputePass
+            | Command::BeginRenderPass { .. }
+            | Command::CopyBufferToBuffer { .. }
+            | Command::CopyBufferToTexture { .. }
+            | Command::CopyTextureToBuffer { .. }
+            | Command::CopyTextureToTexture { .. }
+            | Command::ClearBuffer { .. }
+            | Command::PushDebugGroup
+            | Command::PopDebugGroup
+            | Command::SetPipeline { .. }
+            | Command::SetBindGroup { .. }
+            | Command::Dispatch { .. }
+            | Command::DispatchIndirect { .. }
+            | Command::SetVertexBuffer { .. }
+            | Command::SetIndexBuffer { .. }
+            | Command::Draw { .. }
+            | Command::DrawIndexed { .. }
+            | Command::DrawIndirect { .. }
+            | Command::DrawIndexedIndirect { .. } => return self.add(alloc, command),
+        }
+    }
+}

@@ -1,0 +1,298 @@
+//! To what a render pass draws, and what its attachments touch.
+ghost use Rattle.std.specs.Prelude.{◌≡◌, ◌++◌, false, map, option_map, IfOk, OnOk};
+ghost use Rattle.std.specs.List.{flat_map};
+ghost use Rattle.std.specs.Option.{option_map_or};
+ghost use Rattle.wg_model.specs.Subresources.{run_cells};
+ghost use Rattle.wg_model.specs.Attachments.{color_view, depth_view, samples_of, targets_of, view_parts, attach_kind, attached, resolve_touches, color_touches, aspect_how, depth_how, run_aspect, depth_touch, depth_touches, targets_touches};
+ghost use Rattle.wg_render.specs.Attached.{drawn_in};
+
+use crate::views::{ColorTarget, DepthTarget, RenderBegin, attached_view, view_of};
+use std::alloc::Global;
+use wg_subres::{PartRuns, of_view};
+use wg_types::NoMemory;
+use wg_types::formats::Format;
+use wg_types::handles::Handle;
+use wg_types::items::Items;
+use wg_types::parts::{Aspect, Cells, Kind, PartRun};
+use wg_types::render::{LoadOp, StoreOp, TargetInfo};
+use wg_types::steps::{Touch, Touches};
+use wg_types::usages::Usages;
+
+/// The format of a color attachment, if there is one.
+fn color_format(color: &Option<ColorTarget>) -> Option<Format>
+    ensures { result ≡ option_map (λ target. (color_view target).texture_info.format) color.now }
+{
+    match color {
+        Some(target) => Some(view_of(&target.view).texture_info.format),
+        None => None,
+    }
+}
+
+/// The formats of the color attachments, by slot.
+fn color_formats(
+    alloc: Global,
+    colors: &[Option<ColorTarget>],
+) -> Result<Items<Option<Format>>, NoMemory>
+    ensures { IfOk result (λ formats. formats ≡ map (option_map (λ target. (color_view target).texture_info.format)) colors.now) }
+{
+    let mut formats = Items::new(alloc);
+    for color in colors {
+        formats.push(color_format(color))?;
+    }
+    Ok(formats)
+}
+
+/// The format of the depth attachment, if there is one.
+fn depth_format(depth: &Option<DepthTarget>) -> Option<Format>
+    ensures { result ≡ option_map (λ target. (depth_view target).texture_info.format) depth.now }
+{
+    match depth {
+        Some(target) => Some(view_of(&target.view).texture_info.format),
+        None => None,
+    }
+}
+
+/// The count of samples of the first view to which a pass draws.
+fn samples_of(colors: &[Option<ColorTarget>], depth: &Option<DepthTarget>) -> u32
+    ensures { result ≡ samples_of (drawn_in colors.now depth.now) }
+{
+    for color in colors {
+        let Some(target) = color else { continue };
+        return view_of(&target.view).texture_info.samples;
+    }
+    match depth {
+        Some(target) => view_of(&target.view).texture_info.samples,
+        None => 1,
+    }
+}
+
+/// Whether depth is only read.
+fn reads_depth(depth: &Option<DepthTarget>) -> bool
+    ensures { result ≡ option_map_or (λ target. target.depth_read_only) depth.now false }
+{
+    match depth {
+        Some(target) => target.depth_read_only,
+        None => false,
+    }
+}
+
+/// Whether stencil is only read.
+fn reads_stencil(depth: &Option<DepthTarget>) -> bool
+    ensures { result ≡ option_map_or (λ target. target.stencil_read_only) depth.now false }
+{
+    match depth {
+        Some(target) => target.stencil_read_only,
+        None => false,
+    }
+}
+
+/// To what a render pass draws (WebGPU, "GPURenderPassLayout"). Where its views differ in their count of
+/// samples, which rule 305 refuses, it is that of the first.
+pub fn targets_of(alloc: Global, begin: &RenderBegin) -> Result<TargetInfo, NoMemory>
+    ensures { IfOk result (λ targets. targets ≡ targets_of begin.now) }
+{
+    let colors = color_formats(alloc, begin.colors.as_slice())?;
+    Ok(TargetInfo {
+        colors,
+        depth: depth_format(&begin.depth),
+        samples: samples_of(begin.colors.as_slice(), &begin.depth),
+        depth_read_only: reads_depth(&begin.depth),
+        stencil_read_only: reads_stencil(&begin.depth),
+    })
+}
+
+/// The subresources of a view.
+fn view_parts(alloc: Global, handle: &Handle) -> Result<PartRuns, NoMemory>
+    ensures { IfOk result (λ parts. parts ≡ view_parts handle.now) }
+{
+    match attached_view(handle) {
+        Some(view) => {
+            let parts = of_view(alloc, view)?;
+            return Ok(parts);
+        }
+        None => return Ok(Items::new(alloc)),
+    }
+}
+
+/// The cells of a run of parts.
+fn run_cells(run: PartRun) -> Cells
+    ensures { result ≡ run_cells run }
+{
+    match run {
+        PartRun::Buffer { object } => Cells::Bytes {
+            object,
+            lo: 0,
+            hi: 0,
+        },
+        PartRun::Queries { object } => Cells::Queries {
+            object,
+            lo: 0,
+            hi: 0,
+        },
+        PartRun::Texture {
+            object,
+            aspect,
+            mip,
+            lo,
+            hi,
+        } => Cells::Layers {
+            object,
+            aspect,
+            mip,
+            lo,
+            hi,
+        },
+    }
+}
+
+/// The aspect of a run of subresources.
+fn run_aspect(run: PartRun) -> Aspect
+    ensures { result ≡ run_aspect run }
+{
+    match run {
+        PartRun::Texture { aspect, .. } => aspect,
+        PartRun::Buffer { .. } | PartRun::Queries { .. } => Aspect::Color,
+    }
+}
+
+/// How an attachment is accessed: read where it is loaded, and left unset where it is discarded.
+fn attach_kind(load: LoadOp, store: StoreOp) -> Kind
+    ensures { result ≡ attach_kind load store }
+{
+    match (load, store) {
+        (LoadOp::Load, StoreOp::Store) => Kind::Both,
+        (LoadOp::Clear, StoreOp::Store) => Kind::Write,
+        (LoadOp::Load, StoreOp::Discard) => Kind::ReadDrop,
+        (LoadOp::Clear, StoreOp::Discard) => Kind::Drop,
+    }
+}
+
+/// Adds subresources that are all attached so.
+fn push_attached(
+    touches: &mut Touches,
+    how: (Usages, Kind),
+    runs: &[PartRun],
+) -> Result<(), NoMemory>
+    ensures { OnOk result (touches.new ≡ touches.old ++ map (attached how) runs.now) }
+{
+    for run in runs {
+        touches.push((run_cells(*run), how))?;
+    }
+    Ok(())
+}
+
+/// Adds the view to which an attachment is resolved.
+fn push_resolve(touches: &mut Touches, alloc: Global, view: &Option<Handle>) -> Result<(), NoMemory>
+    ensures { OnOk result (touches.new ≡ touches.old ++ resolve_touches view.now) }
+{
+    let Some(view) = view else { return Ok(()) };
+    let runs = view_parts(alloc, view)?;
+    push_attached(touches, (Usages::ATTACHMENT, Kind::Write), runs.as_slice())
+}
+
+/// Adds a color attachment, if there is one.
+fn push_color(
+    touches: &mut Touches,
+    alloc: Global,
+    color: &Option<ColorTarget>,
+) -> Result<(), NoMemory>
+    ensures { OnOk result (touches.new ≡ touches.old ++ color_touches color.now) }
+{
+    let Some(target) = color else { return Ok(()) };
+    let runs = view_parts(alloc, &target.view)?;
+    let how = (Usages::ATTACHMENT, attach_kind(target.load, target.store));
+    push_attached(touches, how, runs.as_slice())?;
+    push_resolve(touches, alloc, &target.resolve)
+}
+
+/// Adds color attachments.
+fn push_colors(
+    touches: &mut Touches,
+    alloc: Global,
+    colors: &[Option<ColorTarget>],
+) -> Result<(), NoMemory>
+    ensures { OnOk result (touches.new ≡ touches.old ++ flat_map color_touches colors.now) }
+{
+    for color in colors {
+        push_color(touches, alloc, color)?;
+    }
+    Ok(())
+}
+
+/// How an aspect of a depth attachment is used and accessed.
+fn aspect_how(read_only: bool, load: Option<LoadOp>, store: Option<StoreOp>) -> (Usages, Kind)
+    ensures { result ≡ aspect_how read_only load store }
+{
+    if read_only {
+        return (Usages::ATTACHMENT_READ, Kind::Read);
+    }
+    let kind = attach_kind(
+        load.unwrap_or(LoadOp::Load),
+        store.unwrap_or(StoreOp::Store),
+    );
+    (Usages::ATTACHMENT, kind)
+}
+
+fn depth_how(target: &DepthTarget, aspect: Aspect) -> (Usages, Kind)
+    ensures { result ≡ depth_how target.now aspect }
+{
+    match aspect {
+        Aspect::Color | Aspect::Depth => {
+            aspect_how(
+                target.depth_read_only,
+                target.depth_load,
+                target.depth_store,
+            )
+        }
+        Aspect::Stencil => aspect_how(
+            target.stencil_read_only,
+            target.stencil_load,
+            target.stencil_store,
+        ),
+    }
+}
+
+fn depth_touch(target: &DepthTarget, run: PartRun) -> Touch
+    ensures { result ≡ depth_touch target.now run }
+{
+    (run_cells(run), depth_how(target, run_aspect(run)))
+}
+
+/// Adds subresources of a depth attachment, each as its aspect is attached.
+fn push_aspects(
+    touches: &mut Touches,
+    target: &DepthTarget,
+    runs: &[PartRun],
+) -> Result<(), NoMemory>
+    ensures { OnOk result (touches.new ≡ touches.old ++ map (depth_touch target.now) runs.now) }
+{
+    for run in runs {
+        touches.push(depth_touch(target, *run))?;
+    }
+    Ok(())
+}
+
+/// Adds a depth attachment, if there is one.
+fn push_depth(
+    touches: &mut Touches,
+    alloc: Global,
+    depth: &Option<DepthTarget>,
+) -> Result<(), NoMemory>
+    ensures { OnOk result (touches.new ≡ touches.old ++ depth_touches depth.now) }
+{
+    let Some(target) = depth else { return Ok(()) };
+    let runs = view_parts(alloc, &target.view)?;
+    push_aspects(touches, target, runs.as_slice())
+}
+
+/// What the attachments of a render pass touch: each subresource of their views (WebGPU, "Render Pass
+/// Attachments").
+#[tactic(auto, unfolding(wg_model::specs::Attachments::targets_touches))]
+pub fn targets_touches(alloc: Global, begin: &RenderBegin) -> Result<Touches, NoMemory>
+    ensures { IfOk result (λ touches. touches ≡ targets_touches begin.now) }
+{
+    let mut touches = Items::new(alloc);
+    push_colors(&mut touches, alloc, begin.colors.as_slice())?;
+    push_depth(&mut touches, alloc, &begin.depth)?;
+    Ok(touches)
+}

@@ -1,0 +1,98 @@
+//! What the commands of render passes touch.
+ghost use Rattle.std.specs.Prelude.{◌≡◌, ◌++◌, Some, IfOk, OnOk};
+ghost use Rattle.wg_model.specs.Commands.{size_or_rest};
+ghost use Rattle.wg_model.specs.Render.{bound_group_touches, input_touch, input_touches, command_touches};
+
+use std::alloc::Global;
+use wg_compute::{GroupGiven, group_given, indirect_touch};
+use wg_formats::size_or_rest;
+use wg_layouts::{bound_touches, known_group};
+use wg_types::NoMemory;
+use wg_types::commands::{BoundGroup, Command};
+use wg_types::handles::Handle;
+use wg_types::items::Items;
+use wg_types::steps::{Touch, Touches};
+
+/// How many bytes an indirect draw reads.
+pub const DRAW_BYTES: u64 = 16;
+
+/// How many bytes an indirect draw of indexes reads.
+pub const DRAW_INDEXED_BYTES: u64 = 20;
+
+/// What a group touches that is set: as much as where a pipeline runs that has the group's own layout.
+#[tactic(auto, using(crate::proofs::Groups::own_layout))]
+fn group_touches(alloc: Global, given: &GroupGiven) -> Result<Touches, NoMemory>
+    ensures { IfOk result (λ touches. touches ≡ bound_group_touches (Some given.now)) }
+{
+    let Some(known) = known_group(given.group) else {
+        return Ok(Items::new(alloc));
+    };
+    let layouts = [known.layout_info.share()?];
+    let groups = [Some(BoundGroup {
+        group: given.group.share()?,
+        offsets: given.offsets.share()?,
+    })];
+    bound_touches(alloc, &layouts, &groups)
+}
+
+/// The range of a buffer that draws read: read as an indirect call reads its own.
+fn input_touch(buffer: &Handle, offset: u64, size: Option<u64>) -> Result<Touch, NoMemory>
+    ensures { IfOk result (λ touch. touch ≡ input_touch buffer.now offset (size_or_rest buffer.now offset size)) }
+{
+    indirect_touch(buffer, offset, size_or_rest(buffer, offset, size))
+}
+
+/// Adds what a command reads of vertex, index and indirect buffers.
+fn push_inputs(touches: &mut Touches, command: &Command) -> Result<(), NoMemory>
+    ensures { OnOk result (touches.new ≡ touches.old ++ input_touches command.now) }
+{
+    let touch = match command {
+        Command::SetVertexBuffer {
+            buffer,
+            offset,
+            size,
+            ..
+        }
+        | Command::SetIndexBuffer {
+            buffer,
+            offset,
+            size,
+            ..
+        } => input_touch(buffer, *offset, *size)?,
+        Command::DrawIndirect { buffer, offset } => indirect_touch(buffer, *offset, DRAW_BYTES)?,
+        Command::DrawIndexedIndirect { buffer, offset } => {
+            indirect_touch(buffer, *offset, DRAW_INDEXED_BYTES)?
+        }
+        Command::BeginComputePass
+        | Command::BeginRenderPass { .. }
+        | Command::CopyBufferToBuffer { .. }
+        | Command::CopyBufferToTexture { .. }
+        | Command::CopyTextureToBuffer { .. }
+        | Command::CopyTextureToTexture { .. }
+        | Command::ClearBuffer { .. }
+        | Command::PushDebugGroup
+        | Command::PopDebugGroup
+        | Command::End
+        | Command::SetPipeline { .. }
+        | Command::SetBindGroup { .. }
+        | Command::Dispatch { .. }
+        | Command::DispatchIndirect { .. }
+        | Command::Draw { .. }
+        | Command::DrawIndexed { .. } => return Ok(()),
+    };
+    touches.push(touch)?;
+    Ok(())
+}
+
+/// What a command touches: all that is set counts, drawn or not (WebGPU, "Resource Usages"). Ranges that
+/// end past every number, which no command has whose rules are met, are answered as want of memory.
+pub fn command_touches(alloc: Global, command: &Command) -> Result<Touches, NoMemory>
+    ensures { IfOk result (λ touches. touches ≡ command_touches command.now) }
+{
+    let mut touches = match group_given(command) {
+        Some(given) => group_touches(alloc, &given)?,
+        None => Items::new(alloc),
+    };
+    push_inputs(&mut touches, command)?;
+    Ok(touches)
+}

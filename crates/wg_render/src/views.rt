@@ -1,0 +1,67 @@
+//! The views that are attached to a render pass, as their handles know them.
+ghost use Rattle.std.specs.Prelude.{◌≡◌, option_copied};
+ghost use Rattle.wg_model.specs.Making.{no_view};
+ghost use Rattle.wg_model.specs.Attachments.{view_in, attached_view, view_of};
+
+use wg_formats::no_texture;
+use wg_types::handles::{Handle, Info, ObjRef};
+use wg_types::render::{ColorTargetOf, DepthTargetOf, RenderBeginOf};
+use wg_types::textures::{AspectWord, ViewDim, ViewInfo};
+
+/// What a render pass begins with, as its caller holds the views.
+pub type RenderBegin = RenderBeginOf<Handle>;
+
+/// A color attachment, as its caller holds the views.
+pub type ColorTarget = ColorTargetOf<Handle>;
+
+/// A depth and stencil attachment, as its caller holds the view.
+pub type DepthTarget = DepthTargetOf<Handle>;
+
+/// What is known of a view, if it is one.
+fn view_in(info: &Info) -> Option<&ViewInfo>
+    ensures { option_copied result ≡ view_in info.now }
+{
+    match info {
+        Info::View(view) => Some(view),
+        _ => None,
+    }
+}
+
+/// What a handle knows of a view, which of an invalid one is nothing.
+pub fn attached_view(handle: &Handle) -> Option<&ViewInfo>
+    ensures { option_copied result ≡ attached_view handle.now }
+{
+    if !handle.valid() {
+        return None;
+    }
+    view_in(handle.info())
+}
+
+/// Stands for what is known of a view where an object is none.
+fn no_view() -> ViewInfo
+    ensures { result ≡ no_view }
+{
+    ViewInfo {
+        texture: ObjRef {
+            device: 0,
+            number: 0,
+        },
+        texture_info: no_texture(),
+        dim: ViewDim::Two,
+        aspect: AspectWord::All,
+        base_mip: 0,
+        mips: 0,
+        base_layer: 0,
+        layers: 0,
+    }
+}
+
+/// What a handle of a view knows of it, where it is valid.
+pub fn view_of(handle: &Handle) -> ViewInfo
+    ensures { result ≡ view_of handle.now }
+{
+    match attached_view(handle) {
+        Some(view) => *view,
+        None => no_view(),
+    }
+}

@@ -1,0 +1,131 @@
+-- The calls on render pipelines, render passes and draws: for each its keys, and what each holds, in the order in which they
+-- are read.
+use Rattle.std.specs.Prelude.{ℕ, codes, Bool, false, ◌||◌, is_some, if◌then◌else◌, Option, Some, None, option_and_then, Result, Ok, Err, ⊤}
+use Rattle.serde_json.specs.Data.{Data, Items}
+use Rattle.serde_json.specs.Find.{get, as_array}
+use Rattle.wg_types.specs.declared.commands.CommandOf.TheVariants.{BeginRenderPass, SetVertexBuffer, SetIndexBuffer, Draw, DrawIndexed, DrawIndirect, DrawIndexedIndirect}
+use Rattle.wg_types.specs.declared.requests.RequestOf.TheVariants.{CreateRenderPipeline}
+use Rattle.wg_script.specs.Giving.{◌>>=◌}
+use Rattle.wg_script.specs.Values.{whole_at, whole_or, whole_if, most_whole, most_short, name_at}
+use Rattle.wg_script.specs.Lists.{list_at, list_or_empty, any_item, null_or, item_if}
+use Rattle.wg_script.specs.Words.{word_at}
+use Rattle.wg_script.specs.RenderWords.{index_format_words}
+use Rattle.wg_script.specs.BindingEntries.{staged_entry_of}
+use Rattle.wg_script.specs.BindingCalls.{check_layout_built}
+use Rattle.wg_script.specs.RenderEntries.{vertex_buffer_of, format_item, depth_state_of, color_target_of, depth_target_of}
+use Rattle.wg_script.specs.CallOf.{Call}
+use Rattle.wg_script.specs.Calling.{recording, beginning, making}
+use Rattle.wg_script.specs.Readers.{Reader, gives, need, may, ◌▹◌, read_by}
+
+-- ---- render pipelines
+
+-- createRenderPipeline: a target that is null is left out
+abbrev pub create_render_keys : Reader Call
+create_render_keys = gives (λ layout iface buffers targets depth samples made. making (CreateRenderPipeline layout (record { iface = iface; buffers = buffers; targets = targets; depth = depth; samples = samples })) made)
+    ▹ need (codes "layout") name_at
+    ▹ may (codes "iface") (list_or_empty staged_entry_of)
+    ▹ may (codes "buffers") (list_or_empty vertex_buffer_of)
+    ▹ may (codes "targets") (list_or_empty (null_or format_item))
+    ▹ may (codes "depth") (item_if depth_state_of)
+    ▹ may (codes "samples") (whole_or most_short 1)
+    ▹ need (codes "as") name_at
+
+unfoldable pub create_render_of : Data → Result Call ℕ
+create_render_of d = check_layout_built d >>= λ fine. read_by create_render_keys d
+
+-- ---- render passes
+
+-- whether a color attachment names a slice of a 3D texture
+abbrev pub has_slice : Data → Bool
+has_slice d = is_some (get (codes "depthSlice") d)
+
+abbrev pub any_slice : Option Items → Bool
+any_slice None = false
+any_slice (Some ds) = any_item has_slice ds
+
+-- script rule 13: the pass is to count queries, or to draw to slices of 3D textures, neither of which is built yet
+abbrev pub check_pass_built : Data → Result ⊤ ℕ
+check_pass_built d = if is_some (get (codes "queries") d) || any_slice (option_and_then as_array (get (codes "colors") d)) then Err 13 else Ok tt
+
+-- beginRenderPass: a color attachment that is null is left out, and the name that the call makes is that of the pass
+abbrev pub begin_render_pass_keys : Reader Call
+begin_render_pass_keys = gives (λ on colors depth made. beginning on (BeginRenderPass (record { colors = colors; depth = depth })) made)
+    ▹ need (codes "on") name_at
+    ▹ need (codes "colors") (list_at (null_or color_target_of))
+    ▹ may (codes "depth") (item_if depth_target_of)
+    ▹ need (codes "as") name_at
+
+unfoldable pub begin_render_pass_of : Data → Result Call ℕ
+begin_render_pass_of d = check_pass_built d >>= λ fine. read_by begin_render_pass_keys d
+
+-- ---- what is set
+
+-- setVertexBuffer: no size stands for what remains of the buffer from the offset on
+abbrev pub set_vertex_buffer_keys : Reader Call
+set_vertex_buffer_keys = gives (λ on slot buffer offset size. recording on (SetVertexBuffer slot buffer offset size))
+    ▹ need (codes "on") name_at
+    ▹ need (codes "slot") (whole_at most_short)
+    ▹ need (codes "buffer") name_at
+    ▹ may (codes "offset") (whole_or most_whole 0)
+    ▹ may (codes "size") (whole_if most_whole)
+
+unfoldable pub set_vertex_buffer_of : Data → Result Call ℕ
+set_vertex_buffer_of d = read_by set_vertex_buffer_keys d
+
+-- setIndexBuffer: no size stands for what remains of the buffer from the offset on
+abbrev pub set_index_buffer_keys : Reader Call
+set_index_buffer_keys = gives (λ on buffer format offset size. recording on (SetIndexBuffer buffer format offset size))
+    ▹ need (codes "on") name_at
+    ▹ need (codes "buffer") name_at
+    ▹ need (codes "format") (word_at index_format_words)
+    ▹ may (codes "offset") (whole_or most_whole 0)
+    ▹ may (codes "size") (whole_if most_whole)
+
+unfoldable pub set_index_buffer_of : Data → Result Call ℕ
+set_index_buffer_of d = read_by set_index_buffer_keys d
+
+-- ---- draws
+
+-- draw
+abbrev pub draw_keys : Reader Call
+draw_keys = gives (λ on vertices instances first_vertex first_instance. recording on (Draw vertices instances first_vertex first_instance))
+    ▹ need (codes "on") name_at
+    ▹ need (codes "vertices") (whole_at most_short)
+    ▹ may (codes "instances") (whole_or most_short 1)
+    ▹ may (codes "firstVertex") (whole_or most_short 0)
+    ▹ may (codes "firstInstance") (whole_or most_short 0)
+
+unfoldable pub draw_of : Data → Result Call ℕ
+draw_of d = read_by draw_keys d
+
+-- drawIndexed
+abbrev pub draw_indexed_keys : Reader Call
+draw_indexed_keys = gives (λ on indices instances first_index first_instance. recording on (DrawIndexed indices instances first_index first_instance))
+    ▹ need (codes "on") name_at
+    ▹ need (codes "indices") (whole_at most_short)
+    ▹ may (codes "instances") (whole_or most_short 1)
+    ▹ may (codes "firstIndex") (whole_or most_short 0)
+    ▹ may (codes "firstInstance") (whole_or most_short 0)
+
+unfoldable pub draw_indexed_of : Data → Result Call ℕ
+draw_indexed_of d = read_by draw_indexed_keys d
+
+-- drawIndirect
+abbrev pub draw_indirect_keys : Reader Call
+draw_indirect_keys = gives (λ on buffer offset. recording on (DrawIndirect buffer offset))
+    ▹ need (codes "on") name_at
+    ▹ need (codes "buffer") name_at
+    ▹ need (codes "offset") (whole_at most_whole)
+
+unfoldable pub draw_indirect_of : Data → Result Call ℕ
+draw_indirect_of d = read_by draw_indirect_keys d
+
+-- drawIndexedIndirect
+abbrev pub draw_indexed_indirect_keys : Reader Call
+draw_indexed_indirect_keys = gives (λ on buffer offset. recording on (DrawIndexedIndirect buffer offset))
+    ▹ need (codes "on") name_at
+    ▹ need (codes "buffer") name_at
+    ▹ need (codes "offset") (whole_at most_whole)
+
+unfoldable pub draw_indexed_indirect_of : Data → Result Call ℕ
+draw_indexed_indirect_of d = read_by draw_indexed_indirect_keys d

@@ -1,0 +1,177 @@
+//! Reads the calls on render pipelines, render passes and draws: a function for each, with its keys.
+ghost use Rattle.std.specs.Prelude.{◌≡◌, is_some, codes};
+ghost use Rattle.std.specs.List.{list_any};
+ghost use Rattle.serde_json.specs.View.{view, items_view};
+ghost use Rattle.wg_script.specs.Giving.{Gives};
+ghost use Rattle.wg_script.specs.Lists.{any_item};
+ghost use Rattle.wg_script.specs.RenderCalls.{create_render_of, has_slice, check_pass_built, begin_render_pass_of, set_vertex_buffer_of, set_index_buffer_of, draw_of, draw_indexed_of, draw_indirect_of, draw_indexed_indirect_of};
+
+use crate::binding_calls::check_layout_built;
+use crate::binding_entries::staged_or_empty;
+use crate::calling::{beginning, making, recording};
+use crate::calls::Call;
+use crate::lists::{item_if, list_at, list_or_empty};
+use crate::render_words::INDEX_FORMATS;
+use crate::values::{
+    MOST_WHOLE, Refusal, check_keys, name_at, reading, short_at, short_or, whole_at, whole_if,
+    whole_or,
+};
+use crate::words::word_at;
+use serde_json::Value;
+use std::alloc::Global;
+use wg_types::commands::CommandOf;
+use wg_types::render::{RenderBeginOf, RenderDesc};
+use wg_types::requests::RequestOf;
+use wg_types::shared::Shared;
+
+/// Reads `createRenderPipeline`.
+#[tactic(auto, unfolding(crate::specs::RenderCalls::create_render_of))]
+pub fn create_render_pipeline(alloc: Global, call: &Value) -> Result<Call, Refusal>
+    ensures { Gives result (create_render_of (view call.now)) }
+{
+    check_layout_built(call)?;
+    reading!(call:
+        need layout = name_at(alloc, "layout");
+        may iface = staged_or_empty(alloc, "iface");
+        may buffers = list_or_empty(alloc, "buffers");
+        may targets = list_or_empty(alloc, "targets");
+        may depth = item_if(alloc, "depth");
+        may samples = short_or("samples", 1);
+        need made = name_at(alloc, "as");
+        => making(RequestOf::CreateRenderPipeline {
+            layout,
+            desc: Shared::new(alloc, RenderDesc { iface, buffers, targets, depth, samples })?,
+        }, made))
+}
+
+/// Whether a color attachment names a slice of a 3D texture. What is no object names none.
+fn has_slice(color: &Value) -> bool
+    ensures { result ≡ has_slice (view color.now) }
+{
+    color.get("depthSlice").is_some()
+}
+
+fn some_slice(colors: &[Value]) -> bool
+    ensures { result ≡ list_any (λ v. has_slice (view v)) colors.now }
+{
+    colors.iter().any(has_slice)
+}
+
+/// Whether some color attachment names a slice of a 3D texture.
+#[tactic(auto, using(crate::proofs::Lengths::any_slice_of_view))]
+fn any_slice(colors: &[Value]) -> bool
+    ensures { result ≡ any_item has_slice (items_view colors.now) }
+{
+    some_slice(colors)
+}
+
+/// Script rule 13: refuses a render pass that is to count queries (WebGPU, "GPURenderPassDescriptor",
+/// `occlusionQuerySet`) or to draw to slices of 3D textures (WebGPU, "GPURenderPassColorAttachment",
+/// `depthSlice`), neither of which is built yet.
+fn check_pass_built(call: &Value) -> Result<(), u8>
+    ensures { result ≡ check_pass_built (view call.now) }
+{
+    let sliced = match call.get("colors").and_then(Value::as_array) {
+        Some(colors) => any_slice(colors),
+        None => false,
+    };
+    if call.get("queries").is_some() || sliced {
+        Err(13)
+    } else {
+        Ok(())
+    }
+}
+
+/// Reads `beginRenderPass`.
+#[tactic(auto, unfolding(crate::specs::RenderCalls::begin_render_pass_of))]
+pub fn begin_render_pass(alloc: Global, call: &Value) -> Result<Call, Refusal>
+    ensures { Gives result (begin_render_pass_of (view call.now)) }
+{
+    check_pass_built(call)?;
+    reading!(call:
+        need on = name_at(alloc, "on");
+        need colors = list_at(alloc, "colors");
+        may depth = item_if(alloc, "depth");
+        need made = name_at(alloc, "as");
+        => beginning(on, CommandOf::BeginRenderPass { begin: RenderBeginOf { colors, depth } }, made))
+}
+
+/// Reads `setVertexBuffer`.
+#[tactic(auto, unfolding(crate::specs::RenderCalls::set_vertex_buffer_of))]
+pub fn set_vertex_buffer(alloc: Global, call: &Value) -> Result<Call, Refusal>
+    ensures { Gives result (set_vertex_buffer_of (view call.now)) }
+{
+    reading!(call:
+        need on = name_at(alloc, "on");
+        need slot = short_at("slot");
+        need buffer = name_at(alloc, "buffer");
+        may offset = whole_or("offset", MOST_WHOLE, 0);
+        may size = whole_if("size", MOST_WHOLE);
+        => recording(on, CommandOf::SetVertexBuffer { slot, buffer, offset, size }))
+}
+
+/// Reads `setIndexBuffer`.
+#[tactic(auto, unfolding(crate::specs::RenderCalls::set_index_buffer_of))]
+pub fn set_index_buffer(alloc: Global, call: &Value) -> Result<Call, Refusal>
+    ensures { Gives result (set_index_buffer_of (view call.now)) }
+{
+    reading!(call:
+        need on = name_at(alloc, "on");
+        need buffer = name_at(alloc, "buffer");
+        need format = word_at("format", &INDEX_FORMATS);
+        may offset = whole_or("offset", MOST_WHOLE, 0);
+        may size = whole_if("size", MOST_WHOLE);
+        => recording(on, CommandOf::SetIndexBuffer { buffer, format, offset, size }))
+}
+
+/// Reads `draw`.
+#[tactic(auto, unfolding(crate::specs::RenderCalls::draw_of))]
+pub fn draw(alloc: Global, call: &Value) -> Result<Call, Refusal>
+    ensures { Gives result (draw_of (view call.now)) }
+{
+    reading!(call:
+        need on = name_at(alloc, "on");
+        need vertices = short_at("vertices");
+        may instances = short_or("instances", 1);
+        may first_vertex = short_or("firstVertex", 0);
+        may first_instance = short_or("firstInstance", 0);
+        => recording(on, CommandOf::Draw { vertices, instances, first_vertex, first_instance }))
+}
+
+/// Reads `drawIndexed`.
+#[tactic(auto, unfolding(crate::specs::RenderCalls::draw_indexed_of))]
+pub fn draw_indexed(alloc: Global, call: &Value) -> Result<Call, Refusal>
+    ensures { Gives result (draw_indexed_of (view call.now)) }
+{
+    reading!(call:
+        need on = name_at(alloc, "on");
+        need indices = short_at("indices");
+        may instances = short_or("instances", 1);
+        may first_index = short_or("firstIndex", 0);
+        may first_instance = short_or("firstInstance", 0);
+        => recording(on, CommandOf::DrawIndexed { indices, instances, first_index, first_instance }))
+}
+
+/// Reads `drawIndirect`.
+#[tactic(auto, unfolding(crate::specs::RenderCalls::draw_indirect_of))]
+pub fn draw_indirect(alloc: Global, call: &Value) -> Result<Call, Refusal>
+    ensures { Gives result (draw_indirect_of (view call.now)) }
+{
+    reading!(call:
+        need on = name_at(alloc, "on");
+        need buffer = name_at(alloc, "buffer");
+        need offset = whole_at("offset", MOST_WHOLE);
+        => recording(on, CommandOf::DrawIndirect { buffer, offset }))
+}
+
+/// Reads `drawIndexedIndirect`.
+#[tactic(auto, unfolding(crate::specs::RenderCalls::draw_indexed_indirect_of))]
+pub fn draw_indexed_indirect(alloc: Global, call: &Value) -> Result<Call, Refusal>
+    ensures { Gives result (draw_indexed_indirect_of (view call.now)) }
+{
+    reading!(call:
+        need on = name_at(alloc, "on");
+        need buffer = name_at(alloc, "buffer");
+        need offset = whole_at("offset", MOST_WHOLE);
+        => recording(on, CommandOf::DrawIndexedIndirect { buffer, offset }))
+}

@@ -1,0 +1,173 @@
+//! Bind groups that are set touch what they bind.
+use std::alloc::Global;
+use std::sync::Arc;
+use std::test::Fail;
+use wg_layouts::bound_touches;
+use wg_types::NoMemory;
+use wg_types::bindings::{
+    BindingKind, BoundEntry, BoundResource, BufferBinding, LayoutEntry, SamplerKind,
+};
+use wg_types::commands::BoundGroup;
+use wg_types::formats::{Format, SampleType};
+use wg_types::groups::{GroupInfo, GroupLayoutInfo};
+use wg_types::handles::{BufferInfo, Handle, Info, ObjRef};
+use wg_types::items::Items;
+use wg_types::parts::{Aspect, Cells, Kind};
+use wg_types::shared::Shared;
+use wg_types::textures::{AspectWord, TextureDim, TextureInfo, ViewDim, ViewInfo};
+use wg_types::usages::Usages;
+
+fn reference(number: u64) -> ObjRef {
+    ObjRef { device: 1, number }
+}
+
+/// A binding of a storage buffer.
+fn storage(binding: u32, dynamic: bool) -> LayoutEntry {
+    LayoutEntry {
+        binding,
+        visibility: 4,
+        kind: BindingKind::Buffer {
+            binding: BufferBinding::Storage,
+            dynamic,
+            min_size: 0,
+        },
+    }
+}
+
+/// Bytes of buffer 7, which has 512.
+fn range(binding: u32, offset: u64, size: u64) -> BoundEntry {
+    BoundEntry {
+        binding,
+        resource: BoundResource::Buffer {
+            buffer: reference(7),
+            buffer_info: BufferInfo {
+                size: 512,
+                usage: 128,
+                mapped: false,
+            },
+            offset,
+            size,
+        },
+    }
+}
+
+fn items<T: Copy + Drop>(alloc: Global, list: &[T]) -> Result<Items<T>, NoMemory> {
+    let mut found = Items::new(alloc);
+    for item in list {
+        found.push(*item)?;
+    }
+    Ok(found)
+}
+
+fn layout(alloc: Global, list: &[LayoutEntry]) -> Result<Shared<GroupLayoutInfo>, NoMemory> {
+    let entries = items(alloc, list)?;
+    Shared::new(alloc, GroupLayoutInfo { entries })
+}
+
+fn group(
+    alloc: Global,
+    layout_info: Shared<GroupLayoutInfo>,
+    list: &[BoundEntry],
+) -> Result<GroupInfo, NoMemory> {
+    let entries = items(alloc, list)?;
+    Ok(GroupInfo {
+        layout: reference(2),
+        layout_info,
+        entries,
+    })
+}
+
+/// A group of these, set with these offsets.
+fn bound(
+    alloc: Global,
+    layout_info: Shared<GroupLayoutInfo>,
+    list: &[BoundEntry],
+    offsets: &[u32],
+) -> Result<BoundGroup, NoMemory> {
+    let info = Info::Group(group(alloc, layout_info, list)?);
+    let offsets = Shared::new(alloc, items(alloc, offsets)?)?;
+    Ok(BoundGroup {
+        group: Handle::new(reference(3), true, Arc::new(alloc, info)?),
+        offsets,
+    })
+}
+
+#[test]
+fn groups_touch_what_they_bind(rt: HostRuntime) -> Result<(), Fail> {
+    let alloc = rt.alloc();
+    let sampled = LayoutEntry {
+        binding: 1,
+        visibility: 0,
+        kind: BindingKind::Texture {
+            sample: SampleType::Float,
+            dim: ViewDim::Two,
+            multi: false,
+        },
+    };
+    let sampler = LayoutEntry {
+        binding: 2,
+        visibility: 4,
+        kind: BindingKind::Sampler {
+            sampler_type: SamplerKind::Filtering,
+        },
+    };
+    let view_info = ViewInfo {
+        texture: reference(9),
+        texture_info: TextureInfo {
+            size: [4, 4, 2],
+            usage: 4,
+            format: Format::Rgba8Unorm,
+            dim: TextureDim::Two,
+            mips: 2,
+            samples: 1,
+        },
+        dim: ViewDim::Two,
+        aspect: AspectWord::All,
+        base_mip: 1,
+        mips: 1,
+        base_layer: 1,
+        layers: 1,
+    };
+    let entries = [
+        BoundEntry {
+            binding: 2,
+            resource: BoundResource::Sampler {
+                sampler: reference(5),
+                sampler_info: SamplerKind::Filtering,
+            },
+        },
+        BoundEntry {
+            binding: 1,
+            resource: BoundResource::View {
+                view: reference(6),
+                view_info,
+            },
+        },
+        range(0, 0, 16),
+    ];
+    let layouts = [
+        layout(alloc, &[])?,
+        layout(alloc, &[storage(0, true), sampled, sampler])?,
+    ];
+    let group = bound(alloc, layouts[1].share()?, &entries, &[256])?;
+    let unused = bound(alloc, layouts[1].share()?, &entries, &[0])?;
+    let touches = bound_touches(alloc, &layouts, &[Some(unused), Some(group)])?;
+    let texels = Cells::Layers {
+        object: 9,
+        aspect: Aspect::Color,
+        mip: 1,
+        lo: 1,
+        hi: 2,
+    };
+    let bytes = Cells::Bytes {
+        object: 7,
+        lo: 256,
+        hi: 272,
+    };
+    let expected = [
+        (texels, (Usages::CONSTANT, Kind::Read)),
+        (bytes, (Usages::STORAGE, Kind::Both)),
+    ];
+    assert_eq!(rt; touches.as_slice(), expected.as_slice());
+    Ok(())
+}

@@ -1,0 +1,183 @@
+//! Render passes make one step. The rules of their begin and of their commands are for the scripts of
+//! tests/cases.
+use std::alloc::Global;
+use std::sync::Arc;
+use std::test::Fail;
+use wg_access::Done;
+use wg_render::{ColorTarget, DepthTarget, RenderBegin, RenderState, check_begin};
+use wg_types::NoMemory;
+use wg_types::bindings::{BindingKind, BoundEntry, BoundResource, BufferBinding, LayoutEntry};
+use wg_types::commands::Command;
+use wg_types::formats::Format;
+use wg_types::groups::{GroupInfo, GroupLayoutInfo};
+use wg_types::handles::{BufferInfo, Handle, Info, ObjRef};
+use wg_types::items::Items;
+use wg_types::parts::{Aspect, Cells, Kind, PartRun};
+use wg_types::render::{LoadOp, StoreOp};
+use wg_types::shared::Shared;
+use wg_types::steps::StepName;
+use wg_types::textures::{AspectWord, TextureDim, TextureInfo, ViewDim, ViewInfo};
+use wg_types::usages::Usages;
+
+fn reference(number: u64) -> ObjRef {
+    ObjRef { device: 1, number }
+}
+
+fn handle(alloc: Global, number: u64, info: Info) -> Result<Handle, NoMemory> {
+    Ok(Handle::new(reference(number), true, Arc::new(alloc, info)?))
+}
+
+/// A view of all of a texture of 4 by 4 texels.
+fn view(alloc: Global, texture: u64, format: Format) -> Result<Handle, NoMemory> {
+    let info = Info::View(ViewInfo {
+        texture: reference(texture),
+        texture_info: TextureInfo {
+            size: [4, 4, 1],
+            usage: 16,
+            format,
+            dim: TextureDim::Two,
+            mips: 1,
+            samples: 1,
+        },
+        dim: ViewDim::Two,
+        aspect: AspectWord::All,
+        base_mip: 0,
+        mips: 1,
+        base_layer: 0,
+        layers: 1,
+    });
+    handle(alloc, 2, info)
+}
+
+/// Texture 5 is cleared and stored. Of texture 6 depth is cleared and discarded, and stencil only read.
+fn begin(alloc: Global) -> Result<RenderBegin, NoMemory> {
+    let mut colors = Items::new(alloc);
+    colors.push(None)?;
+    colors.push(Some(ColorTarget {
+        view: view(alloc, 5, Format::Rgba8Unorm)?,
+        resolve: None,
+        load: LoadOp::Clear,
+        store: StoreOp::Store,
+    }))?;
+    let depth = Some(DepthTarget {
+        view: view(alloc, 6, Format::Depth24PlusStencil8)?,
+        depth_load: Some(LoadOp::Clear),
+        depth_store: Some(StoreOp::Discard),
+        depth_read_only: false,
+        stencil_load: None,
+        stencil_store: None,
+        stencil_read_only: true,
+    });
+    Ok(RenderBegin { colors, depth })
+}
+
+/// Buffer 7, of 16 bytes, from byte 4 on.
+fn vertex_buffer(alloc: Global) -> Result<Command, NoMemory> {
+    let info = Info::Buffer(BufferInfo {
+        size: 16,
+        usage: 32,
+        mapped: false,
+    });
+    Ok(Command::SetVertexBuffer {
+        slot: 7,
+        buffer: handle(alloc, 7, info)?,
+        offset: 4,
+        size: None,
+    })
+}
+
+/// A group that binds all of buffer 8 as a uniform.
+fn group(alloc: Global) -> Result<Command, NoMemory> {
+    let mut asked = Items::new(alloc);
+    asked.push(LayoutEntry {
+        binding: 0,
+        visibility: 1,
+        kind: BindingKind::Buffer {
+            binding: BufferBinding::Uniform,
+            dynamic: false,
+            min_size: 0,
+        },
+    })?;
+    let mut entries = Items::new(alloc);
+    entries.push(BoundEntry {
+        binding: 0,
+        resource: BoundResource::Buffer {
+            buffer: reference(8),
+            buffer_info: BufferInfo {
+                size: 16,
+                usage: 64,
+                mapped: false,
+            },
+            offset: 0,
+            size: 16,
+        },
+    })?;
+    let info = Info::Group(GroupInfo {
+        layout: reference(3),
+        layout_info: Shared::new(alloc, GroupLayoutInfo { entries: asked })?,
+        entries,
+    });
+    Ok(Command::SetBindGroup {
+        index: 3,
+        group: handle(alloc, 4, info)?,
+        offsets: Shared::new(alloc, Items::new(alloc))?,
+    })
+}
+
+fn part(object: u64, aspect: Aspect) -> PartRun {
+    PartRun::Texture {
+        object,
+        aspect,
+        mip: 0,
+        lo: 0,
+        hi: 1,
+    }
+}
+
+fn layer(object: u64, aspect: Aspect) -> Cells {
+    Cells::Layers {
+        object,
+        aspect,
+        mip: 0,
+        lo: 0,
+        hi: 1,
+    }
+}
+
+fn bytes(object: u64, lo: u64) -> Cells {
+    Cells::Bytes { object, lo, hi: 16 }
+}
+
+#[test]
+fn passes_make_a_step(rt: HostRuntime) -> Result<(), Fail> {
+    let alloc = rt.alloc();
+    let begin = begin(alloc)?;
+    assert!(rt; check_begin(&begin).is_none());
+    let mut state = RenderState::new(alloc, &begin)?;
+    let mut done = Done::new(alloc);
+    state.take(&mut done, alloc, &vertex_buffer(alloc)?)?;
+    state.take(&mut done, alloc, &group(alloc)?)?;
+    assert_eq!(rt; done.deeds.as_slice().len(), 0);
+    state.take(&mut done, alloc, &Command::End)?;
+    let deeds = done.deeds.as_slice();
+    assert_eq!(rt; deeds.len(), 1);
+    assert_eq!(rt; deeds[0].name, StepName::RenderPass);
+    let uses = [
+        (part(5, Aspect::Color), Usages::ATTACHMENT),
+        (part(6, Aspect::Depth), Usages::ATTACHMENT),
+        (part(6, Aspect::Stencil), Usages::ATTACHMENT_READ),
+        (PartRun::Buffer { object: 7 }, Usages::INPUT),
+        (PartRun::Buffer { object: 8 }, Usages::CONSTANT),
+    ];
+    assert_eq!(rt; deeds[0].uses.as_slice(), uses.as_slice());
+    let accesses = [
+        (layer(5, Aspect::Color), Kind::Write),
+        (layer(6, Aspect::Depth), Kind::Drop),
+        (layer(6, Aspect::Stencil), Kind::Read),
+        (bytes(7, 4), Kind::Read),
+        (bytes(8, 0), Kind::Read),
+    ];
+    assert_eq!(rt; deeds[0].accesses.as_slice(), accesses.as_slice());
+    assert!(rt; done.clash.is_none());
+    Ok(())
+}

@@ -1,0 +1,59 @@
+//! The rules in their order.
+ghost use Rattle.std.specs.Prelude.{◌≡◌};
+ghost use Rattle.std.specs.List.{list_all};
+ghost use Rattle.wg_model.specs.Rules.{first_unmet};
+ghost use Rattle.wg_model.specs.Vertex.{stride_fits, attributes_fit, layout_rules};
+
+use crate::attributes::attributes_fit;
+use crate::locations::{are_apart, are_below, are_few};
+use wg_types::limits::Limits;
+use wg_types::render::RenderDesc;
+use wg_types::vertex::VertexBuffer;
+
+/// Whether a stride is a multiple of 4 within the limit.
+fn stride_fits(limits: &Limits, buffer: &VertexBuffer) -> bool
+    ensures { result ≡ stride_fits limits.now buffer.now }
+{
+    buffer.stride % 4 == 0 && buffer.stride <= limits.max_vertex_buffer_array_stride
+}
+
+fn strides_fit(limits: &Limits, buffers: &[VertexBuffer]) -> bool
+    ensures { result ≡ list_all (stride_fits limits.now) buffers.now }
+{
+    buffers.iter().all(|buffer| stride_fits(limits, buffer))
+}
+
+/// Whether the attributes of each buffer fit it.
+fn all_fit(limits: &Limits, buffers: &[VertexBuffer]) -> bool
+    ensures { result ≡ list_all (attributes_fit limits.now) buffers.now }
+{
+    buffers.iter().all(|buffer| attributes_fit(limits, buffer))
+}
+
+/// The number of the first unmet rule of the vertex buffers of a render pipeline on a device of these
+/// limits (WebGPU, "Vertex State"); none where they serve.
+#[tactic(auto, unfolding(wg_model::specs::Vertex::layout_rules))]
+pub fn check_layout(desc: &RenderDesc, limits: &Limits) -> Option<u16>
+    ensures { result ≡ first_unmet (layout_rules limits.now desc.now.buffers) }
+{
+    let buffers = desc.buffers.as_slice();
+    if buffers.len() as u64 > u64::from(limits.max_vertex_buffers) {
+        return Some(161);
+    }
+    if !are_few(buffers, limits.max_vertex_attributes) {
+        return Some(161);
+    }
+    if !strides_fit(limits, buffers) {
+        return Some(161);
+    }
+    if !are_below(buffers, limits.max_vertex_attributes) {
+        return Some(162);
+    }
+    if !are_apart(buffers) {
+        return Some(162);
+    }
+    if !all_fit(limits, buffers) {
+        return Some(162);
+    }
+    None
+}

@@ -1,0 +1,180 @@
+"""What is attached to a render pass: the rules of its begin, those of a pipeline that is set in it, and what it touches of it.
+
+The colors of a pass are the dictionaries that the script has, with all of their keys, or None where they are null.
+"""
+
+import formats
+import textures
+from cells import in_texture
+from rules import at_most
+
+MOST_COLORS = 8
+FLAT_DIMS = ("2d", "2d-array")
+
+# How an attachment is accessed, by its load and its store.
+ACCESSES = {("load", "store"): "both", ("load", "discard"): "readdrop", ("clear", "store"): "write", ("clear", "discard"): "drop"}
+
+# Of each aspect the keys of `depth` that tell of it: load, store, and whether it is read-only.
+ASPECT_KEYS = {"depth": ("depthLoad", "depthStore", "depthReadOnly"), "stencil": ("stencilLoad", "stencilStore", "stencilReadOnly")}
+
+
+def colors_of(begin):
+    """The colors of a pass that are not null, each with its view, and its resolve view or None."""
+    views = iter(begin.uses["colors"])
+    colors = [color for color in begin.call["colors"] if color is not None]
+    return [(color, next(views), None if color["resolve"] is None else next(views)) for color in colors]
+
+
+def depth_of(begin):
+    """The view of `depth` in a list, or none."""
+    return begin.uses["depth"]
+
+
+def texture_of(view):
+    return view.uses["texture"].call
+
+
+def begin_rules(begin):
+    """The own rules of beginRenderPass, after those on the views that it names."""
+    colors, depth = colors_of(begin), depth_of(begin)
+    views = [view for _, view, _ in colors]
+    yield at_most(300, "colors", len(begin.call["colors"]), MOST_COLORS)
+    yield 301, "something is attached", colors != [] or depth != []
+    for view in views:
+        yield from color_rules(302, "color", view)
+    for view in depth:
+        yield from depth_rules(view)
+        yield from load_rules(begin.call["depth"], texture_of(view)["format"])
+    yield from alike_rules(views + depth)
+    yield from apart_rules(colors, depth)
+    for _, view, resolve in colors:
+        if resolve is not None:
+            yield from resolve_rules(view, resolve)
+
+
+def color_rules(number, which, view):
+    """Rule 302, which is asked of a resolve view by rule 307."""
+    yield number, f"RENDER_ATTACHMENT, {which}", texture_of(view)["usage"] & textures.RENDER_ATTACHMENT != 0
+    yield number, f"format, {which}", formats.is_color(texture_of(view)["format"])
+    yield from flat_rules(number, which, view)
+
+
+def flat_rules(number, which, view):
+    told = textures.told(view)
+    yield number, f"dimension {told['dim']}, {which}", told["dim"] in FLAT_DIMS
+    yield number, f"one mip, {which}", told["mips"] == 1
+    yield number, f"one layer, {which}", told["layers"] == 1
+
+
+def depth_rules(view):
+    """Rule 303."""
+    format = texture_of(view)["format"]
+    yield 303, "RENDER_ATTACHMENT", texture_of(view)["usage"] & textures.RENDER_ATTACHMENT != 0
+    yield 303, "format", not formats.is_color(format)
+    yield 303, "all aspects", formats.named_aspects(format, textures.told(view)["aspect"]) == formats.aspects_of(format)
+    yield from flat_rules(303, "depth", view)
+
+
+def load_rules(depth, format):
+    """Rule 304: load and store are given where the format has the aspect and that is not read-only, and else neither is."""
+    for aspect, (load, store, read_only) in ASPECT_KEYS.items():
+        has_aspect = aspect in formats.aspects_of(format)
+        why = "read-only" if depth[read_only] else "not read-only"
+        how = f"{why}, of a format that has it" if has_aspect else f"{why}, of a format without it"
+        for key in (load, store):
+            yield 304, f"{key}, {how}", (depth[key] is not None) == (has_aspect and not depth[read_only])
+
+
+def width_and_height(view):
+    return formats.extent(texture_of(view), textures.told(view)["baseMip"])[:2]
+
+
+def alike_rules(views):
+    """Rule 305, on the views of all colors and of `depth`."""
+    for other in views[1:]:
+        for name, one, two in zip(("width", "height"), width_and_height(views[0]), width_and_height(other)):
+            yield 305, name, one == two
+        yield 305, "samples", texture_of(views[0])["samples"] == texture_of(other)["samples"]
+
+
+def apart_rules(colors, depth):
+    """Rule 306: no subresource is attached twice."""
+    attached = [("color", view) for _, view, _ in colors]
+    attached += [("resolve view", resolve) for _, _, resolve in colors if resolve is not None]
+    attached += [("depth", view) for view in depth]
+    for number, (one, view) in enumerate(attached):
+        for other, second in attached[number + 1:]:
+            yield 306, f"{one} and {other}", not set(cells_of(view)) & set(cells_of(second))
+
+
+def cells_of(view):
+    """The subresources that a view has."""
+    return [cell for cell, _, _ in touches_of_view(view, None, None)]
+
+
+def resolve_rules(view, resolve):
+    """Rule 307, on the view of a color and its resolve view."""
+    yield 307, "samples of the color", texture_of(view)["samples"] == 4
+    yield from color_rules(307, "resolve view", resolve)
+    yield 307, "samples", texture_of(resolve)["samples"] == 1
+    yield 307, "same format", texture_of(resolve)["format"] == texture_of(view)["format"]
+    for name, one, two in zip(("width", "height"), width_and_height(view), width_and_height(resolve)):
+        yield 307, name, one == two
+
+
+def pipeline_rules(pipeline, begin):
+    """Rules 320 and 321, on a pipeline that is set in a pass that was begun without a fault; a compute pass asks for nothing."""
+    if begin.do == "beginRenderPass":
+        depth, asked = begin.call["depth"], pipeline["depth"]
+        yield 320, "targets", without_last_nulls(pipeline["targets"]) == without_last_nulls(color_formats(begin))
+        yield 320, "has depth", (asked is not None) == (depth is not None)
+        if asked is not None:
+            yield 320, "depth format", asked["format"] == texture_of(depth_of(begin)[0])["format"]
+        yield 320, "samples", pipeline["samples"] == texture_of(attached_views(begin)[0])["samples"]
+        if asked is not None:
+            yield 321, "depth", not (asked["depthWrite"] and depth["depthReadOnly"])
+            yield 321, "stencil", not (asked["stencilWrite"] and depth["stencilReadOnly"])
+
+
+def attached_views(begin):
+    """The views of the colors and of `depth`, of which there is one at least."""
+    return [view for _, view, _ in colors_of(begin)] + depth_of(begin)
+
+
+def color_formats(begin):
+    """Of each color of a pass the format, or None where it is null."""
+    found = iter([texture_of(view)["format"] for _, view, _ in colors_of(begin)])
+    return [None if color is None else next(found) for color in begin.call["colors"]]
+
+
+def without_last_nulls(items):
+    items = list(items)
+    while items and items[-1] is None:
+        items.pop()
+    return items
+
+
+def touches(begin):
+    """What a pass touches of what is attached to it."""
+    found = []
+    for color, view, resolve in colors_of(begin):
+        found += touches_of_view(view, "attachment", ACCESSES[color["load"], color["store"]])
+        if resolve is not None:
+            found += touches_of_view(resolve, "attachment", "write")
+    for view in depth_of(begin):
+        found += touches_of_depth(begin.call["depth"], view)
+    return found
+
+
+def touches_of_depth(depth, view):
+    """Each aspect goes by its own keys."""
+    found = []
+    for aspect, mip, layer in textures.subresources_of_view(view):
+        load, store, read_only = ASPECT_KEYS[aspect]
+        usage, kind = ("attachment-read", "read") if depth[read_only] else ("attachment", ACCESSES[depth[load], depth[store]])
+        found += in_texture(view.uses["texture"], [(aspect, mip, layer)], usage, kind)
+    return found
+
+
+def touches_of_view(view, usage, kind):
+    return in_texture(view.uses["texture"], textures.subresources_of_view(view), usage, kind)

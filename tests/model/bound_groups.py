@@ -1,0 +1,129 @@
+"""Bind groups as they are set in a pass: the rules of setBindGroup, those on what is set where a dispatch or a draw comes, and what is
+touched by it.
+
+What is set is seen by looking back over the earlier commands of the same pass.
+"""
+
+import buffers
+import groups
+import textures
+from cells import do_meet, in_buffer, in_texture
+from rules import at_most
+
+MOST_GROUPS = 4
+OFFSET_ALIGNMENT = 256
+
+
+def set_rules(index, group, offsets):
+    """The own rules of setBindGroup."""
+    yield at_most(325, "index", index, MOST_GROUPS - 1)
+    count = len([entry for entry in layout_of(group) if entry.get("dynamic")])
+    yield 326, "no offset is missing", len(offsets) >= count
+    yield 326, "no offset too many", len(offsets) <= count
+    for offset in offsets:
+        yield 327, "offset", offset % OFFSET_ALIGNMENT == 0
+    for asked, entry, thing, move in bindings(group, offsets):
+        if asked["kind"] in groups.BUFFER_KINDS:
+            offset, size, word = groups.range_of(entry, thing)
+            end = "just the end by" if move + offset + size == thing.call["size"] else "range by"
+            how = f"an offset of a {asked['kind']} of {word}" if asked["dynamic"] else "no offset"
+            yield 328, f"{end} {how}", buffers.fits(thing.call, move + offset, size)
+
+
+def layout_of(group):
+    """The entries of the layout of a bind group."""
+    return group.uses["layout"].call["entries"]
+
+
+def bindings(group, offsets):
+    """What a group binds that is set with some offsets: the entry of its layout, its own entry, the object, and by how much a range
+    is moved. Offsets are dealt out to dynamic entries by ascending binding."""
+    asked = {entry["binding"]: entry for entry in layout_of(group)}
+    dynamic = sorted(binding for binding, entry in asked.items() if entry.get("dynamic"))
+    moves = dict(zip(dynamic, offsets))
+    bound = zip(group.call["entries"], group.uses["entries"])
+    return [(asked[entry["binding"]], entry, thing, moves.get(entry["binding"], 0)) for entry, thing in bound]
+
+
+def pipeline_set(earlier):
+    """The pipeline that was set last, or None."""
+    found = [command.uses["pipeline"] for command in earlier if command.do == "setPipeline"]
+    return found[-1] if found else None
+
+
+def group_set(earlier, index):
+    """The setBindGroup that was the last at an index, or None."""
+    found = [command for command in earlier if command.do == "setBindGroup" and command.call["index"] == index]
+    return found[-1] if found else None
+
+
+def asked_for(earlier):
+    """Of each layout of the pipeline that has an entry, its entries, and the setBindGroup at its index, or None."""
+    layouts = [layout.call["entries"] for layout in pipeline_set(earlier).uses["layout"].uses["layouts"]]
+    return [(entries, group_set(earlier, index)) for index, entries in enumerate(layouts) if entries]
+
+
+def bound_rules(earlier):
+    """Rules 340, 341 and 342, on what is set where a dispatch or a draw comes."""
+    yield 340, "pipeline", pipeline_set(earlier) is not None
+    asked = asked_for(earlier)
+    for entries, setting in asked:
+        yield 341, "a group is set", setting is not None
+        yield from equivalent_rules(entries, layout_of(setting.uses["group"]))
+    yield from overlap_rules([(place, *one) for place, (_, setting) in enumerate(asked) for one in touched(setting)])
+
+
+def overlap_rules(bound):
+    """Rule 342 on what is bound: triples of a number of its group, the entry of the layout, and what is touched.
+
+    Of two bindings that may overlap, since one may be written and they are of one object, some stage sees both and they have a byte
+    or a subresource in common.
+    """
+    for number, (group, one, touches) in enumerate(bound):
+        for other_group, other, others in bound[number + 1:]:
+            if (groups.is_written(one) or groups.is_written(other)) and are_of_one(touches, others):
+                is_seen = one["visibility"] & other["visibility"] != 0
+                is_common = any(do_meet(cell, found) for cell, _, _ in touches for found, _, _ in others)
+                what = f"{' and '.join(sorted([one['kind'], other['kind']]))} of {'one group' if group == other_group else 'two groups'}"
+                unseen = "" if is_seen else ", not seen together, that overlap" if is_common else ", not seen together, apart"
+                yield 342, what + unseen, not (is_seen and is_common)
+
+
+def are_of_one(touches, others):
+    """Two bindings are of one buffer or one texture."""
+    return touches != [] and others != [] and touches[0][0][:2] == others[0][0][:2]
+
+
+def equivalent_rules(asked, given):
+    """Rule 341 on the entries of two layouts, in whatever order they stand."""
+    given = {entry["binding"]: entry for entry in given}
+    yield 341, "as many entries", len(given) == len(asked)
+    for entry in asked:
+        yield 341, "binding", entry["binding"] in given
+        other = given[entry["binding"]]
+        yield 341, "kind", other["kind"] == entry["kind"]
+        for key, value in entry.items():
+            yield 341, f"{key} of {entry['kind']}", other[key] == value
+
+
+def touched(setting):
+    """What a setBindGroup binds: pairs of the entry of its layout, and what is touched by it."""
+    found = bindings(setting.uses["group"], setting.call["offsets"])
+    return [(asked, touches_of(asked, entry, thing, move)) for asked, entry, thing, move in found]
+
+
+def touches_of(asked, entry, thing, move):
+    """What is touched by one binding: the range of a buffer, moved, or each subresource of a view; of a sampler nothing."""
+    if asked["kind"] in groups.BUFFER_KINDS:
+        offset, size, _ = groups.range_of(entry, thing)
+        return in_buffer(thing, move + offset, size, *use_of(asked))
+    if asked["kind"] == "sampler":
+        return []
+    return in_texture(thing.uses["texture"], textures.subresources_of_view(thing), *use_of(asked))
+
+
+def use_of(asked):
+    """The usage and the kind of access of what is bound for an entry of a layout."""
+    if asked["kind"] in ("uniform", "texture"):
+        return "constant", "read"
+    return ("storage", "both") if groups.is_written(asked) else ("storage-read", "read")

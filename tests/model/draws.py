@@ -1,0 +1,127 @@
+"""Vertex and index buffers as they are set in a render pass, the rules of draws, and what they touch.
+
+What is set is seen by looking back over the earlier commands of the same pass.
+"""
+
+import bound_groups
+import buffers
+import formats
+from cells import in_buffer, set_in_buffer
+from rules import at_most
+
+VERTEX, INDEX, INDIRECT = 32, 16, 256
+SLOTS = 8
+
+# The bytes of an index, by its format.
+INDEX_BYTES = {"uint16": 2, "uint32": 4}
+
+# The bytes that an indirect command reads.
+INDIRECT_BYTES = {"dispatchIndirect": 12, "drawIndirect": 16, "drawIndexedIndirect": 20}
+
+# The keys whose numbers tell how many elements a draw asks of a vertex buffer, by the step of that.
+ELEMENT_KEYS = {"vertex": ("firstVertex", "vertices"), "instance": ("firstInstance", "instances")}
+
+
+def range_set(command):
+    """The offset and the size of the range that a setVertexBuffer or setIndexBuffer sets; a size that is left out is what remains."""
+    buffer, offset, size = command.uses["buffer"], command.call["offset"], command.call["size"]
+    return offset, buffers.rest(buffer.call, buffer.is_valid, offset) if size is None else size
+
+
+def vertex_buffer_rules(command):
+    """The own rules of setVertexBuffer."""
+    buffer, (offset, size) = command.uses["buffer"].call, range_set(command)
+    yield 330, "VERTEX", buffer["usage"] & VERTEX != 0
+    yield at_most(331, "slot", command.call["slot"], SLOTS - 1)
+    yield 332, "offset", offset % 4 == 0
+    yield 333, range_word(command, buffer, offset, size), buffers.fits(buffer, offset, size)
+
+
+def index_buffer_rules(command):
+    """The own rules of setIndexBuffer."""
+    buffer, (offset, size) = command.uses["buffer"].call, range_set(command)
+    yield 335, "INDEX", buffer["usage"] & INDEX != 0
+    yield 336, f"offset, {command.call['format']}", offset % INDEX_BYTES[command.call["format"]] == 0
+    yield 337, range_word(command, buffer, offset, size), buffers.fits(buffer, offset, size)
+
+
+def range_word(command, buffer, offset, size):
+    """A word for the counts: what range is set."""
+    how = "size left out" if command.call["size"] is None else "just the end" if offset + size == buffer["size"] else "range"
+    return f"{how}, empty" if size == 0 else how
+
+
+def indirect_rules(command):
+    """The rules of an indirect dispatch or draw on the numbers that it reads."""
+    buffer, offset, length = command.uses["buffer"].call, command.call["offset"], INDIRECT_BYTES[command.do]
+    yield 344, "INDIRECT", buffer["usage"] & INDIRECT != 0
+    yield 345, "offset", offset % 4 == 0
+    yield 346, "just the end" if offset + length == buffer["size"] else "range", buffers.fits(buffer, offset, length)
+
+
+def vertex_buffer_set(earlier, slot):
+    """The setVertexBuffer that was the last at a slot, or None."""
+    found = [command for command in earlier if command.do == "setVertexBuffer" and command.call["slot"] == slot]
+    return found[-1] if found else None
+
+
+def index_buffer_set(earlier):
+    """The setIndexBuffer that was the last, or None."""
+    found = [command for command in earlier if command.do == "setIndexBuffer"]
+    return found[-1] if found else None
+
+
+def draw_rules(command, earlier):
+    """The rules of a draw on vertex and index buffers. An indirect one asks only that they are set."""
+    wanted = bound_groups.pipeline_set(earlier).call["buffers"]
+    for slot in range(len(wanted)):
+        yield 350, f"slot {slot}", vertex_buffer_set(earlier, slot) is not None
+    if command.do in ("drawIndexed", "drawIndexedIndirect"):
+        yield 352, "index buffer", index_buffer_set(earlier) is not None
+    if command.do == "drawIndexed":
+        yield from index_rules(command, index_buffer_set(earlier))
+    if command.do in ("draw", "drawIndexed"):
+        for slot, vertex_buffer in enumerate(wanted):
+            if command.do == "draw" or vertex_buffer["step"] == "instance":
+                yield from element_rules(command.call, vertex_buffer, vertex_buffer_set(earlier, slot))
+
+
+def index_rules(command, setting):
+    """Rule 353: the indices that are read lie in the range that is set."""
+    asked = (command.call["firstIndex"] + command.call["indices"]) * INDEX_BYTES[setting.call["format"]]
+    _, size = range_set(setting)
+    yield at_most(353, f"bytes, {setting.call['format']}", asked, size)
+
+
+def element_rules(call, vertex_buffer, setting):
+    """Rule 351: what a draw asks of a vertex buffer of its pipeline lies in the range that is set."""
+    _, size = range_set(setting)
+    asked = bytes_asked(call, vertex_buffer)
+    yield at_most(351, f"bytes, step {vertex_buffer['step']}{', none' if asked == 0 else ''}", asked, size)
+
+
+def bytes_asked(call, vertex_buffer):
+    """The bytes that a draw asks of a vertex buffer: the strides of all elements but the last, and of that up to the greatest end of
+    an attribute. No bytes where it asks no element."""
+    first, count = ELEMENT_KEYS[vertex_buffer["step"]]
+    elements = call[first] + call[count]
+    ends = [attribute_end(attribute) for attribute in vertex_buffer["attributes"]]
+    return (elements - 1) * vertex_buffer["stride"] + max(ends, default=0) if elements > 0 else 0
+
+
+def attribute_end(attribute):
+    return attribute["offset"] + formats.VERTEX_FORMATS[attribute["format"]]
+
+
+def touches_of_range(command):
+    """What a setVertexBuffer or setIndexBuffer makes its pass touch: the range, and where that is empty the buffer alone."""
+    if command.do not in ("setVertexBuffer", "setIndexBuffer"):
+        return []
+    return set_in_buffer(command.uses["buffer"], *range_set(command), "input", "read")
+
+
+def touches_of_indirect(command):
+    """The numbers that an indirect dispatch or draw reads."""
+    if command.do not in INDIRECT_BYTES:
+        return []
+    return in_buffer(command.uses["buffer"], command.call["offset"], INDIRECT_BYTES[command.do], "input", "read")

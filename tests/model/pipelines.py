@@ -1,0 +1,82 @@
+"""The rules of pipelines: what the interface uses, and what a render pipeline reads and draws to."""
+
+import formats
+from draws import attribute_end
+from groups import COMPUTE, STAGES
+from rules import at_most
+
+MOST_VERTEX_BUFFERS = 8
+MOST_ATTRIBUTES = 16
+MOST_STRIDE = 2048
+LOCATIONS = 16
+MOST_TARGETS = 8
+
+
+def compute_rules(layouts, iface):
+    """The own rule of createComputePipeline, on the entries of the layouts of its layout."""
+    for used in iface:
+        yield from used_rules(layouts, used, COMPUTE)
+
+
+def used_rules(layouts, used, stage):
+    """Rule 160, on an entry of the interface and the stage that uses it."""
+    yield 160, "group", used["group"] < len(layouts)
+    found = [entry for entry in layouts[used["group"]] if entry["binding"] == used["binding"]]
+    yield 160, "binding", found != []
+    yield 160, "visible", found[0]["visibility"] & stage != 0
+    yield 160, "kind", found[0]["kind"] == used["kind"]
+    for key in ("type", "sample", "dim", "multi", "access", "format"):
+        if key in used:
+            yield 160, f"{key} of {used['kind']}", found[0][key] == used[key]
+
+
+def render_rules(layouts, call):
+    """The own rules of createRenderPipeline."""
+    for used in call["iface"]:
+        yield from used_rules(layouts, used, STAGES[used["stage"]])
+    yield from vertex_buffer_rules(call["buffers"])
+    yield from attribute_rules(call["buffers"])
+    targets = [format for format in call["targets"] if format is not None]
+    yield at_most(163, "targets", len(call["targets"]), MOST_TARGETS)
+    for format in targets:
+        yield 163, "color", formats.is_color(format)
+    drawn = list(targets)
+    if call["depth"] is not None:
+        yield from depth_rules(call["depth"])
+        drawn.append(call["depth"]["format"])
+    yield 165, "something is drawn to", drawn != []
+    yield 166, "samples", call["samples"] in (1, 4)
+    if call["samples"] == 4:
+        for format in drawn:
+            yield 166, "format", formats.may_have_four_samples(format)
+
+
+def vertex_buffer_rules(vertex_buffers):
+    """Rule 161."""
+    yield at_most(161, "vertex buffers", len(vertex_buffers), MOST_VERTEX_BUFFERS)
+    yield at_most(161, "attributes", sum(len(one["attributes"]) for one in vertex_buffers), MOST_ATTRIBUTES)
+    for one in vertex_buffers:
+        yield 161, "a multiple of 4", one["stride"] % 4 == 0
+        yield at_most(161, "stride", one["stride"], MOST_STRIDE)
+
+
+def attribute_rules(vertex_buffers):
+    """Rule 162."""
+    locations = [attribute["location"] for one in vertex_buffers for attribute in one["attributes"]]
+    for location in locations:
+        yield at_most(162, "location", location, LOCATIONS - 1)
+    yield 162, "locations", len(set(locations)) == len(locations)
+    for one in vertex_buffers:
+        for attribute in one["attributes"]:
+            where = "stride 0" if one["stride"] == 0 else "stride"
+            yield at_most(162, f"end, {where}", attribute_end(attribute), one["stride"] or MOST_STRIDE)
+            step = 2 if formats.VERTEX_FORMATS[attribute["format"]] == 2 else 4
+            yield 162, f"offset, a multiple of {step}", attribute["offset"] % step == 0
+
+
+def depth_rules(depth):
+    """Rule 164."""
+    aspects = formats.aspects_of(depth["format"])
+    yield 164, "depth or stencil", not formats.is_color(depth["format"])
+    yield 164, "depthWrite", not depth["depthWrite"] or "depth" in aspects
+    yield 164, "stencilWrite", not depth["stencilWrite"] or "stencil" in aspects
