@@ -30,18 +30,26 @@ fn bytes(object: u64, lo: u64, hi: u64) -> Cells {
     Cells::Bytes { object, lo, hi }
 }
 
-#[test]
-fn a_copy_and_a_write_make_a_step_each(rt: HostRuntime) -> Result<(), Fail> {
-    let alloc = rt.alloc();
+/// What a copy between two buffers does.
+fn copied(alloc: Global) -> Result<Done, NoMemory> {
+    let source = buffer(alloc, 5)?;
+    let target = buffer(alloc, 3)?;
     let copy = Command::CopyBufferToBuffer {
-        source: buffer(alloc, 5)?,
+        source,
         source_offset: 4,
-        target: buffer(alloc, 3)?,
+        target,
         target_offset: 8,
         size: 12,
     };
     let mut done = Done::new(alloc);
     done.add_command(alloc, None, &copy)?;
+    Ok(done)
+}
+
+#[test]
+fn a_copy_makes_a_step(rt: HostRuntime) -> Result<(), Fail> {
+    let alloc = rt.alloc();
+    let done = copied(alloc)?;
     let made = steps(alloc, done.deeds.as_slice(), StepPlace::Op(4))?;
     let [step] = made.as_slice() else {
         return Err(Fail::new("one step"));
@@ -53,6 +61,11 @@ fn a_copy_and_a_write_make_a_step_each(rt: HostRuntime) -> Result<(), Fail> {
     ];
     assert_eq!(rt; step.uses.as_slice(), uses.as_slice());
     assert_eq!(rt; step.accesses.as_slice(), accesses.as_slice());
+    Ok(())
+}
+
+#[test]
+fn a_write_makes_a_step(rt: HostRuntime) -> Result<(), Fail> {
     let write = QueueWrite::Buffer {
         buffer: ObjRef {
             device: 1,
@@ -61,7 +74,7 @@ fn a_copy_and_a_write_make_a_step_each(rt: HostRuntime) -> Result<(), Fail> {
         offset: 4,
         size: 8,
     };
-    let made = write_step(alloc, &write, StepPlace::Op(5))?;
+    let made = write_step(rt.alloc(), &write, StepPlace::Op(5))?;
     let Some(step) = made else {
         return Err(Fail::new("a step"));
     };

@@ -76,12 +76,11 @@ fn objects_are_of_the_device_and_kind(rt: HostRuntime) -> Result<(), Fail> {
     Ok(())
 }
 
-#[test]
-fn passes_open_and_end(rt: HostRuntime) -> Result<(), Fail> {
-    let mut recorder = opened(rt.alloc());
+/// A pass that is taken and put back while it is open, then ended, and then named once more.
+fn end_a_pass(rt: &impl Abort, recorder: &mut Recorder) -> Result<(), Fail> {
     let first = On::Pass(0);
-    note(&rt, &mut recorder, On::Encoder, Command::BeginComputePass)?;
-    note(&rt, &mut recorder, first, Command::PushDebugGroup)?;
+    note(rt, recorder, On::Encoder, Command::BeginComputePass)?;
+    note(rt, recorder, first, Command::PushDebugGroup)?;
     // What is put back is as if it had not been taken.
     let recording = recorder.take();
     assert!(rt; recording.open_pass() && !recording.open_group());
@@ -89,47 +88,69 @@ fn passes_open_and_end(rt: HostRuntime) -> Result<(), Fail> {
     recorder.put_back(recording);
     assert!(rt; !recorder.has_ended());
     // The end of a pass hands over that its group is open, and a pass ends once.
-    assert_eq!(rt; note(&rt, &mut recorder, first, Command::End)?, Noted::Kept);
+    assert_eq!(rt; note(rt, recorder, first, Command::End)?, Noted::Kept);
     assert_eq!(rt; recorder.verdict(), Some(310));
-    assert_eq!(rt; note(&rt, &mut recorder, first, Command::End)?, Noted::Late);
+    assert_eq!(rt; note(rt, recorder, first, Command::End)?, Noted::Late);
+    Ok(())
+}
+
+/// What was recorded of it.
+fn end_an_encoder(rt: &impl Abort, recorder: &mut Recorder) {
     let recording = recorder.take();
     assert_eq!(rt; recording.verdict(), Some(310));
     assert_eq!(rt; recording.commands().len(), 3);
+}
+
+#[test]
+fn passes_open_and_end(rt: HostRuntime) -> Result<(), Fail> {
+    let mut recorder = opened(rt.alloc());
+    end_a_pass(&rt, &mut recorder)?;
+    end_an_encoder(&rt, &mut recorder);
     let late = note(&rt, &mut recorder, On::Encoder, Command::PushDebugGroup)?;
     assert_eq!(rt; late, Noted::Late);
+    Ok(())
+}
+
+/// A pass that is begun in another one.
+fn begin_twice(rt: &impl Abort, recorder: &mut Recorder) -> Result<(), Fail> {
+    note(rt, recorder, On::Encoder, Command::BeginComputePass)?;
+    note(rt, recorder, On::Encoder, Command::BeginComputePass)?;
+    assert_eq!(rt; recorder.verdict(), Some(240));
+    let dead = On::Pass(1);
+    assert_eq!(rt; note(rt, recorder, dead, Command::End)?, Noted::Kept);
+    assert_eq!(rt; note(rt, recorder, dead, Command::End)?, Noted::Kept);
+    assert!(rt; recorder.take().open_pass());
     Ok(())
 }
 
 #[test]
 fn a_pass_on_a_locked_encoder_is_dead(rt: HostRuntime) -> Result<(), Fail> {
     let mut recorder = opened(rt.alloc());
-    note(&rt, &mut recorder, On::Encoder, Command::BeginComputePass)?;
-    note(&rt, &mut recorder, On::Encoder, Command::BeginComputePass)?;
-    assert_eq!(rt; recorder.verdict(), Some(240));
-    let dead = On::Pass(1);
-    assert_eq!(rt; note(&rt, &mut recorder, dead, Command::End)?, Noted::Kept);
-    assert_eq!(rt; note(&rt, &mut recorder, dead, Command::End)?, Noted::Kept);
-    assert!(rt; recorder.take().open_pass());
+    begin_twice(&rt, &mut recorder)
+}
+
+/// A command, and a pass after it that is open and then ended.
+fn open_and_end(rt: &impl Abort, recorder: &mut Recorder, buffer: Handle) -> Result<(), Fail> {
+    let clear = Command::ClearBuffer {
+        buffer,
+        offset: 0,
+        size: Some(8),
+    };
+    note(rt, recorder, On::Encoder, clear)?;
+    note(rt, recorder, On::Encoder, Command::BeginComputePass)?;
+    let recording = recorder.take();
+    assert_eq!(rt; recording.done().len(), 0);
+    recorder.put_back(recording);
+    note(rt, recorder, On::Pass(0), Command::End)?;
+    let recording = recorder.take();
+    assert_eq!(rt; recording.done().len(), 1);
+    assert_eq!(rt; recording.scopes(), None);
     Ok(())
 }
 
 #[test]
 fn an_open_pass_leaves_nothing_done(rt: HostRuntime) -> Result<(), Fail> {
-    let alloc = rt.alloc();
-    let mut recorder = opened(alloc);
-    let clear = Command::ClearBuffer {
-        buffer: object(alloc, 1, BUFFER)?,
-        offset: 0,
-        size: Some(8),
-    };
-    note(&rt, &mut recorder, On::Encoder, clear)?;
-    note(&rt, &mut recorder, On::Encoder, Command::BeginComputePass)?;
-    let recording = recorder.take();
-    assert_eq!(rt; recording.done().len(), 0);
-    recorder.put_back(recording);
-    note(&rt, &mut recorder, On::Pass(0), Command::End)?;
-    let recording = recorder.take();
-    assert_eq!(rt; recording.done().len(), 1);
-    assert_eq!(rt; recording.scopes(), None);
-    Ok(())
+    let buffer = object(rt.alloc(), 1, BUFFER)?;
+    let mut recorder = opened(rt.alloc());
+    open_and_end(&rt, &mut recorder, buffer)
 }
