@@ -157,9 +157,15 @@ fn submit(alloc: Global, number: u64) -> Result<Event, Fail> {
     Ok(Event::Submit { buffers })
 }
 
+/// What a recorder keeps of a copy between buffers of which each handle says what is not so.
+fn forged(alloc: Global) -> Result<Recording, Fail> {
+    let source = handle(alloc, 1, 4)?;
+    let target = handle(alloc, 0, 8)?;
+    copy(alloc, source, target)
+}
+
 /// Finishes and submits whose references no script can have.
 fn ask_references(core: &mut Core, alloc: Global) -> Result<(), Fail> {
-    let forged = copy(alloc, handle(alloc, 1, 4)?, handle(alloc, 0, 8)?)?;
     let unmade = finish(own(2), empty(alloc));
     ask(core, unmade, made(0, false), uncaptured(10))?;
     ask(core, create(12), made(1, true), None)?;
@@ -169,7 +175,8 @@ fn ask_references(core: &mut Core, alloc: Global) -> Result<(), Fail> {
     let second = finish(own(2), empty(alloc));
     ask(core, second, made(4, false), uncaptured(180))?;
     ask(core, Event::CreateEncoder, made(5, true), None)?;
-    ask(core, finish(own(5), forged), made(6, false), uncaptured(11))?;
+    let forged = finish(own(5), forged(alloc)?);
+    ask(core, forged, made(6, false), uncaptured(11))?;
     ask(core, submit(alloc, 3)?, Answer::Queued(1), None)?;
     ask(core, submit(alloc, 3)?, Answer::Plain, uncaptured(190))
 }
