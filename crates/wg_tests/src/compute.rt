@@ -100,16 +100,31 @@ fn indirect(alloc: Global, usage: u32, offset: u64) -> Result<Command, NoMemory>
     Ok(Command::DispatchIndirect { buffer, offset })
 }
 
+/// Takes a command, which is dropped here.
+fn take(
+    set: &mut ComputeState,
+    done: &mut Done,
+    alloc: Global,
+    made: Result<Command, NoMemory>,
+) -> Result<(), NoMemory> {
+    let command = made?;
+    set.take(done, alloc, &command)
+}
+
+/// What two dispatches have done after what is set for them.
+fn dispatched(set: &mut ComputeState, done: &mut Done, alloc: Global) -> Result<(), NoMemory> {
+    take(set, done, alloc, pipeline(alloc))?;
+    take(set, done, alloc, group(alloc, 0))?;
+    take(set, done, alloc, Ok(Command::Dispatch { x: 1, y: 1, z: 1 }))?;
+    take(set, done, alloc, indirect(alloc, 256, 4))
+}
+
 #[test]
 fn dispatches_make_steps(rt: HostRuntime) -> Result<(), Fail> {
     let alloc = rt.alloc();
     let mut set = ComputeState::new();
     let mut done = Done::new(alloc);
-    set.take(&mut done, alloc, &pipeline(alloc)?)?;
-    set.take(&mut done, alloc, &group(alloc, 0)?)?;
-    assert_eq!(rt; done.deeds.as_slice().len(), 0);
-    set.take(&mut done, alloc, &Command::Dispatch { x: 1, y: 1, z: 1 })?;
-    set.take(&mut done, alloc, &indirect(alloc, 256, 4)?)?;
+    dispatched(&mut set, &mut done, alloc)?;
     let deeds = done.deeds.as_slice();
     assert_eq!(rt; deeds.len(), 2);
     assert_eq!(rt; deeds[1].name, StepName::Dispatch);

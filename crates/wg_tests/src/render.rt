@@ -148,17 +148,42 @@ fn bytes(object: u64, lo: u64) -> Cells {
     Cells::Bytes { object, lo, hi: 16 }
 }
 
+/// The state of a pass that has just begun, where its attachments will do.
+fn begun(alloc: Global) -> Result<Option<RenderState>, NoMemory> {
+    let begin = begin(alloc)?;
+    if check_begin(&begin).is_some() {
+        return Ok(None);
+    }
+    let state = RenderState::new(alloc, &begin)?;
+    Ok(Some(state))
+}
+
+/// Takes a command, which is dropped here.
+fn take(
+    state: &mut RenderState,
+    done: &mut Done,
+    alloc: Global,
+    made: Result<Command, NoMemory>,
+) -> Result<(), NoMemory> {
+    let command = made?;
+    state.take(done, alloc, &command)
+}
+
+/// Takes two settings and the end of the pass.
+fn ended(state: &mut RenderState, done: &mut Done, alloc: Global) -> Result<(), NoMemory> {
+    take(state, done, alloc, vertex_buffer(alloc))?;
+    take(state, done, alloc, group(alloc))?;
+    take(state, done, alloc, Ok(Command::End))
+}
+
 #[test]
 fn passes_make_a_step(rt: HostRuntime) -> Result<(), Fail> {
     let alloc = rt.alloc();
-    let begin = begin(alloc)?;
-    assert!(rt; check_begin(&begin).is_none());
-    let mut state = RenderState::new(alloc, &begin)?;
     let mut done = Done::new(alloc);
-    state.take(&mut done, alloc, &vertex_buffer(alloc)?)?;
-    state.take(&mut done, alloc, &group(alloc)?)?;
-    assert_eq!(rt; done.deeds.as_slice().len(), 0);
-    state.take(&mut done, alloc, &Command::End)?;
+    let Some(mut state) = begun(alloc)? else {
+        return Err(Fail::new("a begin that will do"));
+    };
+    ended(&mut state, &mut done, alloc)?;
     let deeds = done.deeds.as_slice();
     assert_eq!(rt; deeds.len(), 1);
     assert_eq!(rt; deeds[0].name, StepName::RenderPass);
