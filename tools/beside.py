@@ -16,6 +16,7 @@ class Beside:
         self.script = script
         self.call_of = {}
         self.entry_of = {}
+        self.turns = []
         self.names = {}
         self.makers = {}
         self.operations = {}
@@ -32,7 +33,9 @@ class Beside:
             self.match_steps()
 
     def match_entries(self):
-        """Goes through the entries and the lanes of each phase side by side."""
+        """Goes through the entries and the lanes of each phase side by side: each entry is of the next call of its lane that makes one.
+
+        `turns` gets the calls in the order in which the device took them, recording calls right before the next entry of their lane."""
         phases = sorted({phase for phase, _ in self.script.lanes})
         waiting = {phase: {lane: self.events(phase, lane) for p, lane in self.script.lanes if p == phase} for phase in phases}
         for entry in self.report.entries:
@@ -46,6 +49,9 @@ class Beside:
                 raise DoNotMatch(f"entry {entry.number} is of {entry.word}, and the call at {self.script.where(call)} is {call.word}")
             self.call_of[entry.number] = call
             self.entry_of[call] = entry
+            own, number = self.script.lanes[call.place[:2]], call.place[2]
+            first = next((n + 1 for n in reversed(range(number)) if self.makes_entry(own[n])), 0)
+            self.turns += own[first : number + 1]
             if entry.object() is not None and call.gives is not None:
                 self.names[entry.object()] = call.gives
         left = [call for lanes in waiting.values() for lane in lanes.values() for call in lane]
@@ -54,7 +60,10 @@ class Beside:
 
     def events(self, phase, lane):
         """The calls of a lane that make an entry: all but those that record, and of those the late ones."""
-        return [call for call in self.script.lanes[phase, lane] if not calls.records(call.word) or call.is_late]
+        return [call for call in self.script.lanes[phase, lane] if self.makes_entry(call)]
+
+    def makes_entry(self, call):
+        return call.is_late or not calls.records(call.word)
 
     def match_steps(self):
         """Finds the call that each step comes from. Where the counts do not fit, none is named for that operation."""

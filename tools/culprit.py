@@ -3,7 +3,8 @@
 A command makes no fault when it is recorded: the first rule that is unmet stays with the encoder, and the finish tells
 it. So the script is cut behind the finish, and of the encoder's recording its first commands alone are kept. The first
 number of commands with which the finish has the fault of the whole recording ends with the command that brought it.
-Calls that make nothing that the recording names are left out, as long as what is named is as valid as it was.
+The calls of several lanes are asked about as those of one lane, in the order in which the device took them: so their order
+is that of the report, whatever another run would bring. Calls that make nothing that the recording names are left out, as long as what is named is as valid as it was.
 """
 
 import calls
@@ -66,7 +67,7 @@ class Cuts:
         if status != 0:
             return False
         made = [entry.answer[2] for entry in Report(out.decode("utf-8")).entries if entry.object() is not None]
-        kept = [self.beside.entry_of[call] for call in self.script.calls if call in self.needed and call in self.beside.entry_of]
+        kept = [self.beside.entry_of[call] for call in self.beside.turns if call in self.needed and call in self.beside.entry_of]
         return made == [entry.answer[2] for entry in kept if entry.object() is not None]
 
     def rule(self, kept, closed):
@@ -86,22 +87,15 @@ class Cuts:
         return last.fault[1] if last.fault else None
 
     def cut(self, kept, closers):
-        """The script up to the finish, without late calls and without the later commands of its encoder, in place of which the closers stand."""
+        """The calls up to the finish, in the order of the report and as one lane, without late calls and without the later commands of its encoder,
+        in place of which the closers stand."""
         gone = set(self.commands[kept:])
-        phase, lane, number = self.finish.place
-        phases = []
-        for at, lanes in enumerate(self.script.phases[: phase + 1]):
-            texts = []
-            for place, values in enumerate(lanes.what):
-                own = self.script.lanes[at, place]
-                if at == phase:
-                    own = own[: number + 1] if place == lane else []
-                texts.append([self.script.text.of(call.value) for call in own if self.is_kept(call, gone)])
-            phases.append(texts)
-        phases[-1][lane][-1:-1] = closers
+        before = self.beside.turns[: self.beside.turns.index(self.finish) + 1]
+        texts = [self.script.text.of(call.value) for call in before if self.is_kept(call, gone)]
+        texts[-1:-1] = closers
         head = [f'"{key.what}":{self.script.text.of(value)}' for key, value in self.script.top.what if key.what != "phases"]
-        joined = ",".join("[" + ",".join("[" + ",\n".join(each) + "]" for each in lanes) + "]" for lanes in phases)
-        return "{" + ",".join([*head, f'"phases":[{joined}]']) + "}"
+        joined = ",\n".join(texts)
+        return "{" + ",".join([*head, f'"phases":[[[{joined}]]]']) + "}"
 
     def is_kept(self, call, gone):
         """Whether a call stands in a shorter script. A late call does not: what it is late for may not be there."""

@@ -70,11 +70,12 @@ class Explained:
 
     def history(self):
         self.say("", "HISTORY: what the device answered, with the line and column of each call", "")
-        is_several = len({entry.lane for entry in self.beside.report.entries}) > 1
+        has_phases = len({call.place[0] for call in self.beside.call_of.values()}) > 1
+        has_lanes = len({entry.lane for entry in self.beside.report.entries}) > 1
         for entry in self.beside.report.entries:
             call = self.beside.call_of.get(entry.number)
-            lane = f"lane {entry.lane}  " if is_several else ""
-            self.say(f"{entry.number:4}  {self.place(call)}{lane}{self.beside.script.said(call) if call else entry.word}")
+            turn = (f"phase {call.place[0]}  " if has_phases else "") + (f"lane {entry.lane}  " if has_lanes else "")
+            self.say(f"{entry.number:4}  {self.place(call)}{turn}{self.beside.script.said(call) if call else entry.word}")
             why = f", by rule {entry.fault[1]}" if entry.fault else ""
             self.say(f"      {self.answer(entry)}{why}")
             for promise, how in entry.settled:
@@ -201,8 +202,8 @@ class Explained:
             self.say(f"    {place.name} was finished at {self.beside.script.where(place.finish)}")
 
     def before(self, call, names, words):
-        """The calls before one that have one of some words and name one of some names."""
-        for other in self.beside.script.calls:
+        """The calls that the device took before one, that have one of some words and name one of some names."""
+        for other in self.beside.turns:
             if other is call:
                 return
             for _, name in other.names():

@@ -78,13 +78,6 @@ def at_top(refusal, text, top):
 def not_built_at_top(refusal, top):
     if top.key("limits") is not None:
         return refusal.at(top.key("limits").start, "the key limits", "no such key: it is not built yet")
-    phases = top.member("phases")
-    if phases is not None and phases.kind == "list":
-        if len(phases.what) > 1:
-            return refusal.at(phases.what[1].start, f"{len(phases.what)} phases", "at most one phase: more are not built yet")
-        for phase in phases.what:
-            if phase.kind == "list" and len(phase.what) > 1:
-                return refusal.at(phase.what[1].start, f"{len(phase.what)} lanes", "at most one lane: more are not built yet")
     return refusal.at(top.start, None, "nothing that is not built yet")
 
 
@@ -275,8 +268,8 @@ def used_names(refusal, text, call, top):
             is_one = f"{value.what} is {calls.either([calls.makes(maker.word)])}, made at {script.where(maker)}: {script.said(maker)}"
             return refusal.at(value.start, f"the name {value.what} under {key}", f"the name of {calls.either(kinds)}", is_one)
         if refusal.rule == 12 and is_visible and key == "on" and maker.place[:2] != user.place[:2]:
-            made = f"{value.what} was made at {script.where(maker)}"
-            return refusal.at(value.start, f"the name {value.what} under on", "an encoder or a pass that this lane opened in this phase", made)
+            made = f"{value.what} was made in phase {maker.place[0]}, lane {maker.place[1]}, at {script.where(maker)}: {script.said(maker)}"
+            return refusal.at(value.start, f"the name {value.what} under on", "an encoder or a pass that this lane made in this phase", made)
     return refusal
 
 

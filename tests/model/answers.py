@@ -1,20 +1,62 @@
-"""What the program answers to the bytes of a script."""
+"""What the program answers to the bytes of a script, and whether a report is one of those that the script can have."""
 
 import names
-import replies
 import report
 import script
+import turns
 
 DONE, BAD_SCRIPT, TOO_LARGE = 0, 3, 7
 
 
-def answer(data):
-    """The exit status, and the text that is written."""
+def read(data):
+    """The budget and the phases of a script; and where it is refused, the status and the text that is written then, or None."""
     if len(data) > script.MOST_BYTES:
-        return TOO_LARGE, ""
+        return None, None, (TOO_LARGE, "")
     try:
-        budget, calls = script.read(data)
-        names.bind(calls)
+        budget, phases = script.read(data)
+        names.bind(phases)
     except script.Refused as refused:
-        return BAD_SCRIPT, report.refusal(refused)
-    return DONE, report.report(replies.play(budget, [call for _, call in calls]))
+        return None, None, (BAD_SCRIPT, report.refusal(refused))
+    return budget, phases, None
+
+
+def answer(data, choose=turns.only_one):
+    """The exit status, and the text that is written. Of several callers that may have a turn one is chosen; as a rule there is to be one."""
+    budget, phases, refusal = read(data)
+    if refusal is not None:
+        return refusal
+    return DONE, report.report(turns.play_chosen(budget, phases, choose))
+
+
+def callers_of(found):
+    """The callers of a report, entry by entry: the second field of each line of its history."""
+    lines = found.decode("utf-8", "backslashreplace").split("\n")
+    if lines[0] != "history":
+        raise turns.NotLegal("the report has no history")
+    callers = []
+    for number, line in enumerate(lines[1:]):
+        if line == "trace":
+            return callers
+        fields = line.split(" ")
+        if len(fields) < 4 or fields[0] != str(number) or not fields[1].isdecimal() or str(int(fields[1])) != fields[1]:
+            raise turns.NotLegal(f"line {number + 2} of the report is no entry {number}: {line[:80]!r}")
+        callers.append(int(fields[1]))
+    raise turns.NotLegal("the history of the report has no end")
+
+
+def differences(data, status, found):
+    """What is wrong with a status and a report that were found, in a line, or None; and the status and the report that were to be found, in the
+    order of turns of the one that was, as far as they are known."""
+    budget, phases, wanted = read(data)
+    if status != (DONE if wanted is None else wanted[0]):
+        return f"its status is {status}, and is to be {DONE if wanted is None else wanted[0]}", wanted
+    try:
+        wanted = wanted or (DONE, report.report(turns.play(budget, phases, callers_of(found))))
+    except turns.NotLegal as error:
+        return f"its order is not legal: {error}", None
+    if found == wanted[1].encode():
+        return None, wanted
+    ours, theirs = wanted[1].encode().split(b"\n"), found.split(b"\n")
+    at = next((n for n, pair in enumerate(zip(ours, theirs)) if pair[0] != pair[1]), min(len(ours), len(theirs)))
+    ours, theirs = [lines[at].decode("utf-8", "backslashreplace") if at < len(lines) else "the end" for lines in (ours, theirs)]
+    return f"line {at + 1} is to be {ours!r}, and is {theirs!r}", wanted

@@ -1,14 +1,17 @@
 """The calls that were played so far, and what is seen by looking back over them.
 
 All looking back is over plain lists: the calls that were played, oldest first, all of them and those of each word; the objects, in
-the order in which they were made; and what was released.
+the order in which they were made; and what was released. What is asked for again and again is kept beside them, and brought up to
+date by each call that is added, so that scripts of thousands of calls can be played.
 """
 
 import collections
 
+import maps
 import memory
 import passes
-from calls import RECORDING, WAITING, name_keys, names_in
+import scopes
+from calls import WAITING, name_keys, names_in
 
 
 # The calls that make an object which refers to all that they name.
@@ -22,8 +25,9 @@ class Played:
     time has no entry in the history, no rule and no answer.
     """
 
-    def __init__(self, call, uses):
+    def __init__(self, call, uses, caller):
         self.call = call
+        self.caller = caller
         self.do = call["do"]
         self.uses = uses
         self.on_lost = False
@@ -85,12 +89,56 @@ class History:
         self.played = []
         self.played_of = collections.defaultdict(list)
         self.objects = []
-        self.released = []
         self.names = {}
+        self.with_entry = []
+        self.recorded = collections.defaultdict(list)
+        self.finished = collections.defaultdict(list)
+        self.destroyed = set()
+        self.drops = {}
+        self.consumed = set()
+        self.last_op = 0
+        self.last_ops = {}
+        self.last_completed = 0
+        self.unsettled = []
+        self.mappings = {}
+        self.scopes = []
+        self.kept = []
+        self.named = {}
 
     def add(self, played):
+        """Adds a call that was answered, or a command that was recorded, and notes what it changes."""
         self.played.append(played)
         self.played_of[played.do].append(played)
+        if played.entry is None:
+            self.recorded[encoder_of(played.uses["on"])].append(played)
+            return
+        self.with_entry.append(played)
+        if played.do == "finish":
+            self.finished[played.uses["on"]].append(played)
+        if played.do == "destroy" and played.is_met:
+            self.destroyed.add(played.uses["object"])
+        if played.do == "drop" and played.is_met:
+            self.drops.setdefault(played.uses["object"], played)
+        if played.do == "submit":
+            self.consumed.update(played.uses["buffers"])
+        if played.do == "complete" and played.answer == "plain":
+            self.last_completed = played.call["op"]
+        if played.do in ("createBuffer", "createTexture") and played.is_valid:
+            self.kept.append(played)
+        if played.op is not None:
+            self.last_op = played.op
+            self.last_ops.update(dict.fromkeys(self.used_by(played), played.op))
+        if played.do in WAITING:
+            self.unsettled.append(played)
+        if played.settled:
+            settled = {promise for promise, _ in played.settled}
+            self.unsettled = [promise for promise in self.unsettled if promise not in settled]
+        maps.follow(self.mappings, played)
+        scopes.follow(self.scopes, played)
+
+    def release(self, things):
+        """Buffers and textures are given back, each once."""
+        self.kept = [thing for thing in self.kept if thing not in things]
 
     def uses_of(self, call):
         """The objects that the names of a call stand for, key by key; of an object, and of a list of names or of objects, a list."""
@@ -101,7 +149,7 @@ class History:
         return uses
 
     def entries(self):
-        return [played for played in self.played if played.entry is not None]
+        return self.with_entry
 
     def is_lost(self):
         """The device is lost from its first loss on."""
@@ -109,7 +157,7 @@ class History:
 
     def finishes(self, encoder):
         """The finishes that named an encoder, accepted, refused or on a lost device."""
-        return [played for played in self.played_of["finish"] if played.uses["on"] is encoder]
+        return self.finished[encoder]
 
     def has_finished(self, encoder):
         return self.finishes(encoder) != []
@@ -121,8 +169,7 @@ class History:
 
     def commands_on(self, encoder):
         """The commands that were recorded on an encoder and on its passes, in order; a late one was not."""
-        recorded = [played for played in self.played if played.do in RECORDING and played.entry is None]
-        return [played for played in recorded if encoder_of(played.uses["on"]) is encoder]
+        return self.recorded[encoder]
 
     def commands_of(self, command_buffer):
         """The commands of a command buffer: those of its encoder if it came of the first finish, else none."""
@@ -131,12 +178,11 @@ class History:
 
     def is_destroyed(self, thing):
         """Some destroy that met its rules named the object, be it on a lost device."""
-        return any(played.is_met and played.uses["object"] is thing for played in self.played_of["destroy"])
+        return thing in self.destroyed
 
     def drop_of(self, thing):
         """The drop that met its rules and named the object, be it on a lost device; there is one at most, or None."""
-        drops = [played for played in self.played_of["drop"] if played.is_met and played.uses["object"] is thing]
-        return drops[0] if drops else None
+        return self.drops.get(thing)
 
     def is_dropped(self, thing):
         return self.drop_of(thing) is not None
@@ -148,7 +194,7 @@ class History:
 
     def is_consumed(self, command_buffer):
         """Some submit listed the command buffer, accepted, refused or on a lost device."""
-        return any(command_buffer in played.uses["buffers"] for played in self.played_of["submit"])
+        return command_buffer in self.consumed
 
     def is_open(self, encoder):
         """An encoder is open until a finish names it, be that accepted, refused or on a lost device, or until it is dropped."""
@@ -173,21 +219,19 @@ class History:
 
     def issued(self):
         """How many operations were queued; they are numbered from 1."""
-        return len([played for played in self.played if played.op is not None])
+        return self.last_op
 
     def completed(self):
         """The number of the last completion that was not bad, or 0."""
-        numbers = [played.call["op"] for played in self.played_of["complete"] if played.answer == "plain"]
-        return numbers[-1] if numbers else 0
+        return self.last_completed
 
     def waiting(self):
         """The promises of workDones and mapAsyncs that no entry has settled, in their order."""
-        settled = {promise for played in self.played for promise, _ in played.settled}
-        return [played for played in self.played if played.do in WAITING and played not in settled]
+        return self.unsettled
 
     def last_use(self, thing):
         """The last operation that uses an object, or 0."""
-        return max([played.op for played in self.played if played.op is not None and thing in self.used_by(played)], default=0)
+        return self.last_ops.get(thing, 0)
 
     def used_by(self, played):
         """What an operation uses: a write its target, also where its size is 0; a submit what its commands name, with the textures of the
@@ -198,30 +242,24 @@ class History:
 
     def named_by(self, command_buffers):
         """The objects that the commands of some command buffers name themselves."""
-        commands = [command for one in command_buffers for command in self.commands_of(one)]
-        return [thing for command in commands for _, thing in command.named()]
+        for one in command_buffers:
+            if one not in self.named:
+                self.named[one] = [thing for command in self.commands_of(one) for _, thing in command.named()]
+        return [thing for one in command_buffers for thing in self.named[one]]
 
     def resources_of(self, command_buffers):
         """The buffers and textures that the commands of some command buffers name, themselves, through a view that they attach, or
         through a bind group, whether or not a step comes of it."""
         return [found for thing in self.named_by(command_buffers) for found in resources_in(thing)]
 
-    def resources(self):
-        """The valid buffers and textures, those that were released too."""
-        return [thing for thing in self.objects if thing.do in ("createBuffer", "createTexture") and thing.is_valid]
-
     def is_due(self, thing):
         """A valid buffer or texture is due where it is destroyed or not held, and every operation that uses it is complete."""
-        return (self.is_destroyed(thing) or not self.is_held(thing)) and self.last_use(thing) <= self.completed()
-
-    def is_released(self, thing):
-        """It is released by the first entry after which it is due."""
-        return thing in self.released
+        return self.last_use(thing) <= self.completed() and (self.is_destroyed(thing) or not self.is_held(thing))
 
     def newly_due(self):
-        """What is due after the last entry and was released by none before."""
-        return [thing for thing in self.resources() if not self.is_released(thing) and self.is_due(thing)]
+        """What is due after the last entry and was released by none before, in the order of numbers."""
+        return [thing for thing in self.kept if self.is_due(thing)]
 
     def live_bytes(self):
         """The bytes of all that is valid and was not released."""
-        return sum(memory.bytes_of(thing.call) for thing in self.resources() if not self.is_released(thing))
+        return sum(memory.bytes_of(thing.call) for thing in self.kept)

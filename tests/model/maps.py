@@ -49,16 +49,18 @@ def pending_maps(history, buffer):
 
 def mapping_of(history, buffer):
     """The mapping of a buffer, or None where it is not mapped, as the last entry says that changed it."""
-    found = None
-    for played in history.played:
-        if played is buffer:
-            found = mapping_at_creation(buffer)
-        elif buffer in unmapped_by(played):
-            found = None
-        for promise, how in played.settled:
-            if how == "mapped" and promise.uses["buffer"] is buffer:
-                found = asked_by(promise.call, buffer)
-    return found
+    return history.mappings.get(buffer)
+
+
+def follow(mappings, played):
+    """Notes in the mappings of buffers what an entry changes of them."""
+    if played.do == "createBuffer":
+        mappings[played] = mapping_at_creation(played)
+    for buffer in unmapped_by(played):
+        mappings[buffer] = None
+    for promise, how in played.settled:
+        if how == "mapped":
+            mappings[promise.uses["buffer"]] = asked_by(promise.call, promise.uses["buffer"])
 
 
 def mapping_at_creation(buffer):

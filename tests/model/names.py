@@ -1,7 +1,7 @@
-"""The second reading of a script: rules 9, 10 and 11.
+"""The second reading of a script: rules 9 to 12.
 
-The calls are gone through in order. Of each call come first the names that it uses, in the order of the table of calls and
-the items of a list one after another, then the name that it gives.
+The calls are gone through in reading order. Of each call come first the names that it uses, in the order of the table of calls and
+the items of a list one after another, then the name that it gives. Of each name that is used 10, 11 and 12 are tested.
 """
 
 import re
@@ -15,33 +15,37 @@ WELL_FORMED = re.compile(r"[A-Za-z0-9_]{1,64}")
 PIPELINE_OF = {"compute pass": "compute pipeline", "render pass": "render pipeline"}
 
 
-def bind(calls):
+def bind(phases):
     """Refuses a script whose names break a rule."""
-    given = []
-    for place, call in calls:
+    given = {}
+    for place, call in (found for lanes in phases for lane in lanes for found in lane):
         for key, sort in name_keys(call["do"]):
             for name, kinds in names_in(sort, call[key]):
-                ask_used(place, name, wanted(call, key, kinds, given), given)
+                ask_used(place, key, name, wanted(call, key, kinds, given), given)
         if "as" in call:
             ask(9, "form", WELL_FORMED.fullmatch(call["as"]) is not None, place)
-            ask(9, "given before", call["as"] not in [name for name, _ in given], place)
-            given.append((call["as"], GIVEN[call["do"]]))
+            ask(9, "given before", call["as"] not in given, place)
+            given[call["as"]] = (place, GIVEN[call["do"]])
 
 
 def wanted(call, key, kinds, given):
     """What a name may stand for. Of a pipeline that is set the pass says which, whose name is looked at before."""
     if call["do"] == "setPipeline" and key == "pipeline":
-        return [PIPELINE_OF[kind] for kind in kinds_of(call["on"], given)]
+        return [PIPELINE_OF[given[call["on"]][1]]]
     return kinds
 
 
-def kinds_of(name, given):
-    """The kind of what a name stands for, in a list, or none."""
-    return [kind for known, kind in given if known == name]
+def ask_used(place, key, name, kinds, given):
+    """Rule 10: an earlier call gave the name, and it is visible. Rule 11: what it stands for is of a kind that the key takes. Rule 12: the
+    encoder or pass under `on` was made by this lane, in this phase."""
+    ask(10, "given", name in given, place)
+    maker, kind = given[name]
+    ask(10, "visible", is_visible(maker, place), place)
+    ask(11, "kind", kind in kinds, place)
+    if key == "on":
+        ask(12, "own lane of this phase", maker[:2] == place[:2], place)
 
 
-def ask_used(place, name, kinds, given):
-    """Rule 10: an earlier call gave the name. Rule 11: what it stands for is of a kind that the key takes."""
-    found = kinds_of(name, given)
-    ask(10, "given", len(found) == 1, place)
-    ask(11, "kind", found[0] in kinds, place)
+def is_visible(maker, place):
+    """A name that was given before in reading order is visible in later phases, and in its own phase to its own lane."""
+    return maker[0] < place[0] or maker[:2] == place[:2]

@@ -1,4 +1,4 @@
-"""The reply to each call: play goes through a script and gives its history."""
+"""The reply to each call, after all that were played before it."""
 
 import buffers
 import copies
@@ -12,7 +12,7 @@ import recording
 import scopes
 import textures
 from calls import BEGINS, MADE, PROMISING, QUEUED, RECORDING, bound_by
-from history import History, Played
+from history import Played
 from rules import first_unmet, note
 
 BUDGET_RULE, LATE_RULE = 13, 14
@@ -21,23 +21,15 @@ BUDGET_RULE, LATE_RULE = 13, 14
 AS_EVER = {"unmap", "destroy", "drop"}
 
 
-def play(budget, calls):
-    """The history of the calls of a script."""
-    history = History(budget)
-    for call in calls:
-        answer_call(history, call)
-    return history
-
-
-def answer_call(history, call):
-    """Plays one call. A command that comes in time makes no entry; all else does."""
-    played = Played(call, history.uses_of(call))
+def answer_call(history, call, caller):
+    """Plays one call of a caller. A command that comes in time makes no entry; all else does."""
+    played = Played(call, history.uses_of(call), caller)
     if played.do in BEGINS:
         history.names[call["as"]] = played
     if played.do in RECORDING and not history.has_ended(played.uses["on"]):
         note("late", LATE_RULE, "in time", True)
         history.add(played)
-        return
+        return played
     played.entry = len(history.entries())
     played.on_lost = history.is_lost()
     played.rule = rule_of(history, played)
@@ -47,7 +39,8 @@ def answer_call(history, call):
     played.settled = promises.settled_by(history, played)
     history.add(played)
     played.released = history.newly_due()
-    history.released += played.released
+    history.release(played.released)
+    return played
 
 
 def rule_of(history, played):

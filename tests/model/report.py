@@ -22,9 +22,9 @@ def refusal(refused):
 
 
 def entry_line(played):
-    """Number, lane, word and answer of an entry, then its fault, if there is one, and then each promise that it settled."""
+    """Number, caller, word and answer of an entry, then its fault, if there is one, and then each promise that it settled."""
     word = "late" if played.do in RECORDING else played.do
-    line = f"{played.entry} 0 {word} {played.answer}"
+    line = f"{played.entry} {played.caller} {word} {played.answer}"
     if played.fault is not None:
         line += f" fault {played.fault[0]} {played.fault[1]} {catcher_text(played.catcher)}"
     return line + "".join(f" settle {promise.entry} {how}" for promise, how in played.settled)

@@ -22,17 +22,15 @@ class Scope:
             self.first = fault
 
 
-def open_scopes(history):
-    """The scopes that are open, outermost first: a pop closes the last, but where there is none, and but on a lost device."""
-    stack = []
-    for played in history.played:
-        if played.do == "pushErrorScope":
-            stack.append(Scope(played.call["filter"]))
-        elif played.do == "popErrorScope" and stack and not played.on_lost:
-            stack.pop()
-        elif played.catcher is not None:
-            stack[played.catcher].receive(played.fault)
-    return stack
+def follow(stack, played):
+    """Notes on the stack of the scopes that are open, outermost first, what an entry does to it: a pop closes the last, but where there is
+    none, and but on a lost device. The stack is the device's, whichever lane pushes and pops."""
+    if played.do == "pushErrorScope":
+        stack.append(Scope(played.call["filter"]))
+    elif played.do == "popErrorScope" and stack and not played.on_lost:
+        stack.pop()
+    elif played.catcher is not None:
+        stack[played.catcher].receive(played.fault)
 
 
 def catcher_of(history, fault):
@@ -40,7 +38,7 @@ def catcher_of(history, fault):
     if fault is None:
         return None
     kind, _ = fault
-    stack = open_scopes(history)
+    stack = history.scopes
     places = [place for place, scope in enumerate(stack) if scope.filter == kind]
     note("fault", 0, "caught", places != [])
     if not places:
@@ -55,7 +53,7 @@ def how_popped(history, pop):
     note("popErrorScope", 0, "not lost", not pop.on_lost)
     if pop.on_lost:
         return "null"
-    stack = open_scopes(history)
+    stack = history.scopes
     note("popErrorScope", 0, "open scope", stack != [])
     if not stack:
         return "rejected"

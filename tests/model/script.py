@@ -1,7 +1,7 @@
 """The first reading of a script: rules 1 to 8 and 13.
 
 The first refusal that is found is the answer. At the top the rules are tested in the order 1, 13, 2, 3; then the script
-is gone through in order, and of each call 5, 6, 13, 7 and 8 are tested.
+is gone through in order, of each phase and of each lane 4 is tested when it is come to, and of each call 5, 6, 13, 7 and 8.
 """
 
 import json_text
@@ -34,16 +34,19 @@ def ask(rule, what, is_met, place=()):
 
 
 def read(data):
-    """The budget of a script, and its calls, as pairs of a place and a call whose left out keys have their values."""
+    """The budget of a script, and its phases, each a list of lanes, and each lane a list of pairs of a place and a call whose left out keys
+    have their values."""
     top = read_json(data)
     ask(13, "limits", not (type(top) is dict and "limits" in top))
-    ask_one_lane(top)
     ask(2, "object", type(top) is dict)
     ask(2, "two keys", set(top) == {"budget", "phases"})
     ask(2, "budget", is_whole(top["budget"], GREATEST_WHOLE))
     ask(2, "list of phases", type(top["phases"]) is list)
     ask(3, "phases", len(top["phases"]) <= MOST_PHASES)
-    return top["budget"], [found for number, phase in enumerate(top["phases"]) for found in read_phase(number, phase)]
+    phases = []
+    for number, phase in enumerate(top["phases"]):
+        phases.append(read_phase(number, phase, sum(len(lane) for earlier in phases for lane in earlier)))
+    return top["budget"], phases
 
 
 def read_json(data):
@@ -55,25 +58,20 @@ def read_json(data):
     return top
 
 
-def ask_one_lane(top):
-    """Rule 13: there is at most one phase, of at most one lane."""
-    phases = top.get("phases") if type(top) is dict else None
-    if type(phases) is list:
-        ask(13, "phases", len(phases) <= 1)
-        ask(13, "lanes", all(len(phase) <= 1 for phase in phases if type(phase) is list))
-
-
-def read_phase(number, phase):
+def read_phase(number, phase, calls_before):
+    """The lanes of a phase, before which so many calls stand in the script."""
     ask(4, "list of lanes", type(phase) is list, (number,))
     ask(4, "lanes", len(phase) <= MOST_LANES, (number,))
-    calls = []
+    lanes = []
     for lane_number, lane in enumerate(phase):
         ask(4, "lane", type(lane) is list, (number, lane_number))
+        lanes.append([])
         for call_number, call in enumerate(lane):
             place = (number, lane_number, call_number)
-            ask(5, "calls", len(calls) < MOST_CALLS, place)
-            calls.append((place, read_call(place, call)))
-    return calls
+            ask(5, "calls", calls_before < MOST_CALLS, place)
+            lanes[-1].append((place, read_call(place, call)))
+            calls_before += 1
+    return lanes
 
 
 def read_call(place, call):

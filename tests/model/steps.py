@@ -30,15 +30,16 @@ class Step:
         for cell, usage, kind in touches:
             self.uses.setdefault(part_of(cell), set()).add(usage)
             self.accesses += [] if is_empty(cell) else [(cell, kind)]
+        self.cells = {kinds: [cell for cell, kind in self.accesses if kind in kinds] for kinds in (READING, WRITING, DROPPING)}
 
     def reads(self):
-        return [cell for cell, kind in self.accesses if kind in READING]
+        return self.cells[READING]
 
     def writes(self):
-        return [cell for cell, kind in self.accesses if kind in WRITING]
+        return self.cells[WRITING]
 
     def drops(self):
-        return [cell for cell, kind in self.accesses if kind in DROPPING]
+        return self.cells[DROPPING]
 
 
 def groups_of(history, played):

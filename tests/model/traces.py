@@ -1,8 +1,10 @@
 """The trace of a history: steps with their barriers and clears, and releases.
 
 An item is `("bar", part, from, to)`, `("step", step)` or `("free", object)`. Barriers and clears are found by looking back
-over the steps that the trace has so far.
+over the steps that the trace has so far, those that access an object one after another.
 """
+
+import collections
 
 from steps import Step, groups_of
 
@@ -12,59 +14,62 @@ ONLY_READ = {"input", "constant", "storage-read", "attachment-read", "copy-src",
 
 def trace_of(history):
     """The items of the trace, entry by entry: its steps, then what it releases."""
-    items = []
+    trace = Trace()
     for played in history.entries():
         for group in groups_of(history, played):
-            add_group(items, group)
-        items += [("free", thing) for thing in played.released]
-    return items
+            add_group(trace, group)
+        trace.items += [("free", thing) for thing in played.released]
+    return trace.items
 
 
-def steps_in(items):
-    return [item[1] for item in items if item[0] == "step"]
+class Trace:
+    """The items so far, the steps among them by the number of each object that they access, and of each part its last set of usages."""
+
+    def __init__(self):
+        self.items = []
+        self.steps_on = collections.defaultdict(list)
+        self.last_sets = {}
+
+    def known(self, cell):
+        """The steps that access the object of a cell."""
+        return self.steps_on[cell[1]]
 
 
-def add_group(items, group):
+def add_group(trace, group):
     """Before a group stands one clear of what some step of it reads, no earlier step of it writes, and is unset."""
     if not group:
         return
-    known = steps_in(items)
     needed = []
     for place, step in enumerate(group):
-        for cell in cut(step.reads(), known + group):
-            if not is_written(cell, group[:place]) and not is_set(cell, known):
-                needed.append(cell)
-    add_clear(items, needed, group[0].at)
+        for whole in step.reads():
+            known = trace.known(whole)
+            for cell in cut([whole], known + group):
+                if not is_written(cell, group[:place]) and not is_set(cell, known):
+                    needed.append(cell)
+    add_clear(trace, needed, group[0].at)
     for step in group:
-        known = steps_in(items)
-        add_clear(items, [cell for cell in cut(step.reads(), known) if not is_set(cell, known)], step.at)
-        add_step(items, step)
+        add_clear(trace, [cell for whole in step.reads() for cell in cut([whole], trace.known(whole)) if not is_set(cell, trace.known(whole))], step.at)
+        add_step(trace, step)
 
 
-def add_clear(items, cells, at):
+def add_clear(trace, cells, at):
     """A clear uses its parts as `clear` and writes its cells; one of no cells is no step."""
     if cells:
-        add_step(items, Step(at, "clear", [(cell, "clear", "write") for cell in cells]))
+        add_step(trace, Step(at, "clear", [(cell, "clear", "write") for cell in cells]))
 
 
-def add_step(items, step):
+def add_step(trace, step):
     """Before a step stands a barrier on each part that it uses, but where its set is the last one and only reads, and but at
     the first use of a buffer."""
-    known = steps_in(items)
     for part, usages in sorted(step.uses.items()):
-        last = last_set(part, known)
+        last = trace.last_sets.get(part)
         is_first_of_buffer = last is None and part[0] == "b"
         if not is_first_of_buffer and not (last == usages and usages <= ONLY_READ):
-            items.append(("bar", part, last, usages))
-    items.append(("step", step))
-
-
-def last_set(part, steps):
-    """The usages with which the last step that uses a part does so, or None."""
-    for step in reversed(steps):
-        if part in step.uses:
-            return step.uses[part]
-    return None
+            trace.items.append(("bar", part, last, usages))
+    trace.items.append(("step", step))
+    trace.last_sets.update(step.uses)
+    for number in {cell[1] for cell, _ in step.accesses}:
+        trace.steps_on[number].append(step)
 
 
 def is_written(cell, steps):

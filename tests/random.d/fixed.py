@@ -9,6 +9,31 @@ def script(calls):
     return json.dumps({"budget": 2**53 - 1, "phases": [[calls]]}, separators=(",", ":")).encode()
 
 
+def in_lanes(phases):
+    return json.dumps({"budget": 2**53 - 1, "phases": phases}, separators=(",", ":")).encode()
+
+
+def full(more=()):
+    """A phase of all lanes and two of one, with as many calls together as there can be; and more calls behind them."""
+    call = {"do": "complete", "op": 0}
+    return in_lanes([[[call] * 1000] * 64, [[], []], [[call] * 1024], [[call] * (512 - len(more)) + list(more)]])
+
+
+def of_all_lanes():
+    """A lane's buffer each, which one lane of the next phase writes, destroys and counts."""
+    names = [f"b{number}" for number in range(64)]
+    made = [[{"do": "createBuffer", "as": name, "size": 8, "usage": 8}] for name in names]
+    used = [call for name in names for call in ({"do": "writeBuffer", "buffer": name, "offset": 0, "size": 8}, {"do": "destroy", "object": name})]
+    return in_lanes([made, [used], [[{"do": "complete", "op": 64}]]])
+
+
+def of_all_phases():
+    """A call in each of all phases, in a lane of another number."""
+    calls = [{"do": "createBuffer", "as": "b", "size": 4096, "usage": 8}]
+    calls += [{"do": "writeBuffer", "buffer": "b", "offset": 4 * number, "size": 4} for number in range(1023)]
+    return in_lanes([[[]] * (number % 64) + [[call]] for number, call in enumerate(calls)])
+
+
 def of_size(size):
     """A good script that is filled with spaces up to a size."""
     text = script([])
@@ -168,7 +193,18 @@ FIXED = {
     "items-past-the-limit": lambda: submitted(1025),
     "letters-at-the-limit": lambda: named(64),
     "letters-past-the-limit": lambda: named(65),
-    "phases-past-the-limit": lambda: json.dumps({"budget": 1, "phases": [[]] * 1025}).encode(),
+    "phases-at-the-limit": lambda: in_lanes([[]] * 1024),
+    "phases-past-the-limit": lambda: in_lanes([[]] * 1025),
+    "phases-past-the-limit-and-no-phases": lambda: in_lanes([7] * 1025),
+    "phases-all-with-a-call": of_all_phases,
+    "lanes-at-the-limit": lambda: in_lanes([[[]] * 64] * 3),
+    "lanes-past-the-limit": lambda: in_lanes([[[]] * 64, [[]] * 65]),
+    "lanes-past-the-limit-and-no-lanes": lambda: in_lanes([[7] * 65]),
+    "lanes-past-the-limit-after-a-wrong-call": lambda: in_lanes([[[]] * 63 + [[{"do": "complete"}]], [[]] * 65]),
+    "lanes-all-with-a-call": of_all_lanes,
+    "calls-at-the-limit-in-lanes": full,
+    "calls-past-the-limit-in-lanes": lambda: full([{"do": "complete", "op": 0}, 5]).replace(b"[[],[]]", b'[[{"do":"lose"}],[]]'),
+    "calls-at-the-limit-in-lanes-and-no-object": lambda: full([5]),
     "all-layers": all_layers,
     "bindings-at-the-limit": lambda: bound(1000),
     "bindings-past-the-limit": lambda: bound(1001),

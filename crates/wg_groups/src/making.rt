@@ -1,5 +1,6 @@
 //! What is known of the objects that calls make of others.
-ghost use Rattle.std.specs.Prelude.{◌≡◌, IfOk, map, option_copied};
+ghost use Rattle.std.specs.Prelude.{◌≡◌, Option, IfOk, map, option_copied};
+ghost use Rattle.wg_types.specs.declared.handles.Info.{Info as InfoOf};
 ghost use Rattle.wg_model.specs.Making.{known_buffer, known_texture, known_view, known_sampler, known_group_layout, known_pipeline_layout, bound_resource, bound_entry, view_made, pipeline_layout_made, group_made, compute_made, render_made};
 
 use std::alloc::Global;
@@ -11,10 +12,19 @@ use wg_types::groups::{
 };
 use wg_types::handles::{BufferInfo, Info, ObjRef};
 use wg_types::items::Items;
-use wg_types::refs::{Find, Known, map_items};
+use wg_types::refs::{Find, map_items};
 use wg_types::render::RenderDesc;
 use wg_types::shared::Shared;
 use wg_types::textures::{AspectWord, TextureInfo, ViewDesc, ViewDim, ViewInfo};
+
+/// What is known of each object that a call names.
+pub trait Known<R> {
+    ghost knows: { Self → R → Option InfoOf };
+
+    /// What is known of an object, if something is.
+    fn info<'a>(&'a self, object: &'a R) -> Option<&'a Info>
+        ensures { option_copied result ≡ knows self.now object.now };
+}
 
 /// What is known of a buffer; nothing has usage or bytes where an object is none.
 fn known_buffer(known: Option<&Info>) -> BufferInfo

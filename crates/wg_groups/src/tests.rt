@@ -2,7 +2,9 @@
 ghost use Rattle.std.specs.Prelude.{◌≡◌, slice_get};
 
 use crate::check_group;
-use crate::making::{compute_made, group_made, pipeline_layout_made, render_made, view_made};
+use crate::making::{
+    Known, compute_made, group_made, pipeline_layout_made, render_made, view_made,
+};
 use std::alloc::Global;
 use std::test::Fail;
 use wg_types::NoMemory;
@@ -15,7 +17,7 @@ use wg_types::groups::{GroupLayoutInfo, Interface};
 use wg_types::handles::{BufferInfo, Info, ObjRef};
 use wg_types::items::Items;
 use wg_types::limits::Limits;
-use wg_types::refs::{Find, Known};
+use wg_types::refs::Find;
 use wg_types::render::RenderDesc;
 use wg_types::shared::Shared;
 use wg_types::textures::{AspectWord, TextureDim, TextureInfo, ViewDesc, ViewDim, ViewInfo};
@@ -37,7 +39,7 @@ impl Find<u32, ObjRef> for Objects<'_> {
 impl Known<u32> for Objects<'_> {
     ghost knows = { λ objects object. slice_get objects.infos.now object };
 
-    fn info(&self, object: &u32) -> Option<&Info> {
+    fn info<'a>(&'a self, object: &'a u32) -> Option<&'a Info> {
         self.infos.get(*object as usize)
     }
 }

@@ -1,15 +1,15 @@
 -- Of a draft of which no name is refused each used name was made by an earlier visible call.
 use Rattle.std.proofs.Common.{◌≡◌, ℕ, ◌+◌, ◌<◌, List, [], ◌∷◌, ◌++◌, map, Bool, true, false, Option, Some, None, Ok, refl, sym, ap, subst, inl, inr, arith, append_assoc, ◌∙◌}
-use Rattle.std.specs.Prelude.{◌⊎◌, ◌&&◌, ◌==◌, nat_lt, bytes_eq, All, Contains, ⊤, if◌then◌else◌}
+use Rattle.std.specs.Prelude.{◌⊎◌, ◌==◌, nat_lt, bytes_eq, All, Contains, ⊤, if◌then◌else◌}
 use Rattle.std.specs.List.{flat_map}
 use Rattle.std.specs.Option.{option_to_list, option_map_or}
 use Rattle.std.proofs.lemmas.List.{append-nil}
-use Rattle.std.proofs.lemmas.Bool.{or_cases, and_parts, ltb-true, eqb-true}
+use Rattle.std.proofs.lemmas.Bool.{or_cases, or_right, and_parts, ltb-true, eqb-true}
 use Rattle.std.proofs.lemmas.List.Elements.{All-nil, All-cons, All-head, All-tail, Contains-append_left, Contains-append_right, Contains-push}
 use Rattle.std.proofs.lemmas.Slice.Eq.{bytes_eq-Decides}
 use Rattle.wg_script.specs.CallOf.{Call}
-use Rattle.wg_names.specs.Uses.{uses_of, made_of, admits}
-use Rattle.wg_names.specs.Names.{Names, kind_in, is_visible, check_use}
+use Rattle.wg_names.specs.Uses.{uses_of, made_of, admits, wants_own}
+use Rattle.wg_names.specs.Names.{Names, kind_in, is_own, is_visible, check_use}
 use Rattle.wg_names.specs.Script.{check_uses, uses_by, call_bound, walk, lane_bound, phase_bound}
 use Rattle.wg_names.specs.Bound.{Made, made_by, made_in, IsFound, IsOn, CallIsBound, LaneIsBound, PhasesAreBound}
 use Rattle.wg_script.specs.declared.calls.CallOf.{CallOf}
@@ -30,36 +30,44 @@ MadeNames = Made (List ℕ)
 
 -- ---- what a lane sees
 
--- what a lane sees was made in this list
-abbrev Sees : ℕ → ℕ → Names → MadeNames → Type 0
-Sees p l names made = (name : List ℕ) (mark : Mark) → names.marks name ≡ Some mark → is_visible p l mark ≡ true → Contains made (name, mark.kind)
+-- what a lane sees was made in the first list, and what it made itself in the second
+abbrev Sees : ℕ → ℕ → Names → MadeNames → MadeNames → Type 0
+Sees p l names made ours = (name : List ℕ) (mark : Mark) → names.marks name ≡ Some mark
+    → (is_visible p l mark ≡ true → Contains made (name, mark.kind)) × (is_own p l mark ≡ true → Contains ours (name, mark.kind))
 
-uses_found : (p l : ℕ) (names : Names) (made : MadeNames) → Sees p l names made → (us : List (List ℕ × Wanted)) (fine : ⊤) → check_uses names p l us ≡ Ok fine → All (IsFound made) us
-uses_found p l names made sees [] fine e = All-nil (IsFound made)
-uses_found p l names made sees (u ∷ us) fine e =
+uses_found : (p l : ℕ) (names : Names) (made ours : MadeNames) → Sees p l names made ours → (us : List (List ℕ × Wanted)) (fine : ⊤) → check_uses names p l us ≡ Ok fine → All (IsFound made ours) us
+uses_found p l names made ours sees [] fine e = All-nil (IsFound made ours)
+uses_found p l names made ours sees (u ∷ us) fine e =
     let step = bind_ok (check_use names p l u) (λ done. check_uses names p l us) fine e in
     let found = stands_of p l u.1 (names.marks u.0) step.0 step.1 in
-    All-cons (IsFound made) u us
-    (record { kind = found.mark.kind; stands = sees u.0 found.mark found.is found.visible; fits = found.admits })
-    (uses_found p l names made sees us fine step.2)
+    let seen = sees u.0 found.mark found.is in
+    All-cons (IsFound made ours) u us
+    (record { kind = found.mark.kind; stands = seen.0 found.visible; fits = found.admits; own = λ want. seen.1 (found.own want) })
+    (uses_found p l names made ours sees us fine step.2)
+
+-- a command asks for an encoder or a pass of its own lane to stand on
+place_own : {R : Type 0} (command : CommandOf R) → wants_own (place_wanted command) ≡ true
+place_own command = grind arith
 
 -- a recording call, and a call of the device
-on_found : (p l : ℕ) (names : Names) (made : MadeNames) → Sees p l names made → (on : List ℕ) (command : CommandOf (List ℕ)) (fine : ⊤)
-    → check_uses names p l ((on, place_wanted command) ∷ named_on (kind_in names on) command) ≡ Ok fine → IsOn made on command
-on_found p l names made sees on command fine e =
+on_found : (p l : ℕ) (names : Names) (made ours : MadeNames) → Sees p l names made ours → (on : List ℕ) (command : CommandOf (List ℕ)) (fine : ⊤)
+    → check_uses names p l ((on, place_wanted command) ∷ named_on (kind_in names on) command) ≡ Ok fine → IsOn made ours on command
+on_found p l names made ours sees on command fine e =
     let step = bind_ok (check_use names p l (on, place_wanted command)) (λ done. check_uses names p l (named_on (kind_in names on) command)) fine e in
     let found = stands_of p l (place_wanted command) (names.marks on) step.0 step.1 in
+    let seen = sees on found.mark found.is in
     let same : kind_in names on ≡ found.mark.kind = ap (λ mark. option_map_or (λ m. m.kind) mark kind.Encoder) found.is in
     record {
       place = kind_in names on;
-      stands = let P : Kind → Type 0 = λ k. Contains made (on, k) in subst P (sym same) (sees on found.mark found.is found.visible);
+      stands = let P : Kind → Type 0 = λ k. Contains made (on, k) in subst P (sym same) (seen.0 found.visible);
+      own = let P : Kind → Type 0 = λ k. Contains ours (on, k) in subst P (sym same) (seen.1 (found.own (place_own command)));
       takes = ap (admits (place_wanted command)) same ∙ found.admits;
-      found = uses_found p l names made sees (named_on (kind_in names on) command) fine step.2;
+      found = uses_found p l names made ours sees (named_on (kind_in names on) command) fine step.2;
     }
 
-call_found : (p l : ℕ) (names : Names) (made : MadeNames) → Sees p l names made → (call : Call) (fine : ⊤) → check_uses names p l (uses_by names call) ≡ Ok fine → CallIsBound made call
-call_found p l names made sees (Record on command name) fine e = on_found p l names made sees on command fine e
-call_found p l names made sees (Ask request name) fine e = uses_found p l names made sees (asked_of request) fine e
+call_found : (p l : ℕ) (names : Names) (made ours : MadeNames) → Sees p l names made ours → (call : Call) (fine : ⊤) → check_uses names p l (uses_by names call) ≡ Ok fine → CallIsBound made ours call
+call_found p l names made ours sees (Record on command name) fine e = on_found p l names made ours sees on command fine e
+call_found p l names made ours sees (Ask request name) fine e = uses_found p l names made ours sees (asked_of request) fine e
 
 -- What is wanted on something of a kind is wanted.
 compute_pipeline : (k : Kind) → admits wanted.ComputePipeline k ≡ true → admits wanted.Pipeline k ≡ true
@@ -75,21 +83,27 @@ within_admits kind.ComputePass wanted.Pipeline k e = compute_pipeline k e
 within_admits kind.RenderPass wanted.Pipeline k e = render_pipeline k e
 within_admits _ _ k e = e
 
-found_within : {R : Type 0} (made : Made R) (place : Kind) (keys : List (R × Wanted)) → All (IsFound made) (map (λ key. (key.0, within place key.1)) keys) → All (IsFound made) keys
-found_within made place [] all = All-nil (IsFound made)
-found_within made place (key ∷ keys) all =
-    let first = All-head (IsFound made) (key.0, within place key.1) (map (λ key. (key.0, within place key.1)) keys) all in
-    All-cons (IsFound made) key keys
-    (record { kind = first.kind; stands = first.stands; fits = within_admits place key.1 first.kind first.fits })
-    (found_within made place keys (All-tail (IsFound made) (key.0, within place key.1) (map (λ key. (key.0, within place key.1)) keys) all))
+-- What asks for the lane's own asks for it on something of a kind, too.
+within_own : (place : Kind) (want : Wanted) → wants_own want ≡ true → wants_own (within place want) ≡ true
+within_own kind.ComputePass wanted.Pipeline e = absurd (cc)
+within_own kind.RenderPass wanted.Pipeline e = absurd (cc)
+within_own _ _ e = e
+
+found_within : {R : Type 0} (made ours : Made R) (place : Kind) (keys : List (R × Wanted)) → All (IsFound made ours) (map (λ key. (key.0, within place key.1)) keys) → All (IsFound made ours) keys
+found_within made ours place [] all = All-nil (IsFound made ours)
+found_within made ours place (key ∷ keys) all =
+    let first = All-head (IsFound made ours) (key.0, within place key.1) (map (λ key. (key.0, within place key.1)) keys) all in
+    All-cons (IsFound made ours) key keys
+    (record { kind = first.kind; stands = first.stands; fits = within_admits place key.1 first.kind first.fits; own = λ want. first.own (within_own place key.1 want) })
+    (found_within made ours place keys (All-tail (IsFound made ours) (key.0, within place key.1) (map (λ key. (key.0, within place key.1)) keys) all))
 
 -- each name that a call uses was made, and stands for what is wanted
-pub found_uses : {R : Type 0} (made : Made R) (call : CallOf R) → CallIsBound made call → All (IsFound made) (uses_of call)
-found_uses made (Record on command name) bound =
-    All-cons (IsFound made) (on, place_wanted command) (named command)
-    (record { kind = bound.place; stands = bound.stands; fits = bound.takes })
-    (found_within made bound.place (named command) bound.found)
-found_uses made (Ask request name) bound = bound
+pub found_uses : {R : Type 0} (made ours : Made R) (call : CallOf R) → CallIsBound made ours call → All (IsFound made ours) (uses_of call)
+found_uses made ours (Record on command name) bound =
+    All-cons (IsFound made ours) (on, place_wanted command) (named command)
+    (record { kind = bound.place; stands = bound.stands; fits = bound.takes; own = λ want. bound.own })
+    (found_within made ours bound.place (named command) bound.found)
+found_uses made ours (Ask request name) bound = bound
 
 -- ---- what calls of a lane add
 
@@ -130,10 +144,16 @@ adds_then p l a b c xs ys f g name mark is = elim (g name mark is) [
   | inr there ↦ inr (there.0, there.1, Contains-append_right xs ys (name, mark.kind) there.2)
 ]
 
-sees_more : (p l : ℕ) (names more : Names) (made extra : MadeNames) → Sees p l names made → Adds p l names more extra → Sees p l more (made ++ extra)
-sees_more p l names more made extra sees adds name mark is visible = elim (adds name mark is) [
-  | inl old ↦ Contains-append_left made extra (name, mark.kind) (sees name mark old visible)
-  | inr there ↦ Contains-append_right made extra (name, mark.kind) there.2
+sees_more : (p l : ℕ) (names more : Names) (made ours extra : MadeNames) → Sees p l names made ours → Adds p l names more extra → Sees p l more (made ++ extra) (ours ++ extra)
+sees_more p l names more made ours extra sees adds name mark is = elim (adds name mark is) [
+  | inl old ↦ (
+    λ visible. Contains-append_left made extra (name, mark.kind) ((sees name mark old).0 visible),
+    λ own. Contains-append_left ours extra (name, mark.kind) ((sees name mark old).1 own),
+  )
+  | inr there ↦ (
+    λ visible. Contains-append_right made extra (name, mark.kind) there.2,
+    λ own. Contains-append_right ours extra (name, mark.kind) there.2,
+  )
 ]
 
 lane_adds : (p l i : ℕ) (names : Names) (calls : List Call) (end : Names) → walk (call_bound p l) i names calls ≡ Ok end → Adds p l names end (made_in calls)
@@ -144,15 +164,15 @@ lane_adds p l i names (call ∷ calls) end e =
     adds_then p l names step.0 end (made_by call) (made_in calls) (adds_made p l names step.0 (made_of call) passes.makes)
     (lane_adds p l (i + 1) step.0 calls end step.2)
 
-lane_is_bound : (p l i : ℕ) (names : Names) (made : MadeNames) → Sees p l names made → (calls : List Call) (end : Names)
-    → walk (call_bound p l) i names calls ≡ Ok end → LaneIsBound made calls
-lane_is_bound p l i names made sees [] end e = tt
-lane_is_bound p l i names made sees (call ∷ calls) end e =
+lane_is_bound : (p l i : ℕ) (names : Names) (made ours : MadeNames) → Sees p l names made ours → (calls : List Call) (end : Names)
+    → walk (call_bound p l) i names calls ≡ Ok end → LaneIsBound made ours calls
+lane_is_bound p l i names made ours sees [] end e = tt
+lane_is_bound p l i names made ours sees (call ∷ calls) end e =
     let step = bind_ok (call_bound p l i names call) (λ more. walk (call_bound p l) (i + 1) more calls) end e in
     let passes = passes_of p l i names step.0 call step.1 in (
-      call_found p l names made sees call passes.fine passes.uses,
-      lane_is_bound p l (i + 1) step.0 (made ++ made_by call)
-          (sees_more p l names step.0 made (made_by call) sees (adds_made p l names step.0 (made_of call) passes.makes)) calls end step.2,
+      call_found p l names made ours sees call passes.fine passes.uses,
+      lane_is_bound p l (i + 1) step.0 (made ++ made_by call) (ours ++ made_by call)
+          (sees_more p l names step.0 made ours (made_by call) sees (adds_made p l names step.0 (made_of call) passes.makes)) calls end step.2,
     )
 
 -- ---- the lanes of a phase
@@ -163,15 +183,24 @@ Splits p l names before beside = (name : List ℕ) (mark : Mark) → names.marks
     → ((mark.phase < p) × Contains before (name, mark.kind)) ⊎ ((mark.phase ≡ p) × (mark.lane < l) × Contains beside (name, mark.kind))
 
 not_visible : (p l : ℕ) (mark : Mark) → mark.phase ≡ p → mark.lane < l → is_visible p l mark ≡ true → ⊥
-not_visible p l mark phase lane visible = elim (or_cases (nat_lt mark.phase p) (mark.phase == p && mark.lane == l) visible) [
+not_visible p l mark phase lane visible = elim (or_cases (nat_lt mark.phase p) (is_own p l mark) visible) [
   | inl e ↦ (let lt : mark.phase < p = ltb-true mark.phase p e in omega arith)
   | inr e ↦ (let same : mark.lane ≡ l = eqb-true mark.lane l (and_parts (mark.phase == p) (mark.lane == l) e).1 in omega arith)
 ]
 
-lane_sees : (p l : ℕ) (names : Names) (before beside : MadeNames) → Splits p l names before beside → Sees p l names before
-lane_sees p l names before beside splits name mark is visible = elim (splits name mark is) [
-  | inl there ↦ there.1
-  | inr here ↦ absurd (not_visible p l mark here.0 here.1 visible)
+not_own : (p l : ℕ) (mark : Mark) → mark.phase < p → is_own p l mark ≡ true → ⊥
+not_own p l mark phase own =
+    let same : mark.phase ≡ p = eqb-true mark.phase p (and_parts (mark.phase == p) (mark.lane == l) own).0 in
+    omega arith
+
+-- a lane that has made nothing yet
+lane_sees : (p l : ℕ) (names : Names) (before beside : MadeNames) → Splits p l names before beside → Sees p l names before []
+lane_sees p l names before beside splits name mark is = elim (splits name mark is) [
+  | inl there ↦ (λ visible. there.1, λ own. absurd (not_own p l mark there.0 own))
+  | inr here ↦ (
+    λ visible. absurd (not_visible p l mark here.0 here.1 visible),
+    λ own. absurd (not_visible p l mark here.0 here.1 (or_right (nat_lt mark.phase p) (is_own p l mark) own)),
+  )
 ]
 
 splits_more : (p l : ℕ) (names more : Names) (before beside made : MadeNames) → Splits p l names before beside → Adds p l names more made
@@ -186,7 +215,7 @@ splits_more p l names more before beside made splits adds name mark is = elim (a
 
 -- the lanes of a phase are bound, and what their names stand for splits at the last lane
 record Phase (p : ℕ) (end : Names) (before made : MadeNames) (lanes : List (List Call)) : Type 0 where
-  bound : All (LaneIsBound before) lanes
+  bound : All (LaneIsBound before []) lanes
   last : ℕ
   splits : Splits p last end before made
 
@@ -196,14 +225,14 @@ lanes_are_bound p l names before beside splits [] end e =
     let same : names ≡ end = cc in
     let P : Names → Type 0 = λ ns. Splits p l ns before (beside ++ []) in
     let Q : MadeNames → Type 0 = λ made. Splits p l names before made in
-    record { bound = All-nil (LaneIsBound before); last = l; splits = subst P same (subst Q (sym (append-nil beside)) splits) }
+    record { bound = All-nil (LaneIsBound before []); last = l; splits = subst P same (subst Q (sym (append-nil beside)) splits) }
 lanes_are_bound p l names before beside splits (lane ∷ lanes) end e =
     let step = bind_ok (lane_bound p l names lane) (λ more. walk (lane_bound p) (l + 1) more lanes) end e in
     let adds = lane_adds p l 0 names lane step.0 step.1 in
     let rest = lanes_are_bound p (l + 1) step.0 before (beside ++ made_in lane) (splits_more p l names step.0 before beside (made_in lane) splits adds) lanes end step.2 in
     let Q : MadeNames → Type 0 = λ made. Splits p rest.last end before made in
     record {
-      bound = All-cons (LaneIsBound before) lane lanes (lane_is_bound p l 0 names before (lane_sees p l names before beside splits) lane step.0 step.1) rest.bound;
+      bound = All-cons (LaneIsBound before []) lane lanes (lane_is_bound p l 0 names before [] (lane_sees p l names before beside splits) lane step.0 step.1) rest.bound;
       last = rest.last;
       splits = subst Q (append_assoc beside (made_in lane) (flat_map made_in lanes)) rest.splits;
     }

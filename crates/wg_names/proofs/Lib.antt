@@ -3,3 +3,4 @@ pub mod BoundLemmas
 pub mod Keeping
 pub mod Mapped
 pub mod Asking
+pub mod Sizes

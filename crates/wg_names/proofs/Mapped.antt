@@ -132,46 +132,54 @@ contained s (x ∷ xs) = All-cons (λ y. Contains (map s (x ∷ xs)) (s y)) x xs
     (Contains-append_left (s x ∷ []) (map s xs) (s x) (Contains-push [] (s x)))
     (All-weaker (λ y. Contains (map s xs) (s y)) (λ y. Contains (map s (x ∷ xs)) (s y)) (λ y there. Contains-append_right (s x ∷ []) (map s xs) (s y) there) xs (contained s xs))
 
-found_mapped : {R S : Type 0} (f : R → S) (made : Made R) (key : R × Wanted) → IsFound made key → IsFound (map (other f) made) (other f key)
-found_mapped f made key found = record {
+there : {R S K : Type 0} (f : R → S) (made : List (R × K)) (m : R × K) → Contains made m → Contains (map (other f) made) (other f m)
+there f made m = All-contains (λ m. Contains (map (other f) made) (other f m)) made m (contained (other f) made)
+
+found_mapped : {R S : Type 0} (f : R → S) (made ours : Made R) (key : R × Wanted) → IsFound made ours key → IsFound (map (other f) made) (map (other f) ours) (other f key)
+found_mapped f made ours key found = record {
   kind = found.kind;
-  stands = All-contains (λ m. Contains (map (other f) made) (other f m)) made (key.0, found.kind) (contained (other f) made) found.stands;
+  stands = there f made (key.0, found.kind) found.stands;
   fits = found.fits;
+  own = λ want. there f ours (key.0, found.kind) (found.own want);
 }
 
-all_mapped : {R S : Type 0} (f : R → S) (made : Made R) (keys : List (R × Wanted)) (mapped : List (S × Wanted)) → mapped ≡ map (other f) keys → All (IsFound made) keys → All (IsFound (map (other f) made)) mapped
-all_mapped {R} {S} f made keys mapped same all =
-    let P : List (S × Wanted) → Type 0 = λ us. All (IsFound (map (other f) made)) us in
+all_mapped : {R S : Type 0} (f : R → S) (made ours : Made R) (keys : List (R × Wanted)) (mapped : List (S × Wanted)) → mapped ≡ map (other f) keys → All (IsFound made ours) keys → All (IsFound (map (other f) made) (map (other f) ours)) mapped
+all_mapped {R} {S} f made ours keys mapped same all =
+    let P : List (S × Wanted) → Type 0 = λ us. All (IsFound (map (other f) made) (map (other f) ours)) us in
     subst P (sym same)
-    (All-map (IsFound (map (other f) made)) (other f) keys
-    (All-weaker (IsFound made) (λ u. IsFound (map (other f) made) (other f u)) (found_mapped f made) keys all))
+    (All-map (IsFound (map (other f) made) (map (other f) ours)) (other f) keys
+    (All-weaker (IsFound made ours) (λ u. IsFound (map (other f) made) (map (other f) ours) (other f u)) (found_mapped f made ours) keys all))
 
-call_mapped : {R S : Type 0} (f : R → S) (made : Made R) (call : CallOf R) → CallIsBound made call → CallIsBound (map (other f) made) (map_call f call)
-call_mapped f made (Record on command name) bound = record {
+call_mapped : {R S : Type 0} (f : R → S) (made ours : Made R) (call : CallOf R) → CallIsBound made ours call → CallIsBound (map (other f) made) (map (other f) ours) (map_call f call)
+call_mapped f made ours (Record on command name) bound = record {
   place = bound.place;
-  stands = All-contains (λ m. Contains (map (other f) made) (other f m)) made (on, bound.place) (contained (other f) made) bound.stands;
+  stands = there f made (on, bound.place) bound.stands;
+  own = there f ours (on, bound.place) bound.own;
   takes = ap (λ want. admits want bound.place) (command_place f command) ∙ bound.takes;
-  found = all_mapped f made (named_on bound.place command) (named_on bound.place (map_refs f command)) (on_mapped f bound.place command) bound.found;
+  found = all_mapped f made ours (named_on bound.place command) (named_on bound.place (map_refs f command)) (on_mapped f bound.place command) bound.found;
 }
-call_mapped f made (Ask request name) bound = all_mapped f made (asked_of request) (asked_of (map_asked f request)) (request_named f request) bound
+call_mapped f made ours (Ask request name) bound = all_mapped f made ours (asked_of request) (asked_of (map_asked f request)) (request_named f request) bound
 
-lane_mapped : {R S : Type 0} (f : R → S) (made : Made R) (calls : List (CallOf R)) → LaneIsBound made calls → LaneIsBound (map (other f) made) (map_lane f calls)
-lane_mapped f made [] bound = tt
-lane_mapped {R} {S} f made (call ∷ calls) bound =
-    let P : Made S → Type 0 = λ ms. LaneIsBound ms (map_lane f calls) in
-    let grown : map (other f) (made ++ made_by call) ≡ map (other f) made ++ made_by (map_call f call)
-    = map-append (other f) made (made_by call) ∙ ap (λ ms. map (other f) made ++ ms) (sym (made_mapped f call)) in
-    (call_mapped f made call bound.0, subst P grown (lane_mapped f (made ++ made_by call) calls bound.1))
+grown : {R S : Type 0} (f : R → S) (made : Made R) (call : CallOf R) → map (other f) (made ++ made_by call) ≡ map (other f) made ++ made_by (map_call f call)
+grown f made call = map-append (other f) made (made_by call) ∙ ap (λ ms. map (other f) made ++ ms) (sym (made_mapped f call))
+
+lane_mapped : {R S : Type 0} (f : R → S) (made ours : Made R) (calls : List (CallOf R)) → LaneIsBound made ours calls → LaneIsBound (map (other f) made) (map (other f) ours) (map_lane f calls)
+lane_mapped f made ours [] bound = tt
+lane_mapped {R} {S} f made ours (call ∷ calls) bound =
+    let P : Made S → Type 0 = λ ms. LaneIsBound ms (map (other f) (ours ++ made_by call)) (map_lane f calls) in
+    let Q : Made S → Type 0 = λ ms. LaneIsBound (map (other f) made ++ made_by (map_call f call)) ms (map_lane f calls) in
+    let rest = lane_mapped f (made ++ made_by call) (ours ++ made_by call) calls bound.1 in
+    (call_mapped f made ours call bound.0, subst Q (grown f ours call) (subst P (grown f made call) rest))
 
 bound_mapped : {R S : Type 0} (f : R → S) (made : Made R) (phases : List (List (List (CallOf R)))) → PhasesAreBound made phases → PhasesAreBound (map (other f) made) (map_phases f phases)
 bound_mapped f made [] bound = tt
 bound_mapped {R} {S} f made (lanes ∷ phases) bound =
     let P : Made S → Type 0 = λ ms. PhasesAreBound ms (map_phases f phases) in
-    let grown : map (other f) (made ++ flat_map made_in lanes) ≡ map (other f) made ++ flat_map made_in (map_phase f lanes)
+    let later : map (other f) (made ++ flat_map made_in lanes) ≡ map (other f) made ++ flat_map made_in (map_phase f lanes)
     = map-append (other f) made (flat_map made_in lanes) ∙ ap (λ ms. map (other f) made ++ ms) (sym (lanes_mapped f lanes)) in (
-      All-map (LaneIsBound (map (other f) made)) (map_lane f) lanes
-          (All-weaker (LaneIsBound made) (λ calls. LaneIsBound (map (other f) made) (map_lane f calls)) (lane_mapped f made) lanes bound.0),
-      subst P grown (bound_mapped f (made ++ flat_map made_in lanes) phases bound.1),
+      All-map (LaneIsBound (map (other f) made) []) (map_lane f) lanes
+          (All-weaker (LaneIsBound made []) (λ calls. LaneIsBound (map (other f) made) [] (map_lane f calls)) (lane_mapped f made []) lanes bound.0),
+      subst P later (bound_mapped f (made ++ flat_map made_in lanes) phases bound.1),
     )
 
 -- ---- the whole script

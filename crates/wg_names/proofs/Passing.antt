@@ -1,13 +1,13 @@
 -- What a reading that refuses nothing has tested.
 use Rattle.std.proofs.Common.{◌≡◌, ℕ, List, Bool, true, false, Option, Some, None, Result, Ok, Err, refl, ap}
-use Rattle.std.specs.Prelude.{◌&&◌, is_none, if◌then◌else◌, ⊤}
+use Rattle.std.specs.Prelude.{not, ◌&&◌, is_none, if◌then◌else◌, ⊤}
 use Rattle.wg_script.specs.Giving.{◌>>=◌}
 use Rattle.wg_script.specs.Draft.{at}
 use Rattle.wg_script.specs.CallOf.{Call}
 use Rattle.wg_script.specs.declared.draft.Place.{Place}
 use Rattle.wg_script.specs.declared.draft.Place.TheVariants as place
-use Rattle.wg_names.specs.Uses.{admits, made_of}
-use Rattle.wg_names.specs.Names.{Names, with_name, is_name, is_visible, check_wanted, check_mark}
+use Rattle.wg_names.specs.Uses.{admits, wants_own, made_of}
+use Rattle.wg_names.specs.Names.{Names, with_name, is_name, is_own, is_visible, check_own, check_wanted, check_mark}
 use Rattle.wg_names.specs.Script.{check_uses, uses_by, with_made, call_bound}
 use Rattle.wg_types.specs.declared.wanted.Kind.{Kind}
 use Rattle.wg_types.specs.declared.wanted.Wanted.{Wanted}
@@ -32,9 +32,16 @@ none_of (Some x) e = absurd (cc)
 
 -- ---- a name that is used
 
-admitted : (wanted : Wanted) (kind : Kind) (x : ⊤) (b : Bool) → admits wanted kind ≡ b → (let r : Result ⊤ ℕ = if b then Ok tt else Err 11 in r) ≡ Ok x → admits wanted kind ≡ true
-admitted wanted kind x true is e = is
-admitted wanted kind x false is e = absurd (cc)
+-- it is the call's own where one's own is wanted
+owned : (wants mine : Bool) (x : ⊤) → (let r : Result ⊤ ℕ = if wants && not mine then Err 12 else Ok tt in r) ≡ Ok x → wants ≡ true → mine ≡ true
+owned true true x e want = refl
+owned true false x e want = absurd (cc)
+owned false mine x e want = absurd (cc)
+
+admitted : (p l : ℕ) (wanted : Wanted) (mark : Mark) (x : ⊤) (b : Bool) → admits wanted mark.kind ≡ b
+    → (let r : Result ⊤ ℕ = if b then check_own p l wanted mark else Err 11 in r) ≡ Ok x → (admits wanted mark.kind ≡ true) × (wants_own wanted ≡ true → is_own p l mark ≡ true)
+admitted p l wanted mark x true is e = (is, owned (wants_own wanted) (is_own p l mark) x e)
+admitted p l wanted mark x false is e = absurd (cc)
 
 -- what a used name stands for
 pub record Stands (p l : ℕ) (wanted : Wanted) (found : Option Mark) : Type 0 where
@@ -42,10 +49,13 @@ pub record Stands (p l : ℕ) (wanted : Wanted) (found : Option Mark) : Type 0 w
   pub is : found ≡ Some mark
   pub visible : is_visible p l mark ≡ true
   pub admits : admits wanted mark.kind ≡ true
+  pub own : wants_own wanted ≡ true → is_own p l mark ≡ true
 
 seen : (p l : ℕ) (wanted : Wanted) (mark : Mark) (x : ⊤) (v : Bool) → is_visible p l mark ≡ v
-    → (let r : Result ⊤ ℕ = if v then check_wanted wanted mark.kind else Err 10 in r) ≡ Ok x → Stands p l wanted (Some mark)
-seen p l wanted mark x true v e = record { mark = mark; is = refl; visible = v; admits = admitted wanted mark.kind x (admits wanted mark.kind) refl e }
+    → (let r : Result ⊤ ℕ = if v then check_wanted p l wanted mark else Err 10 in r) ≡ Ok x → Stands p l wanted (Some mark)
+seen p l wanted mark x true v e =
+    let both = admitted p l wanted mark x (admits wanted mark.kind) refl e in
+    record { mark = mark; is = refl; visible = v; admits = both.0; own = both.1 }
 seen p l wanted mark x false v e = absurd (cc)
 
 pub stands_of : (p l : ℕ) (wanted : Wanted) (found : Option Mark) (x : ⊤) → check_mark p l wanted found ≡ Ok x → Stands p l wanted found

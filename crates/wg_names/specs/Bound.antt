@@ -10,7 +10,7 @@ use Rattle.wg_types.specs.declared.commands.CommandOf.{CommandOf}
 use Rattle.wg_types.specs.Commands.{place_wanted, named_on}
 use Rattle.wg_types.specs.Requests.{named as asked_of}
 use Rattle.wg_script.specs.declared.calls.CallOf.TheVariants.{Record, Ask}
-use Rattle.wg_names.specs.Uses.{made_of, admits}
+use Rattle.wg_names.specs.Uses.{made_of, admits, wants_own}
 use Rattle.wg_names.specs.Names.{is_name}
 use Rattle.wg_names.specs.Script.{map_phases}
 use Rattle.wg_types.specs.declared.wanted.Kind.{Kind}
@@ -28,34 +28,37 @@ made_by call = option_to_list (made_of call)
 abbrev pub made_in : {R : Type 0} → List (CallOf R) → Made R
 made_in calls = flat_map made_by calls
 
--- what is used was made, and stands for what is wanted
-pub record IsFound {R : Type 0} (made : Made R) (key : R × Wanted) : Type 0 where
+-- what is used was made, and stands for what is wanted; an encoder or a pass that is asked for stands in the second list, which has
+-- what the call's own lane made in this phase before the call
+pub record IsFound {R : Type 0} (made ours : Made R) (key : R × Wanted) : Type 0 where
   pub kind : Kind
   pub stands : Contains made (key.0, kind)
   pub fits : admits key.1 kind ≡ true
+  pub own : wants_own key.1 ≡ true → Contains ours (key.0, kind)
 
--- what a recording call stands on was made and takes the call, and so was what the command names, each of which stands for what
--- is wanted on something of that kind
-pub record IsOn {R : Type 0} (made : Made R) (on : R) (command : CommandOf R) : Type 0 where
+-- what a recording call stands on was made, by the call's own lane in this phase, and takes the call; and what the command names
+-- was made, each of which stands for what is wanted on something of that kind
+pub record IsOn {R : Type 0} (made ours : Made R) (on : R) (command : CommandOf R) : Type 0 where
   pub place : Kind
   pub stands : Contains made (on, place)
+  pub own : Contains ours (on, place)
   pub takes : admits (place_wanted command) place ≡ true
-  pub found : All (IsFound made) (named_on place command)
+  pub found : All (IsFound made ours) (named_on place command)
 
-abbrev pub CallIsBound : {R : Type 0} → Made R → CallOf R → Type 0
-CallIsBound made (Record on command name) = IsOn made on command
-CallIsBound made (Ask request name) = All (IsFound made) (asked_of request)
+abbrev pub CallIsBound : {R : Type 0} → Made R → Made R → CallOf R → Type 0
+CallIsBound made ours (Record on command name) = IsOn made ours on command
+CallIsBound made ours (Ask request name) = All (IsFound made ours) (asked_of request)
 
 -- each name that a call of a lane uses is found among what was made before the phase, and what the
--- lane made before the call
-abbrev pub LaneIsBound : {R : Type 0} → Made R → List (CallOf R) → Type 0
-LaneIsBound made [] = Unit {0}
-LaneIsBound made (call ∷ calls) = CallIsBound made call × LaneIsBound (made ++ made_by call) calls
+-- lane made before the call, where it stands in the second list
+abbrev pub LaneIsBound : {R : Type 0} → Made R → Made R → List (CallOf R) → Type 0
+LaneIsBound made ours [] = Unit {0}
+LaneIsBound made ours (call ∷ calls) = CallIsBound made ours call × LaneIsBound (made ++ made_by call) (ours ++ made_by call) calls
 
--- the lanes of a phase see what earlier phases made, and not one another
+-- the lanes of a phase see what earlier phases made, and not one another; none has made anything when the phase begins
 abbrev pub PhasesAreBound : {R : Type 0} → Made R → List (List (List (CallOf R))) → Type 0
 PhasesAreBound made [] = Unit {0}
-PhasesAreBound made (lanes ∷ phases) = All (LaneIsBound made) lanes × PhasesAreBound (made ++ flat_map made_in lanes) phases
+PhasesAreBound made (lanes ∷ phases) = All (LaneIsBound made []) lanes × PhasesAreBound (made ++ flat_map made_in lanes) phases
 
 -- the names or slots that the calls of a script make, in reading order
 abbrev pub all_made : {R : Type 0} → List (List (List (CallOf R))) → List R
@@ -66,8 +69,9 @@ abbrev pub numbers_below : ℕ → List ℕ
 numbers_below zero = []
 numbers_below (suc n) = numbers_below n ++ n ∷ []
 
--- In a script each used slot was made by an earlier visible call and stands for what is wanted, and the slots that the calls
--- make are the numbers from 0 on, in reading order.
+-- In a script each used slot was made by an earlier visible call and stands for what is wanted, the encoders and passes that calls
+-- stand on or end were made by the same lane in the same phase, and the slots that the calls make are the numbers from 0 on, in
+-- reading order.
 pub record IsBound (phases : List (List (List BoundCall))) : Type 0 where
   pub used : PhasesAreBound [] phases
   pub count : ℕ

@@ -1,9 +1,9 @@
 -- What names stand for, and which call sees them.
-use Rattle.std.specs.Prelude.{ℕ, ◌+◌, List, length, Bool, ◌||◌, ◌&&◌, ◌==◌, nat_lt, nat_le, bytes_eq, if◌then◌else◌, Option, Some, None, Result, Ok, Err, ⊤}
+use Rattle.std.specs.Prelude.{ℕ, ◌+◌, List, length, Bool, not, ◌||◌, ◌&&◌, ◌==◌, nat_lt, nat_le, bytes_eq, if◌then◌else◌, Option, Some, None, Result, Ok, Err, ⊤}
 use Rattle.std.specs.Char.{is_ascii_alphanumeric}
 use Rattle.std.specs.List.{list_all}
 use Rattle.std.specs.Option.{option_map_or}
-use Rattle.wg_names.specs.Uses.{admits}
+use Rattle.wg_names.specs.Uses.{admits, wants_own}
 use Rattle.wg_types.specs.declared.wanted.Kind.{Kind}
 use Rattle.wg_types.specs.declared.wanted.Kind.TheVariants as kind
 use Rattle.wg_types.specs.declared.wanted.Wanted.{Wanted}
@@ -44,18 +44,26 @@ slot_in names name = option_map_or (λ mark. mark.slot) (names.marks name) 0
 abbrev pub kind_in : Names → List ℕ → Kind
 kind_in names name = option_map_or (λ mark. mark.kind) (names.marks name) kind.Encoder
 
+-- lane l of phase p made it
+abbrev pub is_own : ℕ → ℕ → Mark → Bool
+is_own p l mark = mark.phase == p && mark.lane == l
+
 -- a call of phase p and lane l sees what earlier phases made, and what its own lane made
 abbrev pub is_visible : ℕ → ℕ → Mark → Bool
-is_visible p l mark = nat_lt mark.phase p || (mark.phase == p && mark.lane == l)
+is_visible p l mark = nat_lt mark.phase p || is_own p l mark
 
--- script rule 11: what the name stands for is not wanted here
-abbrev pub check_wanted : Wanted → Kind → Result ⊤ ℕ
-check_wanted wanted kind = if admits wanted kind then Ok tt else Err 11
+-- script rule 12: the name stands for an encoder or a pass of another lane or phase, where one of the call's own is wanted
+abbrev pub check_own : ℕ → ℕ → Wanted → Mark → Result ⊤ ℕ
+check_own p l wanted mark = if wants_own wanted && not (is_own p l mark) then Err 12 else Ok tt
 
--- script rule 10: no call has made the name, or none that is visible
+-- script rule 11: what the name stands for is not wanted here. Rule 12 comes after it
+abbrev pub check_wanted : ℕ → ℕ → Wanted → Mark → Result ⊤ ℕ
+check_wanted p l wanted mark = if admits wanted mark.kind then check_own p l wanted mark else Err 11
+
+-- script rule 10: no call has made the name, or none that is visible. Rule 11 comes after it
 abbrev pub check_mark : ℕ → ℕ → Wanted → Option Mark → Result ⊤ ℕ
 check_mark p l wanted None = Err 10
-check_mark p l wanted (Some mark) = if is_visible p l mark then check_wanted wanted mark.kind else Err 10
+check_mark p l wanted (Some mark) = if is_visible p l mark then check_wanted p l wanted mark else Err 10
 
 -- a name that a call of phase p and lane l uses, with what it must stand for
 abbrev pub check_use : Names → ℕ → ℕ → (List ℕ × Wanted) → Result ⊤ ℕ

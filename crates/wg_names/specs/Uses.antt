@@ -1,7 +1,8 @@
 -- Which names a call uses, with what each must stand for, and which name it makes.
-use Rattle.std.specs.Prelude.{ℕ, List, ◌∷◌, Option, Some, None, Result, Ok, Err, ⊤}
+use Rattle.std.specs.Prelude.{ℕ, List, ◌∷◌, Bool, true, false, Option, Some, None, Result, Ok, Err, ⊤}
 use Rattle.wg_types.specs.declared.wanted.Kind.{Kind}
 use Rattle.wg_types.specs.declared.wanted.Wanted.{Wanted}
+use Rattle.wg_types.specs.declared.wanted.Wanted.TheVariants as wanted
 pub use Rattle.wg_types.specs.Wanted.{admits}
 use Rattle.wg_types.specs.Commands.{place_wanted, kind_begun, named}
 use Rattle.wg_types.specs.Requests.{kind_made, named as asked_of}
@@ -12,6 +13,29 @@ use Rattle.wg_script.specs.declared.calls.CallOf.TheVariants.{Record, Ask}
 abbrev pub uses_of : {R : Type 0} → CallOf R → List (R × Wanted)
 uses_of (Record on command made) = (on, place_wanted command) ∷ named command
 uses_of (Ask request made) = asked_of request
+
+-- whether a place in a call asks for what the call's own lane made in this phase: so does each that asks for an encoder, a pass, or
+-- either
+abbrev pub wants_own : Wanted → Bool
+wants_own wanted.Buffer = false
+wants_own wanted.Texture = false
+wants_own wanted.View = false
+wants_own wanted.Sampler = false
+wants_own wanted.GroupLayout = false
+wants_own wanted.PipelineLayout = false
+wants_own wanted.Group = false
+wants_own wanted.Pipeline = false
+wants_own wanted.ComputePipeline = false
+wants_own wanted.RenderPipeline = false
+wants_own wanted.Destroyable = false
+wants_own wanted.Encoder = true
+wants_own wanted.CommandBuffer = false
+wants_own wanted.ComputePass = true
+wants_own wanted.Pass = true
+wants_own wanted.Binding = true
+wants_own wanted.Drawing = true
+wants_own wanted.Recording = true
+wants_own wanted.Object = false
 
 -- the name that a call makes
 abbrev pub made_as : {R : Type 0} → Option R → Option Kind → Option (R × Kind)

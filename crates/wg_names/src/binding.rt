@@ -2,6 +2,7 @@
 ghost use Rattle.std.specs.Prelude.{◌≡◌, IfOk, MatchResult};
 ghost use Rattle.std.specs.List.{list_all};
 ghost use Rattle.wg_script.specs.Outcome.{Reads};
+ghost use Rattle.wg_script.specs.Sizes.{IsSized};
 ghost use Rattle.wg_names.specs.Names.{is_name, is_name_byte};
 ghost use Rattle.wg_names.specs.Known.{names_in};
 ghost use Rattle.wg_names.specs.Script.{call_bound, lane_bound, phase_bound, walk, script_from, script_of, Binds};
@@ -127,11 +128,12 @@ pub fn bind(alloc: Global, draft: Draft) -> Result<Script, ScriptFault>
     })
 }
 
-/// Reads a script, by both readings.
+/// Reads a script, by both readings. It has few phases, and each phase few lanes.
 pub fn read_script(alloc: Global, bytes: &[u8]) -> Result<Script, ScriptFault>
     ensures read { Reads result (script_of bytes.now) }
     ensures bound { IfOk result (λ script. IsBound script.phases) }
     ensures from { IfOk result (λ script. IsBoundRead bytes.now script.phases) }
+    ensures sized { IfOk result (λ script. IsSized script.phases) }
 {
     match wg_script::read(alloc, bytes) {
         Ok(draft) => bind(alloc, draft),

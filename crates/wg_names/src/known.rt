@@ -1,6 +1,7 @@
 //! The names that calls have made so far.
 ghost use Rattle.std.specs.Prelude.{◌≡◌, ◌||◌, ◌&&◌, ◌==◌, nat_lt, OnOk, OnErr, is_none};
-ghost use Rattle.wg_names.specs.Names.{no_names, with_name, slot_in, kind_in, is_visible, check_use};
+ghost use Rattle.wg_names.specs.Names.{no_names, with_name, slot_in, kind_in, is_own, is_visible, check_wanted, check_use};
+ghost use Rattle.wg_names.specs.Uses.{wants_own};
 
 use std::alloc::Global;
 use std::collections::BTreeMap;
@@ -72,18 +73,14 @@ impl<'a> Known<'a> {
     }
 
     /// Tests a name that a call of this phase and lane uses: script rule 10 where no call that is
-    /// visible has made it, and 11 where it stands for something else than is wanted.
+    /// visible has made it, then 11 where it stands for something else than is wanted, and then 12
+    /// where it stands for an encoder or a pass of another lane or phase that the call stands on or
+    /// ends.
     pub fn check_use(&self, phase: u32, lane: u32, name: &Name, wanted: Wanted) -> Result<(), u8>
         ensures { result ≡ check_use (names_in self.now) phase lane (name.now, wanted) }
     {
         match self.find(name.as_str()) {
-            Some(mark) if mark.is_visible(phase, lane) => {
-                if wanted.admits(mark.kind) {
-                    Ok(())
-                } else {
-                    Err(11)
-                }
-            }
+            Some(mark) if mark.is_visible(phase, lane) => mark.check_wanted(phase, lane, wanted),
             _ => Err(10),
         }
     }
@@ -111,11 +108,59 @@ impl<'a> Known<'a> {
 }
 
 impl Mark {
+    /// Whether the name was made in this phase and lane.
+    fn is_own(self, phase: u32, lane: u32) -> bool
+        ensures { result ≡ is_own phase lane self }
+    {
+        self.phase == phase && self.lane == lane
+    }
+
     /// Whether calls of this phase and lane see the name: it was made in an earlier phase, or in
     /// their own lane.
     fn is_visible(self, phase: u32, lane: u32) -> bool
         ensures { result ≡ is_visible phase lane self }
     {
-        self.phase < phase || (self.phase == phase && self.lane == lane)
+        self.phase < phase || self.is_own(phase, lane)
+    }
+
+    /// Tests what a visible name stands for.
+    fn check_wanted(self, phase: u32, lane: u32, wanted: Wanted) -> Result<(), u8>
+        ensures { result ≡ check_wanted phase lane wanted self }
+    {
+        if !wanted.admits(self.kind) {
+            return Err(11);
+        }
+        if wants_own(wanted) && !self.is_own(phase, lane) {
+            return Err(12);
+        }
+        Ok(())
+    }
+}
+
+/// Whether a place in a call asks for what the call's own lane made in this phase: so does each that
+/// asks for an encoder, a pass, or either.
+fn wants_own(wanted: Wanted) -> bool
+    ensures { result ≡ wants_own wanted }
+{
+    match wanted {
+        Wanted::Encoder
+        | Wanted::ComputePass
+        | Wanted::Pass
+        | Wanted::Binding
+        | Wanted::Drawing
+        | Wanted::Recording => true,
+        Wanted::Buffer
+        | Wanted::Texture
+        | Wanted::View
+        | Wanted::Sampler
+        | Wanted::GroupLayout
+        | Wanted::PipelineLayout
+        | Wanted::Group
+        | Wanted::Pipeline
+        | Wanted::ComputePipeline
+        | Wanted::RenderPipeline
+        | Wanted::Destroyable
+        | Wanted::CommandBuffer
+        | Wanted::Object => false,
     }
 }

@@ -17,15 +17,15 @@ set_tail : (o : Object) (os : List Object) (slot : ℕ) (change : RecorderValue 
 set_tail o os slot change None = refl
 set_tail o os slot change (Some x) = refl
 
-with_tail : (o : Object) (os : List Object) (slot : ℕ) (change : RecorderValue → RecorderValue) → with_recorder (o ∷ os) (suc slot) change ≡ o ∷ with_recorder os slot change
+pub with_tail : (o : Object) (os : List Object) (slot : ℕ) (change : RecorderValue → RecorderValue) → with_recorder (o ∷ os) (suc slot) change ≡ o ∷ with_recorder os slot change
 with_tail o os slot change = set_tail o os slot change (slice_get os slot)
 
-own_at : (change : RecorderValue → RecorderValue) (objects : List Object) (slot : ℕ) → slice_get (with_recorder objects slot change) slot ≡ option_map (λ x. changed x change) (slice_get objects slot)
+pub own_at : (change : RecorderValue → RecorderValue) (objects : List Object) (slot : ℕ) → slice_get (with_recorder objects slot change) slot ≡ option_map (λ x. changed x change) (slice_get objects slot)
 own_at change [] slot = refl
 own_at change (o ∷ os) zero = refl
 own_at change (o ∷ os) (suc slot) = ap (λ xs. slice_get xs (suc slot)) (with_tail o os slot change) ∙ own_at change os slot
 
-other_at : (change : RecorderValue → RecorderValue) (objects : List Object) (slot on : ℕ) → (slot ≡ on → ⊥) → slice_get (with_recorder objects slot change) on ≡ slice_get objects on
+pub other_at : (change : RecorderValue → RecorderValue) (objects : List Object) (slot on : ℕ) → (slot ≡ on → ⊥) → slice_get (with_recorder objects slot change) on ≡ slice_get objects on
 other_at change [] slot on differs = refl
 other_at change (o ∷ os) zero zero differs = absurd (differs refl)
 other_at change (o ∷ os) zero (suc on) differs = refl

@@ -1,20 +1,62 @@
 -- Which recording calls are late, looking back over the calls of their lane.
-use Rattle.std.specs.Prelude.{◌≡◌, ℕ, List, [], ◌∷◌, ◌++◌, Bool, false, ◌==◌, ◌||◌, Option, reverse}
+use Rattle.std.specs.Prelude.{◌≡◌, ℕ, ◌+◌, List, [], ◌∷◌, ◌++◌, Bool, true, false, ◌==◌, ◌||◌, Option, unwrap_or, is_some, length, map, reverse, All}
 use Rattle.std.specs.Option.{option_map_or}
-use Rattle.std.specs.List.{list_any}
+use Rattle.std.specs.List.{flat_map, list_any}
 use Rattle.wg_types.specs.declared.commands.CommandOf.{CommandOf}
-use Rattle.wg_history.specs.declared.events.Setup.{Setup}
-use Rattle.wg_script.specs.CallOf.{BoundCall}
-use Rattle.wg_script.specs.declared.calls.CallOf.TheVariants.{Record, Ask}
-use Rattle.wg_names.specs.Bound.{IsBound}
 use Rattle.wg_types.specs.declared.commands.On.{On}
 use Rattle.wg_types.specs.declared.commands.On.TheVariants.{Encoder, Pass}
+use Rattle.wg_types.specs.declared.replies.Answer.{Answer}
+use Rattle.wg_types.specs.declared.replies.Answer.TheVariants.{Made, Queued, Promised, Plain, BadCompletion}
 use Rattle.wg_model.specs.Walk.{has_ended}
 use Rattle.wg_encoder.specs.Recorders.{RecorderValue}
+use Rattle.wg_script.specs.CallOf.{BoundCall}
+use Rattle.wg_script.specs.declared.calls.CallOf.TheVariants.{Record, Ask}
+use Rattle.wg_names.specs.Bound.{made_in, IsBound}
+use Rattle.wg_names.specs.Uses.{made_of}
 use Rattle.wg_play.specs.declared.objects.Object.{Object}
 use Rattle.wg_play.specs.declared.objects.Stand.{Stand}
-use Rattle.wg_play.specs.Objects.{stand_at, recorder_at, ended_by, is_late_on}
-use Rattle.wg_play.specs.Play.{start, lane_played}
+use Rattle.wg_play.specs.Objects.{recorder_at, ended_by, is_late_on}
+use Rattle.wg_play.specs.Sights.{Sight}
+use Rattle.wg_play.specs.Lanes.{stand_seen, kept, answered_by}
+
+-- ---- a lane on its way, with any answers
+
+-- a call of a lane, with the answer that it gets where it is an event
+abbrev pub Answered : Type 0
+Answered = BoundCall × Answer
+
+abbrev pub is_made : Answer → Bool
+is_made (Made number valid) = true
+is_made (Queued op) = false
+is_made Promised = false
+is_made Plain = false
+is_made BadCompletion = false
+
+-- A call of the device that makes something which has a slot is answered that this was made, valid or not. Every other answer may
+-- be any.
+abbrev pub Answers : BoundCall → Answer → Type 0
+Answers (Record on command made) answer = Unit {0}
+Answers (Ask request made) answer = is_some (made_of (Ask request made)) ≡ true → is_made answer ≡ true
+
+abbrev pub IsAnswered : Answered → Type 0
+IsAnswered call = Answers call.0 call.1
+
+-- what the lane sees after a call: it is kept, or it is an event and is answered
+abbrev pub after_call : ℕ → Sight → Answered → Sight
+after_call serial sight call = unwrap_or (kept sight call.0) (answered_by serial sight call.0 call.1)
+
+-- and after calls, one after another
+abbrev pub after_calls : ℕ → Sight → List Answered → Sight
+after_calls serial sight [] = sight
+after_calls serial sight (call ∷ calls) = after_calls serial (after_call serial sight call) calls
+
+-- ---- where a lane begins
+
+-- how many slots are made before a lane, in reading order: in earlier phases, and by the lanes before it in its own
+abbrev pub slots_before : List (List (List BoundCall)) → List (List BoundCall) → ℕ
+slots_before earlier lanes = length (flat_map (flat_map made_in) earlier) + length (flat_map made_in lanes)
+
+-- ---- what ends an encoder or a pass
 
 -- whether a call finishes the encoder of a slot
 abbrev pub finishes : ℕ → BoundCall → Bool
@@ -29,10 +71,15 @@ pass_ended (Pass number) recorder = option_map_or (λ kept. has_ended (reverse k
 abbrev pub has_pass_ended : List Object → Stand → Bool
 has_pass_ended objects stand = pass_ended stand.on (recorder_at objects stand.encoder)
 
--- In a script of one lane a recording call is late exactly where a call before it finishes its encoder, or its pass has ended.
--- An end ends the pass on which it stands, unless that is dead.
+-- Whatever earlier phases have made, and whatever the answers of the device were: in a lane of a script whose names are bound, a
+-- recording call is late exactly where a call before it in its lane finishes its encoder, whose slot is at that place from the
+-- lane's first on, or its pass has ended. An end ends the pass on which it stands, unless that is dead.
 abbrev pub LateIsFinished : Type 0
-LateIsFinished = (setup : Setup) (before after : List BoundCall) (on : ℕ) (command : CommandOf ℕ) (made : Option ℕ)
-    → IsBound (((before ++ Record on command made ∷ after) ∷ []) ∷ [])
-    → let objects = (lane_played setup start before).objects in
-    is_late_on objects (stand_at objects on) ≡ list_any (finishes (stand_at objects on).encoder) before || has_pass_ended objects (stand_at objects on)
+LateIsFinished = (earlier later : List (List (List BoundCall))) (lanes_before lanes_after : List (List BoundCall)) (before : List Answered) (after : List BoundCall) (on : ℕ) (command : CommandOf ℕ) (made : Option ℕ)
+    → IsBound (earlier ++ (lanes_before ++ (map (λ call. call.0) before ++ Record on command made ∷ after) ∷ lanes_after) ∷ later)
+    → All IsAnswered before
+    → (serial : ℕ) (others : List Object)
+    → let first = slots_before earlier lanes_before in
+    let sight = after_calls serial (record { others = others; first = first; own = [] }) before in
+    let stand = stand_seen sight on in
+    is_late_on sight.own stand ≡ list_any (finishes (first + stand.encoder)) (map (λ call. call.0) before) || has_pass_ended sight.own stand

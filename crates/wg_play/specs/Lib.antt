@@ -1,4 +1,9 @@
 pub mod Objects
+pub mod Sights
+pub mod Lanes
+pub mod Turns
 pub mod Play
 pub mod Late
-pub mod Infos
+pub mod Found
+pub mod Through
+pub mod Kept

@@ -1,15 +1,32 @@
 //! The laws of the play, as the contracts of functions that do nothing.
+ghost use Rattle.wg_play.specs.Found.{BoundIsFound, GatheredIsHeld};
+ghost use Rattle.wg_play.specs.Kept.{StartsGenuine, TurnsGenuine, GathersGenuine};
 ghost use Rattle.wg_play.specs.Late.{LateIsFinished};
-ghost use Rattle.wg_play.specs.Infos.{InfoIsMade};
+ghost use Rattle.wg_play.specs.Through.{LanesGoThrough};
 
-/// In a script of one lane a recording call is late exactly where a call before it finishes its encoder,
-/// or its pass has ended.
+/// In each lane of a script whose names are bound, a recording call is late exactly where a call before it
+/// in its lane finishes its encoder, or its pass has ended.
 pub fn late_calls()
     ensures { LateIsFinished }
 {}
 
-/// Where the handles of what a call names know what the device knows, so much is known of what the call
-/// makes as of what its event makes.
-pub fn made_infos()
-    ensures { InfoIsMade }
+/// In each lane of a script whose names are bound, each call finds what it uses, of a kind that will do. So
+/// it does in every phase, since what a phase has made stands at its slots for the phases after it.
+pub fn bound_calls()
+    ensures found { BoundIsFound }
+    ensures gathered { GatheredIsHeld }
+{}
+
+/// In a history each lane that gives its entries goes through its calls, each of which is kept or answered.
+/// So the laws above speak of it.
+pub fn lanes_through()
+    ensures { LanesGoThrough }
+{}
+
+/// Every handle that a lane keeps is genuine in what has happened: so it is as a phase begins, if what was
+/// gathered before is; it stays so at each turn; and what is gathered of the lanes is so again.
+pub fn genuine_handles()
+    ensures begins { StartsGenuine }
+    ensures turns { TurnsGenuine }
+    ensures gathers { GathersGenuine }
 {}

@@ -1,11 +1,13 @@
-//! The play of a script: the objects that its calls have made, by their slots, and which command or event
-//! each call is, with what is known of the object that it makes.
+//! The play of a script: what its lanes see of the objects, which command or event each call is, and, in
+//! specs/, the history that lanes give which take turns.
 #![tactic(auto)]
 
 mod calls;
 mod laws;
 mod objects;
+mod seen;
 
-pub use calls::{command_of, event_asked, info_asked};
-pub use laws::{late_calls, made_infos};
-pub use objects::{Object, Stand, begun_by, object_of, record_on, reference_at, stand_at};
+pub use calls::{command_of, ended_by, note_command, request_of};
+pub use laws::{bound_calls, genuine_handles, lanes_through, late_calls};
+pub use objects::{Object, Stand, object_of, reference_at, stand_at};
+pub use seen::{Seen, count_made};

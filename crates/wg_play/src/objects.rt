@@ -1,21 +1,19 @@
-//! The objects that the calls of a script have made, by their slots.
-ghost use Rattle.std.specs.Prelude.{◌≡◌, true, [], option_map, option_to_list, slice_get, option_copied, IfOk, OnOk, OnErr};
-ghost use Rattle.std.specs.Arc.{arc_value};
+//! What the calls of a lane have made, each at its place.
+ghost use Rattle.std.specs.Prelude.{◌≡◌, true, [], option_to_list, slice_get, IfOk, OnOk, OnErr};
 ghost use Rattle.std.specs.Option.{option_map_or};
-ghost use Rattle.wg_encoder.specs.Recorders.{noted, after_take};
-ghost use Rattle.wg_play.specs.Objects.{handle_at, reference_at, knows_at, known_texture, size_at, recorder_in, changed, stand_at, is_begun, is_late_by, is_late_on, recorded_by, recorded_on, passes_at, begun_by, taken_from, taken_on, recorder_for, object_of};
+ghost use Rattle.wg_encoder.specs.Recorders.{noted};
+ghost use Rattle.wg_play.specs.Objects.{handle_at, reference_at, recorder_in, changed, stand_at, is_begun, is_late_by, is_late_on, recorded_by, recorded_on, passes_at, begun_by, recorder_for, object_of};
 
 use std::alloc::Global;
 use std::sync::Arc;
-use wg_encoder::{Noted, Recorder, Recording};
+use wg_calls::recorder_for;
+use wg_encoder::{Noted, Recorder};
 use wg_entry::NoMemory;
-use wg_formats::{no_texture, size_or_rest, texture_of};
 use wg_types::commands::{Command, On};
 use wg_types::handles::{Handle, Info, ObjRef};
-use wg_types::textures::TextureInfo;
 
-/// What a call made: an object as its caller holds it, with the recorder of an encoder; or a pass, by the
-/// slot of its encoder and its number there. Passes are no objects of a device.
+/// What a call has made: an object as its caller holds it, with the recorder of an encoder; or a pass, by
+/// the place of its encoder and its number there. Passes are no objects of a device.
 #[derive(Drop)]
 pub enum Object {
     Made {
@@ -28,7 +26,7 @@ pub enum Object {
     },
 }
 
-/// Where a recording call stands: the slot of its encoder, and whether on that itself or on a pass of it.
+/// Where a recording call stands: the place of its encoder, and whether on that itself or on a pass of it.
 #[derive(Clone, Copy, Debug)]
 pub struct Stand {
     pub encoder: u32,
@@ -41,11 +39,11 @@ const UNKNOWN: ObjRef = ObjRef {
     number: 0,
 };
 
-/// A handle of the object of a slot.
-pub fn handle_at(alloc: Global, objects: &[Object], slot: u32) -> Result<Handle, NoMemory>
-    ensures { IfOk result (λ handle. handle ≡ handle_at objects.now slot) }
+/// A handle of the object of a place.
+pub fn handle_at(alloc: Global, objects: &[Object], place: u32) -> Result<Handle, NoMemory>
+    ensures { IfOk result (λ handle. handle ≡ handle_at objects.now place) }
 {
-    match objects.get(slot as usize) {
+    match objects.get(place as usize) {
         Some(Object::Made { handle, .. }) => handle.share(),
         Some(Object::Pass { .. }) | None => {
             Ok(Handle::new(UNKNOWN, false, Arc::new(alloc, Info::CommandBuffer)?))
@@ -53,57 +51,27 @@ pub fn handle_at(alloc: Global, objects: &[Object], slot: u32) -> Result<Handle,
     }
 }
 
-/// Which object a slot stands for.
-pub fn reference_at(objects: &[Object], slot: u32) -> ObjRef
-    ensures { result ≡ reference_at objects.now slot }
+/// Which object a place stands for.
+pub fn reference_at(objects: &[Object], place: u32) -> ObjRef
+    ensures { result ≡ reference_at objects.now place }
 {
-    match objects.get(slot as usize) {
+    match objects.get(place as usize) {
         Some(Object::Made { handle, .. }) => handle.reference(),
         Some(Object::Pass { .. }) | None => UNKNOWN,
     }
 }
 
-/// A size in the buffer of a slot, or what remains of it from the offset on where none is given.
-pub fn size_at(objects: &[Object], slot: u32, offset: u64, size: Option<u64>) -> u64
-    ensures { result ≡ size_at objects.now slot offset size }
+/// Where a recording call stands that names a place.
+pub fn stand_at(objects: &[Object], place: u32) -> Stand
+    ensures { result ≡ stand_at objects.now place }
 {
-    match objects.get(slot as usize) {
-        Some(Object::Made { handle, .. }) => size_or_rest(handle, offset, size),
-        Some(Object::Pass { .. }) | None => size.unwrap_or(0),
-    }
-}
-
-/// What is known of the object of a slot, if there is one.
-pub fn info_at(objects: &[Object], slot: u32) -> Option<&Info>
-    ensures { option_copied result ≡ knows_at objects.now slot }
-{
-    match objects.get(slot as usize) {
-        Some(Object::Made { handle, .. }) => Some(handle.info()),
-        Some(Object::Pass { .. }) | None => None,
-    }
-}
-
-/// What is known of the texture of a slot, if it is valid; of an invalid one nothing is.
-pub fn known_texture_at(objects: &[Object], slot: u32) -> TextureInfo
-    ensures { result ≡ known_texture (handle_at objects.now slot) }
-{
-    match objects.get(slot as usize) {
-        Some(Object::Made { handle, .. }) if handle.valid() => texture_of(handle),
-        _ => no_texture(),
-    }
-}
-
-/// Where a recording call stands that names a slot.
-pub fn stand_at(objects: &[Object], slot: u32) -> Stand
-    ensures { result ≡ stand_at objects.now slot }
-{
-    match objects.get(slot as usize) {
+    match objects.get(place as usize) {
         Some(Object::Pass { encoder, number }) => Stand {
             encoder: *encoder,
             on: On::Pass(*number),
         },
         Some(Object::Made { .. }) | None => Stand {
-            encoder: slot,
+            encoder: place,
             on: On::Encoder,
         },
     }
@@ -164,11 +132,11 @@ pub fn record_on(
     record_in(&mut objects[index], stand.on, command)
 }
 
-/// How many passes were begun on the encoder of a slot.
-fn passes_at(objects: &[Object], slot: u32) -> u32
-    ensures { result ≡ passes_at objects.now slot }
+/// How many passes were begun on the encoder of a place.
+fn passes_at(objects: &[Object], place: u32) -> u32
+    ensures { result ≡ passes_at objects.now place }
 {
-    match objects.get(slot as usize) {
+    match objects.get(place as usize) {
         Some(
             Object::Made {
                 recorder: Some(recorder),
@@ -179,7 +147,7 @@ fn passes_at(objects: &[Object], slot: u32) -> u32
     }
 }
 
-/// The pass that a command begins on the encoder of a slot, where it begins one that has a slot. It is
+/// The pass that a command begins on the encoder of a place, where it begins one that has a slot. It is
 /// asked before the command is recorded, and the pass is made after that.
 pub fn begun_by(
     objects: &[Object],
@@ -198,45 +166,12 @@ pub fn begun_by(
     }
 }
 
-/// Takes what the recorder of an object has kept, if it has a recorder.
-fn take_in(object: &mut Object) -> Option<Recording>
-    ensures taken { result ≡ option_map (λ recorder. record { device = recorder.device; commands = recorder.commands }) (recorder_in object.old) }
-    ensures after { object.new ≡ changed object.old (λ recorder. record recorder { commands = []; takes = after_take recorder.takes }) }
-{
-    match object {
-        Object::Made {
-            recorder: Some(recorder),
-            ..
-        } => Some(recorder.take()),
-        Object::Made { recorder: None, .. } | Object::Pass { .. } => None,
-    }
-}
-
-/// Takes what the recorder of the encoder of a slot has kept.
-pub fn take_on(alloc: Global, objects: &mut Vec<Object>, slot: u32) -> Recording
-    ensures taken { result ≡ taken_from objects.old.items slot }
-    ensures after { objects.new.items ≡ taken_on objects.old.items slot }
-{
-    let index = slot as usize;
-    if index >= objects.len() {
-        return Recorder::new(alloc, UNKNOWN.device).take();
-    }
-    match take_in(&mut objects[index]) {
-        Some(recording) => recording,
-        None => Recorder::new(alloc, UNKNOWN.device).take(),
-    }
-}
-
 /// The recorder of an object that was made, if it is an encoder.
-fn recorder_for(alloc: Global, reference: ObjRef, valid: bool, info: &Info) -> Option<Recorder>
-    ensures { result ≡ recorder_for reference info.now }
+fn recorder_of(alloc: Global, handle: &Handle) -> Option<Recorder>
+    ensures { result ≡ recorder_for handle.now.reference handle.now.info }
 {
-    match info {
-        Info::Encoder => {
-            let mut recorder = Recorder::new(alloc, reference.device);
-            recorder.open(reference, valid);
-            Some(recorder)
-        }
+    match handle.info() {
+        Info::Encoder => Some(recorder_for(alloc, handle)),
         Info::Buffer(_)
         | Info::Texture(_)
         | Info::View(_)
@@ -250,16 +185,10 @@ fn recorder_for(alloc: Global, reference: ObjRef, valid: bool, info: &Info) -> O
     }
 }
 
-/// An object that was made.
-pub fn object_of(
-    alloc: Global,
-    reference: ObjRef,
-    valid: bool,
-    info: Info,
-) -> Result<Object, NoMemory>
-    ensures { IfOk result (λ object. object ≡ object_of reference valid info) }
+/// An object that was made. It takes no memory.
+pub fn object_of(alloc: Global, handle: Handle) -> Object
+    ensures { result ≡ object_of handle }
 {
-    let recorder = recorder_for(alloc, reference, valid, &info);
-    let handle = Handle::new(reference, valid, Arc::new(alloc, info)?);
-    Ok(Object::Made { handle, recorder })
+    let recorder = recorder_of(alloc, &handle);
+    Object::Made { handle, recorder }
 }

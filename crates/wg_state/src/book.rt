@@ -5,11 +5,11 @@ ghost use Rattle.wg_history.specs.Objects.{count, maker, made_info, info_at, tex
 use std::alloc::Global;
 use std::marker::Model;
 use wg_formats::no_texture;
+use wg_groups::making::Known;
 use wg_history::NoMemory;
 use wg_history::events::{Entry, Event};
 use wg_hub::{Hub, Made};
 use wg_types::handles::{Info, ObjRef};
-use wg_types::refs::Known;
 use wg_types::replies::Answer;
 use wg_types::textures::TextureInfo;
 
@@ -192,7 +192,7 @@ impl Known<ObjRef> for Book {
 
     ghost knows = { λ book object. info_at (reverse book.entries) object.number };
 
-    fn info(&self, object: &ObjRef) -> Option<&Info> {
+    fn info<'a>(&'a self, object: &'a ObjRef) -> Option<&'a Info> {
         self.info(object.number)
     }
 }

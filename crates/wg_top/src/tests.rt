@@ -1,9 +1,13 @@
 ghost use Rattle.std.specs.Prelude.{◌<◌};
 
-use crate::{Status, run};
+use crate::run;
 use std::alloc::Global;
+use std::sync::Wait;
+use std::sync::atomic::{AtomicU64, Ordering};
 use std::test::Fail;
+use std::thread::Threads;
 use wg_io::{MemSink, MemSource};
+use wg_lanes::{Gate, NoGate};
 
 /// The words of a command line.
 fn words(alloc: Global, line: &str) -> Result<Vec<String>, Fail> {
@@ -19,21 +23,36 @@ fn sink_of(alloc: Global, room: usize) -> Result<MemSink, Fail> {
     MemSink::new(alloc, room, 7, Vec::new(alloc)).map_err(|_| Fail::new("no memory"))
 }
 
+/// Runs words over bytes, and gives the number of the status.
+fn number_of<T: Wait + Threads + Sync, G: Gate + Sync>(
+    rt: &T,
+    alloc: Global,
+    line: &str,
+    source: &mut MemSource,
+    sink: &mut MemSink,
+    gate: &G,
+) -> Result<u8, Fail> {
+    let words = words(alloc, line)?;
+    Ok(run(rt, alloc, &words, source, sink, gate).number())
+}
+
 /// Runs the words `run` over a script that comes in pieces of this size, of whose reads these fail.
-/// Gives the status and what was written.
-fn run_on(
+/// Gives the number of the status and what was written.
+fn run_on<T: Wait + Threads + Sync, G: Gate + Sync>(
+    rt: &T,
     alloc: Global,
     script: &[u8],
     most: usize,
     fails: Vec<u64>,
     room: usize,
-) -> Result<(Status, Vec<u8>), Fail>
+    gate: &G,
+) -> Result<(u8, Vec<u8>), Fail>
     requires { 0 < most }
 {
     let mut source = MemSource::new(Vec::from_slice(alloc, script)?, most, fails);
     let mut sink = sink_of(alloc, room)?;
-    let status = run(alloc, &words(alloc, "run")?, &mut source, &mut sink);
-    Ok((status, Vec::from_slice(alloc, sink.taken())?))
+    let number = number_of(rt, alloc, "run", &mut source, &mut sink, gate)?;
+    Ok((number, Vec::from_slice(alloc, sink.taken())?))
 }
 
 #[test]
@@ -68,8 +87,9 @@ fn scripts_have_their_texts(rt: HostRuntime) -> Result<(), Fail> {
         ),
     ];
     for (script, text, number) in cases {
-        let (status, written) = run_on(alloc, script.as_bytes(), 4096, Vec::new(alloc), 2000)?;
-        assert_eq!(rt; status.number(), number, "{script}");
+        let fails = Vec::new(alloc);
+        let (status, written) = run_on(&rt, alloc, script.as_bytes(), 4096, fails, 2000, &NoGate)?;
+        assert_eq!(rt; status, number, "{script}");
         assert_eq!(rt; written.as_slice(), text.as_bytes(), "{script}");
     }
     Ok(())
@@ -95,8 +115,17 @@ fn copies(alloc: Global, count: u32) -> Result<String, Fail> {
 fn many_encoders_are_submitted(rt: HostRuntime) -> Result<(), Fail> {
     let alloc = rt.alloc();
     let script = copies(alloc, 300)?;
-    let (status, written) = run_on(alloc, script.as_bytes(), 4096, Vec::new(alloc), 1_000_000)?;
-    assert_eq!(rt; status.number(), 0);
+    let fails = Vec::new(alloc);
+    let (status, written) = run_on(
+        &rt,
+        alloc,
+        script.as_bytes(),
+        4096,
+        fails,
+        1_000_000,
+        &NoGate,
+    )?;
+    assert_eq!(rt; status, 0);
     let text = str::from_utf8(&written)?;
     for line in [
         "901 0 submit op 300\ntrace\nstep 0 op 1 clear\nuse b 0 clear\nacc write b 0 0 16\nbar b 0 clear copy-src\nstep 1 op 1 copyBufferToBuffer\n",
@@ -113,12 +142,12 @@ fn faults_of_source_and_sink(rt: HostRuntime) -> Result<(), Fail> {
     let empty = b"{\"budget\":0,\"phases\":[]}";
     // The third read, which comes before the end, fails.
     let fails = vec![in alloc; 3u64]?;
-    let (status, written) = run_on(alloc, empty, 8, fails, 100)?;
-    assert_eq!(rt; status, Status::ReadFault);
+    let (status, written) = run_on(&rt, alloc, empty, 8, fails, 100, &NoGate)?;
+    assert_eq!(rt; status, 4);
     assert!(rt; written.is_empty());
     // The sink takes 10 bytes.
-    let (status, written) = run_on(alloc, empty, 4096, Vec::new(alloc), 10)?;
-    assert_eq!(rt; status, Status::WriteFault);
+    let (status, written) = run_on(&rt, alloc, empty, 4096, Vec::new(alloc), 10, &NoGate)?;
+    assert_eq!(rt; status, 5);
     assert_eq!(rt; written.as_slice(), b"history\ntr".as_slice());
     Ok(())
 }
@@ -130,16 +159,116 @@ fn words_and_sizes(rt: HostRuntime) -> Result<(), Fail> {
         let mut source = MemSource::new(Vec::new(alloc), 1, Vec::new(alloc));
         let mut sink = sink_of(alloc, 100)?;
         assert_eq!(rt;
-            run(alloc, &words(alloc, line)?, &mut source, &mut sink),
-            Status::Usage
+            number_of(&rt, alloc, line, &mut source, &mut sink, &NoGate)?,
+            2
         );
         assert!(rt; sink.taken().is_empty());
     }
     for (size, number, text) in [(4_194_305, 7, ""), (4_194_304, 3, "bad script 1\n")] {
         let spaces = vec![in alloc; b' '; size]?;
-        let (status, written) = run_on(alloc, &spaces, 65_536, Vec::new(alloc), 100)?;
-        assert_eq!(rt; status.number(), number);
+        let (status, written) = run_on(&rt, alloc, &spaces, 65_536, Vec::new(alloc), 100, &NoGate)?;
+        assert_eq!(rt; status, number);
         assert_eq!(rt; written.as_slice(), text.as_bytes());
     }
+    Ok(())
+}
+
+/// A submit of what clears a buffer, and at once its destroy, in two lanes.
+const RACE: &str =
+    "{\"budget\":1000000,\"phases\":[[[{\"do\":\"createBuffer\",\"size\":16,\"usage\":8,\"as\":\"b\"},{\"do\":\"createEncoder\",\"as\":\"e\"},{\"do\":\"clearBuffer\",\"on\":\"e\",\"buffer\":\"b\"},{\"do\":\"finish\",\"on\":\"e\",\"as\":\"c\"}]],[[{\"do\":\"submit\",\"buffers\":[\"c\"]}],[{\"do\":\"destroy\",\"object\":\"b\"}]]]}";
+
+/// A gate that holds a lane of phase 1 until a call of another lane of it was made.
+#[derive(Drop)]
+struct Holding {
+    held: u32,
+    passed: AtomicU64,
+    given_up: AtomicU64,
+}
+
+impl Gate for Holding {
+    fn before(&self, phase: u32, lane: u32, call: u32) {
+        let _ = call;
+        if phase != 1 || lane != self.held {
+            return;
+        }
+        for _ in 0..1_000_000_000u64 {
+            if self.passed.load(Ordering::SeqCst) == 1 {
+                return;
+            }
+        }
+        self.given_up.store(1, Ordering::SeqCst);
+    }
+
+    fn after(&self, phase: u32, lane: u32, call: u32) {
+        let _ = call;
+        if phase == 1 && lane != self.held {
+            self.passed.store(1, Ordering::SeqCst);
+        }
+    }
+}
+
+#[test]
+fn either_lane_may_be_first(rt: HostRuntime) -> Result<(), Fail> {
+    let alloc = rt.alloc();
+    let cases = [
+        (
+            0,
+            "history\n0 0 createBuffer made 0 valid\n1 0 createEncoder made 1 valid\n2 0 finish made 2 valid\n3 1 destroy plain\n4 0 submit plain fault validation 192 uncaptured\ntrace\nfree b 0\nend\n",
+        ),
+        (
+            1,
+            "history\n0 0 createBuffer made 0 valid\n1 0 createEncoder made 1 valid\n2 0 finish made 2 valid\n3 0 submit op 1\n4 1 destroy plain\ntrace\nstep 0 op 1 clearBuffer\nuse b 0 copy-dst\nacc write b 0 0 16\nend\n",
+        ),
+    ];
+    for (held, text) in cases {
+        let gate = Holding {
+            held,
+            passed: AtomicU64::new(0),
+            given_up: AtomicU64::new(0),
+        };
+        let fails = Vec::new(alloc);
+        let (status, written) = run_on(&rt, alloc, RACE.as_bytes(), 4096, fails, 2000, &gate)?;
+        assert_eq!(rt;
+            gate.given_up.load(Ordering::SeqCst),
+            0,
+            "lane {held} is alone"
+        );
+        assert_eq!(rt; status, 0);
+        assert_eq!(rt; written.as_slice(), text.as_bytes());
+    }
+    Ok(())
+}
+
+/// A gate that counts.
+#[derive(Drop)]
+struct Counting {
+    before: AtomicU64,
+    after: AtomicU64,
+}
+
+impl Gate for Counting {
+    fn before(&self, phase: u32, lane: u32, call: u32) {
+        let _ = (phase, lane, call);
+        self.before.fetch_add(1, Ordering::SeqCst);
+    }
+
+    fn after(&self, phase: u32, lane: u32, call: u32) {
+        let _ = (phase, lane, call);
+        self.after.fetch_add(1, Ordering::SeqCst);
+    }
+}
+
+#[test]
+fn the_gate_sees_each_call(rt: HostRuntime) -> Result<(), Fail> {
+    let gate = Counting {
+        before: AtomicU64::new(0),
+        after: AtomicU64::new(0),
+    };
+    let alloc = rt.alloc();
+    let fails = Vec::new(alloc);
+    let (status, _) = run_on(&rt, alloc, RACE.as_bytes(), 4096, fails, 2000, &gate)?;
+    assert_eq!(rt; status, 0);
+    assert_eq!(rt; gate.before.load(Ordering::SeqCst), 6);
+    assert_eq!(rt; gate.after.load(Ordering::SeqCst), 6);
     Ok(())
 }

@@ -1,4 +1,4 @@
-use Rattle.wg_play.proofs.Finished.{late_is_finished}
+use Rattle.wg_play.proofs.LateLaw.{late_is_finished}
 use Rattle.wg_play.proofs.laws.late_calls.Goals as goal
 
 pub returns : goal.returns

@@ -1,0 +1,114 @@
+-- The calls of a device over handles: which event each is, what is known of the object that it makes, and the handle of that.
+use Rattle.std.specs.Prelude.{ℕ, [], map, Option, Some, None, option_and_then, if◌then◌else◌}
+use Rattle.wg_types.specs.Handles.{HandleValue}
+use Rattle.wg_types.specs.declared.handles.ObjRef.{ObjRef}
+use Rattle.wg_types.specs.declared.handles.Info.{Info}
+use Rattle.wg_types.specs.declared.handles.Info.TheVariants as info
+use Rattle.wg_types.specs.declared.textures.TextureInfo.{TextureInfo}
+use Rattle.wg_types.specs.declared.textures.ViewAsked.{ViewAsked}
+use Rattle.wg_types.specs.declared.textures.ViewDesc.{ViewDesc}
+use Rattle.wg_types.specs.Bindings.{map_entry}
+use Rattle.wg_types.specs.declared.replies.Answer.{Answer}
+use Rattle.wg_types.specs.declared.replies.Answer.TheVariants.{Made, Queued, Promised, Plain, BadCompletion}
+use Rattle.wg_types.specs.declared.requests.RequestOf.{RequestOf}
+use Rattle.wg_types.specs.declared.requests.RequestOf.TheVariants.{CreateBuffer, CreateTexture, CreateView, CreateSampler, CreateBindGroupLayout, CreatePipelineLayout, CreateBindGroup, CreateComputePipeline, CreateRenderPipeline, CreateEncoder, Finish, Submit, WriteBuffer, WriteTexture, Destroy, Drop, Complete, PushErrorScope, PopErrorScope, Lose, WorkDone, MapAsync, Unmap}
+use Rattle.wg_model.specs.Commands.{texture_of, no_texture, size_or_rest}
+use Rattle.wg_model.specs.Making.{view_made, pipeline_layout_made, group_made, compute_made, render_made}
+use Rattle.wg_model.specs.Views.{view_of}
+use Rattle.wg_encoder.specs.Recorders.{RecorderValue, RecordingValue}
+use Rattle.wg_history.specs.declared.events.Event.{Event}
+use Rattle.wg_history.specs.declared.events.Event.TheVariants as event
+
+-- which object a handle is of
+abbrev pub reference_of : HandleValue → ObjRef
+reference_of handle = handle.reference
+
+-- what a handle knows of its object
+abbrev pub known_by : HandleValue → Option Info
+known_by handle = Some handle.info
+
+-- what a view's left-out parts are found by: what is known of a valid texture, and of an invalid one nothing
+abbrev pub known_texture : HandleValue → TextureInfo
+known_texture texture = if texture.valid then texture_of texture else no_texture
+
+-- what is asked of a view of a texture, with the parts that are left out
+abbrev pub view_asked : HandleValue → ViewAsked → ViewDesc
+view_asked texture asked = view_of (known_texture texture) asked.dim asked.aspect asked.base_mip asked.mips asked.base_layer asked.layers
+
+-- The event that a call of the device is. A finish comes here without a recorder, and has no commands; that of a recorder is
+-- below.
+abbrev pub event_asked : RequestOf HandleValue → Event
+event_asked (CreateBuffer known) = event.CreateBuffer known
+event_asked (CreateTexture known) = event.CreateTexture known
+event_asked (CreateView texture asked) = event.CreateView texture.reference (view_asked texture asked)
+event_asked (CreateSampler known) = event.CreateSampler known
+event_asked (CreateBindGroupLayout known) = event.CreateBindGroupLayout known
+event_asked (CreatePipelineLayout layouts) = event.CreatePipelineLayout (map reference_of layouts)
+event_asked (CreateBindGroup layout entries) = event.CreateBindGroup layout.reference (map (map_entry reference_of) entries)
+event_asked (CreateComputePipeline layout iface) = event.CreateComputePipeline layout.reference iface
+event_asked (CreateRenderPipeline layout desc) = event.CreateRenderPipeline layout.reference desc
+event_asked CreateEncoder = event.CreateEncoder
+event_asked (Finish encoder) = event.Finish encoder.reference (record { device = encoder.reference.device; commands = [] })
+event_asked (Submit buffers) = event.Submit (map reference_of buffers)
+event_asked (WriteBuffer buffer offset size) = event.WriteBuffer buffer.reference offset size
+event_asked (WriteTexture texture spot layout size data_size) = event.WriteTexture texture.reference spot layout size data_size
+event_asked (Destroy object) = event.Destroy object.reference
+event_asked (Drop object) = event.Drop object.reference
+event_asked (Complete op) = event.Complete op
+event_asked (PushErrorScope filter) = event.PushErrorScope filter
+event_asked PopErrorScope = event.PopErrorScope
+event_asked Lose = event.Lose
+event_asked WorkDone = event.WorkDone
+event_asked (MapAsync buffer mode offset size) = event.MapAsync buffer.reference mode offset (size_or_rest buffer offset size)
+event_asked (Unmap buffer) = event.Unmap buffer.reference
+
+-- What is known of the object that a call of the device makes, by what the handles of those that it names know. It carries along
+-- what is known of these.
+abbrev pub info_asked : RequestOf HandleValue → Option Info
+info_asked (CreateBuffer known) = Some (info.Buffer known)
+info_asked (CreateTexture known) = Some (info.Texture known)
+info_asked (CreateView texture asked) = Some (info.View (view_made reference_of known_by texture (view_asked texture asked)))
+info_asked (CreateSampler known) = Some (info.Sampler known)
+info_asked (CreateBindGroupLayout known) = Some (info.GroupLayout known)
+info_asked (CreatePipelineLayout layouts) = Some (info.PipelineLayout (pipeline_layout_made reference_of known_by layouts))
+info_asked (CreateBindGroup layout entries) = Some (info.Group (group_made reference_of known_by layout entries))
+info_asked (CreateComputePipeline layout iface) = Some (info.Compute (compute_made reference_of known_by layout iface))
+info_asked (CreateRenderPipeline layout desc) = Some (info.Render (render_made reference_of known_by layout desc))
+info_asked CreateEncoder = Some info.Encoder
+info_asked (Finish encoder) = Some info.CommandBuffer
+info_asked (Submit buffers) = None
+info_asked (WriteBuffer buffer offset size) = None
+info_asked (WriteTexture texture spot layout size data_size) = None
+info_asked (Destroy object) = None
+info_asked (Drop object) = None
+info_asked (Complete op) = None
+info_asked (PushErrorScope filter) = None
+info_asked PopErrorScope = None
+info_asked Lose = None
+info_asked WorkDone = None
+info_asked (MapAsync buffer mode offset size) = None
+info_asked (Unmap buffer) = None
+
+-- the recording that a recorder hands over
+abbrev pub recording_of : RecorderValue → RecordingValue
+recording_of recorder = record { device = recorder.device; commands = recorder.commands }
+
+-- the finish of the encoder of a recorder, with the commands that this has kept
+abbrev pub finish_of : ObjRef → RecorderValue → Event
+finish_of encoder recorder = event.Finish encoder (recording_of recorder)
+
+-- the handle of what an answer made, of which so much is known
+abbrev pub handle_of : ℕ → Info → Answer → Option HandleValue
+handle_of serial known (Made number valid) = Some (record { reference = record { device = serial; number = number }; valid = valid; info = known })
+handle_of serial known (Queued op) = None
+handle_of serial known Promised = None
+handle_of serial known Plain = None
+handle_of serial known BadCompletion = None
+
+-- the handle of what a call made that was answered so, if it makes something
+abbrev pub handle_made : ℕ → RequestOf HandleValue → Answer → Option HandleValue
+handle_made serial request answer = option_and_then (λ known. handle_of serial known answer) (info_asked request)
+
+-- a recorder that was opened for an encoder and has kept nothing
+abbrev pub opened_for : ObjRef → RecorderValue
+opened_for encoder = record { device = encoder.device; encoder = Some encoder; commands = []; takes = 0; passes = 0 }

@@ -1,0 +1,8 @@
+//! The laws of calls, as the contracts of functions that do nothing.
+ghost use Rattle.wg_calls.specs.Infos.{InfoIsMade};
+
+/// Where the handles of what a call names know what the device knows, so much is known of what the call
+/// makes as of what its event makes.
+pub fn made_infos()
+    ensures { InfoIsMade }
+{}

@@ -1,0 +1,11 @@
+//! The calls of a device over handles: which event each is, what is known of the object that it makes, and
+//! the handle of that.
+#![tactic(auto)]
+
+mod asking;
+mod laws;
+mod making;
+
+pub use asking::event_asked;
+pub use laws::made_infos;
+pub use making::{handle_of, info_asked, recorder_for};

@@ -1,0 +1,233 @@
+//! The calls of a device that make objects.
+ghost use Rattle.std.specs.Prelude.{◌≡◌, ◌∷◌, [], All, map, Some, None, IfOk, IfErr};
+ghost use Rattle.wg_types.specs.Bindings.{entries_named, map_entry};
+ghost use Rattle.wg_types.specs.declared.requests.RequestOf.TheVariants as request;
+ghost use Rattle.wg_calls.specs.Calls.{reference_of, opened_for, handle_made};
+ghost use Rattle.wg_device.specs.Fronts.{front_in, setup_of, CanCall, HasCalled, HasNotMade, IsAct};
+ghost use Rattle.wg_device.specs.Handles.{IsGenuine, AreGenuine, whole};
+
+use crate::device::{Device, DevicePass};
+use std::sync::Wait;
+use wg_calls::recorder_for;
+use wg_core::Event;
+use wg_encoder::Recorder;
+use wg_entry::NoMemory;
+use wg_types::bindings::{GroupEntryOf, IfaceEntry, LayoutEntry, SamplerKind};
+use wg_types::groups::{GroupLayoutInfo, Interface};
+use wg_types::handles::{BufferInfo, Handle};
+use wg_types::items::Items;
+use wg_types::render::RenderDesc;
+use wg_types::replies::Reply;
+use wg_types::requests::RequestOf;
+use wg_types::shared::Shared;
+use wg_types::textures::{TextureInfo, ViewAsked, ViewDesc};
+
+impl Device {
+    /// Makes a buffer (WebGPU, "createBuffer").
+    #[tactic(auto, using(crate::proofs::Calling::none_named))]
+    pub fn create_buffer(
+        &self,
+        rt: &impl Wait,
+        pass: &mut DevicePass,
+        info: BufferInfo,
+    ) -> Result<(Handle, Reply), NoMemory>
+        requires { CanCall self.now.lock pass.old }
+        ensures called { HasCalled self.now.lock pass.old pass.new }
+        ensures done { IfOk result (λ t. IsAct self.now.lock pass.old pass.new (Event.CreateBuffer info) t.1) }
+        ensures handle { IfOk result (λ t. handle_made (setup_of self.now.lock).serial (request.CreateBuffer info) t.1.answer ≡ Some t.0) }
+        ensures genuine { IfOk result (λ t. IsGenuine (setup_of self.now.lock) (front_in self.now.lock pass.new) t.0) }
+        ensures refused { IfErr result (λ _. HasNotMade self.now.lock pass.old pass.new) }
+    {
+        self.make(rt, pass, &RequestOf::CreateBuffer { info })
+    }
+
+    /// Makes a texture (WebGPU, "createTexture").
+    #[tactic(auto, using(crate::proofs::Calling::none_named))]
+    pub fn create_texture(
+        &self,
+        rt: &impl Wait,
+        pass: &mut DevicePass,
+        info: TextureInfo,
+    ) -> Result<(Handle, Reply), NoMemory>
+        requires { CanCall self.now.lock pass.old }
+        ensures called { HasCalled self.now.lock pass.old pass.new }
+        ensures done { IfOk result (λ t. IsAct self.now.lock pass.old pass.new (Event.CreateTexture info) t.1) }
+        ensures handle { IfOk result (λ t. handle_made (setup_of self.now.lock).serial (request.CreateTexture info) t.1.answer ≡ Some t.0) }
+        ensures genuine { IfOk result (λ t. IsGenuine (setup_of self.now.lock) (front_in self.now.lock pass.new) t.0) }
+        ensures refused { IfErr result (λ _. HasNotMade self.now.lock pass.old pass.new) }
+    {
+        self.make(rt, pass, &RequestOf::CreateTexture { info })
+    }
+
+    /// Makes a view of a texture (WebGPU, "createView"), of which no part is left out.
+    pub fn create_view(
+        &self,
+        rt: &impl Wait,
+        pass: &mut DevicePass,
+        texture: &Handle,
+        desc: ViewDesc,
+    ) -> Result<(Handle, Reply), NoMemory>
+        requires { CanCall self.now.lock pass.old }
+        ensures called { HasCalled self.now.lock pass.old pass.new }
+        ensures done { IfOk result (λ t. IsAct self.now.lock pass.old pass.new (Event.CreateView texture.now.reference desc) t.1) }
+        ensures handle { IfOk result (λ t. handle_made (setup_of self.now.lock).serial (request.CreateView texture.now (whole desc)) t.1.answer ≡ Some t.0) }
+        ensures genuine { IfOk result (λ t. IsGenuine (setup_of self.now.lock) (front_in self.now.lock pass.new) texture.now → IsGenuine (setup_of self.now.lock) (front_in self.now.lock pass.new) t.0) }
+        ensures refused { IfErr result (λ _. HasNotMade self.now.lock pass.old pass.new) }
+    {
+        let asked = ViewAsked {
+            dim: Some(desc.dim),
+            aspect: desc.aspect,
+            base_mip: desc.base_mip,
+            mips: Some(desc.mips),
+            base_layer: desc.base_layer,
+            layers: Some(desc.layers),
+        };
+        let texture = texture.share()?;
+        self.make(rt, pass, &RequestOf::CreateView { texture, asked })
+    }
+
+    /// Makes a sampler (WebGPU, "createSampler").
+    #[tactic(auto, using(crate::proofs::Calling::none_named))]
+    pub fn create_sampler(
+        &self,
+        rt: &impl Wait,
+        pass: &mut DevicePass,
+        kind: SamplerKind,
+    ) -> Result<(Handle, Reply), NoMemory>
+        requires { CanCall self.now.lock pass.old }
+        ensures called { HasCalled self.now.lock pass.old pass.new }
+        ensures done { IfOk result (λ t. IsAct self.now.lock pass.old pass.new (Event.CreateSampler kind) t.1) }
+        ensures handle { IfOk result (λ t. handle_made (setup_of self.now.lock).serial (request.CreateSampler kind) t.1.answer ≡ Some t.0) }
+        ensures genuine { IfOk result (λ t. IsGenuine (setup_of self.now.lock) (front_in self.now.lock pass.new) t.0) }
+        ensures refused { IfErr result (λ _. HasNotMade self.now.lock pass.old pass.new) }
+    {
+        self.make(rt, pass, &RequestOf::CreateSampler { kind })
+    }
+
+    /// Makes a bind group layout (WebGPU, "createBindGroupLayout").
+    #[tactic(auto, using(crate::proofs::Calling::none_named))]
+    pub fn create_bind_group_layout(
+        &self,
+        rt: &impl Wait,
+        pass: &mut DevicePass,
+        entries: Vec<LayoutEntry>,
+    ) -> Result<(Handle, Reply), NoMemory>
+        requires { CanCall self.now.lock pass.old }
+        ensures called { HasCalled self.now.lock pass.old pass.new }
+        ensures done { IfOk result (λ t. IsAct self.now.lock pass.old pass.new (Event.CreateBindGroupLayout (record { entries = entries.items })) t.1) }
+        ensures handle { IfOk result (λ t. handle_made (setup_of self.now.lock).serial (request.CreateBindGroupLayout (record { entries = entries.items })) t.1.answer ≡ Some t.0) }
+        ensures genuine { IfOk result (λ t. IsGenuine (setup_of self.now.lock) (front_in self.now.lock pass.new) t.0) }
+        ensures refused { IfErr result (λ _. HasNotMade self.now.lock pass.old pass.new) }
+    {
+        let info = GroupLayoutInfo {
+            entries: Items::from_vec(entries),
+        };
+        let info = Shared::new(self.alloc, info)?;
+        self.make(rt, pass, &RequestOf::CreateBindGroupLayout { info })
+    }
+
+    /// Makes a pipeline layout (WebGPU, "createPipelineLayout").
+    pub fn create_pipeline_layout(
+        &self,
+        rt: &impl Wait,
+        pass: &mut DevicePass,
+        layouts: Vec<Handle>,
+    ) -> Result<(Handle, Reply), NoMemory>
+        requires { CanCall self.now.lock pass.old }
+        ensures called { HasCalled self.now.lock pass.old pass.new }
+        ensures done { IfOk result (λ t. IsAct self.now.lock pass.old pass.new (Event.CreatePipelineLayout (map reference_of layouts.items)) t.1) }
+        ensures handle { IfOk result (λ t. handle_made (setup_of self.now.lock).serial (request.CreatePipelineLayout layouts.items) t.1.answer ≡ Some t.0) }
+        ensures genuine { IfOk result (λ t. All (λ layout. IsGenuine (setup_of self.now.lock) (front_in self.now.lock pass.new) layout) layouts.items → IsGenuine (setup_of self.now.lock) (front_in self.now.lock pass.new) t.0) }
+        ensures refused { IfErr result (λ _. HasNotMade self.now.lock pass.old pass.new) }
+    {
+        let layouts = Items::from_vec(layouts);
+        self.make(rt, pass, &RequestOf::CreatePipelineLayout { layouts })
+    }
+
+    /// Makes a bind group (WebGPU, "createBindGroup").
+    pub fn create_bind_group(
+        &self,
+        rt: &impl Wait,
+        pass: &mut DevicePass,
+        layout: &Handle,
+        entries: Vec<GroupEntryOf<Handle>>,
+    ) -> Result<(Handle, Reply), NoMemory>
+        requires { CanCall self.now.lock pass.old }
+        ensures called { HasCalled self.now.lock pass.old pass.new }
+        ensures done { IfOk result (λ t. IsAct self.now.lock pass.old pass.new (Event.CreateBindGroup layout.now.reference (map (map_entry reference_of) entries.items)) t.1) }
+        ensures handle { IfOk result (λ t. handle_made (setup_of self.now.lock).serial (request.CreateBindGroup layout.now entries.items) t.1.answer ≡ Some t.0) }
+        ensures genuine { IfOk result (λ t. IsGenuine (setup_of self.now.lock) (front_in self.now.lock pass.new) layout.now → AreGenuine (setup_of self.now.lock) (front_in self.now.lock pass.new) (entries_named entries.items) → IsGenuine (setup_of self.now.lock) (front_in self.now.lock pass.new) t.0) }
+        ensures refused { IfErr result (λ _. HasNotMade self.now.lock pass.old pass.new) }
+    {
+        let layout = layout.share()?;
+        let entries = Items::from_vec(entries);
+        self.make(rt, pass, &RequestOf::CreateBindGroup { layout, entries })
+    }
+
+    /// Makes a compute pipeline (WebGPU, "createComputePipeline"), whose shader uses these bindings.
+    pub fn create_compute_pipeline(
+        &self,
+        rt: &impl Wait,
+        pass: &mut DevicePass,
+        layout: &Handle,
+        iface: Vec<IfaceEntry>,
+    ) -> Result<(Handle, Reply), NoMemory>
+        requires { CanCall self.now.lock pass.old }
+        ensures called { HasCalled self.now.lock pass.old pass.new }
+        ensures done { IfOk result (λ t. IsAct self.now.lock pass.old pass.new (Event.CreateComputePipeline layout.now.reference (record { entries = iface.items })) t.1) }
+        ensures handle { IfOk result (λ t. handle_made (setup_of self.now.lock).serial (request.CreateComputePipeline layout.now (record { entries = iface.items })) t.1.answer ≡ Some t.0) }
+        ensures genuine { IfOk result (λ t. IsGenuine (setup_of self.now.lock) (front_in self.now.lock pass.new) layout.now → IsGenuine (setup_of self.now.lock) (front_in self.now.lock pass.new) t.0) }
+        ensures refused { IfErr result (λ _. HasNotMade self.now.lock pass.old pass.new) }
+    {
+        let layout = layout.share()?;
+        let iface = Interface {
+            entries: Items::from_vec(iface),
+        };
+        let iface = Shared::new(self.alloc, iface)?;
+        self.make(
+            rt,
+            pass,
+            &RequestOf::CreateComputePipeline { layout, iface },
+        )
+    }
+
+    /// Makes a render pipeline (WebGPU, "createRenderPipeline").
+    pub fn create_render_pipeline(
+        &self,
+        rt: &impl Wait,
+        pass: &mut DevicePass,
+        layout: &Handle,
+        desc: RenderDesc,
+    ) -> Result<(Handle, Reply), NoMemory>
+        requires { CanCall self.now.lock pass.old }
+        ensures called { HasCalled self.now.lock pass.old pass.new }
+        ensures done { IfOk result (λ t. IsAct self.now.lock pass.old pass.new (Event.CreateRenderPipeline layout.now.reference desc) t.1) }
+        ensures handle { IfOk result (λ t. handle_made (setup_of self.now.lock).serial (request.CreateRenderPipeline layout.now desc) t.1.answer ≡ Some t.0) }
+        ensures genuine { IfOk result (λ t. IsGenuine (setup_of self.now.lock) (front_in self.now.lock pass.new) layout.now → IsGenuine (setup_of self.now.lock) (front_in self.now.lock pass.new) t.0) }
+        ensures refused { IfErr result (λ _. HasNotMade self.now.lock pass.old pass.new) }
+    {
+        let layout = layout.share()?;
+        let desc = Shared::new(self.alloc, desc)?;
+        self.make(rt, pass, &RequestOf::CreateRenderPipeline { layout, desc })
+    }
+
+    /// Makes an encoder (WebGPU, "createCommandEncoder"), with a recorder that is open for it.
+    #[tactic(auto, using(crate::proofs::Calling::none_named))]
+    pub fn create_encoder(
+        &self,
+        rt: &impl Wait,
+        pass: &mut DevicePass,
+    ) -> Result<(Recorder, Handle, Reply), NoMemory>
+        requires { CanCall self.now.lock pass.old }
+        ensures called { HasCalled self.now.lock pass.old pass.new }
+        ensures done { IfOk result (λ t. IsAct self.now.lock pass.old pass.new Event.CreateEncoder t.2) }
+        ensures handle { IfOk result (λ t. handle_made (setup_of self.now.lock).serial request.CreateEncoder t.2.answer ≡ Some t.1) }
+        ensures recorder { IfOk result (λ t. t.0 ≡ opened_for t.1.reference) }
+        ensures genuine { IfOk result (λ t. IsGenuine (setup_of self.now.lock) (front_in self.now.lock pass.new) t.1) }
+        ensures refused { IfErr result (λ _. HasNotMade self.now.lock pass.old pass.new) }
+    {
+        let (handle, reply) = self.make(rt, pass, &RequestOf::CreateEncoder)?;
+        let recorder = recorder_for(self.alloc, &handle);
+        Ok((recorder, handle, reply))
+    }
+}

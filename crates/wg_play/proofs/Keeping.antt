@@ -1,0 +1,268 @@
+-- What a lane sees stays genuine as its calls are kept, and so does what its next call makes.
+use Rattle.std.proofs.Common.{◌≡◌, ◌≢◌, ◌⊎◌, inl, inr, ℕ, zero, suc, nat_lt, Bool, true, false, Option, Some, None, List, [], ◌∷◌, map, refl, sym, ap, subst, ◌∙◌, if◌then◌else◌}
+use Rattle.std.specs.Prelude.{All, option_and_then}
+use Rattle.std.specs.Option.{option_map_or}
+use Rattle.std.proofs.lemmas.Bool.{eqb-true}
+use Rattle.std.proofs.lemmas.List.Elements.{All-nil, All-cons, All-head, All-tail, All-append, All-weaker}
+use Rattle.wg_types.specs.Handles.{HandleValue}
+use Rattle.wg_types.specs.Refs.{all_wanted}
+use Rattle.wg_types.specs.Bindings.{resource_named, entries_named, map_resource, map_entry}
+use Rattle.wg_types.specs.Commands.{Command, kind_begun}
+use Rattle.wg_types.specs.Requests.{named, map_refs as map_asked}
+use Rattle.wg_types.specs.declared.bindings.ResourceOf.{ResourceOf}
+use Rattle.wg_types.specs.declared.bindings.ResourceOf.TheVariants.{Buffer, View, Sampler}
+use Rattle.wg_types.specs.declared.bindings.GroupEntryOf.{GroupEntryOf}
+use Rattle.wg_types.specs.declared.handles.Info.{Info}
+use Rattle.wg_types.specs.declared.handles.Info.TheVariants as info
+use Rattle.wg_types.specs.declared.handles.ObjRef.{ObjRef}
+use Rattle.wg_types.specs.declared.requests.RequestOf.{RequestOf}
+use Rattle.wg_types.specs.declared.requests.RequestOf.TheVariants.{CreateBuffer, CreateTexture, CreateView, CreateSampler, CreateBindGroupLayout, CreatePipelineLayout, CreateBindGroup, CreateComputePipeline, CreateRenderPipeline, CreateEncoder, Finish, Submit, WriteBuffer, WriteTexture, Destroy, Drop, Complete, PushErrorScope, PopErrorScope, Lose, WorkDone, MapAsync, Unmap}
+use Rattle.wg_types.specs.declared.wanted.Kind.{Kind}
+use Rattle.wg_types.specs.declared.wanted.Wanted.{Wanted}
+use Rattle.wg_types.specs.declared.wanted.Wanted.TheVariants as wanted
+use Rattle.wg_encoder.specs.Recorders.{RecorderValue, RecordingValue, after_take}
+use Rattle.wg_history.specs.declared.events.Setup.{Setup}
+use Rattle.wg_history.specs.declared.events.Event.{Event}
+use Rattle.wg_history.specs.declared.events.Event.TheVariants as event
+use Rattle.wg_history.specs.Entries.{Entry, Past}
+use Rattle.wg_history.specs.Rules.{is_genuine}
+use Rattle.wg_history.specs.Answers.{reply_to}
+use Rattle.wg_calls.specs.Calls.{event_asked, info_asked, handle_of, handle_made, recording_of}
+use Rattle.wg_calls.proofs.Genuine.{genuine_more, IsGenuineIfOwn, genuine_if_own, genuine_finish}
+use Rattle.wg_script.specs.CallOf.{BoundCall}
+use Rattle.wg_script.specs.declared.calls.CallOf.TheVariants.{Record, Ask}
+use Rattle.wg_play.specs.declared.objects.Object.{Object}
+use Rattle.wg_play.specs.declared.objects.Object.TheVariants as object
+use Rattle.wg_play.specs.declared.objects.Stand.{Stand}
+use Rattle.wg_play.specs.Objects.{unknown, handle_at, changed, with_recorder, recorder_at, recorded_by, recorded_on, passes_at, begun_by, ended_by, object_of}
+use Rattle.wg_play.specs.Sights.{Sight, place_in, handle_in_sight}
+use Rattle.wg_play.specs.Lanes.{command_seen, stand_seen, noted_on, kept, finish_by, request_seen, event_sent, event_of, handle_kept, answered_by, settled}
+use Rattle.wg_play.specs.Kept.{IsKept, AreKept, SeesGenuine}
+use Rattle.wg_play.proofs.Slots.{with_tail}
+use Rattle.wg_play.proofs.Following.{ended_on, with_kept, after_ask}
+
+-- ---- a past goes on
+
+object_more : (setup : Setup) (entry : Entry) (past : Past) (o : Object) → IsKept setup past o → IsKept setup (entry ∷ past) o
+object_more setup entry past (object.Made handle recorder) genuine = genuine_more setup entry past handle genuine
+object_more setup entry past (object.Pass encoder number) genuine = tt
+
+objects_more : (setup : Setup) (entry : Entry) (past : Past) (objects : List Object) → AreKept setup past objects → AreKept setup (entry ∷ past) objects
+objects_more setup entry past objects all = All-weaker (IsKept setup past) (IsKept setup (entry ∷ past)) (object_more setup entry past) objects all
+
+pub sees_more : (setup : Setup) (entry : Entry) (past : Past) (sight : Sight) → SeesGenuine setup past sight → SeesGenuine setup (entry ∷ past) sight
+sees_more setup entry past sight sees = (objects_more setup entry past sight.others sees.0, objects_more setup entry past sight.own sees.1)
+
+module _ (setup : Setup) (past : Past) where
+  -- ---- recording calls
+
+  object_changed : (change : RecorderValue → RecorderValue) (o : Object) → IsKept setup past o → IsKept setup past (changed o change)
+  object_changed change (object.Made handle recorder) genuine = genuine
+  object_changed change (object.Pass encoder number) genuine = tt
+
+  -- a change of a recorder changes no handle
+  pub objects_changed : (change : RecorderValue → RecorderValue) (objects : List Object) (place : ℕ) → AreKept setup past objects → AreKept setup past (with_recorder objects place change)
+  objects_changed change [] place all = all
+  objects_changed change (o ∷ os) zero all =
+      All-cons (IsKept setup past) (changed o change) os (object_changed change o (All-head (IsKept setup past) o os all)) (All-tail (IsKept setup past) o os all)
+  objects_changed change (o ∷ os) (suc place) all =
+      subst (AreKept setup past) (sym (with_tail o os place change))
+      (All-cons (IsKept setup past) o (with_recorder os place change) (All-head (IsKept setup past) o os all) (objects_changed change os place (All-tail (IsKept setup past) o os all)))
+
+  pass_begun : (pass : Object) → IsKept setup past pass → (made : Option ℕ) (kind : Option Kind)
+      → AreKept setup past (option_map_or (λ (slot : ℕ). option_map_or (λ (k : Kind). pass ∷ []) kind []) made [])
+  pass_begun pass genuine None kind = All-nil (IsKept setup past)
+  pass_begun pass genuine (Some slot) None = All-nil (IsKept setup past)
+  pass_begun pass genuine (Some slot) (Some k) = All-cons (IsKept setup past) pass [] genuine (All-nil (IsKept setup past))
+
+  noted_sees : (sight : Sight) (stand : Stand) (command : Command) (made : Option ℕ) → SeesGenuine setup past sight → SeesGenuine setup past (noted_on sight stand command made)
+  noted_sees sight stand command made sees = (
+    sees.0,
+    All-append (IsKept setup past) (recorded_on sight.own stand command) (begun_by sight.own stand.encoder command made)
+        (objects_changed (recorded_by stand.on command) sight.own stand.encoder sees.1)
+        (pass_begun (object.Pass stand.encoder (passes_at sight.own stand.encoder)) tt made (kind_begun command)),
+  )
+
+  unless_late : (late : Bool) (noted after : Sight) → SeesGenuine setup past noted → (if late then None else Some noted) ≡ Some after → SeesGenuine setup past after
+  unless_late true noted after sees e = absurd (cc (e))
+  unless_late false noted after sees e = let same : noted ≡ after = cc (e) in subst (SeesGenuine setup past) same sees
+
+  kept_sees : (sight : Sight) (call : BoundCall) (after : Sight) → SeesGenuine setup past sight → kept sight call ≡ Some after → SeesGenuine setup past after
+  kept_sees sight (Record on command made) after sees e =
+      unless_late _ (noted_on sight (stand_seen sight on) (command_seen sight command) made) after (noted_sees sight (stand_seen sight on) (command_seen sight command) made sees) e
+  kept_sees sight (Ask request made) after sees e = absurd (cc (e))
+
+  -- a lane at its next event
+  pub settled_sees : (sight : Sight) (calls : List BoundCall) → SeesGenuine setup past sight → SeesGenuine setup past (settled sight calls).sight
+  settled_sees sight [] sees = sees
+  settled_sees sight (call ∷ calls) sees = by_kept (kept sight call) (λ after e. settled_sees after calls (kept_sees sight call after sees e))
+    where
+      by_kept : (found : Option Sight) → ((after : Sight) → found ≡ Some after → SeesGenuine setup past (settled after calls).sight)
+          → SeesGenuine setup past (option_map_or (λ (after : Sight). settled after calls) found (record { sight = sight; left = call ∷ calls })).sight
+      by_kept None f = sees
+      by_kept (Some after) f = f after refl
+
+  -- ---- what a call names
+
+  -- a slot that stands for no object is none of this device's
+  unknown_if_own : setup.serial ≢ 0 → IsGenuineIfOwn setup past unknown
+  unknown_if_own some own = absurd (some (sym (eqb-true 0 setup.serial own)))
+
+  at_if_own : setup.serial ≢ 0 → (objects : List Object) (place : ℕ) → AreKept setup past objects → IsGenuineIfOwn setup past (handle_at objects place)
+  at_if_own some [] place all own = unknown_if_own some own
+  at_if_own some (object.Made handle recorder ∷ os) zero all own = All-head (IsKept setup past) (object.Made handle recorder) os all
+  at_if_own some (object.Pass encoder number ∷ os) zero all own = unknown_if_own some own
+  at_if_own some (o ∷ os) (suc place) all own = at_if_own some os place (All-tail (IsKept setup past) o os all) own
+
+  seen_if_own : setup.serial ≢ 0 → (sight : Sight) (slot : ℕ) → SeesGenuine setup past sight → IsGenuineIfOwn setup past (handle_in_sight sight slot)
+  seen_if_own some sight slot sees = by_slot (nat_lt slot sight.first)
+    where
+      by_slot : (b : Bool) → IsGenuineIfOwn setup past (if b then handle_at sight.others slot else handle_at sight.own (place_in sight slot))
+      by_slot true = at_if_own some sight.others slot sees.0
+      by_slot false = at_if_own some sight.own (place_in sight slot) sees.1
+
+  abbrev UsedIfOwn : HandleValue × Wanted → Type 0
+  UsedIfOwn used = IsGenuineIfOwn setup past used.0
+
+  module _ (f : ℕ → HandleValue) (each : (slot : ℕ) → IsGenuineIfOwn setup past (f slot)) where
+    one_if_own : (slot : ℕ) (want : Wanted) → All UsedIfOwn ((f slot, want) ∷ [])
+    one_if_own slot want = All-cons UsedIfOwn (f slot, want) [] (each slot) (All-nil UsedIfOwn)
+
+    wanted_if_own : (want : Wanted) (slots : List ℕ) → All UsedIfOwn (all_wanted want (map f slots))
+    wanted_if_own want [] = All-nil UsedIfOwn
+    wanted_if_own want (slot ∷ slots) = All-cons UsedIfOwn (f slot, want) (all_wanted want (map f slots)) (each slot) (wanted_if_own want slots)
+
+    resource_if_own : (resource : ResourceOf ℕ) → UsedIfOwn (resource_named (map_resource f resource))
+    resource_if_own (Buffer buffer offset size) = each buffer
+    resource_if_own (View view) = each view
+    resource_if_own (Sampler sampler) = each sampler
+
+    entries_if_own : (entries : List (GroupEntryOf ℕ)) → All UsedIfOwn (entries_named (map (map_entry f) entries))
+    entries_if_own [] = All-nil UsedIfOwn
+    entries_if_own (entry ∷ entries) =
+        All-cons UsedIfOwn (resource_named (map_resource f entry.resource)) (entries_named (map (map_entry f) entries)) (resource_if_own entry.resource) (entries_if_own entries)
+
+    named_if_own : (request : RequestOf ℕ) → All UsedIfOwn (named (map_asked f request))
+    named_if_own (CreateBuffer known) = All-nil UsedIfOwn
+    named_if_own (CreateTexture known) = All-nil UsedIfOwn
+    named_if_own (CreateView texture asked) = one_if_own texture wanted.Texture
+    named_if_own (CreateSampler known) = All-nil UsedIfOwn
+    named_if_own (CreateBindGroupLayout known) = All-nil UsedIfOwn
+    named_if_own (CreatePipelineLayout layouts) = wanted_if_own wanted.GroupLayout layouts
+    named_if_own (CreateBindGroup layout entries) = All-cons UsedIfOwn (f layout, wanted.GroupLayout) (entries_named (map (map_entry f) entries)) (each layout) (entries_if_own entries)
+    named_if_own (CreateComputePipeline layout iface) = one_if_own layout wanted.PipelineLayout
+    named_if_own (CreateRenderPipeline layout desc) = one_if_own layout wanted.PipelineLayout
+    named_if_own CreateEncoder = All-nil UsedIfOwn
+    named_if_own (Finish encoder) = one_if_own encoder wanted.Encoder
+    named_if_own (Submit buffers) = wanted_if_own wanted.CommandBuffer buffers
+    named_if_own (WriteBuffer buffer offset size) = one_if_own buffer wanted.Buffer
+    named_if_own (WriteTexture texture spot layout size data_size) = one_if_own texture wanted.Texture
+    named_if_own (Destroy object) = one_if_own object wanted.Destroyable
+    named_if_own (Drop object) = one_if_own object wanted.Object
+    named_if_own (Complete op) = All-nil UsedIfOwn
+    named_if_own (PushErrorScope filter) = All-nil UsedIfOwn
+    named_if_own PopErrorScope = All-nil UsedIfOwn
+    named_if_own Lose = All-nil UsedIfOwn
+    named_if_own WorkDone = All-nil UsedIfOwn
+    named_if_own (MapAsync buffer mode offset size) = one_if_own buffer wanted.Buffer
+    named_if_own (Unmap buffer) = one_if_own buffer wanted.Buffer
+
+-- ---- which event a call is
+
+-- The finish of an encoder, with whatever commands.
+record IsFinish (sight : Sight) (request : RequestOf ℕ) : Type 0 where
+  encoder : ObjRef
+  recording : RecordingValue
+  is : event_sent sight request ≡ event.Finish encoder recording
+  makes : info_asked (request_seen sight request) ≡ Some info.CommandBuffer
+
+abbrev IsSent : Sight → RequestOf ℕ → Type 0
+IsSent sight request = (event_sent sight request ≡ event_asked (request_seen sight request)) ⊎ IsFinish sight request
+
+finish_sent : (sight : Sight) (slot : ℕ) → IsSent sight (Finish slot)
+finish_sent sight slot = by_recorder (recorder_at sight.own (place_in sight slot)) refl
+  where
+    other : Event
+    other = event_asked (request_seen sight (Finish slot))
+
+    by_encoder : (recorder : RecorderValue) → recorder_at sight.own (place_in sight slot) ≡ Some recorder → (open_for : Option ObjRef) → recorder.encoder ≡ open_for → IsSent sight (Finish slot)
+    by_encoder recorder found None none =
+        inl (ap (λ (o : Option RecorderValue). finish_by o other) found ∙ ap (λ (o : Option ObjRef). option_map_or (λ (encoder : ObjRef). event.Finish encoder (recording_of recorder)) o other) none)
+    by_encoder recorder found (Some encoder) is = inr (record {
+      encoder = encoder;
+      recording = recording_of recorder;
+      is = ap (λ (o : Option RecorderValue). finish_by o other) found ∙ ap (λ (o : Option ObjRef). option_map_or (λ (e : ObjRef). event.Finish e (recording_of recorder)) o other) is;
+      makes = refl;
+    })
+
+    by_recorder : (o : Option RecorderValue) → recorder_at sight.own (place_in sight slot) ≡ o → IsSent sight (Finish slot)
+    by_recorder None none = inl (ap (λ (o : Option RecorderValue). finish_by o other) none)
+    by_recorder (Some recorder) found = by_encoder recorder found recorder.encoder refl
+
+sent : (sight : Sight) (request : RequestOf ℕ) → IsSent sight request
+sent sight (CreateBuffer known) = inl refl
+sent sight (CreateTexture known) = inl refl
+sent sight (CreateView texture asked) = inl refl
+sent sight (CreateSampler known) = inl refl
+sent sight (CreateBindGroupLayout known) = inl refl
+sent sight (CreatePipelineLayout layouts) = inl refl
+sent sight (CreateBindGroup layout entries) = inl refl
+sent sight (CreateComputePipeline layout iface) = inl refl
+sent sight (CreateRenderPipeline layout desc) = inl refl
+sent sight CreateEncoder = inl refl
+sent sight (Finish encoder) = finish_sent sight encoder
+sent sight (Submit buffers) = inl refl
+sent sight (WriteBuffer buffer offset size) = inl refl
+sent sight (WriteTexture texture spot layout size data_size) = inl refl
+sent sight (Destroy object) = inl refl
+sent sight (Drop object) = inl refl
+sent sight (Complete op) = inl refl
+sent sight (PushErrorScope filter) = inl refl
+sent sight PopErrorScope = inl refl
+sent sight Lose = inl refl
+sent sight WorkDone = inl refl
+sent sight (MapAsync buffer mode offset size) = inl refl
+sent sight (Unmap buffer) = inl refl
+
+-- ---- what a call makes
+
+-- The handle of it is genuine once the call is made.
+made_is_genuine : (setup : Setup) → setup.serial ≢ 0 → (entry : Entry) (past : Past) (sight : Sight) (request : RequestOf ℕ) (handle : HandleValue) → SeesGenuine setup past sight
+    → entry.event ≡ event_sent sight request → entry.reply ≡ reply_to setup past entry.event
+    → handle_made setup.serial (request_seen sight request) entry.reply.answer ≡ Some handle → is_genuine setup (entry ∷ past) handle ≡ true
+made_is_genuine setup some entry past sight request handle sees asked replied e = elim (sent sight request) [
+  | inl same ↦ genuine_if_own setup entry past (request_seen sight request) handle (asked ∙ same) replied
+      (named_if_own setup (entry ∷ past) (handle_in_sight sight) (λ slot. seen_if_own setup (entry ∷ past) some sight slot (sees_more setup entry past sight sees)) request) e
+  | inr finish ↦ genuine_finish setup entry past finish.encoder finish.recording handle (asked ∙ finish.is) replied
+      (sym (ap (λ (o : Option Info). option_and_then (λ known. handle_of setup.serial known entry.reply.answer) o) finish.makes) ∙ e)
+]
+
+kept_if_made : (setup : Setup) (past : Past) (objects : List Object) (handle : Option HandleValue) → AreKept setup past objects → ((h : HandleValue) → handle ≡ Some h → is_genuine setup past h ≡ true)
+    → AreKept setup past (with_kept objects handle)
+kept_if_made setup past objects None all genuine = all
+kept_if_made setup past objects (Some h) all genuine =
+    All-append (IsKept setup past) objects (object_of h ∷ []) all (All-cons (IsKept setup past) (object_of h) [] (genuine h refl) (All-nil (IsKept setup past)))
+
+ended_kept : (setup : Setup) (past : Past) (sight : Sight) (ended : Option ℕ) → AreKept setup past sight.own → AreKept setup past (ended_on sight ended)
+ended_kept setup past sight None all = all
+ended_kept setup past sight (Some encoder) all =
+    objects_changed setup past (λ (r : RecorderValue). record r { commands = []; takes = after_take r.takes }) sight.own (place_in sight encoder) all
+
+slot_made : (made : Option ℕ) (found : Option HandleValue) (handle : HandleValue) → option_and_then (λ (slot : ℕ). found) made ≡ Some handle → found ≡ Some handle
+slot_made None found handle e = absurd (cc (e))
+slot_made (Some slot) found handle e = e
+
+-- What a lane sees after its next call.
+pub answered_sees : (setup : Setup) → setup.serial ≢ 0 → (entry : Entry) (past : Past) (sight : Sight) (call : BoundCall) → SeesGenuine setup past sight
+    → entry.event ≡ event_of sight call → entry.reply ≡ reply_to setup past entry.event
+    → SeesGenuine setup (entry ∷ past) (answered_by setup.serial sight call entry.reply.answer)
+answered_sees setup some entry past sight (Record on command made) sees asked replied =
+    noted_sees setup (entry ∷ past) sight (stand_seen sight on) (command_seen sight command) made (sees_more setup entry past sight sees)
+answered_sees setup some entry past sight (Ask request made) sees asked replied =
+    let more : SeesGenuine setup (entry ∷ past) sight = sees_more setup entry past sight sees in
+    let handle : Option HandleValue = handle_kept setup.serial sight (Ask request made) entry.reply.answer in
+    subst (SeesGenuine setup (entry ∷ past)) (sym (after_ask setup.serial sight request made entry.reply.answer)) (
+      more.0,
+      kept_if_made setup (entry ∷ past) (ended_on sight (ended_by request)) handle (ended_kept setup (entry ∷ past) sight (ended_by request) more.1)
+          (λ h e. made_is_genuine setup some entry past sight request h sees asked replied (slot_made made (handle_made setup.serial (request_seen sight request) entry.reply.answer) h e)),
+    )

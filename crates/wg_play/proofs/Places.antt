@@ -1,0 +1,132 @@
+-- Which commands begin passes, and what a command stands on.
+use Rattle.std.proofs.Common.{◌≡◌, Bool, true, false, Some, refl, ◌⊎◌, inl, inr}
+use Rattle.wg_types.specs.declared.wanted.Kind.{Kind}
+use Rattle.wg_types.specs.declared.wanted.Kind.TheVariants as kind
+use Rattle.wg_types.specs.declared.wanted.Wanted.{Wanted}
+use Rattle.wg_types.specs.declared.wanted.Wanted.TheVariants as wanted
+use Rattle.wg_types.specs.Wanted.{admits}
+use Rattle.wg_types.specs.declared.commands.Bracket.{Bracket}
+use Rattle.wg_types.specs.declared.commands.Bracket.TheVariants as brackets
+use Rattle.wg_types.specs.declared.commands.CommandOf.{CommandOf}
+use Rattle.wg_types.specs.declared.commands.CommandOf.TheVariants.{BeginComputePass, BeginRenderPass, CopyBufferToBuffer, CopyBufferToTexture, CopyTextureToBuffer, CopyTextureToTexture, ClearBuffer, PushDebugGroup, PopDebugGroup, End, SetPipeline, SetBindGroup, Dispatch, DispatchIndirect, SetVertexBuffer, SetIndexBuffer, Draw, DrawIndexed, DrawIndirect, DrawIndexedIndirect}
+use Rattle.wg_types.specs.Commands.{map_refs, bracket, place_wanted, kind_begun_by, kind_begun, begins_pass_by}
+use Rattle.wg_play.specs.Found.{is_pass}
+
+-- ---- the command that begins a pass
+
+pub bracket_mapped : {R S : Type 0} (f : R → S) (command : CommandOf R) → bracket (map_refs f command) ≡ bracket command
+bracket_mapped f BeginComputePass = refl
+bracket_mapped f (BeginRenderPass begin) = refl
+bracket_mapped f (CopyBufferToBuffer source source_offset target target_offset size) = refl
+bracket_mapped f (CopyBufferToTexture buffer layout texture spot size) = refl
+bracket_mapped f (CopyTextureToBuffer buffer layout texture spot size) = refl
+bracket_mapped f (CopyTextureToTexture source source_mip source_origin target target_mip target_origin size) = refl
+bracket_mapped f (ClearBuffer buffer offset size) = refl
+bracket_mapped f PushDebugGroup = refl
+bracket_mapped f PopDebugGroup = refl
+bracket_mapped f End = refl
+bracket_mapped f (SetPipeline pipeline) = refl
+bracket_mapped f (SetBindGroup index group offsets) = refl
+bracket_mapped f (Dispatch x y z) = refl
+bracket_mapped f (DispatchIndirect buffer offset) = refl
+bracket_mapped f (SetVertexBuffer slot buffer offset size) = refl
+bracket_mapped f (SetIndexBuffer buffer format offset size) = refl
+bracket_mapped f (Draw vertices instances first_vertex first_instance) = refl
+bracket_mapped f (DrawIndexed indices instances first_index first_instance) = refl
+bracket_mapped f (DrawIndirect buffer offset) = refl
+bracket_mapped f (DrawIndexedIndirect buffer offset) = refl
+
+-- it stands on an encoder
+pub place_of_begin : {R : Type 0} (command : CommandOf R) (k : Kind) → kind_begun command ≡ Some k → place_wanted command ≡ wanted.Encoder
+place_of_begin BeginComputePass k e = refl
+place_of_begin (BeginRenderPass begin) k e = refl
+place_of_begin (CopyBufferToBuffer source source_offset target target_offset size) k e = refl
+place_of_begin (CopyBufferToTexture buffer layout texture spot size) k e = refl
+place_of_begin (CopyTextureToBuffer buffer layout texture spot size) k e = refl
+place_of_begin (CopyTextureToTexture source source_mip source_origin target target_mip target_origin size) k e = refl
+place_of_begin (ClearBuffer buffer offset size) k e = refl
+place_of_begin PushDebugGroup k e = absurd (cc)
+place_of_begin PopDebugGroup k e = absurd (cc)
+place_of_begin End k e = absurd (cc)
+place_of_begin (SetPipeline pipeline) k e = absurd (cc)
+place_of_begin (SetBindGroup index group offsets) k e = absurd (cc)
+place_of_begin (Dispatch x y z) k e = absurd (cc)
+place_of_begin (DispatchIndirect buffer offset) k e = absurd (cc)
+place_of_begin (SetVertexBuffer slot buffer offset size) k e = absurd (cc)
+place_of_begin (SetIndexBuffer buffer format offset size) k e = absurd (cc)
+place_of_begin (Draw vertices instances first_vertex first_instance) k e = absurd (cc)
+place_of_begin (DrawIndexed indices instances first_index first_instance) k e = absurd (cc)
+place_of_begin (DrawIndirect buffer offset) k e = absurd (cc)
+place_of_begin (DrawIndexedIndirect buffer offset) k e = absurd (cc)
+
+pub begins_by : (b : Bracket) (k : Kind) → kind_begun_by b ≡ Some k → begins_pass_by b ≡ true
+begins_by brackets.BeginComputePass k e = refl
+begins_by brackets.BeginRenderPass k e = refl
+begins_by brackets.EndPass k e = absurd (cc)
+begins_by brackets.PushGroup k e = absurd (cc)
+begins_by brackets.PopGroup k e = absurd (cc)
+begins_by brackets.Neither k e = absurd (cc)
+
+-- a command stands on an encoder or a pass
+abbrev is_place : Wanted → Bool
+is_place wanted.Encoder = true
+is_place wanted.ComputePass = true
+is_place wanted.Pass = true
+is_place wanted.Binding = true
+is_place wanted.Drawing = true
+is_place wanted.Recording = true
+is_place _ = false
+
+place_is : {R : Type 0} (command : CommandOf R) → is_place (place_wanted command) ≡ true
+place_is BeginComputePass = refl
+place_is (BeginRenderPass begin) = refl
+place_is (CopyBufferToBuffer source source_offset target target_offset size) = refl
+place_is (CopyBufferToTexture buffer layout texture spot size) = refl
+place_is (CopyTextureToBuffer buffer layout texture spot size) = refl
+place_is (CopyTextureToTexture source source_mip source_origin target target_mip target_origin size) = refl
+place_is (ClearBuffer buffer offset size) = refl
+place_is PushDebugGroup = refl
+place_is PopDebugGroup = refl
+place_is End = refl
+place_is (SetPipeline pipeline) = refl
+place_is (SetBindGroup index group offsets) = refl
+place_is (Dispatch x y z) = refl
+place_is (DispatchIndirect buffer offset) = refl
+place_is (SetVertexBuffer slot buffer offset size) = refl
+place_is (SetIndexBuffer buffer format offset size) = refl
+place_is (Draw vertices instances first_vertex first_instance) = refl
+place_is (DrawIndexed indices instances first_index first_instance) = refl
+place_is (DrawIndirect buffer offset) = refl
+place_is (DrawIndexedIndirect buffer offset) = refl
+
+-- ---- where a command stands
+
+pub is_encoder : (k : Kind) → admits wanted.Encoder k ≡ true → k ≡ kind.Encoder
+is_encoder kind.Encoder e = refl
+is_encoder _ e = absurd (cc)
+
+abbrev EncoderOrPass : Kind → Type 0
+EncoderOrPass k = (k ≡ kind.Encoder) ⊎ (is_pass k ≡ true)
+
+-- what is asked of what a command stands on is met by encoders and passes alone
+admitted : (w : Wanted) (k : Kind) → is_place w ≡ true → admits w k ≡ true → EncoderOrPass k
+admitted wanted.Encoder kind.Encoder p e = inl refl
+admitted wanted.ComputePass kind.ComputePass p e = inr refl
+admitted wanted.Pass kind.ComputePass p e = inr refl
+admitted wanted.Pass kind.RenderPass p e = inr refl
+admitted wanted.Binding kind.ComputePass p e = inr refl
+admitted wanted.Binding kind.RenderPass p e = inr refl
+admitted wanted.Drawing kind.RenderPass p e = inr refl
+admitted wanted.Recording kind.Encoder p e = inl refl
+admitted wanted.Recording kind.ComputePass p e = inr refl
+admitted wanted.Recording kind.RenderPass p e = inr refl
+admitted wanted.Encoder _ p e = absurd (cc)
+admitted wanted.ComputePass _ p e = absurd (cc)
+admitted wanted.Pass _ p e = absurd (cc)
+admitted wanted.Binding _ p e = absurd (cc)
+admitted wanted.Drawing _ p e = absurd (cc)
+admitted wanted.Recording _ p e = absurd (cc)
+admitted _ k p e = absurd (cc)
+
+pub stands_on : {R : Type 0} (command : CommandOf R) (k : Kind) → admits (place_wanted command) k ≡ true → EncoderOrPass k
+stands_on command k e = admitted (place_wanted command) k (place_is command) e

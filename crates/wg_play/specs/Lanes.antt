@@ -1,0 +1,137 @@
+-- The calls of a lane: which event each is, and what the lane sees after it.
+use Rattle.std.specs.Prelude.{ℕ, ◌+◌, List, [], ◌∷◌, ◌++◌, length, Option, Some, None, option_and_then, if◌then◌else◌}
+use Rattle.std.specs.Option.{option_map_or}
+use Rattle.wg_types.specs.Handles.{HandleValue}
+use Rattle.wg_types.specs.declared.commands.CommandOf.{CommandOf}
+use Rattle.wg_types.specs.Commands.{Command, map_refs}
+use Rattle.wg_types.specs.Requests.{map_refs as map_asked}
+use Rattle.wg_types.specs.declared.replies.Answer.{Answer}
+use Rattle.wg_types.specs.declared.replies.Reply.{Reply}
+use Rattle.wg_types.specs.declared.requests.RequestOf.{RequestOf}
+use Rattle.wg_encoder.specs.Recorders.{RecorderValue}
+use Rattle.wg_history.specs.declared.events.Event.{Event}
+use Rattle.wg_history.specs.declared.events.Event.TheVariants.{Late}
+use Rattle.wg_script.specs.CallOf.{BoundCall}
+use Rattle.wg_script.specs.declared.calls.CallOf.TheVariants.{Record, Ask}
+use Rattle.wg_names.specs.Bound.{made_in}
+use Rattle.wg_calls.specs.Calls.{event_asked, finish_of, handle_made}
+use Rattle.wg_play.specs.declared.objects.Object.{Object}
+use Rattle.wg_play.specs.declared.objects.Stand.{Stand}
+use Rattle.wg_play.specs.Objects.{reference_at, recorder_at, stand_at, is_late_on, recorded_on, begun_by, taken_on, ended_by, object_of}
+use Rattle.wg_play.specs.Sights.{Sight, place_in, handle_in_sight, with_more}
+
+-- ---- recording calls
+
+-- the command of a recording call, with the handle of each object in place of its slot
+abbrev pub command_seen : Sight → CommandOf ℕ → Command
+command_seen sight command = map_refs (handle_in_sight sight) command
+
+-- where a recording call stands that names a slot
+abbrev pub stand_seen : Sight → ℕ → Stand
+stand_seen sight on = stand_at sight.own (place_in sight on)
+
+-- What the lane sees once a command was noted where it stands: by its encoder's recorder, which keeps it unless it is late. The
+-- begin of a pass makes the pass in either case.
+abbrev pub noted_on : Sight → Stand → Command → Option ℕ → Sight
+noted_on sight stand command made = record sight { own = recorded_on sight.own stand command ++ begun_by sight.own stand.encoder command made }
+
+-- A recording call that is not late is kept by its encoder's recorder, and is no event. What the lane sees after it; of every
+-- other call there is nothing.
+abbrev pub kept : Sight → BoundCall → Option Sight
+kept sight (Record on command made) = if is_late_on sight.own (stand_seen sight on) then None else Some (noted_on sight (stand_seen sight on) (command_seen sight command) made)
+kept sight (Ask request made) = None
+
+-- ---- events
+
+-- The finish of the encoder of a recorder, with what that has kept. Each encoder that a script ends has a recorder, which is open,
+-- so that the other cases, with another event, are not met.
+abbrev pub finish_by : Option RecorderValue → Event → Event
+finish_by None other = other
+finish_by (Some recorder) other = option_map_or (λ encoder. finish_of encoder recorder) recorder.encoder other
+
+-- a call of the device, with the handle of each object in place of its slot
+abbrev pub request_seen : Sight → RequestOf ℕ → RequestOf HandleValue
+request_seen sight request = map_asked (handle_in_sight sight) request
+
+-- the event that it is
+abbrev pub event_sent : Sight → RequestOf ℕ → Event
+event_sent sight request = option_map_or (λ encoder. finish_by (recorder_at sight.own (place_in sight encoder)) (event_asked (request_seen sight request))) (ended_by request) (event_asked (request_seen sight request))
+
+-- the event that a call is; a recording call is one where it is late
+abbrev pub event_of : Sight → BoundCall → Event
+event_of sight (Record on command made) = Late (reference_at sight.own (stand_seen sight on).encoder)
+event_of sight (Ask request made) = event_sent sight request
+
+-- what the lane sees once the event has taken what it carries
+abbrev pub taken_by : Sight → BoundCall → Sight
+taken_by sight (Record on command made) = noted_on sight (stand_seen sight on) (command_seen sight command) made
+taken_by sight (Ask request made) = option_map_or (λ encoder. record sight { own = taken_on sight.own (place_in sight encoder) }) (ended_by request) sight
+
+-- the handle of what a call has made that was answered so, if it makes something that has a slot
+abbrev pub handle_kept : ℕ → Sight → BoundCall → Answer → Option HandleValue
+handle_kept serial sight (Record on command made) answer = None
+handle_kept serial sight (Ask request made) answer = option_and_then (λ slot. handle_made serial (request_seen sight request) answer) made
+
+-- what the lane sees once the event was answered: what it has made has the next slot
+abbrev pub with_handle : Sight → Option HandleValue → Sight
+with_handle sight None = sight
+with_handle sight (Some handle) = with_more sight (object_of handle ∷ [])
+
+abbrev pub answered_by : ℕ → Sight → BoundCall → Answer → Sight
+answered_by serial sight call answer = with_handle (taken_by sight call) (handle_kept serial sight call answer)
+
+-- ---- lanes
+
+-- a lane on its way: what it sees, and the calls that are left
+pub record Lane : Type 0 where
+  pub sight : Sight
+  pub left : List BoundCall
+
+-- the lane at its next event, with the recording calls before it kept
+abbrev pub settled : Sight → List BoundCall → Lane
+settled sight [] = record { sight = sight; left = [] }
+settled sight (call ∷ calls) = option_map_or (λ after. settled after calls) (kept sight call) (record { sight = sight; left = call ∷ calls })
+
+abbrev pub settle : Lane → Lane
+settle lane = settled lane.sight lane.left
+
+abbrev pub next_of : Sight → List BoundCall → Option Event
+next_of sight [] = None
+next_of sight (call ∷ calls) = Some (event_of sight call)
+
+abbrev pub next_at : Lane → Option Event
+next_at lane = next_of lane.sight lane.left
+
+-- the next event of a lane, if there is one
+abbrev pub next_event : Lane → Option Event
+next_event lane = next_at (settle lane)
+
+abbrev pub after_of : ℕ → Sight → Reply → List BoundCall → Lane
+after_of serial sight reply [] = record { sight = sight; left = [] }
+after_of serial sight reply (call ∷ calls) = record { sight = answered_by serial sight call reply.answer; left = calls }
+
+abbrev pub after_at : ℕ → Lane → Reply → Lane
+after_at serial lane reply = after_of serial lane.sight reply lane.left
+
+-- the lane once its next event was replied to
+abbrev pub after_reply : ℕ → Lane → Reply → Lane
+after_reply serial lane reply = after_at serial (settle lane) reply
+
+-- ---- phases
+
+-- how many calls of a lane make something that has a slot
+abbrev pub count_made : List BoundCall → ℕ
+count_made calls = length (made_in calls)
+
+-- the lanes of a phase as it begins, from the lane on whose first slot is this
+abbrev pub starts_from : List Object → ℕ → List (List BoundCall) → List Lane
+starts_from others first [] = []
+starts_from others first (calls ∷ lanes) = record { sight = record { others = others; first = first; own = [] }; left = calls } ∷ starts_from others (first + count_made calls) lanes
+
+abbrev pub starts : List Object → List (List BoundCall) → List Lane
+starts objects lanes = starts_from objects (length objects) lanes
+
+-- what there is once a phase is through: what was there, and what each lane has made
+abbrev pub gathered : List Object → List Lane → List Object
+gathered objects [] = objects
+gathered objects (lane ∷ lanes) = gathered (objects ++ (settle lane).sight.own) lanes

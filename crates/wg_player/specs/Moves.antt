@@ -1,0 +1,92 @@
+-- What a lane's body has done.
+use Rattle.std.specs.Prelude.{◌≡◌, ◌⊎◌, ℕ, suc, ◌++◌, [], ◌∷◌, List, Option, Some, None, drop}
+use mathlib.Core.List.{IsPrefix}
+use Rattle.wg_history.specs.Entries.{Entry}
+use Rattle.wg_history.specs.declared.events.Event.{Event}
+use Rattle.wg_turn.specs.Passes.{IsPassOf, IsSamePass, own_of}
+use Rattle.wg_device.specs.Fronts.{Lock, DevicePass, front_in, IsSoundIn}
+use Rattle.wg_types.specs.Handles.{HandleValue}
+use Rattle.wg_types.specs.declared.requests.RequestOf.{RequestOf}
+use Rattle.wg_calls.specs.Calls.{handle_made}
+use Rattle.wg_script.specs.CallOf.{BoundCall}
+use Rattle.wg_play.specs.Sights.{Sight}
+use Rattle.wg_play.specs.Lanes.{Lane, event_of, answered_by, kept, settle, next_event, after_reply}
+
+-- the entries are the lane's events in order, and take it to another
+abbrev pub Goes : ℕ → Lane → List Entry → Lane → Type 0
+Goes serial w [] v = settle w ≡ settle v
+Goes serial w (e ∷ es) v = (next_event w ≡ Some e.event) × Goes serial (after_reply serial w e.reply) es v
+
+-- A pass made one entry, of this event, and the handle is of what the device made, if it made something, for a call that asked so.
+pub record HasAsked (serial : ℕ) (event : Event) (asked : RequestOf HandleValue) (handle : Option HandleValue) (made made_after : List Entry) : Type 0 where
+  pub entry : Entry
+  pub grown : made_after ≡ made ++ entry ∷ []
+  pub event_is : entry.event ≡ event
+  pub handle_is : handle ≡ handle_made serial asked entry.reply.answer
+
+-- a pass made one entry, that of a call
+pub record HasSent (serial : ℕ) (sight sight_after : Sight) (call : BoundCall) (made made_after : List Entry) : Type 0 where
+  pub entry : Entry
+  pub grown : made_after ≡ made ++ entry ∷ []
+  pub event : entry.event ≡ event_of sight call
+  pub sent : kept sight call ≡ None
+  pub sees : sight_after ≡ answered_by serial sight call entry.reply.answer
+
+-- a call was kept by a recorder, and made no entry
+pub record HasKept (sight sight_after : Sight) (call : BoundCall) (made made_after : List Entry) : Type 0 where
+  pub kept : kept sight call ≡ Some sight_after
+  pub same : made_after ≡ made
+
+-- a call was played, as an event or as a recording call
+abbrev pub HasPlayed : ℕ → Sight → Sight → BoundCall → List Entry → List Entry → Type 0
+HasPlayed serial sight sight_after call made made_after = HasSent serial sight sight_after call made made_after ⊎ HasKept sight sight_after call made made_after
+
+-- from one moment to another a pass saw more, and its own entries grew by those that take the one lane to the other
+pub record Moves (serial : ℕ) (lock : Lock) (lane lane_after : Lane) (old new : DevicePass) : Type 0 where
+  pub entries : List Entry
+  pub grown : own_of new ≡ own_of old ++ entries
+  pub seen : IsPrefix (front_in lock old) (front_in lock new)
+  pub number : new.number ≡ old.number
+  pub of : IsPassOf lock old → IsPassOf lock new
+  pub sound : IsSoundIn lock old → IsSoundIn lock new
+  pub goes : Goes serial lane entries lane_after
+
+-- the lane of a body, k calls on
+abbrev pub lane_at : Sight → List BoundCall → ℕ → Lane
+lane_at sight calls k = record { sight = sight; left = drop k calls }
+
+-- two passes have met
+pub record HaveMet (lock : Lock) (a b a_after b_after : DevicePass) : Type 0 where
+  pub first : IsPassOf lock a_after × IsSamePass a a_after × IsSoundIn lock a_after
+  pub second : IsPassOf lock b_after × IsSamePass b b_after × IsSoundIn lock b_after
+  pub same : front_in lock a_after ≡ front_in lock b_after
+  pub one : (front_in lock a_after ≡ front_in lock a) ⊎ (front_in lock a_after ≡ front_in lock b)
+  pub begun_first : IsPrefix (front_in lock a) (front_in lock a_after)
+  pub begun_second : IsPrefix (front_in lock b) (front_in lock a_after)
+
+-- one pass met each of the others in turn
+abbrev pub Tells : Lock → DevicePass → List DevicePass → DevicePass → List DevicePass → Type 0
+Tells lock hub [] hub_after after = (hub_after ≡ hub) × (after ≡ [])
+Tells lock hub (p ∷ ps) hub_after after = (mid : DevicePass) × (q : DevicePass) × (rest : List DevicePass) × (after ≡ q ∷ rest) × HaveMet lock hub p mid q × Tells lock mid ps hub_after rest
+
+abbrev pub ArePassesOf : Lock → List DevicePass → Type 0
+ArePassesOf lock [] = Unit {0}
+ArePassesOf lock (p ∷ ps) = IsPassOf lock p × ArePassesOf lock ps
+
+abbrev pub AreSoundIn : Lock → List DevicePass → Type 0
+AreSoundIn lock [] = Unit {0}
+AreSoundIn lock (p ∷ ps) = IsSoundIn lock p × AreSoundIn lock ps
+
+-- the passes have seen this and no more, which begins with what each had seen
+abbrev pub MetAt : Lock → List Entry → List DevicePass → List DevicePass → Type 0
+MetAt lock front [] [] = Unit {0}
+MetAt lock front (p ∷ ps) (q ∷ qs) = IsPassOf lock q × IsSamePass p q × IsSoundIn lock q × (front_in lock q ≡ front) × IsPrefix (front_in lock p) front × MetAt lock front ps qs
+MetAt lock front _ _ = ⊥
+
+abbrev pub HaveAllMet : Lock → List DevicePass → List DevicePass → Type 0
+HaveAllMet lock old new = (front : List Entry) × MetAt lock front old new
+
+-- the passes have the numbers from n on, and are where they are after all have met at this front
+abbrev pub AllAt : Lock → ℕ → List DevicePass → List Entry → Type 0
+AllAt lock n [] front = Unit {0}
+AllAt lock n (p ∷ ps) front = (p.number ≡ n) × IsPassOf lock p × (front_in lock p ≡ front) × IsSoundIn lock p × AllAt lock (suc n) ps front

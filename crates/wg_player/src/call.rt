@@ -1,0 +1,209 @@
+//! One call of a lane.
+ghost use Rattle.std.specs.Prelude.{◌≡◌, Some, None, IfOk, OnOk};
+ghost use Rattle.wg_turn.specs.Passes.{own_of};
+ghost use Rattle.wg_types.specs.declared.handles.Info.TheVariants.{CommandBuffer};
+ghost use Rattle.wg_calls.specs.Calls.{event_asked, info_asked};
+ghost use Rattle.wg_device.specs.Fronts.{setup_of, CanCall, HasCalled};
+ghost use Rattle.wg_device.specs.Takes.{taken_out};
+ghost use Rattle.wg_script.specs.declared.calls.CallOf.TheVariants.{Record, Ask};
+ghost use Rattle.wg_play.specs.Lanes.{event_sent, finish_by, request_seen, taken_by};
+ghost use Rattle.wg_play.specs.Objects.{changed, recorder_in, recorder_at, taken_on};
+ghost use Rattle.wg_play.specs.Sights.{SeesSame, sight_of};
+ghost use Rattle.wg_player.specs.Moves.{HasAsked, HasPlayed};
+
+use std::alloc::Global;
+use std::sync::Wait;
+use wg_device::{Device, DevicePass};
+use wg_encoder::{Noted, Recorder};
+use wg_entry::NoMemory;
+use wg_play::{
+    Object, Seen, command_of, ended_by, note_command, reference_at, request_of, stand_at,
+};
+use wg_script::BoundCall;
+use wg_types::commands::CommandOf;
+use wg_types::handles::Handle;
+use wg_types::requests::RequestOf;
+
+/// Plays a recording call: its encoder's recorder keeps the command, or it is late, and that is an event.
+#[tactic(auto, using(crate::proofs::Calls::late_on, crate::proofs::Calls::kept_on))]
+fn play_command(
+    rt: &impl Wait,
+    device: &Device,
+    pass: &mut DevicePass,
+    seen: &mut Seen<'_>,
+    on: u32,
+    command: &CommandOf<u32>,
+    made: Option<u32>,
+) -> Result<(), NoMemory>
+    requires { CanCall device.now.lock pass.old }
+    ensures called { HasCalled device.now.lock pass.old pass.new }
+    ensures same { SeesSame seen.old seen.new }
+    ensures played { OnOk result (HasPlayed (setup_of device.now.lock).serial (sight_of seen.old) (sight_of seen.new) (Record on command.now made) (own_of pass.old) (own_of pass.new)) }
+{
+    let alloc = *seen.own.allocator();
+    let stand = stand_at(seen.own.as_slice(), seen.place(on));
+    let command = command_of(alloc, seen, command)?;
+    let encoder = reference_at(seen.own.as_slice(), stand.encoder);
+    match note_command(seen, stand, command, made)? {
+        Noted::Kept => Ok(()),
+        Noted::Late => {
+            device.late(rt, pass, encoder)?;
+            Ok(())
+        }
+    }
+}
+
+/// Asks the device for what a call asks.
+#[tactic(auto, using(crate::proofs::Calls::asked_as))]
+fn ask(
+    rt: &impl Wait,
+    device: &Device,
+    pass: &mut DevicePass,
+    asked: &RequestOf<Handle>,
+) -> Result<Option<Handle>, NoMemory>
+    requires { CanCall device.now.lock pass.old }
+    ensures called { HasCalled device.now.lock pass.old pass.new }
+    ensures done { IfOk result (λ handle. HasAsked (setup_of device.now.lock).serial (event_asked asked.now) asked.now handle (own_of pass.old) (own_of pass.new)) }
+{
+    let (handle, _) = device.ask(rt, pass, asked)?;
+    Ok(handle)
+}
+
+/// Ends the encoder of a recorder.
+fn finish(
+    rt: &impl Wait,
+    device: &Device,
+    pass: &mut DevicePass,
+    recorder: &mut Recorder,
+    asked: &RequestOf<Handle>,
+) -> Result<Option<Handle>, NoMemory>
+    requires pass { CanCall device.now.lock pass.old }
+    requires asked { info_asked asked.now ≡ Some CommandBuffer }
+    ensures called { HasCalled device.now.lock pass.old pass.new }
+    ensures done { IfOk result (λ handle. HasAsked (setup_of device.now.lock).serial (finish_by (Some recorder.old) (event_asked asked.now)) asked.now handle (own_of pass.old) (own_of pass.new)) }
+    ensures taken { OnOk result (recorder.new ≡ taken_out recorder.old) }
+{
+    if recorder.encoder().is_none() {
+        recorder.take();
+        return ask(rt, device, pass, asked);
+    }
+    let (handle, _) = device.finish(rt, pass, recorder)?;
+    Ok(Some(handle))
+}
+
+/// Ends the encoder that an object is.
+fn finish_in(
+    rt: &impl Wait,
+    device: &Device,
+    pass: &mut DevicePass,
+    object: &mut Object,
+    asked: &RequestOf<Handle>,
+) -> Result<Option<Handle>, NoMemory>
+    requires pass { CanCall device.now.lock pass.old }
+    requires asked { info_asked asked.now ≡ Some CommandBuffer }
+    ensures called { HasCalled device.now.lock pass.old pass.new }
+    ensures done { IfOk result (λ handle. HasAsked (setup_of device.now.lock).serial (finish_by (recorder_in object.old) (event_asked asked.now)) asked.now handle (own_of pass.old) (own_of pass.new)) }
+    ensures taken { OnOk result (object.new ≡ changed object.old taken_out) }
+{
+    match object {
+        Object::Made {
+            recorder: Some(recorder),
+            ..
+        } => finish(rt, device, pass, recorder, asked),
+        Object::Made { recorder: None, .. } | Object::Pass { .. } => ask(rt, device, pass, asked),
+    }
+}
+
+/// Ends the encoder at a place among what the lane has made.
+fn finish_on(
+    rt: &impl Wait,
+    device: &Device,
+    pass: &mut DevicePass,
+    own: &mut Vec<Object>,
+    place: u32,
+    asked: &RequestOf<Handle>,
+) -> Result<Option<Handle>, NoMemory>
+    requires pass { CanCall device.now.lock pass.old }
+    requires asked { info_asked asked.now ≡ Some CommandBuffer }
+    ensures called { HasCalled device.now.lock pass.old pass.new }
+    ensures done { IfOk result (λ handle. HasAsked (setup_of device.now.lock).serial (finish_by (recorder_at own.old.items place) (event_asked asked.now)) asked.now handle (own_of pass.old) (own_of pass.new)) }
+    ensures taken { OnOk result (own.new.items ≡ taken_on own.old.items place) }
+{
+    let index = place as usize;
+    if index >= own.len() {
+        return ask(rt, device, pass, asked);
+    }
+    finish_in(rt, device, pass, &mut own[index], asked)
+}
+
+/// Asks the device for what a call asks, or ends the encoder that the call ends. What that kept is taken.
+fn send_request(
+    rt: &impl Wait,
+    device: &Device,
+    pass: &mut DevicePass,
+    seen: &mut Seen<'_>,
+    request: &RequestOf<u32>,
+) -> Result<Option<Handle>, NoMemory>
+    requires { CanCall device.now.lock pass.old }
+    ensures called { HasCalled device.now.lock pass.old pass.new }
+    ensures same { SeesSame seen.old seen.new }
+    ensures done { IfOk result (λ handle. HasAsked (setup_of device.now.lock).serial (event_sent (sight_of seen.old) request.now) (request_seen (sight_of seen.old) request.now) handle (own_of pass.old) (own_of pass.new)) }
+    ensures taken { OnOk result (sight_of seen.new ≡ taken_by (sight_of seen.old) (Ask request.now None)) }
+{
+    let alloc = *seen.own.allocator();
+    let asked = request_of(alloc, seen, request)?;
+    match ended_by(request) {
+        Some(encoder) => {
+            let place = seen.place(encoder);
+            finish_on(rt, device, pass, &mut seen.own, place, &asked)
+        }
+        None => ask(rt, device, pass, &asked),
+    }
+}
+
+/// Plays a call of the device.
+#[tactic(auto, using(crate::proofs::Calls::sent_made, crate::proofs::Calls::sent_plain))]
+fn play_request(
+    rt: &impl Wait,
+    device: &Device,
+    pass: &mut DevicePass,
+    seen: &mut Seen<'_>,
+    request: &RequestOf<u32>,
+    made: Option<u32>,
+) -> Result<(), NoMemory>
+    requires { CanCall device.now.lock pass.old }
+    ensures called { HasCalled device.now.lock pass.old pass.new }
+    ensures same { SeesSame seen.old seen.new }
+    ensures played { OnOk result (HasPlayed (setup_of device.now.lock).serial (sight_of seen.old) (sight_of seen.new) (Ask request.now made) (own_of pass.old) (own_of pass.new)) }
+{
+    let alloc = *seen.own.allocator();
+    let handle = send_request(rt, device, pass, seen, request)?;
+    match made {
+        Some(_) => {
+            seen.add_handle(alloc, handle)?;
+            Ok(())
+        }
+        None => Ok(()),
+    }
+}
+
+/// Plays one call.
+pub fn play_call(
+    rt: &impl Wait,
+    device: &Device,
+    pass: &mut DevicePass,
+    seen: &mut Seen<'_>,
+    call: &BoundCall,
+) -> Result<(), NoMemory>
+    requires { CanCall device.now.lock pass.old }
+    ensures called { HasCalled device.now.lock pass.old pass.new }
+    ensures same { SeesSame seen.old seen.new }
+    ensures played { OnOk result (HasPlayed (setup_of device.now.lock).serial (sight_of seen.old) (sight_of seen.new) call.now (own_of pass.old) (own_of pass.new)) }
+{
+    match call {
+        BoundCall::Record { on, command, made } => {
+            play_command(rt, device, pass, seen, *on, command, *made)
+        }
+        BoundCall::Ask { request, made } => play_request(rt, device, pass, seen, request, *made),
+    }
+}

@@ -1,0 +1,11 @@
+//! Plays a script on a device: the lanes of a phase at once, each with a pass of its own.
+#![tactic(auto)]
+
+mod call;
+mod lane;
+mod meets;
+mod phase;
+mod seats;
+mod whole;
+
+pub use whole::play;
