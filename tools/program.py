@@ -54,11 +54,12 @@ class Program:
             raise ends.End(ends.NO_ANSWER, f"{said}{self.said} had no answer: it ended with {ran.returncode}")
         return ran.returncode, ran.stdout
 
-    def become(self, script):
-        """Takes the place of this tool, with an open file as its standard input, so that bytes and status are its own."""
-        os.dup2(script.fileno(), 0)
+    def become(self, words, script=None):
+        """Takes the place of this tool, with an open file as its standard input if there is one, so that bytes and status are its own."""
+        if script is not None:
+            os.dup2(script.fileno(), 0)
         signal.signal(signal.SIGPIPE, signal.SIG_DFL)
         try:
-            os.execv(self.path, [str(self.path), "run"])
+            os.execv(self.path, [str(self.path), *words])
         except OSError as error:
             raise ends.End(ends.NOT_BUILT, f"{self.path} cannot be run: {error.strerror}") from None

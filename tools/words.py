@@ -13,6 +13,8 @@ from program import Program
 
 USAGE = """\
 usage: wgsim run [FILE]       plays a script and writes the program's report, byte for byte
+       wgsim gen N [L]        plays a generated script of N iterations in one lane, or in each of L lanes at once, and
+                              writes what the program counts: N is from 1 to 8000, L to 64, and N times L to 8000
        wgsim explain [FILE]   the report in words, beside the script: which call, why, and what a driver has to do
        wgsim picture [FILE]   the trace as one HTML page: steps, barriers, clears and releases
        wgsim diff [--script FILE] A B
@@ -36,7 +38,10 @@ exit status: 0 the report was written, or the two reports are the same
 docs/tool.md has an example of each command, docs/script.md the form of scripts, docs/report.md that of reports,
 and docs/rules.md every rule. examples/README.md says what each example shows.
 """
-MOST = {"run": 1, "explain": 1, "picture": 1, "rules": 1, "diff": 2}
+MOST = {"run": 1, "gen": 2, "explain": 1, "picture": 1, "rules": 1, "diff": 2}
+
+
+EMPTY = b'{"budget":0,"phases":[]}'
 
 
 class Wrong(Exception):
@@ -81,6 +86,8 @@ class Words:
             raise Wrong("a command is needed")
         if len(self.rest) > MOST[self.command]:
             raise Wrong(f"{self.command} takes no further word {self.rest[MOST[self.command]]}")
+        if self.command == "gen" and not self.rest:
+            raise Wrong("gen needs a number of iterations")
         if self.command == "diff" and len(self.rest) < 2:
             raise Wrong("diff needs two files")
         if self.command == "diff" and [*self.rest, self.script].count("-") > 1:
@@ -118,11 +125,20 @@ def run(words):
     file = opened(words.rest[0] if words.rest else "-")
     program = Program(words.is_unproved)
     if not words.is_unproved:
-        program.become(file)
+        program.become(["run"], file)
     building.say(f"this answer is from {program.said}, which claims nothing")
     status, out = program.ask(file.read())
     write(out)
     return status
+
+
+def generated(words):
+    program = Program(words.is_unproved)
+    if not program.is_kept():
+        program.ask(EMPTY)
+    if words.is_unproved:
+        building.say(f"this answer is from {program.said}, which claims nothing")
+    program.become(["gen", *words.rest])
 
 
 def explained(words):
@@ -175,7 +191,7 @@ def write(data):
     sys.stdout.buffer.flush()
 
 
-COMMANDS = {"run": run, "explain": explained, "picture": picture, "diff": diff, "rules": show_rules, "--version": version, "--help": show_help}
+COMMANDS = {"run": run, "gen": generated, "explain": explained, "picture": picture, "diff": diff, "rules": show_rules, "--version": version, "--help": show_help}
 
 
 def main(given):

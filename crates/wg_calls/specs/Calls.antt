@@ -15,7 +15,7 @@ use Rattle.wg_types.specs.declared.requests.RequestOf.TheVariants.{CreateBuffer,
 use Rattle.wg_model.specs.Commands.{texture_of, no_texture, size_or_rest}
 use Rattle.wg_model.specs.Making.{view_made, pipeline_layout_made, group_made, compute_made, render_made}
 use Rattle.wg_model.specs.Views.{view_of}
-use Rattle.wg_encoder.specs.Recorders.{RecorderValue, RecordingValue}
+use Rattle.wg_encoder.specs.Recorders.{RecorderValue, RecordingValue, after_take}
 use Rattle.wg_history.specs.declared.events.Event.{Event}
 use Rattle.wg_history.specs.declared.events.Event.TheVariants as event
 
@@ -96,6 +96,10 @@ recording_of recorder = record { device = recorder.device; commands = recorder.c
 -- the finish of the encoder of a recorder, with the commands that this has kept
 abbrev pub finish_of : ObjRef → RecorderValue → Event
 finish_of encoder recorder = event.Finish encoder (recording_of recorder)
+
+-- the recorder once what it has kept was taken
+abbrev pub taken_out : RecorderValue → RecorderValue
+taken_out recorder = record recorder { commands = []; takes = after_take recorder.takes }
 
 -- the handle of what an answer made, of which so much is known
 abbrev pub handle_of : ℕ → Info → Answer → Option HandleValue

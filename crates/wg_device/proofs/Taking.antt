@@ -2,8 +2,8 @@
 use Rattle.std.proofs.Common.{◌≡◌, ℕ, ◌+◌, ◌-◌, nat_lt, Bool, true, false, refl, arith, if◌then◌else◌}
 use Rattle.std.proofs.lemmas.Bool.Decides.{nat_tests}
 use Rattle.wg_encoder.specs.Recorders.{RecorderValue, most_takes, after_take, restored}
-use Rattle.wg_calls.specs.Calls.{recording_of}
-use Rattle.wg_device.specs.Takes.{taken_out, IsAsBefore}
+use Rattle.wg_calls.specs.Calls.{recording_of, taken_out}
+use Rattle.wg_device.specs.Takes.{IsAsBefore}
 
 same_end : (takes : ℕ) → nat_lt 0 (after_take takes - 1) ≡ nat_lt 0 takes
 same_end takes = by_most (nat_lt takes most_takes) refl

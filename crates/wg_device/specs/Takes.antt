@@ -1,12 +1,8 @@
 -- A finish, and how what it took goes back where there was no memory.
-use Rattle.std.specs.Prelude.{◌≡◌, []}
-use Rattle.wg_encoder.specs.Recorders.{RecorderValue, IsTakenFrom, has_taken, after_take, restored}
+use Rattle.std.specs.Prelude.{◌≡◌}
+use Rattle.wg_encoder.specs.Recorders.{RecorderValue, IsTakenFrom, has_taken, restored}
 use Rattle.wg_history.specs.declared.events.Event.{Event}
 use Rattle.wg_history.specs.declared.events.Event.TheVariants.{Finish}
-
--- the recorder once what it has kept was taken
-abbrev pub taken_out : RecorderValue → RecorderValue
-taken_out recorder = record recorder { commands = []; takes = after_take recorder.takes }
 
 -- the event has what the last take of the recorder gave
 abbrev pub HasTaken : Event → RecorderValue → Type 0

@@ -9,10 +9,10 @@ ghost use Rattle.wg_model.specs.Limits.{default_limits};
 ghost use Rattle.wg_encoder.specs.Recorders.{most_takes};
 ghost use Rattle.wg_turn.specs.Passes.{IsPassOf, AreFresh, AreSound, AreInOrder, FrontsAre, IsSamePass, IsWhole, callers_of, own_of, opened_with};
 ghost use Rattle.wg_turn.specs.Closings.{entries_of, passes_of, state_of};
-ghost use Rattle.wg_calls.specs.Calls.{event_asked, info_asked, handle_of, handle_made, finish_of};
+ghost use Rattle.wg_calls.specs.Calls.{event_asked, info_asked, handle_of, handle_made, finish_of, taken_out};
 ghost use Rattle.wg_device.specs.Fronts.{front_in, history_of, setup_of, CanCall, HasCalled, HasNotMade, IsAct, IsSoundIn};
 ghost use Rattle.wg_device.specs.Handles.{IsGenuine, AreGenuine};
-ghost use Rattle.wg_device.specs.Takes.{taken_out, HasTaken, given_back, IsAsBefore};
+ghost use Rattle.wg_device.specs.Takes.{HasTaken, given_back, IsAsBefore};
 
 use std::alloc::Global;
 use std::sync::{Arc, Wait};

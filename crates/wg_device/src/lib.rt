@@ -7,6 +7,3 @@ mod making;
 mod queue;
 
 pub use device::{Device, DevicePass, Ended};
-
-#[cfg(test)]
-mod tests;

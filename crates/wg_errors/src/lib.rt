@@ -1,9 +1,10 @@
 //! The error scopes of a device.
 #![tactic(auto)]
 
-ghost use Rattle.std.specs.Prelude.{◌≡◌, ◌+◌, ◌<◌, ◌≤◌, ◌∷◌, ◌++◌, [], true, false, IsOk, OnOk, OnErr, if◌then◌else◌, Option, vec_len, vec_capacity};
+ghost use Rattle.std.specs.Prelude.{◌≡◌, ◌+◌, ◌<◌, ◌≤◌, ◌∷◌, ◌++◌, [], true, false, IsOk, OnOk, OnErr, if◌then◌else◌, Option, reverse, vec_len, vec_capacity};
 ghost use Rattle.wg_model.specs.ErrorScopes.{catches, deliver, caught_in, delivered, first_how, pop_how, popped};
 ghost use Rattle.wg_errors.specs.Errors.{ErrorsValue};
+ghost use Rattle.wg_errors.specs.Catching.{pick, top, within};
 
 use std::alloc::Global;
 use std::marker::Model;
@@ -12,19 +13,32 @@ use wg_types::replies::{Caught, FaultKind, Filter, First, How, Scope};
 
 /// The error scopes of a device (WebGPU, "Error Scopes"), and whether it is lost. Contracts see the
 /// stack outermost first.
+///
+/// Beside each scope stands where a fault goes that comes while it is the innermost one.
 #[derive(Drop)]
 pub struct Errors {
     lost: bool,
     scopes: Vec<Scope>,
+    catchers: Vec<Catchers>,
+}
+
+/// Where a fault of each kind goes.
+#[derive(Clone, Copy)]
+pub struct Catchers {
+    pub validation: Caught,
+    pub memory: Caught,
 }
 
 impl Model for Errors {
-    ghost use Rattle.std.specs.Prelude.{◌-◌, vec_len, vec_capacity};
+    ghost use Rattle.std.specs.Prelude.{◌≡◌, ◌-◌, min, reverse, vec_len, vec_capacity};
     ghost use Rattle.wg_errors.specs.Errors.{ErrorsValue};
+    ghost use Rattle.wg_errors.specs.Catching.{told, filters};
 
     ghost Value = { ErrorsValue };
 
-    ghost view = { λ e. record { lost = e.lost; scopes = e.scopes.items; spare = vec_capacity e.scopes - vec_len e.scopes } };
+    ghost view = { λ e. record { lost = e.lost; scopes = e.scopes.items; spare = min (vec_capacity e.scopes - vec_len e.scopes) (vec_capacity e.catchers - vec_len e.catchers) } };
+
+    ghost invariant = { λ e. reverse e.catchers.items ≡ told (filters (reverse e.scopes.items)) };
 }
 
 fn does_catch(filter: Filter, kind: FaultKind) -> bool
@@ -40,17 +54,48 @@ fn does_catch(filter: Filter, kind: FaultKind) -> bool
     }
 }
 
+/// Where a fault of each kind goes where there is no scope.
+const NOWHERE: Catchers = Catchers {
+    validation: Caught::Uncaptured,
+    memory: Caught::Uncaptured,
+};
+
 /// Where a fault of this kind goes.
-fn destination(scopes: &[Scope], kind: FaultKind) -> Caught
-    ensures { result ≡ deliver scopes.now kind }
+fn pick(catchers: Catchers, kind: FaultKind) -> Caught
+    ensures { result ≡ pick catchers kind }
 {
-    let mut caught = Caught::Uncaptured;
-    for (i, scope) in scopes.iter().enumerate() {
-        if does_catch(scope.filter, kind) {
-            caught = Caught::Scope(i as u64);
-        }
+    match kind {
+        FaultKind::Validation => catchers.validation,
+        FaultKind::OutOfMemory => catchers.memory,
     }
-    caught
+}
+
+/// Where a fault of each kind goes while the scopes stand of which these are told.
+fn innermost(catchers: &[Catchers]) -> Catchers
+    ensures { result ≡ top (reverse catchers.now) }
+{
+    match catchers.last() {
+        Some(catchers) => *catchers,
+        None => NOWHERE,
+    }
+}
+
+/// The same in a scope with this filter, which has so many around it.
+fn within(filter: Filter, place: u64, outer: Catchers) -> Catchers
+    ensures { result ≡ within filter place outer }
+{
+    Catchers {
+        validation: if does_catch(filter, FaultKind::Validation) {
+            Caught::Scope(place)
+        } else {
+            outer.validation
+        },
+        memory: if does_catch(filter, FaultKind::OutOfMemory) {
+            Caught::Scope(place)
+        } else {
+            outer.memory
+        },
+    }
 }
 
 /// Keeps an error in the scope that it went to, where that has none yet.
@@ -91,6 +136,7 @@ impl Errors {
         Errors {
             lost: false,
             scopes: Vec::new(alloc),
+            catchers: Vec::new(alloc),
         }
     }
 
@@ -102,6 +148,7 @@ impl Errors {
         ensures succeeds { n ≤ self.old.spare → IsOk result }
     {
         self.scopes.reserve(n as usize)?;
+        self.catchers.reserve(n as usize)?;
         Ok(())
     }
 
@@ -114,6 +161,10 @@ impl Errors {
         ensures room { OnOk result (self.old.spare ≤ self.new.spare + 1) }
     {
         self.scopes.reserve(1)?;
+        self.catchers.reserve(1)?;
+        let place = self.scopes.len() as u64;
+        let outer = innermost(self.catchers.as_slice());
+        self.catchers.push_reserved(within(filter, place, outer));
         self.scopes.push_reserved(Scope {
             filter,
             first: None,
@@ -136,17 +187,19 @@ impl Errors {
     }
 
     /// Where a fault of this kind would go, which is nowhere on a lost device.
+    #[tactic(auto, using(crate::proofs::Catching::picks))]
     pub fn catches(&self, kind: FaultKind) -> Option<Caught>
         ensures { result ≡ (if self.now.lost then Option.None else Option.Some (deliver self.now.scopes kind)) }
     {
         if self.lost {
             return None;
         }
-        Some(destination(self.scopes.as_slice(), kind))
+        Some(pick(innermost(self.catchers.as_slice()), kind))
     }
 
     /// Delivers a fault to the innermost scope that catches faults of its kind, and says where it went
     /// (WebGPU, "dispatch error").
+    #[tactic(auto, using(crate::proofs::Catching::keeps))]
     pub fn deliver(&mut self, kind: FaultKind, rule: u16) -> Option<Caught>
         ensures caught { result ≡ (if self.old.lost then Option.None else Option.Some (deliver self.old.scopes kind)) }
         ensures scopes { self.new.scopes ≡ (if self.old.lost then self.old.scopes else delivered self.old.scopes kind rule) }
@@ -183,6 +236,7 @@ impl Errors {
         let Some(scope) = self.scopes.pop() else {
             return How::Rejected;
         };
+        let _ = self.catchers.pop();
         settled(scope.first)
     }
 }

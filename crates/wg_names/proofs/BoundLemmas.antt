@@ -46,7 +46,7 @@ uses_found p l names made ours sees (u ∷ us) fine e =
     (uses_found p l names made ours sees us fine step.2)
 
 -- a command asks for an encoder or a pass of its own lane to stand on
-place_own : {R : Type 0} (command : CommandOf R) → wants_own (place_wanted command) ≡ true
+pub place_own : {R : Type 0} (command : CommandOf R) → wants_own (place_wanted command) ≡ true
 place_own command = grind arith
 
 -- a recording call, and a call of the device

@@ -4,7 +4,7 @@ ghost use Rattle.wg_names.specs.Names.{no_names, with_name, slot_in, kind_in, is
 ghost use Rattle.wg_names.specs.Uses.{wants_own};
 
 use std::alloc::Global;
-use std::collections::BTreeMap;
+use std::collections::HashMap;
 use wg_script::{Name, NoMemory};
 use wg_types::wanted::{Kind, Wanted};
 
@@ -21,7 +21,7 @@ pub struct Mark {
 /// What each name stands for, of those that were made so far, and how many these are.
 #[derive(Drop)]
 pub struct Known<'a> {
-    marks: BTreeMap<&'a str, Mark>,
+    marks: HashMap<&'a str, Mark>,
     made: u32,
 }
 
@@ -33,7 +33,7 @@ impl<'a> Known<'a> {
         ensures { names_in result ≡ no_names }
     {
         Known {
-            marks: BTreeMap::new(alloc),
+            marks: HashMap::new(alloc),
             made: 0,
         }
     }

@@ -14,8 +14,8 @@ use Rattle.wg_types.specs.declared.commands.On.{On}
 use Rattle.wg_types.specs.declared.replies.Answer.{Answer}
 use Rattle.wg_types.specs.declared.wanted.Kind.{Kind}
 use Rattle.wg_types.specs.declared.wanted.Kind.TheVariants as kinds
-use Rattle.wg_encoder.specs.Recorders.{RecorderValue, recorded, after_take}
-use Rattle.wg_calls.specs.Calls.{opened_for}
+use Rattle.wg_encoder.specs.Recorders.{RecorderValue, recorded}
+use Rattle.wg_calls.specs.Calls.{opened_for, taken_out}
 use Rattle.wg_script.specs.CallOf.{BoundCall}
 use Rattle.wg_script.specs.declared.calls.CallOf.TheVariants.{Record, Ask}
 use Rattle.wg_names.specs.Uses.{made_of}
@@ -73,7 +73,7 @@ recorded_stands objects stand command place k was = stands_changed (recorded_by 
 
 ended_stands : (sight : Sight) (ended : Option ℕ) (place : ℕ) (k : Kind) → StandsAt sight.own place k → StandsAt (ended_on sight ended) place k
 ended_stands sight None place k was = was
-ended_stands sight (Some encoder) place k was = stands_changed (λ (r : RecorderValue). record r { commands = []; takes = after_take r.takes }) (λ r. refl) sight.own (place_in sight encoder) place k was
+ended_stands sight (Some encoder) place k was = stands_changed taken_out (λ r. refl) sight.own (place_in sight encoder) place k was
 
 kept_stands : (objects : List Object) (handle : Option HandleValue) (place : ℕ) (k : Kind) → StandsAt objects place k → StandsAt (with_kept objects handle) place k
 kept_stands objects None place k was = was

@@ -20,14 +20,14 @@ use Rattle.wg_types.specs.declared.requests.RequestOf.TheVariants.{CreateBuffer,
 use Rattle.wg_types.specs.declared.wanted.Kind.{Kind}
 use Rattle.wg_types.specs.declared.wanted.Wanted.{Wanted}
 use Rattle.wg_types.specs.declared.wanted.Wanted.TheVariants as wanted
-use Rattle.wg_encoder.specs.Recorders.{RecorderValue, RecordingValue, after_take}
+use Rattle.wg_encoder.specs.Recorders.{RecorderValue, RecordingValue}
 use Rattle.wg_history.specs.declared.events.Setup.{Setup}
 use Rattle.wg_history.specs.declared.events.Event.{Event}
 use Rattle.wg_history.specs.declared.events.Event.TheVariants as event
 use Rattle.wg_history.specs.Entries.{Entry, Past}
 use Rattle.wg_history.specs.Rules.{is_genuine}
 use Rattle.wg_history.specs.Answers.{reply_to}
-use Rattle.wg_calls.specs.Calls.{event_asked, info_asked, handle_of, handle_made, recording_of}
+use Rattle.wg_calls.specs.Calls.{event_asked, info_asked, handle_of, handle_made, recording_of, taken_out}
 use Rattle.wg_calls.proofs.Genuine.{genuine_more, IsGenuineIfOwn, genuine_if_own, genuine_finish}
 use Rattle.wg_script.specs.CallOf.{BoundCall}
 use Rattle.wg_script.specs.declared.calls.CallOf.TheVariants.{Record, Ask}
@@ -246,7 +246,7 @@ kept_if_made setup past objects (Some h) all genuine =
 ended_kept : (setup : Setup) (past : Past) (sight : Sight) (ended : Option ℕ) → AreKept setup past sight.own → AreKept setup past (ended_on sight ended)
 ended_kept setup past sight None all = all
 ended_kept setup past sight (Some encoder) all =
-    objects_changed setup past (λ (r : RecorderValue). record r { commands = []; takes = after_take r.takes }) sight.own (place_in sight encoder) all
+    objects_changed setup past taken_out sight.own (place_in sight encoder) all
 
 slot_made : (made : Option ℕ) (found : Option HandleValue) (handle : HandleValue) → option_and_then (λ (slot : ℕ). found) made ≡ Some handle → found ≡ Some handle
 slot_made None found handle e = absurd (cc (e))

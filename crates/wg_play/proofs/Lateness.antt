@@ -8,8 +8,9 @@ use Rattle.wg_types.specs.declared.commands.On.{On}
 use Rattle.wg_types.specs.declared.replies.Answer.{Answer}
 use Rattle.wg_types.specs.Commands.{Command}
 use Rattle.wg_model.specs.Walk.{begins_pass}
-use Rattle.wg_encoder.specs.Recorders.{RecorderValue, has_taken, recorded, after_take}
+use Rattle.wg_encoder.specs.Recorders.{RecorderValue, has_taken, recorded}
 use Rattle.wg_encoder.proofs.TakeLemmas.{counted}
+use Rattle.wg_calls.specs.Calls.{taken_out}
 use Rattle.wg_script.specs.CallOf.{BoundCall}
 use Rattle.wg_script.specs.declared.calls.CallOf.TheVariants.{Record, Ask}
 use Rattle.wg_play.specs.declared.objects.Object.{Object}
@@ -78,13 +79,10 @@ recorded_kept objects stand command place r e = elim (cases_eq stand.encoder pla
 
 -- ---- a finish
 
-abbrev taking : RecorderValue → RecorderValue
-taking r = record r { commands = []; takes = after_take r.takes }
-
 own_taken : (objects : List Object) (place : ℕ) (r : RecorderValue) → recorder_at objects place ≡ Some r → Kept (taken_on objects place) place true r
 own_taken objects place r e = record {
-  recorder = record r { commands = []; takes = after_take r.takes };
-  is = own_recorder taking objects place ∙ ap (option_map taking) e;
+  recorder = taken_out r;
+  is = own_recorder taken_out objects place ∙ ap (option_map taken_out) e;
   passes = omega arith;
   taken = counted r.takes ∙ sym (or_true (has_taken r));
 }
@@ -94,7 +92,7 @@ taken_kept objects first encoder place r from e = elim (cases_eq (encoder - firs
   | inl same ↦ let is : encoder ≡ first + place = omega (arith, from, same) in
       subst (λ n. Kept (taken_on objects n) place (encoder == first + place) r) (sym same) (subst (λ b. Kept (taken_on objects place) place b r) (sym (eq-eqb encoder (first + place) is)) (own_taken objects place r e))
   | inr differs ↦ subst (λ b. Kept (taken_on objects (encoder - first)) place b r) (sym (ne_eqb encoder (first + place) (λ q. differs (let is : encoder - first ≡ place = omega (arith, q) in is))))
-      (same_kept (taken_on objects (encoder - first)) place r (other_recorder taking objects (encoder - first) place differs ∙ e))
+      (same_kept (taken_on objects (encoder - first)) place r (other_recorder taken_out objects (encoder - first) place differs ∙ e))
 ]
 
 -- the encoder that a call ends is one of the lane's own
@@ -109,11 +107,11 @@ ended_kept sight (Some encoder) place r owns e = taken_kept sight.own sight.firs
 ended_pass : (sight : Sight) (ended : Option ℕ) (place encoder number : ℕ) → slice_get sight.own place ≡ Some (object.Pass encoder number)
     → slice_get (ended_on sight ended) place ≡ Some (object.Pass encoder number)
 ended_pass sight None place encoder number e = e
-ended_pass sight (Some ended) place encoder number e = pass_with taking sight.own (place_in sight ended) place encoder number e
+ended_pass sight (Some ended) place encoder number e = pass_with taken_out sight.own (place_in sight ended) place encoder number e
 
 pub ended_length : (sight : Sight) (ended : Option ℕ) → length (ended_on sight ended) ≡ length sight.own
 ended_length sight None = refl
-ended_length sight (Some encoder) = length_with taking sight.own (place_in sight encoder)
+ended_length sight (Some encoder) = length_with taken_out sight.own (place_in sight encoder)
 
 -- ---- what is made
 

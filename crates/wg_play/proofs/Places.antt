@@ -1,5 +1,5 @@
 -- Which commands begin passes, and what a command stands on.
-use Rattle.std.proofs.Common.{◌≡◌, Bool, true, false, Some, refl, ◌⊎◌, inl, inr}
+use Rattle.std.proofs.Common.{◌≡◌, true, Some, refl, ◌⊎◌, inl, inr}
 use Rattle.wg_types.specs.declared.wanted.Kind.{Kind}
 use Rattle.wg_types.specs.declared.wanted.Kind.TheVariants as kind
 use Rattle.wg_types.specs.declared.wanted.Wanted.{Wanted}
@@ -10,6 +10,8 @@ use Rattle.wg_types.specs.declared.commands.Bracket.TheVariants as brackets
 use Rattle.wg_types.specs.declared.commands.CommandOf.{CommandOf}
 use Rattle.wg_types.specs.declared.commands.CommandOf.TheVariants.{BeginComputePass, BeginRenderPass, CopyBufferToBuffer, CopyBufferToTexture, CopyTextureToBuffer, CopyTextureToTexture, ClearBuffer, PushDebugGroup, PopDebugGroup, End, SetPipeline, SetBindGroup, Dispatch, DispatchIndirect, SetVertexBuffer, SetIndexBuffer, Draw, DrawIndexed, DrawIndirect, DrawIndexedIndirect}
 use Rattle.wg_types.specs.Commands.{map_refs, bracket, place_wanted, kind_begun_by, kind_begun, begins_pass_by}
+use Rattle.wg_names.specs.Uses.{wants_own}
+use Rattle.wg_names.proofs.BoundLemmas.{place_own}
 use Rattle.wg_play.specs.Found.{is_pass}
 
 -- ---- the command that begins a pass
@@ -67,38 +69,6 @@ begins_by brackets.PushGroup k e = absurd (cc)
 begins_by brackets.PopGroup k e = absurd (cc)
 begins_by brackets.Neither k e = absurd (cc)
 
--- a command stands on an encoder or a pass
-abbrev is_place : Wanted → Bool
-is_place wanted.Encoder = true
-is_place wanted.ComputePass = true
-is_place wanted.Pass = true
-is_place wanted.Binding = true
-is_place wanted.Drawing = true
-is_place wanted.Recording = true
-is_place _ = false
-
-place_is : {R : Type 0} (command : CommandOf R) → is_place (place_wanted command) ≡ true
-place_is BeginComputePass = refl
-place_is (BeginRenderPass begin) = refl
-place_is (CopyBufferToBuffer source source_offset target target_offset size) = refl
-place_is (CopyBufferToTexture buffer layout texture spot size) = refl
-place_is (CopyTextureToBuffer buffer layout texture spot size) = refl
-place_is (CopyTextureToTexture source source_mip source_origin target target_mip target_origin size) = refl
-place_is (ClearBuffer buffer offset size) = refl
-place_is PushDebugGroup = refl
-place_is PopDebugGroup = refl
-place_is End = refl
-place_is (SetPipeline pipeline) = refl
-place_is (SetBindGroup index group offsets) = refl
-place_is (Dispatch x y z) = refl
-place_is (DispatchIndirect buffer offset) = refl
-place_is (SetVertexBuffer slot buffer offset size) = refl
-place_is (SetIndexBuffer buffer format offset size) = refl
-place_is (Draw vertices instances first_vertex first_instance) = refl
-place_is (DrawIndexed indices instances first_index first_instance) = refl
-place_is (DrawIndirect buffer offset) = refl
-place_is (DrawIndexedIndirect buffer offset) = refl
-
 -- ---- where a command stands
 
 pub is_encoder : (k : Kind) → admits wanted.Encoder k ≡ true → k ≡ kind.Encoder
@@ -108,8 +78,8 @@ is_encoder _ e = absurd (cc)
 abbrev EncoderOrPass : Kind → Type 0
 EncoderOrPass k = (k ≡ kind.Encoder) ⊎ (is_pass k ≡ true)
 
--- what is asked of what a command stands on is met by encoders and passes alone
-admitted : (w : Wanted) (k : Kind) → is_place w ≡ true → admits w k ≡ true → EncoderOrPass k
+-- what asks for the lane's own is met by encoders and passes alone
+admitted : (w : Wanted) (k : Kind) → wants_own w ≡ true → admits w k ≡ true → EncoderOrPass k
 admitted wanted.Encoder kind.Encoder p e = inl refl
 admitted wanted.ComputePass kind.ComputePass p e = inr refl
 admitted wanted.Pass kind.ComputePass p e = inr refl
@@ -129,4 +99,4 @@ admitted wanted.Recording _ p e = absurd (cc)
 admitted _ k p e = absurd (cc)
 
 pub stands_on : {R : Type 0} (command : CommandOf R) (k : Kind) → admits (place_wanted command) k ≡ true → EncoderOrPass k
-stands_on command k e = admitted (place_wanted command) k (place_is command) e
+stands_on command k e = admitted (place_wanted command) k (place_own command) e

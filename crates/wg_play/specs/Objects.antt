@@ -10,13 +10,14 @@ use Rattle.wg_types.specs.declared.commands.On.TheVariants.{Encoder, Pass}
 use Rattle.wg_types.specs.Commands.{Command, kind_begun}
 use Rattle.wg_types.specs.declared.requests.RequestOf.{RequestOf}
 use Rattle.wg_types.specs.declared.requests.RequestOf.TheVariants.{CreateBuffer, CreateTexture, CreateView, CreateSampler, CreateBindGroupLayout, CreatePipelineLayout, CreateBindGroup, CreateComputePipeline, CreateRenderPipeline, CreateEncoder, Finish, Submit, WriteBuffer, WriteTexture, Destroy, Drop, Complete, PushErrorScope, PopErrorScope, Lose, WorkDone, MapAsync, Unmap}
-use Rattle.wg_encoder.specs.Recorders.{RecorderValue, is_late, recorded, after_take}
-use Rattle.wg_calls.specs.Calls.{opened_for}
+use Rattle.wg_encoder.specs.Recorders.{RecorderValue, is_late, recorded}
+use Rattle.wg_calls.specs.Calls.{opened_for, taken_out}
 use Rattle.wg_play.specs.declared.objects.Object.{Object}
 use Rattle.wg_play.specs.declared.objects.Object.TheVariants as object
 use Rattle.wg_play.specs.declared.objects.Stand.{Stand}
 
--- Stands for an object that was not made. Each place that a script uses was made by an earlier call, so that it is not met.
+-- Stands for an object that was not made. Each slot that a script uses stands for what an earlier call made, so that it is
+-- not met.
 abbrev pub unknown : HandleValue
 unknown = record { reference = record { device = 0; number = 0 }; valid = false; info = info.CommandBuffer }
 
@@ -84,7 +85,7 @@ begun_by objects encoder command made = option_map_or (λ slot. option_map_or (�
 
 -- the objects once what an encoder's recorder has kept was taken
 abbrev pub taken_on : List Object → ℕ → List Object
-taken_on objects place = with_recorder objects place (λ recorder. record recorder { commands = []; takes = after_take recorder.takes })
+taken_on objects place = with_recorder objects place taken_out
 
 -- the encoder that a call of the device ends, if it ends one
 abbrev pub ended_by : RequestOf ℕ → Option ℕ

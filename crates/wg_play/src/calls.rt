@@ -1,5 +1,5 @@
 //! The calls of a lane with handles in place of slots.
-ghost use Rattle.std.specs.Prelude.{◌≡◌, IfOk, OnOk};
+ghost use Rattle.std.specs.Prelude.{◌≡◌, IfOk, OnOk, OnErr};
 ghost use Rattle.wg_encoder.specs.Recorders.{noted};
 ghost use Rattle.wg_play.specs.Lanes.{command_seen, noted_on, request_seen};
 ghost use Rattle.wg_play.specs.Objects.{ended_by, is_late_on};
@@ -83,7 +83,8 @@ pub fn ended_by(request: &RequestOf<u32>) -> Option<u32>
     }
 }
 
-/// Records a command where it stands, and makes the pass that it begins, late or not.
+/// Records a command where it stands, and makes the pass that it begins, late or not. The room for a pass is
+/// taken first, so that without memory nothing is recorded.
 pub fn note_command(
     seen: &mut Seen<'_>,
     stand: Stand,
@@ -93,11 +94,13 @@ pub fn note_command(
     ensures same { SeesSame seen.old seen.new }
     ensures noted { IfOk result (λ answer. answer ≡ noted (is_late_on (sight_of seen.old).own stand)) }
     ensures after { OnOk result (sight_of seen.new ≡ noted_on (sight_of seen.old) stand command made) }
+    ensures unchanged { OnErr result (sight_of seen.new ≡ sight_of seen.old) }
 {
     let begun = begun_by(seen.own.as_slice(), stand.encoder, &command, made);
+    seen.own.reserve(1)?;
     let noted = record_on(&mut seen.own, stand, command)?;
     if let Some(pass) = begun {
-        seen.own.push(pass)?;
+        seen.own.push_reserved(pass);
     }
     Ok(noted)
 }

@@ -1,5 +1,5 @@
 //! What the calls of a lane have made, each at its place.
-ghost use Rattle.std.specs.Prelude.{◌≡◌, true, [], option_to_list, slice_get, IfOk, OnOk, OnErr};
+ghost use Rattle.std.specs.Prelude.{◌≡◌, true, [], option_to_list, slice_get, vec_len, vec_capacity, IfOk, OnOk, OnErr};
 ghost use Rattle.std.specs.Option.{option_map_or};
 ghost use Rattle.wg_encoder.specs.Recorders.{noted};
 ghost use Rattle.wg_play.specs.Objects.{handle_at, reference_at, recorder_in, changed, stand_at, is_begun, is_late_by, is_late_on, recorded_by, recorded_on, passes_at, begun_by, recorder_for, object_of};
@@ -115,7 +115,7 @@ fn record_in(object: &mut Object, on: On, command: Command) -> Result<Noted, NoM
     }
 }
 
-/// Records a command where it stands.
+/// Records a command where it stands, which takes no room among the objects.
 pub fn record_on(
     objects: &mut Vec<Object>,
     stand: Stand,
@@ -124,6 +124,8 @@ pub fn record_on(
     ensures noted { IfOk result (λ answer. answer ≡ noted (is_late_on objects.old.items stand)) }
     ensures after { OnOk result (objects.new.items ≡ recorded_on objects.old.items stand command) }
     ensures unchanged { OnErr result (objects.new.items ≡ objects.old.items) }
+    ensures len { vec_len objects.new ≡ vec_len objects.old }
+    ensures room { vec_capacity objects.new ≡ vec_capacity objects.old }
 {
     let index = stand.encoder as usize;
     if index >= objects.len() {

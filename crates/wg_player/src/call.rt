@@ -2,9 +2,8 @@
 ghost use Rattle.std.specs.Prelude.{◌≡◌, Some, None, IfOk, OnOk};
 ghost use Rattle.wg_turn.specs.Passes.{own_of};
 ghost use Rattle.wg_types.specs.declared.handles.Info.TheVariants.{CommandBuffer};
-ghost use Rattle.wg_calls.specs.Calls.{event_asked, info_asked};
+ghost use Rattle.wg_calls.specs.Calls.{event_asked, info_asked, taken_out};
 ghost use Rattle.wg_device.specs.Fronts.{setup_of, CanCall, HasCalled};
-ghost use Rattle.wg_device.specs.Takes.{taken_out};
 ghost use Rattle.wg_script.specs.declared.calls.CallOf.TheVariants.{Record, Ask};
 ghost use Rattle.wg_play.specs.Lanes.{event_sent, finish_by, request_seen, taken_by};
 ghost use Rattle.wg_play.specs.Objects.{changed, recorder_in, recorder_at, taken_on};

@@ -1,4 +1,4 @@
-ghost use Rattle.std.specs.Prelude.{◌≡◌, ◌≤◌, ◌<◌, ◌++◌, ◌∷◌, [], length, take, List, ℕ};
+ghost use Rattle.std.specs.Prelude.{◌≡◌, ◌≤◌, ◌<◌, ◌+◌, ◌++◌, ◌∷◌, [], length, take, List, ℕ};
 
 use std::marker::Model;
 
@@ -33,12 +33,28 @@ impl Buffer {
         self.len
     }
 
+    /// For how many more bytes there is room.
+    pub fn room(&self) -> usize
+        ensures { length self.now + result ≡ 4096 }
+    {
+        4096 - self.len
+    }
+
     pub fn push(&mut self, byte: u8)
         requires { length self.old < 4096 }
         ensures { self.new ≡ self.old ++ byte ∷ [] }
     {
         self.bytes[self.len] = byte;
         self.len += 1;
+    }
+
+    pub fn extend(&mut self, text: &[u8])
+        requires { length self.old + length text.now ≤ 4096 }
+        ensures { self.new ≡ self.old ++ text.now }
+    {
+        for byte in text {
+            self.push(*byte);
+        }
     }
 
     pub fn as_slice(&self) -> &[u8]

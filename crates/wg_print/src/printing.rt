@@ -1,4 +1,4 @@
-ghost use Rattle.std.specs.Prelude.{◌≡◌, ◌≤◌, ◌<◌, ◌∷◌, [], List, ℕ, length, false, true, decimal, MatchResult, OnOk, OnErr};
+ghost use Rattle.std.specs.Prelude.{◌≡◌, ◌≤◌, ◌<◌, ◌+◌, ◌∷◌, [], List, ℕ, length, false, true, decimal, MatchResult, OnOk, OnErr};
 ghost use Rattle.std.specs.Io.KnownBytes.{Appends};
 ghost use Rattle.wg_io.specs.Causes.{Rose};
 ghost use Rattle.wg_print.specs.Printing.{Printer, Adds, Puts, TakesPart, Written, IsFresh};
@@ -87,8 +87,23 @@ impl<'a, W: Sink> Out<'a, W> {
         self.put(digits.format(number).as_bytes());
     }
 
-    #[tactic(auto, using(crate::proofs::PrintingLemmas::puts_next, crate::proofs::PrintingLemmas::puts_none))]
+    // Puts bytes, at once where the buffer has room for them.
+    #[inline(always)]
     fn put(&mut self, text: &[u8])
+        ensures same_reference { reference self.new ≡ reference self.old }
+        ensures text { Puts (seen W.taken W.faults self.old) (seen W.taken W.faults self.new)
+            text.now }
+    {
+        if text.len() <= self.held.room() {
+            self.hold_all(text);
+        } else {
+            self.put_bytes(text);
+        }
+    }
+
+    #[inline(never)]
+    #[tactic(auto, using(crate::proofs::PrintingLemmas::puts_next, crate::proofs::PrintingLemmas::puts_none))]
+    fn put_bytes(&mut self, text: &[u8])
         ensures same_reference { reference self.new ≡ reference self.old }
         ensures text { Puts (seen W.taken W.faults self.old) (seen W.taken W.faults self.new)
             text.now }
@@ -128,6 +143,17 @@ impl<'a, W: Sink> Out<'a, W> {
     {
         if !self.failed {
             self.held.push(byte);
+        }
+    }
+
+    fn hold_all(&mut self, text: &[u8])
+        requires { length self.old.held + length text.now ≤ 4096 }
+        ensures same_reference { reference self.new ≡ reference self.old }
+        ensures text { Puts (seen W.taken W.faults self.old) (seen W.taken W.faults self.new)
+            text.now }
+    {
+        if !self.failed {
+            self.held.extend(text);
         }
     }
 

@@ -1,8 +1,10 @@
 //! The operations of a queue, by their numbers, and the promises that wait for them.
 #![tactic(auto)]
 
-ghost use Rattle.std.specs.Prelude.{◌≡◌, ◌+◌, ◌-◌, ◌<◌, ◌≤◌, ◌^◌, ◌∷◌, ◌++◌, [], not, true, false, IsOk, OnOk, OnErr, IfOk, if◌then◌else◌, vec_len, vec_capacity};
+ghost use Rattle.std.specs.Prelude.{◌≡◌, ◌+◌, ◌-◌, ◌<◌, ◌≤◌, ◌^◌, ◌∷◌, ◌++◌, [], not, true, false, drop, length, IsOk, OnOk, OnErr, IfOk, if◌then◌else◌};
+ghost use Rattle.std.specs.List.Sorted.{IsNonDecreasingBy};
 ghost use Rattle.wg_model.specs.Promises.{promises, due_promises, still_waiting};
+ghost use Rattle.wg_types.specs.declared.replies.Waiting.{Waiting};
 ghost use Rattle.wg_queue.specs.Operations.{QueueValue, is_bad, is_idle};
 
 use std::alloc::Global;
@@ -13,29 +15,37 @@ use wg_types::replies::Waiting;
 /// The operations of a queue (WebGPU, "Queues"), which are numbered from 1, and the promises that wait
 /// for them. Contracts see how many were issued, up to which all are complete, and the promises that
 /// are not settled, in the order in which they were made.
+///
+/// A promise stays in the list once it is settled: those that are stand at its front, since none waits
+/// for an earlier operation than one before it.
 #[derive(Drop)]
 pub struct Queue {
     lost: bool,
     issued: u64,
     completed: u64,
     waiting: Vec<Waiting>,
+    settled: usize,
 }
 
 impl Model for Queue {
-    ghost use Rattle.std.specs.Prelude.{◌-◌, vec_len, vec_capacity};
+    ghost use Rattle.std.specs.Prelude.{◌-◌, ◌≤◌, drop, vec_len, vec_capacity};
     ghost use Rattle.wg_queue.specs.Operations.{QueueValue};
+    ghost use Rattle.wg_queue.specs.Order.{IsInOrder};
 
     ghost Value = { QueueValue };
 
-    ghost view = { λ q. record { lost = q.lost; issued = q.issued; completed = q.completed; waiting = q.waiting.items; spare = vec_capacity q.waiting - vec_len q.waiting } };
+    ghost view = { λ q. record { lost = q.lost; issued = q.issued; completed = q.completed; waiting = drop q.settled q.waiting.items; spare = vec_capacity q.waiting - vec_len q.waiting } };
+
+    ghost invariant = { λ q. (q.settled ≤ vec_len q.waiting) × IsInOrder q.issued q.waiting.items };
 }
 
-/// Keeps the promises that wait for an operation after this one.
-fn keep_later(waiting: &mut Vec<Waiting>, n: u64)
-    ensures items { waiting.new.items ≡ still_waiting n waiting.old.items }
-    ensures room { vec_capacity waiting.old - vec_len waiting.old ≤ vec_capacity waiting.new - vec_len waiting.new }
+/// How many promises are due, which are the first ones.
+fn count_due(waiting: &[Waiting], n: u64) -> usize
+    requires { IsNonDecreasingBy (λ (w : Waiting). w.last) waiting.now }
+    ensures few { result ≤ length waiting.now }
+    ensures later { drop result waiting.now ≡ still_waiting n waiting.now }
 {
-    waiting.retain(|w| w.last > n);
+    waiting.partition_point(|w| w.last <= n)
 }
 
 impl Queue {
@@ -48,6 +58,7 @@ impl Queue {
             issued: 0,
             completed: 0,
             waiting: Vec::new(alloc),
+            settled: 0,
         }
     }
 
@@ -91,7 +102,7 @@ impl Queue {
             return false;
         }
         self.completed = n;
-        keep_later(&mut self.waiting, n);
+        self.settled += count_due(&self.waiting[self.settled..], n);
         true
     }
 
@@ -145,7 +156,7 @@ impl Queue {
     {
         let alloc = *self.waiting.allocator();
         let list = self
-            .waiting
+            .waits()
             .iter()
             .filter(|w| w.last <= completed)
             .map(|w| w.promise)
@@ -155,9 +166,11 @@ impl Queue {
 
     /// The promises that are not settled, each with the operation that it waits for.
     pub fn waits(&self) -> &[Waiting]
-        ensures { result.now ≡ self.now.waiting }
+        ensures all { result.now ≡ self.now.waiting }
+        // None waits for an earlier operation than one before it.
+        ensures in_order { IsNonDecreasingBy (λ (w : Waiting). w.last) result.now }
     {
-        self.waiting.as_slice()
+        &self.waiting[self.settled..]
     }
 
     /// The promises that are not settled, in the order in which they were made.
@@ -166,7 +179,7 @@ impl Queue {
     {
         let alloc = *self.waiting.allocator();
         let list = self
-            .waiting
+            .waits()
             .iter()
             .map(|w| w.promise)
             .collect::<Vec<u64>>(alloc)?;
@@ -180,6 +193,7 @@ impl Queue {
     {
         self.lost = true;
         self.waiting.clear();
+        self.settled = 0;
     }
 }
 

@@ -25,6 +25,3 @@ pub use draft::{BoundLane, BoundPhase, Draft, Lane, Phase, Phases, Place, Script
 pub use name::Name;
 pub use reading::read;
 pub use wg_entry::NoMemory;
-
-#[cfg(test)]
-mod tests;

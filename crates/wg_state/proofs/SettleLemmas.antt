@@ -1,5 +1,7 @@
 -- What settles of two lists of promises is what settles of the promises that wait.
-use Rattle.std.proofs.Common.{◌≡◌, ℕ, suc, ◌-◌, ◌<◌, ◌≤◌, Bool, true, false, ◌==◌, nat_le, nat_lt, List, [], ◌∷◌, ◌++◌, length, drop, take, filter, refl, ap, ap₂, sym, ◌∙◌, arith, append-nil, if◌then◌else◌}
+use Rattle.std.proofs.Common.{◌≡◌, ℕ, zero, suc, ◌-◌, ◌<◌, ◌≤◌, Bool, true, false, ◌==◌, nat_le, nat_lt, List, [], ◌∷◌, ◌++◌, length, drop, take, get_or, filter, Option, Some, None, refl, ap, ap₂, sym, ◌∙◌, arith, append-nil, if◌then◌else◌}
+use Rattle.std.specs.List.Sorted.{IsPartitionPoint}
+use Rattle.std.specs.FinMap as table
 use Rattle.std.proofs.lemmas.Bool.Decides.{nat_tests}
 use Rattle.std.proofs.lemmas.List.{drop_all, take_all, length-drop, append_assoc}
 use Rattle.wg_types.specs.declared.replies.Settlement.{Settlement}
@@ -8,6 +10,8 @@ use Rattle.wg_types.specs.declared.replies.How.TheVariants.{Mapped, Done, Aborte
 use Rattle.wg_types.specs.declared.replies.Waiting.{Waiting}
 use Rattle.wg_types.specs.declared.mappings.PendingMap.{PendingMap}
 use Rattle.wg_types.specs.declared.mappings.Mapping.{Mapping}
+use Rattle.wg_types.specs.declared.mappings.MapState.TheVariants.{Pending}
+use Rattle.wg_maps.specs.Mappings.{MapsValue, pending_of, state_with, state_of}
 use Rattle.wg_history.specs.Loss.{Awaited, mapping, work, Wait, Ascends, is_map_of}
 use Rattle.wg_history.specs.Answers.{settle_all, kept_how, ended_how, is_kept}
 use Rattle.wg_history.proofs.Awaiting.{ascends_filter}
@@ -165,3 +169,36 @@ of_buffer n (w ∷ ws) = by_awaited w.promise w.awaited (of_buffer n ws)
 
 pub aborted_maps : (buffer : ℕ) (maps : List PendingMap) (waits : List Wait) → maps ≡ map_waits waits → settled_maps Aborted (maps_of buffer maps) ≡ settle_all ended_how (filter (is_map_of buffer) waits)
 aborted_maps buffer maps waits e = ap (λ ms. settled_maps Aborted (maps_of buffer ms)) e ∙ of_buffer buffer waits
+
+-- those that are due stand at the front where none waits for an earlier operation than one before it
+none_due : (n : ℕ) (ws : List Waiting) → ((k : ℕ) (d : Waiting) → k < length ws → nat_le (get_or ws k d).last n ≡ false) → [] ≡ due_work n ws
+none_due n [] later = refl
+none_due n (w ∷ ws) later =
+    none_due n ws (λ k d lt. later (suc k) d (omega (arith, lt))) ∙ ap (λ b. if b then w ∷ due_work n ws else due_work n ws) (sym (later 0 w (omega arith)))
+
+pub due_taken : (n : ℕ) (ws : List Waiting) (k : ℕ) → k ≤ length ws → IsPartitionPoint (λ (w : Waiting). nat_le w.last n ≡ true) (λ (w : Waiting). nat_le w.last n ≡ false) ws k → take k ws ≡ due_work n ws
+due_taken n ws zero le point = none_due n ws (λ k d lt. point.1 k d (omega arith) lt)
+due_taken n [] (suc k) le point = absurd (omega (arith, le))
+due_taken n (w ∷ ws) (suc k) le point =
+    ap (λ rest. w ∷ rest) (due_taken n ws k (omega (arith, le)) (λ i d lo hi. point.0 (suc i) d (omega arith) (omega (arith, hi)), λ i d lo hi. point.1 (suc i) d (omega (arith, lo)) (omega (arith, hi))))
+    ∙ ap (λ b. if b then w ∷ due_work n ws else due_work n ws) (sym (point.0 0 w (omega arith) (omega arith)))
+
+-- a buffer that is not pending has no map that waits
+
+none_after : (t : Bool) (wait : PendingMap) (rest : Option PendingMap) → (if t then Some wait else rest) ≡ None → (t ≡ false) × (rest ≡ None)
+none_after true wait rest e = absurd (cc)
+none_after false wait rest e = (refl, e)
+
+maps_none : (buffer : ℕ) (maps : List PendingMap) → pending_of maps buffer ≡ None → maps_of buffer maps ≡ []
+maps_none buffer [] none = refl
+maps_none buffer (wait ∷ later) none =
+    let parts = none_after (wait.buffer == buffer) wait (pending_of later buffer) none in
+    ap (λ t. if t then wait ∷ maps_of buffer later else maps_of buffer later) parts.0 ∙ maps_none buffer later parts.1
+
+none_pending : (wait : Option PendingMap) (how : Option Mapping) → (state_with wait how ≡ Pending → ⊥) → wait ≡ None
+none_pending None how apart = refl
+none_pending (Some wait) how apart = absurd (apart refl)
+
+pub aborted_none : (buffer : ℕ) (maps : MapsValue) (waits : List Wait) → maps.pending ≡ map_waits waits → (state_of maps buffer ≡ Pending → ⊥) → [] ≡ settle_all ended_how (filter (is_map_of buffer) waits)
+aborted_none buffer maps waits e apart =
+    sym (ap (settled_maps Aborted) (maps_none buffer maps.pending (none_pending (pending_of maps.pending buffer) (table.get maps.mapped buffer) apart))) ∙ aborted_maps buffer maps.pending waits e

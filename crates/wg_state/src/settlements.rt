@@ -1,6 +1,8 @@
 //! What settles of the promises that wait, in their order, from the two lists that keep them: that of
 //! the promises that wait for the queue's work, and that of the maps.
 ghost use Rattle.std.specs.Prelude.{◌≡◌, ℕ, List, filter, nat_le, IfOk};
+ghost use Rattle.std.specs.List.Sorted.{IsNonDecreasingBy};
+ghost use Rattle.wg_types.specs.declared.replies.Waiting.{Waiting};
 ghost use Rattle.wg_types.specs.declared.replies.How.TheVariants.{Mapped, Aborted};
 ghost use Rattle.wg_history.specs.Loss.{Wait, Ascends, is_map_of};
 ghost use Rattle.wg_history.specs.Answers.{settle_all, kept_how, ended_how, is_kept};
@@ -9,20 +11,17 @@ ghost use Rattle.wg_state.specs.Settling.{in_order, done_work, settled_maps, due
 
 use std::alloc::Global;
 use wg_history::NoMemory;
+use wg_maps::Maps;
 use wg_types::items::Items;
-use wg_types::mappings::PendingMap;
+use wg_types::mappings::{MapState, PendingMap};
 use wg_types::replies::{How, Settlement, Settlements, Waiting};
 
-/// The promises that wait for work and are due.
-fn due_work(alloc: Global, op: u64, work: &[Waiting]) -> Result<Vec<Waiting>, NoMemory>
-    ensures { IfOk result (λ list. list.items ≡ due_work op work.now) }
+/// The promises that wait for work and are due, which are the first ones.
+fn due_work(work: &[Waiting], op: u64) -> &[Waiting]
+    requires { IsNonDecreasingBy (λ (w : Waiting). w.last) work.now }
+    ensures { result.now ≡ due_work op work.now }
 {
-    let list = work
-        .iter()
-        .filter(|w| w.last <= op)
-        .copied()
-        .collect::<Vec<Waiting>>(alloc)?;
-    Ok(list)
+    &work[..work.partition_point(|w| w.last <= op)]
 }
 
 /// The maps that are kept once the operations up to this one are complete, in their order.
@@ -110,10 +109,10 @@ pub fn kept(
     work: &[Waiting],
     maps: &[PendingMap],
 ) -> Result<Settlements, NoMemory>
+    requires { IsNonDecreasingBy (λ (w : Waiting). w.last) work.now }
     ensures { (waits : List Wait) (hi : ℕ) → Ascends 0 hi waits → work.now ≡ work_waits waits → maps.now ≡ map_waits waits → IfOk result (λ settled. settled ≡ settle_all kept_how (filter (is_kept op) waits)) }
 {
-    let due = due_work(alloc, op, work)?;
-    let work = done(alloc, due.as_slice())?;
+    let work = done(alloc, due_work(work, op))?;
     let due = kept_maps(alloc, op, maps)?;
     let maps = settled(alloc, How::Mapped, due.as_slice())?;
     in_order(alloc, work.as_slice(), maps.as_slice())
@@ -129,12 +128,24 @@ pub fn ended(alloc: Global, work: &[Waiting], maps: &[PendingMap]) -> Result<Set
     in_order(alloc, work.as_slice(), maps.as_slice())
 }
 
-/// What the end of a buffer's mapping settles, which is its map that is pending (WebGPU, "unmap").
+/// What the end of the mapping of a buffer settles that may have a map that is pending.
 #[tactic(auto, using(crate::proofs::SettleLemmas::aborted_maps))]
-pub fn aborted(alloc: Global, buffer: u64, maps: &[PendingMap]) -> Result<Settlements, NoMemory>
+fn aborted_of(alloc: Global, buffer: u64, maps: &[PendingMap]) -> Result<Settlements, NoMemory>
     ensures { (waits : List Wait) → maps.now ≡ map_waits waits → IfOk result (λ settled. settled ≡ settle_all ended_how (filter (is_map_of buffer) waits)) }
 {
     let its = maps_of(alloc, buffer, maps)?;
     let list = settled(alloc, How::Aborted, its.as_slice())?;
     Ok(Items::from_vec(list))
+}
+
+/// What the end of a buffer's mapping settles, which is its map that is pending (WebGPU, "unmap"). The
+/// maps are looked through only where it has one.
+#[tactic(auto, using(crate::proofs::SettleLemmas::aborted_none))]
+pub fn aborted(alloc: Global, buffer: u64, maps: &Maps) -> Result<Settlements, NoMemory>
+    ensures { (waits : List Wait) → maps.now.pending ≡ map_waits waits → IfOk result (λ settled. settled ≡ settle_all ended_how (filter (is_map_of buffer) waits)) }
+{
+    match maps.state(buffer) {
+        MapState::Pending => aborted_of(alloc, buffer, maps.waits()),
+        MapState::Mapped | MapState::Unmapped => Ok(Items::new(alloc)),
+    }
 }

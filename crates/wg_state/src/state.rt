@@ -218,7 +218,7 @@ impl State {
     pub fn aborted(&self, alloc: Global, buffer: u64) -> Result<Settlements, NoMemory>
         ensures { IfOk result (λ settled. settled ≡ settle_all ended_how (filter (is_map_of buffer) (awaiting (reverse self.now.history)))) }
     {
-        settlements::aborted(alloc, buffer, self.kept.maps.waits())
+        settlements::aborted(alloc, buffer, &self.kept.maps)
     }
 
     /// The maps that settle once all operations up to this one are complete, in the order of their promises.

@@ -2,10 +2,16 @@
 #![tactic(auto)]
 
 #[cfg(test)]
+mod calls;
+#[cfg(test)]
 mod compute;
+#[cfg(test)]
+mod events;
 #[cfg(test)]
 mod groups;
 #[cfg(test)]
 mod render;
 #[cfg(test)]
 mod tests;
+#[cfg(test)]
+mod threads;

@@ -155,7 +155,7 @@ fn faults_of_source_and_sink(rt: HostRuntime) -> Result<(), Fail> {
 #[test]
 fn words_and_sizes(rt: HostRuntime) -> Result<(), Fail> {
     let alloc = rt.alloc();
-    for line in ["", "run x", "gen 0", "Run"] {
+    for line in ["", "run x", "gen 0", "gen 01", "gen 200 41", "Run"] {
         let mut source = MemSource::new(Vec::new(alloc), 1, Vec::new(alloc));
         let mut sink = sink_of(alloc, 100)?;
         assert_eq!(rt;
@@ -239,36 +239,71 @@ fn either_lane_may_be_first(rt: HostRuntime) -> Result<(), Fail> {
     Ok(())
 }
 
-/// A gate that counts.
+/// A gate that counts the calls of a phase.
 #[derive(Drop)]
 struct Counting {
+    phase: u32,
     before: AtomicU64,
     after: AtomicU64,
 }
 
 impl Gate for Counting {
     fn before(&self, phase: u32, lane: u32, call: u32) {
-        let _ = (phase, lane, call);
-        self.before.fetch_add(1, Ordering::SeqCst);
+        let _ = (lane, call);
+        if phase == self.phase {
+            self.before.fetch_add(1, Ordering::SeqCst);
+        }
     }
 
     fn after(&self, phase: u32, lane: u32, call: u32) {
-        let _ = (phase, lane, call);
-        self.after.fetch_add(1, Ordering::SeqCst);
+        let _ = (lane, call);
+        if phase == self.phase {
+            self.after.fetch_add(1, Ordering::SeqCst);
+        }
     }
 }
 
 #[test]
 fn the_gate_sees_each_call(rt: HostRuntime) -> Result<(), Fail> {
-    let gate = Counting {
-        before: AtomicU64::new(0),
-        after: AtomicU64::new(0),
-    };
     let alloc = rt.alloc();
-    let fails = Vec::new(alloc);
-    let (status, _) = run_on(&rt, alloc, RACE.as_bytes(), 4096, fails, 2000, &gate)?;
-    assert_eq!(rt; status, 0);
-    assert_eq!(rt; gate.before.load(Ordering::SeqCst), 6);
-    assert_eq!(rt; gate.after.load(Ordering::SeqCst), 6);
+    // Each of 4 lanes has 2 iterations of 5 calls.
+    for (line, script, phase, calls) in [
+        ("run", RACE, 0, 4),
+        ("run", RACE, 1, 2),
+        ("gen 2 4", "", 1, 40),
+    ] {
+        let gate = Counting {
+            phase,
+            before: AtomicU64::new(0),
+            after: AtomicU64::new(0),
+        };
+        let bytes = Vec::from_slice(alloc, script.as_bytes())?;
+        let mut source = MemSource::new(bytes, 4096, Vec::new(alloc));
+        let mut sink = sink_of(alloc, 2000)?;
+        let number = number_of(&rt, alloc, line, &mut source, &mut sink, &gate)?;
+        assert_eq!(rt; number, 0);
+        assert_eq!(rt; gate.before.load(Ordering::SeqCst), calls, "{line}");
+        assert_eq!(rt; gate.after.load(Ordering::SeqCst), calls, "{line}");
+    }
+    Ok(())
+}
+
+#[test]
+fn generated_scripts_are_counted(rt: HostRuntime) -> Result<(), Fail> {
+    let alloc = rt.alloc();
+    for (line, text) in [
+        (
+            "gen 1",
+            "entries 21 ops 2 faults 0 frees 8 bars 2 clears 1\n",
+        ),
+        ("gen 2 3", "entries 41 ops 12 faults 0 frees 8\n"),
+    ] {
+        // The first read would fail.
+        let mut source = MemSource::new(Vec::new(alloc), 1, vec![in alloc; 1u64]?);
+        let mut sink = sink_of(alloc, 100)?;
+        let number = number_of(&rt, alloc, line, &mut source, &mut sink, &NoGate)?;
+        assert_eq!(rt; number, 0);
+        assert_eq!(rt; sink.taken(), text.as_bytes());
+    }
     Ok(())
 }

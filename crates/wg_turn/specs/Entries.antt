@@ -1,6 +1,7 @@
 -- Entries by field, and what a state says of a lock's log.
-use Rattle.std.specs.Prelude.{◌≡◌, ℕ, ◌==◌, List, [], ◌∷◌, ◌++◌, filter}
+use Rattle.std.specs.Prelude.{◌≡◌, ℕ, ◌==◌, List, [], ◌∷◌, ◌++◌, filter, Result, IfOk, IfErr}
 use Rattle.wg_entry.specs.declared.Entry.{Entry}
+use Rattle.wg_entry.specs.declared.Refused.{Refused}
 
 -- the entry of a caller's number, a call and its reply
 abbrev pub entry : {C R : Type 0} → ℕ → C → R → Entry C R
@@ -26,3 +27,8 @@ module _ {S U C R : Type 0} (setup : S → U) (history : S → List (Entry C R))
   -- the history of the state y and then the log are legal
   abbrev pub Lawful : (U → List (Entry C R) → Type 0) → S → List (Entry C R) → Type 0
   Lawful legal y log = legal (setup y) (history y ++ log)
+
+  -- what a call of a number, answered in this way, makes of the state x
+  abbrev pub Answers : ℕ → C → S → S → Result R (Refused C) → Type 0
+  Answers n call x y answer = (setup y ≡ setup x) × IfOk answer (λ r. history y ≡ history x ++ entry n call r ∷ [])
+      × IfErr answer (λ refused. (history y ≡ history x) × (refused.call ≡ call))

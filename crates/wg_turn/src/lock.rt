@@ -1,7 +1,7 @@
 //! The lock and its passes.
-ghost use Rattle.std.specs.Prelude.{◌≡◌, ◌+◌, ◌^◌, ◌<◌, ◌≤◌, ◌++◌, [], ◌∷◌, length, IfOk, IfErr};
+ghost use Rattle.std.specs.Prelude.{◌≡◌, ◌+◌, ◌^◌, ◌<◌, ◌≤◌, ◌++◌, [], ◌∷◌, length, Some, IsSome, IfOk, IfErr};
 ghost use mathlib.Core.List.{IsPrefix};
-ghost use Rattle.wg_turn.specs.Entries.{entry, who_of, EndsWith, Stands, Lawful};
+ghost use Rattle.wg_turn.specs.Entries.{entry, who_of, EndsWith, Stands, Lawful, Answers};
 ghost use Rattle.wg_turn.specs.Turns.{IsIn, Entered, Sound, idle, inside, counted};
 ghost use Rattle.wg_turn.specs.declared.view.Stage.TheVariants.{Waiting, Inside};
 
@@ -64,6 +64,22 @@ impl<S: Logged> Pass<S> {
         ensures { result ≡ calls_of self.now }
     {
         self.calls
+    }
+}
+
+/// Calls a state that is there.
+fn act_in<S: Logged>(
+    slot: &mut Option<S>,
+    number: u32,
+    call: S::Call,
+) -> Result<S::Reply, Refused<S::Call>>
+    requires { IsSome slot.old }
+    ensures { (x : S) → slot.old ≡ Some x → (y : S) × (slot.new ≡ Some y)
+        × Answers S.setup S.history number call x y result }
+{
+    match slot {
+        Some(state) => state.act(number, call),
+        None => unreachable!(),
     }
 }
 
@@ -169,7 +185,25 @@ impl<S: Logged> TurnLock<S> {
         self.table.shared.fetch_add::<Count<N>>(seat, COUNT, 1);
     }
 
-    /// Calls the state that the seat has taken, counts the entry, and puts the state back.
+    /// Calls the state that the seat has taken, where it lies.
+    fn ask(
+        &self,
+        seat: &mut Seat<Option<S>, View<S, Entry<S::Call, S::Reply>>>,
+        number: u32,
+        call: S::Call,
+    ) -> Result<S::Reply, Refused<S::Call>>
+        requires seat { IsSeatOf self.now seat.old }
+        requires state { (x : S) × (seat.old.me.1 ≡ (0, Some x) ∷ []) }
+        ensures seat { (seat.new.table_id ≡ seat.old.table_id) × (seat.new.id ≡ seat.old.id)
+            × (seat.new.me.0 ≡ seat.old.me.0) }
+        ensures state { (x : S) → seat.old.me.1 ≡ (0, Some x) ∷ [] → (y : S)
+            × (seat.new.me.1 ≡ (0, Some y) ∷ [])
+            × Answers S.setup S.history number call x y result }
+    {
+        act_in(seat.slot_mut(&self.table.shared, 0), number, call)
+    }
+
+    /// Calls the state that the seat has taken, counts the entry, and passes the turn on.
     fn turn(
         &self,
         seat: &mut Seat<Option<S>, View<S, Entry<S::Call, S::Reply>>>,
@@ -189,38 +223,17 @@ impl<S: Logged> TurnLock<S> {
         ensures sound { Sound who_of (Stands S.setup S.history) (Lawful S.setup S.history S.legal)
             seat.new.me.0 }
     {
-        let words = &self.table.shared;
-        let mut state = words.exchange(seat, 0, None).unwrap();
         let asked = Snapshot::of(&call);
-        match state.act(number, call) {
+        match self.ask(seat, number, call) {
             Ok(reply) => {
                 self.count::<Brand>(seat, number, &asked, &reply);
-                self.put_back(seat, state);
+                self.leave(seat);
                 Ok(reply)
             }
             Err(refused) => {
-                self.put_back(seat, state);
+                self.leave(seat);
                 Err(refused)
             }
         }
-    }
-
-    /// Puts the state back, and passes the turn on.
-    fn put_back(&self, seat: &mut Seat<Option<S>, View<S, Entry<S::Call, S::Reply>>>, state: S)
-        requires seat { IsSeatOf self.now seat.old }
-        requires inside { IsIn seat.old.me.0.stage × (length seat.old.me.0.owns ≡ 1)
-            × (seat.old.me.1 ≡ (0, None) ∷ []) }
-        requires state { Stands S.setup S.history (opened_with self.now) state
-            seat.old.me.0.held }
-        ensures seat { (seat.new.table_id ≡ seat.old.table_id) × (seat.new.id ≡ seat.old.id) }
-        ensures left { seat.new.me ≡ (idle seat.old.me.0, []) }
-        ensures sound { Sound who_of (Stands S.setup S.history) (Lawful S.setup S.history S.legal)
-            seat.old.me.0 }
-    {
-        match self.table.shared.exchange(seat, 0, Some(state)) {
-            None => {}
-            Some(_) => unreachable!(),
-        }
-        self.leave(seat);
     }
 }

@@ -4,9 +4,8 @@ use Rattle.std.specs.Option.{option_map_or}
 use Rattle.std.proofs.lemmas.Option.{slice_get_read, slice_get_past}
 use Rattle.std.proofs.lemmas.Result.{on_ok_weaker}
 use Rattle.wg_turn.specs.Passes.{own_of}
-use Rattle.wg_calls.specs.Calls.{event_asked}
+use Rattle.wg_calls.specs.Calls.{event_asked, taken_out}
 use Rattle.wg_device.specs.Fronts.{setup_of}
-use Rattle.wg_device.specs.Takes.{taken_out}
 use Rattle.wg_play.specs.declared.objects.Object.{Object}
 use Rattle.wg_play.specs.Objects.{changed, recorder_in}
 use Rattle.wg_play.specs.Lanes.{finish_by}

@@ -6,4 +6,4 @@ use Rattle.wg_state.proofs.state.State.kept.Goals as goal
 pub returns : goal.returns
 returns c =
     rw (← c.self.view_is) (c.kept.ensures (awaiting (reverse c.self.inside.book.entries)) (length (reverse c.self.inside.book.entries)) (awaiting_ascends (reverse c.self.inside.book.entries))
-    (c.waits.ensures ∙ c.self.invariant.kept.queue_is.waiting_is) (c.waits-2.ensures ∙ c.self.invariant.kept.maps_are.pending_are))
+    (c.waits.ensures.all ∙ c.self.invariant.kept.queue_is.waiting_is) (c.waits-2.ensures ∙ c.self.invariant.kept.maps_are.pending_are))

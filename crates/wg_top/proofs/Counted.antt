@@ -1,0 +1,56 @@
+-- What was printed of a device on which a generated script was played.
+use Rattle.std.proofs.Common.{◌≡◌, ℕ, List, Option, Some, refl, sym, ap, ap₂, ◌∙◌, subst}
+use Rattle.std.specs.Io.KnownBytes.{Appends}
+use Rattle.wg_orders.specs.Trace.{Item}
+use Rattle.wg_history.specs.declared.events.Setup.{Setup}
+use Rattle.wg_history.specs.Entries.{Entry}
+use Rattle.wg_history.specs.Traces.{Trace}
+use Rattle.wg_print.specs.Printing.{TakesPart}
+use Rattle.wg_core.specs.Cores.{CoreValue}
+use Rattle.wg_turn.specs.declared.lock.close.Closed.{Closed}
+use Rattle.wg_turn.specs.Closings.{entries_of, passes_of, state_of}
+use Rattle.wg_script.specs.declared.draft.Script.{Script}
+use Rattle.wg_play.specs.Turns.{callers_of}
+use Rattle.wg_play.specs.Play.{setup_of, callers_for, Play}
+use Rattle.wg_player.specs.Whole.{IsPlayedOut}
+use Rattle.wg_gen.specs.Generator.{generated, phases_of}
+use Rattle.wg_gen.specs.Counts.{counts_in}
+use Rattle.wg_gen.specs.Alike.{MayGenerate, counts_for, CountsAlike}
+use Rattle.wg_top.specs.Words.{lanes_in}
+use Rattle.wg_top.specs.Line.{line_text, line_of}
+use Rattle.wg_top.specs.Ending.{Taking, IsPlayedOn, IsCounted, TakesLine}
+use Rattle.wg_top.proofs.Reported.{is_played}
+
+-- a script was played, whatever was printed then
+pub record WasPlayed (script : Script) (ended : Closed CoreValue) : Type 0 where
+  pub setup : (state_of ended).setup ≡ setup_of script
+  pub callers : passes_of ended ≡ callers_for script.phases
+  pub out : IsPlayedOut (setup_of script) script.phases (passes_of ended) (state_of ended) (entries_of ended)
+
+pub played_on : (script : Script) (ended : Closed CoreValue) → WasPlayed script ended → IsPlayedOn script ended
+played_on script ended was = record { setup = was.setup; callers = was.callers; out = was.out; played = is_played (setup_of script) (state_of ended) was.setup }
+
+-- the same line, said of the device's setup
+line_is : (lanes : Option ℕ) (setup : Setup) (core : CoreValue) (history : List Entry) (trace : List Item) → core.setup ≡ setup
+    → history ≡ core.history → trace ≡ Trace core.setup core.history → line_text lanes history trace ≡ line_of lanes setup core.history
+line_is lanes setup core history trace is printed traced = ap₂ (line_text lanes) printed (traced ∙ ap (λ (s : Setup). Trace s core.history) is)
+
+module _ (count : ℕ) (lanes : Option ℕ) (taking : Taking) (script : Script) (same : script ≡ generated count (lanes_in lanes)) (ended : Closed CoreValue) (was : WasPlayed script ended) where
+  was_generated : WasPlayed (generated count (lanes_in lanes)) ended
+  was_generated = subst (λ (s : Script). WasPlayed s ended) same was
+
+  pub is_counted : MayGenerate count (lanes_in lanes) → CountsAlike → (history : List Entry) (trace : List Item) → history ≡ (state_of ended).history → trace ≡ Trace (state_of ended).setup (state_of ended).history
+      → Appends taking.old taking.new (line_text lanes history trace) → IsCounted count lanes taking ended
+  is_counted may alike history trace printed traced written = record {
+    on = played_on (generated count (lanes_in lanes)) ended was_generated;
+    written = subst (λ (text : List ℕ). Appends taking.old taking.new text) (line_is lanes (setup_of (generated count (lanes_in lanes))) (state_of ended) history trace was_generated.setup printed traced) written;
+    alike = alike count (lanes_in lanes) may (callers_of (state_of ended).history) (state_of ended).history was_generated.out.play;
+  }
+
+  pub takes_line : (history : List Entry) (trace : List Item) → history ≡ (state_of ended).history → trace ≡ Trace (state_of ended).setup (state_of ended).history
+      → TakesPart taking.old taking.new (line_text lanes history trace) → TakesLine count lanes taking
+  takes_line history trace printed traced part = record {
+    history = (state_of ended).history;
+    play = was_generated.out.play;
+    part = subst (λ (text : List ℕ). TakesPart taking.old taking.new text) (line_is lanes (setup_of (generated count (lanes_in lanes))) (state_of ended) history trace was_generated.setup printed traced) part;
+  }

@@ -1,0 +1,139 @@
+//! The line of a generated script.
+ghost use Rattle.std.specs.Prelude.{◌≡◌, length, count_by};
+ghost use Rattle.wg_print.specs.Printing.{Puts, Written};
+ghost use Rattle.wg_print.specs.Seen.{seen, reference};
+ghost use Rattle.wg_gen.specs.Counts.{is_issue, is_fault, is_free, is_bar, is_clear_step, counts_of};
+ghost use Rattle.wg_top.specs.Line.{counts_text, more_text, line_text};
+
+use wg_core::Entry;
+use wg_io::{Failed, Sink};
+use wg_print::{Out, Piece, put_all};
+use wg_types::replies::Answer;
+use wg_types::steps::{Item, StepName};
+
+fn is_issue(entry: &Entry) -> bool
+    ensures { result ≡ is_issue entry.now }
+{
+    matches!(entry.reply.answer, Answer::Queued(_))
+}
+
+fn is_fault(entry: &Entry) -> bool
+    ensures { result ≡ is_fault entry.now }
+{
+    entry.reply.fault.is_some()
+}
+
+fn is_free(item: &Item) -> bool
+    ensures { result ≡ is_free item.now }
+{
+    matches!(item, Item::Free { .. })
+}
+
+fn is_bar(item: &Item) -> bool
+    ensures { result ≡ is_bar item.now }
+{
+    matches!(item, Item::Bar { .. })
+}
+
+/// Whether an item is a step that sets fresh memory to zero.
+fn is_clear_step(item: &Item) -> bool
+    ensures { result ≡ is_clear_step item.now }
+{
+    match item {
+        Item::Step(step) => step.name == StepName::Clear,
+        _ => false,
+    }
+}
+
+fn issues_in(history: &[Entry]) -> usize
+    ensures { result ≡ count_by is_issue history.now }
+{
+    history.iter().filter(|entry| is_issue(entry)).count()
+}
+
+fn faults_in(history: &[Entry]) -> usize
+    ensures { result ≡ count_by is_fault history.now }
+{
+    history.iter().filter(|entry| is_fault(entry)).count()
+}
+
+fn frees_in(trace: &[Item]) -> usize
+    ensures { result ≡ count_by is_free trace.now }
+{
+    trace.iter().filter(|item| is_free(item)).count()
+}
+
+fn bars_in(trace: &[Item]) -> usize
+    ensures { result ≡ count_by is_bar trace.now }
+{
+    trace.iter().filter(|item| is_bar(item)).count()
+}
+
+fn clears_in(trace: &[Item]) -> usize
+    ensures { result ≡ count_by is_clear_step trace.now }
+{
+    trace.iter().filter(|item| is_clear_step(item)).count()
+}
+
+/// Puts what is counted whatever the order of turns.
+fn put_counts<W: Sink>(out: &mut Out<'_, W>, history: &[Entry], trace: &[Item])
+    ensures same_reference { reference out.new ≡ reference out.old }
+    ensures text { Puts (seen W.taken W.faults out.old) (seen W.taken W.faults out.new) (counts_text (counts_of history.now trace.now)) }
+{
+    put_all(
+        out,
+        &[
+            Piece::Word("entries "),
+            Piece::Number(history.len() as u64),
+            Piece::Word(" ops "),
+            Piece::Number(issues_in(history) as u64),
+            Piece::Word(" faults "),
+            Piece::Number(faults_in(history) as u64),
+            Piece::Word(" frees "),
+            Piece::Number(frees_in(trace) as u64),
+        ],
+    );
+}
+
+/// Puts the barriers and the clears, where no lanes are asked for.
+fn put_more<W: Sink>(out: &mut Out<'_, W>, lanes: Option<u32>, trace: &[Item])
+    ensures same_reference { reference out.new ≡ reference out.old }
+    ensures text { Puts (seen W.taken W.faults out.old) (seen W.taken W.faults out.new) (more_text lanes trace.now) }
+{
+    match lanes {
+        None => put_all(
+            out,
+            &[
+                Piece::Word(" bars "),
+                Piece::Number(bars_in(trace) as u64),
+                Piece::Word(" clears "),
+                Piece::Number(clears_in(trace) as u64),
+            ],
+        ),
+        Some(_) => put_all(out, &[]),
+    }
+}
+
+/// Puts the line of a generated script.
+fn put_counted<W: Sink>(out: &mut Out<'_, W>, lanes: Option<u32>, history: &[Entry], trace: &[Item])
+    ensures same_reference { reference out.new ≡ reference out.old }
+    ensures text { Puts (seen W.taken W.faults out.old) (seen W.taken W.faults out.new) (line_text lanes history.now trace.now) }
+{
+    put_counts(out, history, trace);
+    put_more(out, lanes, trace);
+    put_all(out, &[Piece::Word("\n")]);
+}
+
+/// Prints the line of a generated script.
+pub fn print_counted<W: Sink>(
+    sink: &mut W,
+    lanes: Option<u32>,
+    history: &[Entry],
+    trace: &[Item],
+) -> Result<(), Failed>
+    ensures { Written (W.taken sink.old) (W.taken sink.new) (W.faults sink.old) (W.faults sink.new) (line_text lanes history.now trace.now) result }
+{
+    let mut out = Out::new(sink);
+    put_counted(&mut out, lanes, history, trace);
+    out.close()
+}
