@@ -19,13 +19,10 @@ fn effect(set: &RunSet, kind: Kind, lo: u64, hi: u64) -> Result<RunSet, NoMemory
     requires { lo ≤ hi }
     ensures { IfOk result (λ other. other ≡ effect kind lo hi set.now) }
 {
-    let mut other = set.copy()?;
     if unsets(kind) {
-        other.remove(lo, hi)?;
-        return Ok(other);
+        return set.without(lo, hi);
     }
-    other.insert(lo, hi)?;
-    Ok(other)
+    set.with(lo, hi)
 }
 
 /// Adds copies of rows at the end.

@@ -32,21 +32,3 @@ kept_without pending old new number puts kept = record {
   by_buffer = λ buffer. puts buffer ∙ (ap (λ o. if nat_eq number buffer then None else o) (kept.by_buffer buffer)
       ∙ (sym (map_if (number == buffer) None (pending_of pending buffer)) ∙ sym (ap (option_map (λ (w : PendingMap). w.promise)) (found_without pending number buffer))));
 }
-
-pub kept_settled : (completed : ℕ) (pending : List PendingMap) (old new : List (ℕ × ℕ))
-    → ((buffer : ℕ) → lookup (nat_eq buffer) new ≡ (if is_buffer_due completed buffer pending then None else lookup (nat_eq buffer) old))
-    → IsKept pending old → IsKept (still_pending completed pending) new
-kept_settled completed pending old new puts kept = record {
-  in_order = IsNonDecreasingBy-filter (λ (w : PendingMap). w.promise) (λ w. not (is_due completed w)) pending kept.in_order;
-  once = once_filter (λ w. not (is_due completed w)) pending kept.once;
-  by_buffer = λ buffer. puts buffer ∙ (ap (λ o. if is_buffer_due completed buffer pending then None else o) (kept.by_buffer buffer)
-      ∙ (sym (map_if (is_buffer_due completed buffer pending) None (pending_of pending buffer)) ∙ sym (ap (option_map (λ (w : PendingMap). w.promise)) (found_settled completed pending kept.once buffer))));
-}
-
--- a buffer without a promise has no pending map
-pub none_kept : (pending : List PendingMap) (buffer : ℕ) → promise_of pending buffer ≡ None → without pending buffer ≡ pending
-none_kept pending buffer none = without_none pending buffer (by_option (pending_of pending buffer) none)
-  where
-    by_option : (o : Option PendingMap) → option_map (λ (wait : PendingMap). wait.promise) o ≡ None → o ≡ None
-    by_option (Some wait) e = absurd (cc)
-    by_option None e = refl

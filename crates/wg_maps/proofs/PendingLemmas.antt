@@ -10,18 +10,6 @@ use Rattle.wg_types.specs.declared.mappings.PendingMap.{PendingMap}
 use Rattle.wg_maps.specs.Mappings.{pending_of, without, with_map, is_due, still_pending, is_buffer_due, done_of, due_maps, promises}
 use Rattle.wg_maps.specs.Waits.{IsEachOnce}
 
--- the place of a new map
-pub with_map_at : (pending : List PendingMap) (new : PendingMap) (i : ℕ) → i ≤ length pending
-    → IsPartitionPoint (λ (wait : PendingMap). nat_le wait.promise new.promise ≡ true) (λ (wait : PendingMap). nat_le wait.promise new.promise ≡ false) pending i
-    → with_map pending new ≡ insert pending i new
-with_map_at [] new zero le point = refl
-with_map_at [] new (suc i) le point = absurd (omega (arith, le))
-with_map_at (wait ∷ later) new zero le point =
-    ap (λ b. if b then new ∷ wait ∷ later else wait ∷ with_map later new) (lt-ltb new.promise wait.promise (leb-false wait.promise new.promise (point.1 0 wait (omega arith) (omega arith))))
-with_map_at (wait ∷ later) new (suc i) le point =
-    ap (λ b. if b then new ∷ wait ∷ later else wait ∷ with_map later new) (le-ltb new.promise wait.promise (leb-true wait.promise new.promise (point.0 0 wait (omega arith) (omega arith))))
-    ∙ ap (λ waits. wait ∷ waits) (with_map_at later new i (omega (arith, le)) (λ k d lo hi. point.0 (suc k) d (omega arith) (omega (arith, hi)), λ k d lo hi. point.1 (suc k) d (omega (arith, lo)) (omega (arith, hi))))
-
 -- which map a buffer has
 
 none_after : (t : Bool) (wait : PendingMap) (rest : Option PendingMap) → (if t then Some wait else rest) ≡ None → (t ≡ false) × (rest ≡ None)
@@ -140,20 +128,6 @@ once_filter test (wait ∷ later) once = by_test (test wait) (once_filter test l
     by_test true rest = (filter_none test later wait.buffer once.0, rest)
     by_test false rest = rest
 
--- how many wait on
-
-parted : (completed : ℕ) (pending : List PendingMap) → length (still_pending completed pending) + length (filter (is_due completed) pending) ≡ length pending
-parted completed [] = refl
-parted completed (wait ∷ later) = by_due (is_due completed wait) (parted completed later)
-  where
-    by_due : (d : Bool) → length (still_pending completed later) + length (filter (is_due completed) later) ≡ length later
-        → length (if not d then wait ∷ still_pending completed later else still_pending completed later) + length (if d then wait ∷ filter (is_due completed) later else filter (is_due completed) later) ≡ length (wait ∷ later)
-    by_due true e = omega (arith, e)
-    by_due false e = omega (arith, e)
-
-pub length_still : (completed : ℕ) (pending : List PendingMap) → length (still_pending completed pending) + count_by (is_due completed) pending ≡ length pending
-length_still completed pending = let e = parted completed pending in let f = length-filter (is_due completed) pending in omega (arith, e, f)
-
 -- what stands in the order of promises
 
 rises_map : {Y : Type 0} (f : PendingMap → Y) (n : Y → ℕ) (pending : List PendingMap) → IsNonDecreasingBy (λ (wait : PendingMap). n (f wait)) pending → IsNonDecreasingBy n (map f pending)
@@ -162,9 +136,8 @@ rises_map f n (wait ∷ later) rises i j e le lt =
     let below : j < length (wait ∷ later) = subst (λ (m : ℕ). j < m) (length-map (wait ∷ later) f) lt in
     rw (get_or-map f (wait ∷ later) i wait e (omega (arith, le, below)), get_or-map f (wait ∷ later) j wait e below) (rises i j wait le below)
 
-pub due_in_order : (completed : ℕ) (pending : List PendingMap) → IsNonDecreasingBy (λ (wait : PendingMap). wait.promise) pending → IsNonDecreasingBy (λ (done : MapDone). done.promise) (due_maps completed pending)
-due_in_order completed pending rises =
-    rises_map done_of (λ (done : MapDone). done.promise) (filter (is_due completed) pending) (IsNonDecreasingBy-filter (λ (wait : PendingMap). wait.promise) (is_due completed) pending rises)
+pub done_in_order : (waits : List PendingMap) → IsNonDecreasingBy (λ (wait : PendingMap). wait.promise) waits → IsNonDecreasingBy (λ (done : MapDone). done.promise) (map done_of waits)
+done_in_order waits rises = rises_map done_of (λ (done : MapDone). done.promise) waits rises
 
 pub promises_in_order : (pending : List PendingMap) → IsNonDecreasingBy (λ (wait : PendingMap). wait.promise) pending → IsNonDecreasing (promises pending)
 promises_in_order pending rises = rises_map (λ (wait : PendingMap). wait.promise) (λ n. n) pending rises

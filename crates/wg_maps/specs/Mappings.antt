@@ -85,6 +85,15 @@ abbrev pub with_map : List PendingMap → PendingMap → List PendingMap
 with_map [] new = new ∷ []
 with_map (wait ∷ later) new = if nat_lt new.promise wait.promise then new ∷ wait ∷ later else wait ∷ with_map later new
 
+-- whether a promise comes after those of all that are pending
+abbrev pub is_latest : List PendingMap → ℕ → Bool
+is_latest [] promise = true
+is_latest (wait ∷ later) promise = nat_lt wait.promise promise && is_latest later promise
+
+-- the pending maps of a buffer, of which there is one at most
+abbrev pub maps_of : List PendingMap → ℕ → List PendingMap
+maps_of pending buffer = filter (λ wait. wait.buffer == buffer) pending
+
 -- whether a map is due once the operations up to this one are complete
 abbrev pub is_due : ℕ → PendingMap → Bool
 is_due completed wait = nat_le wait.last completed

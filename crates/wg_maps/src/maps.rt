@@ -1,12 +1,12 @@
 //! How the buffers of a device are mapped.
-ghost use Rattle.std.specs.Prelude.{◌≡◌, ℕ, ◌+◌, ◌<◌, ◌≤◌, ◌==◌, [], if◌then◌else◌, IsOk, OnOk, OnErr, IfOk, Option, count_by, map};
+ghost use Rattle.std.specs.Prelude.{◌≡◌, ℕ, ◌+◌, ◌<◌, ◌≤◌, ◌==◌, [], if◌then◌else◌, IsOk, OnOk, OnErr, IfOk, Option, filter, true, option_to_list, map};
 ghost use Rattle.std.specs.FinMap as table;
 ghost use Rattle.std.specs.List.Sorted.{IsNonDecreasing, IsNonDecreasingBy};
 ghost use Rattle.wg_types.specs.declared.mappings.MapDone.{MapDone};
-ghost use Rattle.wg_maps.specs.Mappings.{MapsValue, is_pending, is_buffer_due, state_of, left_of, without, with_map, done_of, is_due, due_maps, still_pending, with_due, promises};
+ghost use Rattle.wg_maps.specs.Mappings.{MapsValue, is_pending, is_latest, maps_of, is_buffer_due, state_of, left_of, without, with_map, done_of, is_due, due_maps, still_pending, with_due, promises};
 
 use crate::mapped::MappedBuffers;
-use crate::waits::{Waits, is_due};
+use crate::waits::Waits;
 use std::alloc::Global;
 use std::marker::Model;
 use wg_types::NoMemory;
@@ -41,19 +41,6 @@ impl Model for Maps {
     } };
 }
 
-/// Maps the buffers of the maps that are due.
-fn map_due(pending: &[PendingMap], mapped: &mut MappedBuffers, completed: u64)
-    requires room { count_by (is_due completed) pending.now ≤ mapped.old.spare }
-    ensures mapped { mapped.new.buffers ≡ with_due completed pending.now mapped.old.buffers }
-    ensures room { mapped.old.spare ≤ mapped.new.spare + count_by (is_due completed) pending.now }
-{
-    for wait in pending {
-        if is_due(wait, completed) {
-            mapped.insert(wait.buffer, wait.mapping);
-        }
-    }
-}
-
 /// A map as it is settled.
 fn done(wait: &PendingMap) -> MapDone
     ensures { result ≡ done_of wait.now }
@@ -67,13 +54,12 @@ fn done(wait: &PendingMap) -> MapDone
     }
 }
 
-/// The maps of a list that are due, as they are settled.
-fn list_due(alloc: Global, pending: &[PendingMap], completed: u64) -> Result<Vec<MapDone>, NoMemory>
-    ensures { IfOk result (λ list. list.items ≡ due_maps completed pending.now) }
+/// Maps as they are settled.
+fn list_done(alloc: Global, maps: &[PendingMap]) -> Result<Vec<MapDone>, NoMemory>
+    ensures { IfOk result (λ list. list.items ≡ map done_of maps.now) }
 {
-    let list = pending
+    let list = maps
         .iter()
-        .filter(|wait| is_due(wait, completed))
         .map(|wait| done(wait))
         .collect::<Vec<MapDone>>(alloc)?;
     Ok(list)
@@ -105,7 +91,7 @@ impl Maps {
             return Ok(());
         }
         self.waits.reserve(n)?;
-        let Some(more) = self.waits.pending().len().checked_add(n) else {
+        let Some(more) = self.waits.at_most().checked_add(n) else {
             return Err(NoMemory);
         };
         self.mapped.reserve(more)?;
@@ -114,7 +100,7 @@ impl Maps {
     }
 
     /// Makes an unmapped buffer pending (WebGPU, "mapAsync"): the bytes from `lo` to below `hi` are mapped
-    /// once the operations up to `last` are complete.
+    /// once the operations up to `last` are complete. Its promise comes after those of all that are pending.
     #[tactic(auto, using(crate::proofs::StateLemmas::state_pending, crate::proofs::StateLemmas::apart_pending))]
     pub fn map(
         &mut self,
@@ -125,7 +111,8 @@ impl Maps {
         hi: u64,
         last: u64,
     ) -> Result<(), NoMemory>
-        requires { state_of self.old buffer ≡ MapState.Unmapped }
+        requires unmapped { state_of self.old buffer ≡ MapState.Unmapped }
+        requires latest { is_latest self.old.pending promise ≡ true }
         ensures pending { OnOk result (self.new.pending ≡ with_map self.old.pending
             (record { promise = promise; buffer = buffer; last = last; mapping = record { mode = mode; lo = lo; hi = hi } })) }
         ensures states { OnOk result ((n : ℕ) → state_of self.new n ≡ (if buffer == n then MapState.Pending else state_of self.old n)) }
@@ -229,21 +216,36 @@ impl Maps {
         self.mapped.get(buffer)
     }
 
-    /// The maps that are pending, in the order of their promises.
-    pub fn waits(&self) -> &[PendingMap]
-        ensures { result.now ≡ self.now.pending }
+    /// The promise of the pending map of a buffer, if there is one.
+    pub fn promise(&self, buffer: u64) -> Option<u64>
+        ensures { promises (maps_of self.now.pending buffer) ≡ option_to_list result }
     {
-        self.waits.pending()
+        self.waits.promise(buffer)
+    }
+
+    /// The maps that are pending, in the order of their promises.
+    pub fn waits(&self) -> Result<Vec<PendingMap>, NoMemory>
+        ensures { IfOk result (λ list. list.items ≡ self.now.pending) }
+    {
+        self.waits.all(self.alloc)
     }
 
     /// The maps that are due once the operations up to this one are complete, in the order of their
     /// promises.
-    #[tactic(auto, using(crate::proofs::PendingLemmas::due_in_order))]
+    pub fn due_waits(&self, completed: u64) -> Result<Vec<PendingMap>, NoMemory>
+        ensures { IfOk result (λ list. list.items ≡ filter (is_due completed) self.now.pending) }
+    {
+        self.waits.due(self.alloc, completed)
+    }
+
+    /// The maps that are due, as they are settled.
+    #[tactic(auto, using(crate::proofs::PendingLemmas::done_in_order))]
     pub fn due(&self, completed: u64) -> Result<Vec<MapDone>, NoMemory>
         ensures due { IfOk result (λ list. list.items ≡ due_maps completed self.now.pending) }
         ensures in_order { IfOk result (λ list. IsNonDecreasingBy (λ (done : MapDone). done.promise) list.items) }
     {
-        list_due(self.alloc, self.waits.pending(), completed)
+        let waits = self.waits.due(self.alloc, completed)?;
+        list_done(self.alloc, waits.as_slice())
     }
 
     /// Maps the buffers of the maps that are due once the operations up to this one are complete.
@@ -252,8 +254,7 @@ impl Maps {
         ensures after { self.new ≡ record self.old { pending = still_pending completed self.old.pending; mapped = with_due completed self.old.pending self.old.mapped } }
         ensures states { (n : ℕ) → state_of self.new n ≡ (if is_buffer_due completed n self.old.pending then MapState.Mapped else state_of self.old n) }
     {
-        map_due(self.waits.pending(), &mut self.mapped, completed);
-        self.waits.settle(completed);
+        self.waits.settle(completed, &mut self.mapped);
     }
 
     /// The promises of all maps that are pending, in their order.
@@ -261,9 +262,8 @@ impl Maps {
         ensures promises { IfOk result (λ list. list.items ≡ promises self.now.pending) }
         ensures in_order { IfOk result (λ list. IsNonDecreasing list.items) }
     {
-        let list = self
-            .waits
-            .pending()
+        let waits = self.waits.all(self.alloc)?;
+        let list = waits
             .iter()
             .map(|wait| wait.promise)
             .collect::<Vec<u64>>(self.alloc)?;

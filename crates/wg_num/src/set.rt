@@ -55,6 +55,30 @@ impl RunSet {
         Ok(())
     }
 
+    /// The set with the numbers from `lo` up to but not including `hi`.
+    pub fn with(&self, lo: u64, hi: u64) -> Result<RunSet, NoMemory>
+        requires { lo ≤ hi }
+        ensures { IfOk result (λ set. set ≡ insert_run lo hi self.now) }
+    {
+        if lo < hi {
+            let runs = with_run(*self.held.allocator(), self.held.as_slice(), lo, hi)?;
+            return Ok(RunSet { held: runs });
+        }
+        self.copy()
+    }
+
+    /// The set without the numbers from `lo` up to but not including `hi`.
+    pub fn without(&self, lo: u64, hi: u64) -> Result<RunSet, NoMemory>
+        requires { lo ≤ hi }
+        ensures { IfOk result (λ set. set ≡ remove_run lo hi self.now) }
+    {
+        if lo < hi {
+            let runs = cut_runs(*self.held.allocator(), self.held.as_slice(), lo, hi)?;
+            return Ok(RunSet { held: runs });
+        }
+        self.copy()
+    }
+
     /// Takes out the numbers from `lo` up to but not including `hi`.
     pub fn remove(&mut self, lo: u64, hi: u64) -> Result<(), NoMemory>
         requires { lo ≤ hi }

@@ -1,5 +1,5 @@
 -- To play a script: its lanes take turns, and the history is what an order of turns gives.
-use Rattle.std.specs.Prelude.{◌≡◌, ℕ, ◌≤◌, nat_lt, true, List, [], ◌∷◌, ◌++◌, reverse, length, Option, Some, None, is_some, option_map, option_and_then, if◌then◌else◌}
+use Rattle.std.specs.Prelude.{◌≡◌, ℕ, ◌≤◌, nat_lt, List, [], ◌∷◌, ◌++◌, reverse, length, Option, Some, None, option_map, option_and_then, if◌then◌else◌}
 use Rattle.wg_types.specs.declared.replies.Reply.{Reply}
 use Rattle.wg_model.specs.Limits.{default_limits}
 use Rattle.wg_history.specs.declared.events.Setup.{Setup}
@@ -42,9 +42,6 @@ module _ (setup : Setup) where
   -- end with them; others give no history.
   abbrev pub Play : List (List (List BoundCall)) → List ℕ → Option (List Entry)
   Play phases ns = option_map reverse (phases_by phases [] ns [])
-
-  abbrev pub IsLegal : List (List (List BoundCall)) → List ℕ → Type 0
-  IsLegal phases ns = is_some (Play phases ns) ≡ true
 
   -- the entries are those of the phases: of each phase the entries of each number are what its lane gives, and no others
   abbrev pub Interleaves : List (List (List BoundCall)) → List Object → List Entry → Type 0

@@ -52,9 +52,13 @@ impl Buffer {
         requires { length self.old + length text.now ≤ 4096 }
         ensures { self.new ≡ self.old ++ text.now }
     {
-        for byte in text {
+        if let [byte] = text {
             self.push(*byte);
+            return;
         }
+        let end = self.len + text.len();
+        self.bytes[self.len..end].copy_from_slice(text);
+        self.len = end;
     }
 
     pub fn as_slice(&self) -> &[u8]

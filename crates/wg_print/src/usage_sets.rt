@@ -3,7 +3,6 @@ ghost use Rattle.wg_print.specs.Printing.{Puts};
 ghost use Rattle.wg_print.specs.Seen.{seen, reference};
 ghost use Rattle.wg_print.specs.UsageSets.{words_text, usages_text};
 
-use crate::pieces::{Piece, put_all};
 use crate::printing::Out;
 use bitflags::Flags;
 use wg_io::Sink;
@@ -18,7 +17,8 @@ fn put_words<W: Sink>(out: &mut Out<'_, W>, set: Usages, words: &[(Usages, &str)
     let mut joint = "";
     for (usage, word) in words {
         if set.contains(*usage) {
-            put_all(out, &[Piece::Word(joint), Piece::Word(word)]);
+            out.word(joint);
+            out.word(word);
             joint = "+";
         }
     }

@@ -9,3 +9,5 @@ pub mod Order
 pub mod Lying
 pub mod Chained
 pub mod SetsPrinted
+pub mod Permuted
+pub mod Lines

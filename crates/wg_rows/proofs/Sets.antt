@@ -206,7 +206,7 @@ over_none [] = refl
 over_none (x ∷ xs) = ap (with_use x) (over_none xs)
 
 -- the set of a part in two lists
-abbrev both_options : Option Usages → Option Usages → Option Usages
+abbrev pub both_options : Option Usages → Option Usages → Option Usages
 both_options None o = o
 both_options (Some a) o = Some (with_usage a o)
 
@@ -215,7 +215,7 @@ union_assoc x None b = refl
 union_assoc x (Some a) None = refl
 union_assoc x (Some a) (Some b) = ap (λ n. record { 0 = n }) (sym (or_assoc x.0 a.0 b.0))
 
-joined_set : (p : Part) (xs ys : List UseRow) → row_set p (xs ++ ys) ≡ both_options (row_set p xs) (row_set p ys)
+pub joined_set : (p : Part) (xs ys : List UseRow) → row_set p (xs ++ ys) ≡ both_options (row_set p xs) (row_set p ys)
 joined_set p [] ys = refl
 joined_set p (x ∷ xs) ys = by_cover (covers_part x.0 p) (joined_set p xs ys)
   where

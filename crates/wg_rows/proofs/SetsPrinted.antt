@@ -5,12 +5,10 @@ use Rattle.std.proofs.lemmas.Nat.{or_comm}
 use Rattle.wg_rows.specs.Rows.{covers_spot, meet, run_before, joined, put_at, put, printed}
 use Rattle.wg_rows.specs.Runs.{Part, PartRun, part_sort, part_spot, covers_part}
 use Rattle.wg_rows.specs.Uses.{Usages, same_set, row_set, with_usage}
-use Rattle.wg_rows.specs.Sets.{UseRow, sets}
-use Rattle.wg_rows.specs.Order.{are_apart}
+use Rattle.wg_rows.specs.Sets.{UseRow, AreSameSets}
 use Rattle.wg_rows.proofs.Put.{both_of, unites, joined_some}
 use Rattle.wg_rows.proofs.Runs.{part_widens, set_told}
-use Rattle.wg_rows.proofs.Sets.{or_assoc, sets_tell}
-use Rattle.wg_rows.proofs.Order.{sets_same}
+use Rattle.wg_rows.proofs.Sets.{or_assoc}
 
 with_twice : (u : Usages) (o : Option Usages) → with_usage u (Some (with_usage u o)) ≡ with_usage u o
 with_twice u None = ap (λ n. record { 0 = n }) (or_self u.0)
@@ -58,5 +56,5 @@ printed_set : (p : Part) (rows : List UseRow) → row_set p (printed part_sort s
 printed_set p [] = refl
 printed_set p (r ∷ rows) = put_set p r (printed part_sort same_set rows) ∙ ap (with_row (covers_part r.0 p) r.1) (printed_set p rows)
 
-pub printed_sets : (rows : List UseRow) → are_apart (printed part_sort same_set rows) ≡ true → printed part_sort same_set rows ≡ sets rows
-printed_sets rows e = sets_same (printed part_sort same_set rows) e ∙ sets_tell (printed part_sort same_set rows) rows (λ p. printed_set p rows)
+pub printed_sets : (rows : List UseRow) → AreSameSets (printed part_sort same_set rows) rows
+printed_sets rows p = printed_set p rows

@@ -1,19 +1,19 @@
--- Tests that rows of uses are in printed form.
-use Rattle.std.specs.Prelude.{Bool, true, ◌&&◌, ◌||◌, not, List, [], ◌∷◌, nat_lt, ◌==◌}
-use Rattle.wg_rows.specs.Rows.{list_eq, list_before}
-use Rattle.wg_rows.specs.Runs.{part_line, part_lo, part_hi, is_full}
-use Rattle.wg_rows.specs.Uses.{same_set}
-use Rattle.wg_rows.specs.Sets.{UseRow}
+-- Tests that rows are in printed form.
+use Rattle.std.specs.Prelude.{Bool, true, ◌&&◌, List, [], ◌∷◌, nat_lt}
+use Rattle.wg_rows.specs.Rows.{Sort}
+use Rattle.wg_rows.specs.Chained.{is_clear}
 
--- whether a row stands behind another, and cannot be joined with it
-abbrev pub is_after : UseRow → UseRow → Bool
-is_after x y = list_before (part_line x.0) (part_line y.0) || (list_eq (part_line x.0) (part_line y.0) && (nat_lt (part_hi x.0) (part_lo y.0) || ((part_hi x.0 == part_lo y.0) && not (same_set x.1 y.1))))
+-- whether each row covers something
+abbrev pub are_full : {R V : Type 0} → Sort R → List (R × V) → Bool
+are_full sort [] = true
+are_full sort (x ∷ xs) = nat_lt (sort.lo x.0) (sort.hi x.0) && are_full sort xs
 
-abbrev pub is_first : UseRow → List UseRow → Bool
-is_first x [] = true
-is_first x (y ∷ ys) = is_after x y
+-- whether the next row, if there is one, stands behind a row and cannot be joined with it
+abbrev pub is_first : {R V : Type 0} → Sort R → (V → V → Bool) → R × V → List (R × V) → Bool
+is_first sort same x [] = true
+is_first sort same x (y ∷ ys) = is_clear sort same x y
 
--- whether rows are in printed form: each has a part, and the next stands behind it
-abbrev pub are_apart : List UseRow → Bool
-are_apart [] = true
-are_apart (x ∷ xs) = is_full x.0 && (is_first x xs && are_apart xs)
+-- whether rows are in printed form: each covers something, and the next stands behind it
+abbrev pub are_apart : {R V : Type 0} → Sort R → (V → V → Bool) → List (R × V) → Bool
+are_apart sort same [] = true
+are_apart sort same (x ∷ xs) = nat_lt (sort.lo x.0) (sort.hi x.0) && (is_first sort same x xs && are_apart sort same xs)

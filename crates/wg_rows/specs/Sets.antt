@@ -1,9 +1,9 @@
 -- Rows of uses, each a run of parts with the set of usages of its parts, and the sets of a step: one row for the parts
 -- that are used alike, by the union of their uses.
-use Rattle.std.specs.Prelude.{List, [], ◌∷◌, ◌++◌, Some, bit_or, if◌then◌else◌, ◌≡◌}
-use Rattle.wg_rows.specs.Rows.{Apart}
+use Rattle.std.specs.Prelude.{Bool, true, List, [], ◌∷◌, ◌++◌, Some, bit_or, if◌then◌else◌, ◌≡◌}
+use Rattle.wg_rows.specs.Rows.{list_eq, Apart}
 use Rattle.wg_rows.specs.Cut.{cut, inside, gaps, choose, put_all}
-use Rattle.wg_rows.specs.Runs.{PartRun, Part, part_sort, is_full}
+use Rattle.wg_rows.specs.Runs.{PartRun, Part, part_line, part_sort, is_full}
 use Rattle.wg_rows.specs.Uses.{Usages, same_set, row_set}
 
 abbrev pub UseRow : Type 0
@@ -31,13 +31,22 @@ abbrev pub sets : List UseRow → List UseRow
 sets [] = []
 sets (r ∷ rows) = if is_full r.0 then union_row r (sets rows) else sets rows
 
+-- whether rows, if there are any, begin in the line of a run
+abbrev pub begins_in_line : PartRun → List UseRow → Bool
+begins_in_line run [] = true
+begins_in_line run (x ∷ xs) = list_eq (part_line x.0) (part_line run)
+
 -- The sets of uses are in printed form, and each part has the union of its uses.
 abbrev pub SetsAre : Type 0
 SetsAre = (rows : List UseRow) → Apart part_sort (sets rows) × ((p : Part) → row_set p (sets rows) ≡ row_set p rows)
 
+-- Each part has the same set in two lists of uses.
+abbrev pub AreSameSets : List UseRow → List UseRow → Type 0
+AreSameSets xs ys = (p : Part) → row_set p xs ≡ row_set p ys
+
 -- They are told by the sets of the parts alone, so that neither order nor repetition counts.
 abbrev pub SetsTell : Type 0
-SetsTell = (xs ys : List UseRow) → ((p : Part) → row_set p xs ≡ row_set p ys) → sets xs ≡ sets ys
+SetsTell = (xs ys : List UseRow) → AreSameSets xs ys → sets xs ≡ sets ys
 
 -- Uses that are added to the sets of others make the sets of both, and so do their own sets.
 pub record SetsJoin : Type 0 where

@@ -267,9 +267,13 @@ impl Run for Cells {
         line_before(*self, *other) || same_line(*self, *other) && cell_lo(*self) < cell_lo(*other)
     }
 
-    fn ends_before(&self, other: &Cells) -> bool {
+    fn is_full(&self) -> bool {
         cell_lo(*self) < cell_hi(*self)
-            && cell_lo(*other) < cell_hi(*other)
+    }
+
+    fn ends_before(&self, other: &Cells) -> bool {
+        self.is_full()
+            && other.is_full()
             && (line_before(*self, *other)
                 || same_line(*self, *other) && cell_hi(*self) <= cell_lo(*other))
     }

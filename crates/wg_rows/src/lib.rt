@@ -3,6 +3,7 @@
 //! contracts of functions that do nothing.
 #![tactic(auto)]
 
+pub mod accesses;
 pub mod cell_runs;
 pub mod part_runs;
 pub mod rows;

@@ -148,9 +148,13 @@ impl Run for PartRun {
         line_before(*self, *other) || same_line(*self, *other) && part_lo(*self) < part_lo(*other)
     }
 
-    fn ends_before(&self, other: &PartRun) -> bool {
+    fn is_full(&self) -> bool {
         part_lo(*self) < part_hi(*self)
-            && part_lo(*other) < part_hi(*other)
+    }
+
+    fn ends_before(&self, other: &PartRun) -> bool {
+        self.is_full()
+            && other.is_full()
             && (line_before(*self, *other)
                 || same_line(*self, *other) && part_hi(*self) <= part_lo(*other))
     }

@@ -1,11 +1,13 @@
 //! Rows of runs, each with a value.
-ghost use Rattle.std.specs.Prelude.{◌≡◌, Bool, true, min, max, [], ◌∷◌, ◌++◌, reverse, IfOk, OnOk, IsTrue};
+ghost use Rattle.std.specs.Prelude.{◌≡◌, Bool, true, nat_lt, min, max, [], ◌∷◌, ◌++◌, reverse, if◌then◌else◌, IfOk, OnOk, IsTrue};
 ghost use Rattle.wg_rows.specs.Rows.{Sort, list_eq, run_before, meet, joined, put, printed};
 ghost use Rattle.wg_rows.specs.Chained.{ends_before, is_clear, AllClear, Chained};
 ghost use Rattle.wg_rows.specs.Cut.{cut_row, cut, inside, gaps, put_all, overwrite};
+ghost use Rattle.wg_rows.specs.Order.{are_full, is_first, are_apart};
 ghost use Rattle.wg_rows.specs.Clip.{left_run, right_run, inner_run, some_row};
 
 use std::alloc::Global;
+use std::cmp::Ordering;
 use wg_entry::NoMemory;
 
 /// A run of neighbours in a line.
@@ -20,6 +22,10 @@ pub trait Run: Copy {
 
     fn ends_before(&self, other: &Self) -> bool
         ensures { result ≡ ends_before sort self.now other.now };
+
+    /// Whether it covers something.
+    fn is_full(&self) -> bool
+        ensures { result ≡ nat_lt (sort.lo self.now) (sort.hi self.now) };
 
     fn same_line(&self, other: &Self) -> bool
         ensures { result ≡ list_eq (sort.line self.now) (sort.line other.now) };
@@ -51,6 +57,20 @@ pub trait Value: Copy {
 
     fn is_same(&self, other: &Self) -> bool
         ensures { result ≡ same self.now other.now };
+}
+
+/// The order in which runs are printed. Runs of a line that begin alike count as equal.
+pub fn by_place<R: Run>(run: &R, other: &R) -> Ordering
+    ensures { result ≡ (if run_before R.sort run.now other.now then Ordering.Less else
+        (if run_before R.sort other.now run.now then Ordering.Greater else Ordering.Equal)) }
+{
+    if run.is_before(other) {
+        Ordering::Less
+    } else if other.is_before(run) {
+        Ordering::Greater
+    } else {
+        Ordering::Equal
+    }
 }
 
 /// Two rows as one, if they meet and have the same value.
@@ -97,6 +117,43 @@ fn is_clear<R: Run, V: Value>(row: (R, V), other: (R, V)) -> bool
     ensures { result ≡ is_clear R.sort V.same row other }
 {
     row.0.ends_before(&other.0) && !(row.1.is_same(&other.1) && row.0.meets(&other.0))
+}
+
+/// Whether each row covers something.
+pub fn are_full<R: Run, V: Value>(rows: &[(R, V)]) -> bool
+    ensures { result ≡ are_full R.sort rows.now }
+{
+    for row in rows {
+        if !row.0.is_full() {
+            return false;
+        }
+    }
+    true
+}
+
+/// Whether the next row, if there is one, stands behind a row and cannot be joined with it.
+fn is_first<R: Run, V: Value>(row: (R, V), later: &[(R, V)]) -> bool
+    ensures { result ≡ is_first R.sort V.same row later.now }
+{
+    if later.is_empty() {
+        return true;
+    }
+    is_clear(row, later[0])
+}
+
+/// Whether rows are in printed form.
+pub fn are_apart<R: Run, V: Value>(rows: &[(R, V)]) -> bool
+    ensures { result ≡ are_apart R.sort V.same rows.now }
+{
+    for (i, row) in rows.iter().enumerate() {
+        if !row.0.is_full() {
+            return false;
+        }
+        if !is_first(*row, &rows[i + 1..]) {
+            return false;
+        }
+    }
+    true
 }
 
 /// Whether the last of the rows ends before a row.

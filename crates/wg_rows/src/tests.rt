@@ -1,8 +1,9 @@
+use crate::accesses::printed_accesses;
 use crate::rows::{cut, gaps, inside, overwrite, printed, put};
 use crate::uses::sets;
 use bitflags::Flags;
 use std::test::Fail;
-use wg_types::parts::{Aspect, PartRun};
+use wg_types::parts::{Aspect, Cells, Kind, PartRun};
 use wg_types::usages::Usages;
 
 fn layers(lo: u32, hi: u32) -> PartRun {
@@ -52,6 +53,33 @@ fn rows_are_joined_and_cut(rt: HostRuntime) -> Result<(), Fail> {
     assert_eq!(rt;
         overwrite(alloc, &wanted, (layers(0, 4), both))?.as_slice(),
         [(layers(0, 4), both)].as_slice()
+    );
+    Ok(())
+}
+
+#[test]
+fn accesses_of_any_order_are_printed(rt: HostRuntime) -> Result<(), Fail> {
+    let alloc = rt.alloc();
+    let mut rows = Vec::new(alloc);
+    let mut wanted = Vec::new(alloc);
+    for i in 0u64..20 {
+        let object = 7 * i % 20;
+        let lo = 4;
+        rows.push((Cells::Bytes { object, lo, hi: 8 }, Kind::Read))?;
+        rows.push((
+            Cells::Bytes {
+                object,
+                lo: 0,
+                hi: lo,
+            },
+            Kind::Read,
+        ))?;
+        let (object, lo) = (i, 0);
+        wanted.push((Cells::Bytes { object, lo, hi: 8 }, Kind::Read))?;
+    }
+    assert_eq!(rt;
+        printed_accesses(alloc, rows.as_slice())?.as_slice(),
+        wanted.as_slice()
     );
     Ok(())
 }

@@ -1,11 +1,11 @@
 //! The sets with which a step uses its parts.
-ghost use Rattle.std.specs.Prelude.{◌≡◌, IfOk, Some};
+ghost use Rattle.std.specs.Prelude.{◌≡◌, List, ◌∷◌, ◌++◌, IfOk, Some};
 ghost use Rattle.wg_rows.specs.Cut.{choose};
-ghost use Rattle.wg_rows.specs.Order.{is_after, is_first, are_apart};
-ghost use Rattle.wg_rows.specs.Sets.{both_sets, union_row, with_use, with_uses, sets};
+ghost use Rattle.wg_rows.specs.Rows.{Apart};
+ghost use Rattle.wg_rows.specs.Runs.{part_sort};
+ghost use Rattle.wg_rows.specs.Sets.{UseRow, both_sets, union_row, with_use, with_uses, sets, begins_in_line, AreSameSets};
 
-use crate::part_runs::{line_before, part_hi, part_lo, same_line};
-use crate::rows::{cut, gaps, inside, printed, put_all};
+use crate::rows::{Run, are_apart, by_place, cut, gaps, inside, printed, put_all};
 use bitflags::Flags;
 use std::alloc::Global;
 use wg_entry::NoMemory;
@@ -51,7 +51,7 @@ pub fn with_use(
 ) -> Result<Vec<(PartRun, Usages)>, NoMemory>
     ensures { IfOk result (λ v. v.items ≡ with_use row rows.now) }
 {
-    if part_lo(row.0) < part_hi(row.0) {
+    if row.0.is_full() {
         return union_row(alloc, rows, row);
     }
     let held = Vec::from_slice(alloc, rows)?;
@@ -71,51 +71,62 @@ pub fn with_uses(
     while i > 0 {
         i -= 1;
         let row = more[i];
-        if part_lo(row.0) < part_hi(row.0) {
+        if row.0.is_full() {
             out = union_row(alloc, out.as_slice(), row)?;
         }
     }
     Ok(out)
 }
 
-/// Whether a row stands behind another, and cannot be joined with it.
-fn is_after(row: (PartRun, Usages), other: (PartRun, Usages)) -> bool
-    ensures { result ≡ is_after row other }
+/// Whether rows, if there are any, begin in the line of a run.
+fn is_in_line(rows: &[(PartRun, Usages)], run: PartRun) -> bool
+    ensures { result ≡ begins_in_line run rows.now }
 {
-    line_before(row.0, other.0)
-        || same_line(row.0, other.0)
-            && (part_hi(row.0) < part_lo(other.0)
-                || part_hi(row.0) == part_lo(other.0) && row.1.bits() != other.1.bits())
-}
-
-/// Whether later rows stand behind a row.
-fn is_first(row: (PartRun, Usages), later: &[(PartRun, Usages)]) -> bool
-    ensures { result ≡ is_first row later.now }
-{
-    if later.is_empty() {
-        return true;
+    match rows.first() {
+        Some(first) => first.0.same_line(&run),
+        None => true,
     }
-    is_after(row, later[0])
 }
 
-/// Whether rows are in printed form.
-fn are_apart(rows: &[(PartRun, Usages)]) -> bool
-    ensures { result ≡ are_apart rows.now }
+/// The sets of a line with one more use. Where that is of another line, it begins anew, and the line
+/// before it goes to the end of those that are done.
+#[tactic(auto, using(crate::proofs::Lines::flushed, crate::proofs::Lines::added, crate::proofs::Sets::with_use_apart))]
+fn next_in_line(
+    alloc: Global,
+    done: &mut Vec<(PartRun, Usages)>,
+    line: Vec<(PartRun, Usages)>,
+    row: (PartRun, Usages),
+) -> Result<Vec<(PartRun, Usages)>, NoMemory>
+    requires { Apart part_sort line.items }
+    ensures apart { IfOk result (λ v. Apart part_sort v.items) }
+    ensures sets { IfOk result (λ v. (rest : List UseRow) →
+        AreSameSets (done.new.items ++ (v.items ++ rest)) (done.old.items ++ (line.items ++ (row ∷ rest)))) }
 {
-    for (i, row) in rows.iter().enumerate() {
-        if part_lo(row.0) >= part_hi(row.0) {
-            return false;
-        }
-        if !is_first(*row, &rows[i + 1..]) {
-            return false;
-        }
+    if is_in_line(line.as_slice(), row.0) {
+        return with_use(alloc, line.as_slice(), row);
     }
-    true
+    done.extend_from_slice(line.as_slice())?;
+    with_use(alloc, &[], row)
 }
 
-/// The sets of the parts of uses, in printed form. Uses in that form, as those of most steps are,
-/// are only looked through. Where no two uses share a part in different ways, they are printed.
-#[tactic(auto, using(crate::proofs::Order::sets_same, crate::proofs::Sets::over_none, crate::proofs::SetsPrinted::printed_sets))]
+/// The sets of uses that stand in the order of their lines, line by line.
+#[tactic(auto, using(crate::proofs::Lines::last_line))]
+fn by_lines(alloc: Global, uses: &[(PartRun, Usages)]) -> Result<Vec<(PartRun, Usages)>, NoMemory>
+    ensures { IfOk result (λ v. AreSameSets v.items uses.now) }
+{
+    let mut done = Vec::with_capacity(alloc, uses.len())?;
+    let mut line = Vec::new(alloc);
+    for row in uses {
+        line = next_in_line(alloc, &mut done, line, *row)?;
+    }
+    done.extend_from_slice(line.as_slice())?;
+    Ok(done)
+}
+
+/// The sets of the parts of uses, in printed form. Uses in that form, as those of most steps are, are
+/// only looked through. Others are put into the order of their places. They are printed where no two
+/// share a part in different ways, and are joined line by line where some do.
+#[tactic(auto, using(crate::proofs::Order::sets_same, crate::proofs::Sets::over_none, crate::proofs::SetsPrinted::printed_sets, crate::proofs::Lines::sets_sorted))]
 pub fn sets(alloc: Global, uses: &[(PartRun, Usages)]) -> Result<Vec<(PartRun, Usages)>, NoMemory>
     ensures { IfOk result (λ v. v.items ≡ sets uses.now) }
 {
@@ -123,7 +134,13 @@ pub fn sets(alloc: Global, uses: &[(PartRun, Usages)]) -> Result<Vec<(PartRun, U
         let held = Vec::from_slice(alloc, uses)?;
         return Ok(held);
     }
-    let rows = printed(alloc, uses)?;
+    let mut sorted = Vec::from_slice(alloc, uses)?;
+    sorted.sort_by(|row, other| by_place(&row.0, &other.0))?;
+    let rows = printed(alloc, sorted.as_slice())?;
+    if are_apart(rows.as_slice()) {
+        return Ok(rows);
+    }
+    let rows = by_lines(alloc, sorted.as_slice())?;
     if are_apart(rows.as_slice()) {
         return Ok(rows);
     }

@@ -124,7 +124,7 @@ fn map(
     maps: &mut Maps,
 )
     requires place { 0 < maps.old.spare }
-    requires free { settled.now ≡ [] → IsFree buffer maps.old }
+    requires free { settled.now ≡ [] → IsFree promise buffer maps.old }
     ensures after { maps.new ≡ record (mapped_in promise buffer last mapping settled.now maps.old) { spare = maps.new.spare } }
     ensures room { maps.old.spare ≤ maps.new.spare + 1 }
 {

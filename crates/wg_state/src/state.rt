@@ -204,14 +204,14 @@ impl State {
     pub fn kept(&self, alloc: Global, op: u64) -> Result<Settlements, NoMemory>
         ensures { IfOk result (λ settled. settled ≡ settle_all kept_how (filter (is_kept op) (awaiting (reverse self.now.history)))) }
     {
-        settlements::kept(alloc, op, self.kept.queue.waits(), self.kept.maps.waits())
+        settlements::kept(alloc, op, self.kept.queue.waits(), &self.kept.maps)
     }
 
     /// What the loss of the device settles, in the order of the promises.
     pub fn ended(&self, alloc: Global) -> Result<Settlements, NoMemory>
         ensures { IfOk result (λ settled. settled ≡ settle_all ended_how (awaiting (reverse self.now.history))) }
     {
-        settlements::ended(alloc, self.kept.queue.waits(), self.kept.maps.waits())
+        settlements::ended(alloc, self.kept.queue.waits(), &self.kept.maps)
     }
 
     /// What the end of a buffer's mapping settles.
@@ -222,10 +222,10 @@ impl State {
     }
 
     /// The maps that settle once all operations up to this one are complete, in the order of their promises.
-    pub fn kept_maps(&self, alloc: Global, op: u64) -> Result<Vec<PendingMap>, NoMemory>
+    pub fn kept_maps(&self, op: u64) -> Result<Vec<PendingMap>, NoMemory>
         ensures { IfOk result (λ list. list.items ≡ filter (λ w. nat_le w.last op) (map_waits (awaiting (reverse self.now.history)))) }
     {
-        settlements::kept_maps(alloc, op, self.kept.maps.waits())
+        self.kept.maps.due_waits(op)
     }
 
     /// How the buffer is mapped, if it is.

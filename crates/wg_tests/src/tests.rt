@@ -24,6 +24,18 @@ fn maps_wait_and_are_kept(rt: HostRuntime) -> Result<(), Fail> {
     Ok(())
 }
 
+/// What waits is listed, and what of it is due.
+#[test]
+fn maps_that_wait_are_listed(rt: HostRuntime) -> Result<(), Fail> {
+    let mut maps = Maps::new(rt.alloc());
+    if matches!(maps.state(3), MapState::Unmapped) {
+        maps.map(3, 10, MapMode::Read, 0, 8, 2)?;
+    }
+    assert_eq!(rt; maps.waits()?.len(), 1);
+    assert_eq!(rt; maps.due_waits(1)?.len(), 0);
+    Ok(())
+}
+
 /// A host read reads the range of its mapping.
 #[test]
 fn a_host_read_is_a_step(rt: HostRuntime) -> Result<(), Fail> {

@@ -1,5 +1,5 @@
 -- What was printed of a device on which a generated script was played.
-use Rattle.std.proofs.Common.{◌≡◌, ℕ, List, Option, Some, refl, sym, ap, ap₂, ◌∙◌, subst}
+use Rattle.std.proofs.Common.{◌≡◌, ℕ, List, map, Option, Some, refl, sym, ap, ap₂, ◌∙◌, subst}
 use Rattle.std.specs.Io.KnownBytes.{Appends}
 use Rattle.wg_orders.specs.Trace.{Item}
 use Rattle.wg_history.specs.declared.events.Setup.{Setup}
@@ -17,7 +17,7 @@ use Rattle.wg_gen.specs.Generator.{generated, phases_of}
 use Rattle.wg_gen.specs.Counts.{counts_in}
 use Rattle.wg_gen.specs.Alike.{MayGenerate, counts_for, CountsAlike}
 use Rattle.wg_top.specs.Words.{lanes_in}
-use Rattle.wg_top.specs.Line.{line_text, line_of}
+use Rattle.wg_top.specs.Line.{counted_text, line_of}
 use Rattle.wg_top.specs.Ending.{Taking, IsPlayedOn, IsCounted, TakesLine}
 use Rattle.wg_top.proofs.Reported.{is_played}
 
@@ -32,23 +32,35 @@ played_on script ended was = record { setup = was.setup; callers = was.callers; 
 
 -- the same line, said of the device's setup
 line_is : (lanes : Option ℕ) (setup : Setup) (core : CoreValue) (history : List Entry) (trace : List Item) → core.setup ≡ setup
-    → history ≡ core.history → trace ≡ Trace core.setup core.history → line_text lanes history trace ≡ line_of lanes setup core.history
-line_is lanes setup core history trace is printed traced = ap₂ (line_text lanes) printed (traced ∙ ap (λ (s : Setup). Trace s core.history) is)
+    → history ≡ core.history → trace ≡ Trace core.setup core.history → counted_text lanes history trace ≡ line_of lanes setup core.history
+line_is lanes setup core history trace is printed traced = ap₂ (counted_text lanes) printed (traced ∙ ap (λ (s : Setup). Trace s core.history) is)
+
+one_caller : (count : ℕ) → callers_for (phases_of count 1) ≡ 1
+one_caller count = refl
+
+-- One lane takes all turns.
+played_alone : (count lanes : ℕ) (ended : Closed CoreValue) → WasPlayed (generated count lanes) ended → lanes ≡ 1
+    → Play (setup_of (generated count 1)) (phases_of count 1) (map (λ e. 0) (state_of ended).history) ≡ Some (state_of ended).history
+played_alone count lanes ended was one =
+    let callers : passes_of ended ≡ 1 = was.callers ∙ (ap (λ l. callers_for (phases_of count l)) one ∙ one_caller count) in
+    subst (λ l. Play (setup_of (generated count l)) (phases_of count l) (map (λ e. 0) (state_of ended).history) ≡ Some (state_of ended).history) one
+    (ap (Play (setup_of (generated count lanes)) (phases_of count lanes)) (sym (was.out.zeros callers)) ∙ was.out.play)
 
 module _ (count : ℕ) (lanes : Option ℕ) (taking : Taking) (script : Script) (same : script ≡ generated count (lanes_in lanes)) (ended : Closed CoreValue) (was : WasPlayed script ended) where
   was_generated : WasPlayed (generated count (lanes_in lanes)) ended
   was_generated = subst (λ (s : Script). WasPlayed s ended) same was
 
   pub is_counted : MayGenerate count (lanes_in lanes) → CountsAlike → (history : List Entry) (trace : List Item) → history ≡ (state_of ended).history → trace ≡ Trace (state_of ended).setup (state_of ended).history
-      → Appends taking.old taking.new (line_text lanes history trace) → IsCounted count lanes taking ended
+      → Appends taking.old taking.new (counted_text lanes history trace) → IsCounted count lanes taking ended
   is_counted may alike history trace printed traced written = record {
     on = played_on (generated count (lanes_in lanes)) ended was_generated;
     written = subst (λ (text : List ℕ). Appends taking.old taking.new text) (line_is lanes (setup_of (generated count (lanes_in lanes))) (state_of ended) history trace was_generated.setup printed traced) written;
+    alone = played_alone count (lanes_in lanes) ended was_generated;
     alike = alike count (lanes_in lanes) may (callers_of (state_of ended).history) (state_of ended).history was_generated.out.play;
   }
 
   pub takes_line : (history : List Entry) (trace : List Item) → history ≡ (state_of ended).history → trace ≡ Trace (state_of ended).setup (state_of ended).history
-      → TakesPart taking.old taking.new (line_text lanes history trace) → TakesLine count lanes taking
+      → TakesPart taking.old taking.new (counted_text lanes history trace) → TakesLine count lanes taking
   takes_line history trace printed traced part = record {
     history = (state_of ended).history;
     play = was_generated.out.play;

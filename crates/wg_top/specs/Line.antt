@@ -16,9 +16,9 @@ abbrev pub more_text : Option ℕ → List Item → List ℕ
 more_text None trace = codes " bars " ++ decimal (count_by is_bar trace) ++ codes " clears " ++ decimal (count_by is_clear_step trace)
 more_text (Some lanes) trace = []
 
-abbrev pub line_text : Option ℕ → List Entry → List Item → List ℕ
-line_text lanes history trace = counts_text (counts_of history trace) ++ more_text lanes trace ++ codes "\n"
+abbrev pub counted_text : Option ℕ → List Entry → List Item → List ℕ
+counted_text lanes history trace = counts_text (counts_of history trace) ++ more_text lanes trace ++ codes "\n"
 
 -- of a history on a device that was opened so
 abbrev pub line_of : Option ℕ → Setup → List Entry → List ℕ
-line_of lanes setup history = line_text lanes history (Trace setup history)
+line_of lanes setup history = counted_text lanes history (Trace setup history)

@@ -3,7 +3,7 @@ ghost use Rattle.std.specs.Prelude.{◌≡◌, length, count_by};
 ghost use Rattle.wg_print.specs.Printing.{Puts, Written};
 ghost use Rattle.wg_print.specs.Seen.{seen, reference};
 ghost use Rattle.wg_gen.specs.Counts.{is_issue, is_fault, is_free, is_bar, is_clear_step, counts_of};
-ghost use Rattle.wg_top.specs.Line.{counts_text, more_text, line_text};
+ghost use Rattle.wg_top.specs.Line.{counts_text, more_text, counted_text};
 
 use wg_core::Entry;
 use wg_io::{Failed, Sink};
@@ -117,7 +117,7 @@ fn put_more<W: Sink>(out: &mut Out<'_, W>, lanes: Option<u32>, trace: &[Item])
 /// Puts the line of a generated script.
 fn put_counted<W: Sink>(out: &mut Out<'_, W>, lanes: Option<u32>, history: &[Entry], trace: &[Item])
     ensures same_reference { reference out.new ≡ reference out.old }
-    ensures text { Puts (seen W.taken W.faults out.old) (seen W.taken W.faults out.new) (line_text lanes history.now trace.now) }
+    ensures text { Puts (seen W.taken W.faults out.old) (seen W.taken W.faults out.new) (counted_text lanes history.now trace.now) }
 {
     put_counts(out, history, trace);
     put_more(out, lanes, trace);
@@ -131,7 +131,7 @@ pub fn print_counted<W: Sink>(
     history: &[Entry],
     trace: &[Item],
 ) -> Result<(), Failed>
-    ensures { Written (W.taken sink.old) (W.taken sink.new) (W.faults sink.old) (W.faults sink.new) (line_text lanes history.now trace.now) result }
+    ensures { Written (W.taken sink.old) (W.taken sink.new) (W.faults sink.old) (W.faults sink.new) (counted_text lanes history.now trace.now) result }
 {
     let mut out = Out::new(sink);
     put_counted(&mut out, lanes, history, trace);

@@ -1,5 +1,5 @@
 -- What a step and a clear add to a draft.
-use Rattle.std.proofs.Common.{◌≡◌, ◌<◌, length, get_or, arith, List, [], ◌∷◌, ◌++◌, map, ap, ap₂, sym, ◌∙◌, subst, append_assoc, append-nil}
+use Rattle.std.proofs.Common.{◌≡◌, ◌<◌, length, get_or, arith, List, [], ◌∷◌, ◌++◌, map, ap, sym, ◌∙◌, subst, append_assoc, append-nil}
 use Rattle.wg_types.specs.declared.steps.StepName.TheVariants.{Clear}
 use Rattle.wg_rows.specs.Runs.{Cell, Cells, PartRun}
 use Rattle.wg_rows.specs.Uses.{Kind, Usages}
@@ -33,13 +33,15 @@ added_same t d f g same h = record {
 }
 
 -- A step with its barriers, and notes of it.
-pub step_added : (t : TrackerValue) (d e : Draft) (s : Step) (found : List Item) (f : List Item → List Item) → ((trace : List Item) → AreSorted (with_notes t.last d.last) → KeepsLast (with_notes t.last d.last) (steps_of trace) → found ≡ bars trace s) → NotesLast (with_notes t.last d.last) s (with_notes t.last e.last) → IsAfter (with_notes t.cells d.cells) s.accesses (with_notes t.cells e.cells) → e.items.items ≡ (d.items.items ++ found) ++ StepItem s ∷ [] → HasAdded t d f → HasAdded t e (λ trace. add_step (f trace) s)
-step_added t d e s found f barred last cells items h = record {
+pub step_added : (t : TrackerValue) (d e : Draft) (s : Step) (barred : List Item) (f : List Item → List Item) → ((trace : List Item) → AreSorted (with_notes t.last d.last) → KeepsLast (with_notes t.last d.last) (steps_of trace) → barred ≡ d.items.items ++ bars trace s) → NotesLast (with_notes t.last d.last) s (with_notes t.last e.last) → IsAfter (with_notes t.cells d.cells) s.accesses (with_notes t.cells e.cells) → e.items.items ≡ barred ++ StepItem s ∷ [] → HasAdded t d f → HasAdded t e (λ trace. add_step (f trace) s)
+step_added t d e s barred f is_barred last cells items h = record {
   sound = record { last = noted_sorted (with_notes t.last d.last) (with_notes t.last e.last) s h.sound.last last; cells = after_apart (with_notes t.cells d.cells) (with_notes t.cells e.cells) s.accesses cells h.sound.cells };
   added = λ trace stands.
-      ap (λ more. trace ++ more) (items ∙ append_assoc d.items.items found (StepItem s ∷ []))
+      let found : List Item = bars (f trace) s in
+      let more : barred ≡ d.items.items ++ found = is_barred (f trace) h.sound.last (h.stands trace stands).last in
+      ap (λ more. trace ++ more) (items ∙ (ap (λ (xs : List Item). xs ++ StepItem s ∷ []) more ∙ append_assoc d.items.items found (StepItem s ∷ [])))
       ∙ (sym (append_assoc trace d.items.items (found ++ StepItem s ∷ []))
-      ∙ ap₂ (λ (before now : List Item). before ++ (now ++ StepItem s ∷ [])) (h.added trace stands) (barred (f trace) h.sound.last (h.stands trace stands).last));
+      ∙ ap (λ (before : List Item). before ++ (found ++ StepItem s ∷ [])) (h.added trace stands));
   stands = λ trace stands. subst (Stands (now_of t e)) (sym (steps_added (f trace) s)) (record { last = last_keeps (with_notes t.last d.last) (with_notes t.last e.last) s (steps_of (f trace)) h.sound.last last (h.stands trace stands).last; cells = cells_keep (with_notes t.cells d.cells) (with_notes t.cells e.cells) s (steps_of (f trace)) cells (h.stands trace stands).cells });
 }
 

@@ -8,7 +8,7 @@ ghost use Rattle.wg_tracker.specs.Adds.{now_of, HasAdded};
 use crate::clears::{needed, uses_of};
 use crate::tracker::Tracker;
 use wg_bars::kept::Notes;
-use wg_bars::last::{bars_over, note_over};
+use wg_bars::last::step_over;
 use wg_entry::NoMemory;
 use wg_init::CellRow;
 use wg_init::noting::notes_of;
@@ -38,10 +38,8 @@ fn add_step(tracker: &Tracker, draft: Draft, step: Step) -> Result<Draft, NoMemo
         cells,
     } = draft;
     let alloc = *items.allocator();
-    let mut bars = bars_over(alloc, tracker.last_rows(), &last, &step)?;
-    let last = note_over(alloc, tracker.last_rows(), last, &step)?;
+    let last = step_over(&mut items, tracker.last_rows(), last, &step)?;
     let cells = notes_of(alloc, tracker.set_rows(), cells, step.accesses.as_slice())?;
-    items.append(&mut bars)?;
     items.push(Item::Step(step))?;
     Ok(Draft { items, last, cells })
 }
@@ -82,6 +80,10 @@ fn add_cleared(tracker: &Tracker, draft: Draft, step: Step) -> Result<Draft, NoM
         &draft.cells,
         step.accesses.as_slice(),
     )?;
+    if rows.is_empty() {
+        let bare = add_step(tracker, draft, step)?;
+        return Ok(bare);
+    }
     let cleared = add_clear(tracker, draft, step.place, rows)?;
     let added = add_step(tracker, cleared, step)?;
     Ok(added)
@@ -115,6 +117,10 @@ fn add_group(tracker: &Tracker, draft: Draft, group: Items<Step>) -> Result<Draf
         &draft.cells,
         steps.as_slice(),
     )?;
+    if rows.is_empty() {
+        let bare = add_all(tracker, draft, steps)?;
+        return Ok(bare);
+    }
     let cleared = add_clear(tracker, draft, place, rows)?;
     let added = add_all(tracker, cleared, steps)?;
     Ok(added)

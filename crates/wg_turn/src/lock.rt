@@ -185,25 +185,7 @@ impl<S: Logged> TurnLock<S> {
         self.table.shared.fetch_add::<Count<N>>(seat, COUNT, 1);
     }
 
-    /// Calls the state that the seat has taken, where it lies.
-    fn ask(
-        &self,
-        seat: &mut Seat<Option<S>, View<S, Entry<S::Call, S::Reply>>>,
-        number: u32,
-        call: S::Call,
-    ) -> Result<S::Reply, Refused<S::Call>>
-        requires seat { IsSeatOf self.now seat.old }
-        requires state { (x : S) × (seat.old.me.1 ≡ (0, Some x) ∷ []) }
-        ensures seat { (seat.new.table_id ≡ seat.old.table_id) × (seat.new.id ≡ seat.old.id)
-            × (seat.new.me.0 ≡ seat.old.me.0) }
-        ensures state { (x : S) → seat.old.me.1 ≡ (0, Some x) ∷ [] → (y : S)
-            × (seat.new.me.1 ≡ (0, Some y) ∷ [])
-            × Answers S.setup S.history number call x y result }
-    {
-        act_in(seat.slot_mut(&self.table.shared, 0), number, call)
-    }
-
-    /// Calls the state that the seat has taken, counts the entry, and passes the turn on.
+    /// Calls the state that the seat has taken, where it lies, counts the entry, and passes the turn on.
     fn turn(
         &self,
         seat: &mut Seat<Option<S>, View<S, Entry<S::Call, S::Reply>>>,
@@ -224,7 +206,7 @@ impl<S: Logged> TurnLock<S> {
             seat.new.me.0 }
     {
         let asked = Snapshot::of(&call);
-        match self.ask(seat, number, call) {
+        match act_in(seat.slot_mut(&self.table.shared, 0), number, call) {
             Ok(reply) => {
                 self.count::<Brand>(seat, number, &asked, &reply);
                 self.leave(seat);

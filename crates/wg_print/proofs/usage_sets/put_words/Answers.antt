@@ -1,6 +1,6 @@
 use Rattle.std.proofs.Common.{rules, arith, refl, sym, ◌∙◌, append_assoc}
 use Rattle.wg_print.specs.UsageSets.{chosen_words, words_text}
-use Rattle.wg_print.proofs.PrintingLemmas.{puts_none, puts_as}
+use Rattle.wg_print.proofs.PrintingLemmas.{puts_none, puts_then, puts_as}
 use Rattle.wg_print.proofs.UsageWordLemmas.{joint_after-more, chosen_words-hit, chosen_words-miss, puts_word, puts_no_word}
 use Rattle.wg_print.proofs.usage_sets.put_words.Goals as goal
 use Rattle.wg_print.proofs.usage_sets.put_words.Goals.{then-contains, else-contains}
@@ -16,7 +16,7 @@ loop-usage-preserved g c = elim c.if-contains.branch [
       record {
         same_reference = cc;
         text = rw w.out-is (puts_word _ _ _ _ _ _ _ hit c.loop-usage.invariant.text
-            (puts_as w.put_all.ensures.text (rw (← c.loop-usage.invariant.joint) (search (rules, append_assoc)))));
+            (puts_as (puts_then _ _ _ _ _ w.word.ensures.text w.word-then-contains.ensures.text) (rw (← c.loop-usage.invariant.joint) (search (rules, append_assoc)))));
         joint = rw (w.joint-is, hit) (sym (joint_after-more _ _));
       }
   | else-contains w ↦

@@ -5,5 +5,5 @@ use Rattle.wg_maps.proofs.maps.Maps.pending.Goals as goal
 
 pub returns-clause-in_order : goal.returns-clause-in_order
 returns-clause-in_order c =
-    let items : c.in_ok-list.list.items ≡ promises c.pending.result.now = search rules in
-    rw items (promises_in_order c.pending.result.now c.pending.ensures.in_order)
+    let items : c.in_ok-list.list.items ≡ promises c.in_ok-waits.waits.items = search rules in
+    rw items (promises_in_order c.in_ok-waits.waits.items c.in_ok-waits.ensures.in_order)

@@ -1,0 +1,11 @@
+use Rattle.std.proofs.Common.{◌≡◌, sym, subst}
+use Rattle.wg_num.specs.Runs.{AreApart, cut_runs}
+use Rattle.wg_num.proofs.Members.{cut_apart}
+use Rattle.wg_num.proofs.set.RunSet.without.Goals as goal
+
+pub invariant_of-result : goal.invariant_of-result
+invariant_of-result c =
+    let slice = c.as_slice.ensures.value in
+    let made = c.in_ok-runs.ensures in
+    let value : c.in_ok-runs.runs.items ≡ cut_runs c.args.lo c.args.hi c.self.inside.held.items = cc in
+    subst (AreApart 0) (sym value) (cut_apart 0 c.args.lo c.args.hi c.self.inside.held.items c.if-lo-hi.true c.self.invariant)
