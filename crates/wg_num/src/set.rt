@@ -1,8 +1,8 @@
 //! A set of numbers.
-ghost use Rattle.std.specs.Prelude.{◌≡◌, ℕ, ◌≤◌, ◌&&◌, ◌||◌, not, List, [], IfOk, OnOk, OnErr, IsTrue, ◌↔◌};
-ghost use Rattle.wg_num.specs.Runs.{AllIn, AreApart, covers_run, in_run, insert_run, is_in, missing_runs, remove_run};
+ghost use Rattle.std.specs.Prelude.{◌≡◌, ℕ, ◌≤◌, ◌&&◌, ◌||◌, not, List, [], IfOk};
+ghost use Rattle.wg_num.specs.Runs.{AreApart, in_run, insert_run, is_in, remove_run};
 
-use crate::runs::{covers_run, cut_runs, missing_runs, with_run};
+use crate::runs::{cut_runs, with_run};
 use std::alloc::Global;
 use std::marker::Model;
 use wg_entry::NoMemory;
@@ -40,25 +40,12 @@ impl RunSet {
         self.held.as_slice()
     }
 
-    /// Adds the numbers from `lo` up to but not including `hi`.
-    pub fn insert(&mut self, lo: u64, hi: u64) -> Result<(), NoMemory>
-        requires { lo ≤ hi }
-        ensures runs { OnOk result (self.new ≡ insert_run lo hi self.old) }
-        ensures members { OnOk result
-            ((n : ℕ) → is_in self.new n ≡ (in_run lo hi n || is_in self.old n)) }
-        ensures unchanged { OnErr result (self.new ≡ self.old) }
-    {
-        if lo < hi {
-            let held = with_run(*self.held.allocator(), self.held.as_slice(), lo, hi)?;
-            self.held = held;
-        }
-        Ok(())
-    }
-
     /// The set with the numbers from `lo` up to but not including `hi`.
     pub fn with(&self, lo: u64, hi: u64) -> Result<RunSet, NoMemory>
         requires { lo ≤ hi }
-        ensures { IfOk result (λ set. set ≡ insert_run lo hi self.now) }
+        ensures runs { IfOk result (λ set. set ≡ insert_run lo hi self.now) }
+        ensures members { IfOk result
+            (λ set. (n : ℕ) → is_in set n ≡ (in_run lo hi n || is_in self.now n)) }
     {
         if lo < hi {
             let runs = with_run(*self.held.allocator(), self.held.as_slice(), lo, hi)?;
@@ -70,48 +57,15 @@ impl RunSet {
     /// The set without the numbers from `lo` up to but not including `hi`.
     pub fn without(&self, lo: u64, hi: u64) -> Result<RunSet, NoMemory>
         requires { lo ≤ hi }
-        ensures { IfOk result (λ set. set ≡ remove_run lo hi self.now) }
+        ensures runs { IfOk result (λ set. set ≡ remove_run lo hi self.now) }
+        ensures members { IfOk result
+            (λ set. (n : ℕ) → is_in set n ≡ (is_in self.now n && not (in_run lo hi n))) }
     {
         if lo < hi {
             let runs = cut_runs(*self.held.allocator(), self.held.as_slice(), lo, hi)?;
             return Ok(RunSet { held: runs });
         }
         self.copy()
-    }
-
-    /// Takes out the numbers from `lo` up to but not including `hi`.
-    pub fn remove(&mut self, lo: u64, hi: u64) -> Result<(), NoMemory>
-        requires { lo ≤ hi }
-        ensures runs { OnOk result (self.new ≡ remove_run lo hi self.old) }
-        ensures members { OnOk result
-            ((n : ℕ) → is_in self.new n ≡ (is_in self.old n && not (in_run lo hi n))) }
-        ensures unchanged { OnErr result (self.new ≡ self.old) }
-    {
-        if lo < hi {
-            let held = cut_runs(*self.held.allocator(), self.held.as_slice(), lo, hi)?;
-            self.held = held;
-        }
-        Ok(())
-    }
-
-    /// Whether all numbers from `lo` up to but not including `hi` are in the set.
-    pub fn covers(&self, lo: u64, hi: u64) -> bool
-        requires { lo ≤ hi }
-        ensures test { result ≡ covers_run lo hi self.now }
-        ensures all { IsTrue result ↔ AllIn lo hi self.now }
-    {
-        covers_run(self.held.as_slice(), lo, hi)
-    }
-
-    /// The numbers from `lo` up to but not including `hi` that are not in the set.
-    pub fn missing(&self, lo: u64, hi: u64) -> Result<RunSet, NoMemory>
-        requires { lo ≤ hi }
-        ensures runs { IfOk result (λ set. set ≡ missing_runs lo hi self.now) }
-        ensures members { IfOk result
-            (λ set. (n : ℕ) → is_in set n ≡ (in_run lo hi n && not (is_in self.now n))) }
-    {
-        let held = missing_runs(*self.held.allocator(), self.held.as_slice(), lo, hi)?;
-        Ok(RunSet { held })
     }
 
     /// An equal set.

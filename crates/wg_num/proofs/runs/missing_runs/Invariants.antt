@@ -1,6 +1,0 @@
-use Rattle.std.proofs.Common.{◌≡◌, ◌++◌, drop}
-use Rattle.wg_num.specs.Runs.{missing_runs}
-use Rattle.wg_num.proofs.runs.missing_runs.Given as goal
-
-abbrev pub invariant-loop-x : goal.invariant-loop-x
-invariant-loop-x l = l.out.items ++ missing_runs l.lo l.fn.hi (drop l.x-index l.runs) ≡ missing_runs l.fn.lo l.fn.hi l.runs

@@ -1,6 +1,0 @@
-use Rattle.std.proofs.Common.{◌≡◌, ◌++◌, drop}
-use Rattle.wg_num.specs.Runs.{with_run}
-use Rattle.wg_num.proofs.runs.with_run.Given as goal
-
-abbrev pub invariant-loop-i : goal.invariant-loop-i
-invariant-loop-i l = l.out.items ++ with_run l.lo l.hi (drop l.i l.runs) ≡ with_run l.fn.lo l.fn.hi l.runs
