@@ -1,16 +1,16 @@
 -- Notes of accesses.
-use Rattle.std.proofs.Common.{◌≡◌, ℕ, ◌+◌, ◌<◌, ◌&&◌, List, [], ◌∷◌, length, drop, get_or, Bool, true, false, ◌==◌, refl, ap, sym, ◌∙◌, if◌then◌else◌, subst, eqb-true, nat_lt, arith}
+use Rattle.std.proofs.Common.{◌≡◌, ℕ, ◌+◌, ◌<◌, ◌&&◌, List, [], ◌∷◌, length, drop, get_or, Bool, true, false, ◌==◌, refl, ap, sym, ◌∙◌, if◌then◌else◌, subst, eqb-true, true≢false, nat_lt, arith}
 use Rattle.std.proofs.lemmas.List.{at_drop_more}
 use Rattle.wg_rows.specs.Runs.{Cells, cell_spot, cell_line, cell_lo, cell_hi}
 use Rattle.wg_rows.specs.Uses.{Kind, kind_writes, kind_unsets}
 use Rattle.wg_orders.specs.Steps.{Step}
-use Rattle.std.proofs.lemmas.Bool.{ltb-true}
+use Rattle.std.proofs.lemmas.Bool.{ltb-true, lt-leb}
 use Rattle.wg_rows.specs.Rows.{list_eq}
-use Rattle.wg_num.specs.Runs.{Runs, AreApart, is_in, with_run, cut_runs}
+use Rattle.wg_num.specs.Runs.{Runs, AreApart, is_in, insert_run, remove_run, with_run, cut_runs, covers_run}
 use Rattle.wg_num.proofs.Members.{with_apart, cut_apart}
 use Rattle.wg_init.proofs.Effects.{runs_with}
 use Rattle.wg_bars.specs.Kept.{rows_in, over, with_notes, SetsNote, apply_all, most, SameRows}
-use Rattle.wg_init.specs.Rows.{row_of, row_object, SetRow, SetRows, runs_in, line_object, KeepsSet, RunsApart}
+use Rattle.wg_init.specs.Rows.{row_line, row_of, row_object, SetRow, SetRows, runs_in, line_object, KeepsSet, RunsApart}
 use Rattle.wg_init.specs.Effects.{effect, with_effect, is_full, changes_at, rows_after, IsAfter, AreNotes, NotesOne}
 use Rattle.wg_bars.proofs.Notes.{noted_rows}
 use Rattle.wg_bars.proofs.Noted.{placed}
@@ -28,6 +28,24 @@ one_noted kept fresh set x rows w f e sets object =
     by_same : (b : Bool) → (row_object (row_of x.0) == object) ≡ b → (if b then with_effect x.0 x.1 (over fresh (row_object (row_of x.0)) (rows_in kept (row_object (row_of x.0)))) else over fresh object (rows_in kept object)) ≡ (if b then with_effect x.0 x.1 (over fresh object (rows_in kept object)) else over fresh object (rows_in kept object))
     by_same true e = ap (λ n. with_effect x.0 x.1 (over fresh n (rows_in kept n))) (eqb-true (row_object (row_of x.0)) object e)
     by_same false e = refl
+
+-- Covered cells stay as they are,
+pub effect_same : (run : Cells) (kind : Kind) (rows : List SetRow) → kind_unsets kind ≡ false → cell_lo run < cell_hi run → covers_run (cell_lo run) (cell_hi run) (runs_in rows (cell_line run)) ≡ true → insert_run (cell_lo run) (cell_hi run) (runs_in rows (cell_line run)) ≡ runs_in rows (cell_line run) → with_effect run kind rows ≡ rows
+effect_same run kind [] sets full covers same = absurd (true≢false (sym covers ∙ lt-leb (cell_hi run) (cell_lo run) full))
+effect_same run kind (x ∷ xs) sets full covers same = by_row (list_eq (row_line x.0) (cell_line run)) covers same (effect_same run kind xs sets full)
+  where
+    by_row : (b : Bool) → covers_run (cell_lo run) (cell_hi run) (if b then x.1 else runs_in xs (cell_line run)) ≡ true → insert_run (cell_lo run) (cell_hi run) (if b then x.1 else runs_in xs (cell_line run)) ≡ (if b then x.1 else runs_in xs (cell_line run)) → (covers_run (cell_lo run) (cell_hi run) (runs_in xs (cell_line run)) ≡ true → insert_run (cell_lo run) (cell_hi run) (runs_in xs (cell_line run)) ≡ runs_in xs (cell_line run) → with_effect run kind xs ≡ xs) → (if b then (x.0, effect kind (cell_lo run) (cell_hi run) x.1) ∷ xs else x ∷ with_effect run kind xs) ≡ x ∷ xs
+    by_row true c h rest = ap (λ (runs : Runs). (x.0, runs) ∷ xs) (ap (λ b. if b then remove_run (cell_lo run) (cell_hi run) x.1 else insert_run (cell_lo run) (cell_hi run) x.1) sets ∙ h)
+    by_row false c h rest = ap (λ more. x ∷ more) (rest c h)
+
+-- so that their write is no note.
+pub same_noted : (kept : SetRows) (fresh : List (ℕ × List SetRow)) (x : Cells × Kind) → with_effect x.0 x.1 (over fresh (row_object (row_of x.0)) (rows_in kept (row_object (row_of x.0)))) ≡ over fresh (row_object (row_of x.0)) (rows_in kept (row_object (row_of x.0))) → NotesOne kept fresh x fresh
+same_noted kept fresh x same object = by_parts (kind_writes x.1 && is_full x.0) (row_object (row_of x.0) == object) refl
+  where
+    by_parts : (w b : Bool) → (row_object (row_of x.0) == object) ≡ b → over fresh object (rows_in kept object) ≡ (if w && b then with_effect x.0 x.1 (over fresh object (rows_in kept object)) else over fresh object (rows_in kept object))
+    by_parts false b e = refl
+    by_parts true false e = refl
+    by_parts true true e = subst (λ n. over fresh n (rows_in kept n) ≡ with_effect x.0 x.1 (over fresh n (rows_in kept n))) (eqb-true (row_object (row_of x.0)) object e) (sym same)
 
 pub none_noted : (kept : SetRows) (fresh : List (ℕ × List SetRow)) (x : Cells × Kind) → (kind_writes x.1 && is_full x.0) ≡ false → NotesOne kept fresh x fresh
 none_noted kept fresh x e object = sym (ap (λ t. if t && (row_object (row_of x.0) == object) then with_effect x.0 x.1 (over fresh object (rows_in kept object)) else over fresh object (rows_in kept object)) e)

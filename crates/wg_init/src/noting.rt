@@ -1,15 +1,20 @@
 //! What accesses make of the cells that are set.
-ghost use Rattle.std.specs.Prelude.{◌≡◌, ◌≤◌, ◌++◌, IfOk, OnOk, OnErr};
-ghost use Rattle.wg_rows.specs.Runs.{cell_lo, cell_hi};
+ghost use Rattle.std.specs.Prelude.{◌≡◌, ◌≤◌, ◌<◌, ◌++◌, ◌&&◌, not, IfOk, IsTrue, OnOk, OnErr};
+ghost use Rattle.wg_rows.specs.Runs.{cell_line, cell_lo, cell_hi};
+ghost use Rattle.wg_rows.specs.Uses.{kind_unsets};
+ghost use Rattle.wg_num.specs.Runs.{covers_run};
 ghost use Rattle.wg_bars.specs.Kept.{with_notes};
+ghost use Rattle.wg_init.specs.Rows.{runs_in};
 ghost use Rattle.wg_init.specs.Effects.{effect, with_effect, AreNotes, IsAfter, NotesOne};
 
 use crate::cell_row::CellRow;
 use crate::cells::{row_object, row_of, same_row};
+use crate::unset::runs_in;
 use std::alloc::Global;
 use wg_bars::kept::{Notes, apply, current, grow, most, reserve_to, set_note};
 use wg_entry::NoMemory;
 use wg_num::RunSet;
+use wg_num::runs::covers_run;
 use wg_rows::cell_runs::{cell_hi, cell_lo, unsets, writes};
 use wg_types::items::Items;
 use wg_types::parts::{Cells, Kind};
@@ -65,6 +70,16 @@ fn with_effect(
     Ok(out)
 }
 
+/// Whether an access that writes leaves an object's rows as they are, since it sets what is set.
+fn sets_what_is_set(rows: &[(CellRow, RunSet)], run: Cells, kind: Kind) -> bool
+    requires { cell_lo run < cell_hi run }
+    ensures test { result ≡ (not (kind_unsets kind)
+        && covers_run (cell_lo run) (cell_hi run) (runs_in rows.now (cell_line run))) }
+    ensures same { IsTrue result → with_effect run kind rows.now ≡ rows.now }
+{
+    !unsets(kind) && covers_run(runs_in(rows, row_of(run)), cell_lo(run), cell_hi(run))
+}
+
 /// Notes what an access makes of kept rows with notes over them.
 fn note_one(
     alloc: Global,
@@ -81,8 +96,12 @@ fn note_one(
         return Ok(());
     }
     let object = row_object(row_of(access.0));
-    let rows = with_effect(alloc, current(kept, fresh, object), access.0, access.1)?;
-    set_note(fresh, object, Items::from_vec(rows))?;
+    let rows = current(kept, fresh, object);
+    if sets_what_is_set(rows, access.0, access.1) {
+        return Ok(());
+    }
+    let changed = with_effect(alloc, rows, access.0, access.1)?;
+    set_note(fresh, object, Items::from_vec(changed))?;
     Ok(())
 }
 

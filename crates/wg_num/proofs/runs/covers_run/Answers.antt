@@ -1,7 +1,7 @@
 use Rattle.std.proofs.Common.{◌≡◌, ◌∙◌, ◌↔◌, ℕ, Bool, true, length, nat_lt, sym, subst, rules, arith}
 use Rattle.std.proofs.lemmas.Bool.{le-ltb}
 use Rattle.std.proofs.lemmas.List.Sorted.{IsPartitionPoint-from_clause, IsPartitionedBy-ltb}
-use Rattle.wg_num.specs.Runs.{AllIn, covers_run}
+use Rattle.wg_num.specs.Runs.{AllIn}
 use Rattle.wg_num.proofs.Members.{covers_all}
 use Rattle.wg_num.proofs.Skipped.{ends_rise, insert_same, covers_before, covers_at, covers_past, covers_none}
 use Rattle.wg_num.proofs.runs.covers_run.Goals as goal

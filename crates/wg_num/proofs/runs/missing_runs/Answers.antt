@@ -1,4 +1,4 @@
-use Rattle.std.proofs.Common.{◌≡◌, ◌++◌, ◌∙◌, ℕ, nat_le, ap, ap₂, sym, subst, length, arith, rules}
+use Rattle.std.proofs.Common.{◌++◌, ◌∙◌, ℕ, nat_le, ap, ap₂, sym, subst, length, arith, rules}
 use Rattle.std.proofs.lemmas.List.Sorted.{IsPartitionPoint-from_clause, IsPartitionedBy-leb}
 use Rattle.std.proofs.lemmas.Slice.{between_to_end}
 use Rattle.wg_num.specs.Runs.{AreApart, is_in, missing_runs}

@@ -1,7 +1,6 @@
-use Rattle.std.proofs.Common.{◌≡◌, ◌++◌, ◌∙◌, ℕ, nat_lt, ap₂, take, drop, length, arith, rules}
+use Rattle.std.proofs.Common.{◌≡◌, ◌++◌, ◌∙◌, ℕ, nat_lt, ap₂, take, length, arith, rules}
 use Rattle.std.proofs.lemmas.List.Sorted.{IsPartitionPoint-from_clause, IsPartitionedBy-ltb}
 use Rattle.std.proofs.lemmas.Slice.{between_to_end}
-use Rattle.std.specs.List.{between}
 use Rattle.wg_num.specs.Runs.{with_run}
 use Rattle.wg_num.proofs.Skipped.{ends_rise, with_before}
 use Rattle.wg_num.proofs.runs.with_run.Goals as goal
