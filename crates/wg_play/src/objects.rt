@@ -27,7 +27,7 @@ pub enum Object {
 }
 
 /// Where a recording call stands: the place of its encoder, and whether on that itself or on a pass of it.
-#[derive(Clone, Copy, Debug)]
+#[derive(Clone, Copy)]
 pub struct Stand {
     pub encoder: u32,
     pub on: On,

@@ -16,7 +16,7 @@ use std::alloc::Global;
 
 /// What a command stands on: the encoder itself, or the pass with this number. Passes are numbered
 /// from 0 by the commands that begin them.
-#[derive(Clone, Copy, PartialEq, Eq, Debug)]
+#[derive(Clone, Copy, PartialEq, Eq)]
 pub enum On {
     Encoder,
     Pass(u32),
@@ -24,7 +24,7 @@ pub enum On {
 
 /// The kinds of places on which commands stand: a command encoder, a pass of it, or a bundle encoder
 /// (WebGPU, "Command Encoding" and "Bundles").
-#[derive(Clone, Copy, PartialEq, Eq, Debug)]
+#[derive(Clone, Copy, PartialEq, Eq)]
 pub enum CommandPlace {
     Encoder,
     ComputePass,
@@ -34,7 +34,7 @@ pub enum CommandPlace {
 
 /// What a command opens or closes on what it stands on: a pass, or a debug group (WebGPU, "Command
 /// Encoding" and "Debug Markers").
-#[derive(Clone, Copy, PartialEq, Eq, Debug)]
+#[derive(Clone, Copy, PartialEq, Eq)]
 pub enum Bracket {
     BeginComputePass,
     BeginRenderPass,
