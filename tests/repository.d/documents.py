@@ -15,6 +15,7 @@ README_LINES = 90
 README_WORDS = 1200
 NAMES = re.compile(r"`([^`\n]+)`")
 NUMBERS = re.compile(r"\b(\d+)(?: to (\d+))?\b")
+RULES = re.compile(r"(?<!script )(?<!Script )\b[Rr]ules? (\d+(?: to \d+)?(?:(?:, and |, | and )\d+(?: to \d+)?)*)")
 LINK = re.compile(r"\]\(([^)#\s]+)")
 BLOCK = re.compile(r"^```rust\n(.*?)^```$", re.M | re.S)
 SHOWN = re.compile(r"^```\n(\$ \./wgsim [^\n]*\n.*?)^```$", re.M | re.S)
@@ -96,19 +97,27 @@ def told(text, numbers):
 
 
 def check_coverage(top, crates, findings):
-    """Each rule number stands in the coverage, each that it names in a sentence on rules is one, and what is thrown is told."""
+    """Each rule number stands in a row of the coverage, and so does what is thrown."""
     text = text_of(top, "docs/coverage.md").partition(TO_COME)[0]
     numbers, throws = rules_in(top)
     rows = "\n".join(line for line in text.splitlines() if line.startswith("|"))
     for number in sorted(numbers - told(rows, numbers)):
         findings.append(f"docs/coverage.md: rule {number} is in no row of it")
-    for low, high in re.findall(r"\brules? (\d+)(?: to (\d+))?", text):
-        for number in filter(None, (low, high)):
-            if int(number) not in numbers:
-                findings.append(f"docs/coverage.md: there is no rule {number}")
     for number, words in sorted(throws.items()):
         if not re.search(rf"^\| {number} \| {re.escape(words)}", text, re.M):
             findings.append(f"docs/coverage.md: that the standard throws {words} for rule {number} is not in it")
+
+
+def check_numbers(top, crates, findings):
+    """Each rule that a document names is one; the page on scripts has rules of its own."""
+    calls, scripts = rules_in(top)[0], {row["rule"] for row in json.loads(text_of(top, "docs/rules.json"))["scripts"]}
+    for document in documents(top):
+        known = calls | scripts if document.name == "script.md" else calls
+        text = document.read_text(encoding="utf-8").partition(TO_COME)[0]
+        for several in RULES.findall(text):
+            for number in re.findall(r"\d+", several):
+                if int(number) not in known:
+                    findings.append(f"{document.relative_to(top)}: there is no rule {number}")
 
 
 def check_words(top, crates, findings):
@@ -144,7 +153,7 @@ def check_clauses(top, crates, findings):
                 findings.append(f"docs/embedding.md: no clause {name} in the code of {crate}")
 
 
-CHECKS = (check_readme, check_crates, check_links, check_definitions, check_coverage, check_words, check_blocks, check_clauses)
+CHECKS = (check_readme, check_crates, check_links, check_definitions, check_coverage, check_numbers, check_words, check_blocks, check_clauses)
 
 
 def check_shown(top, program, findings):
