@@ -82,7 +82,7 @@ def cited(top):
     """Each definition that a public contract cites, with a file that does so."""
     known, found = declared(top), {}
     for crate in sorted((top / "crates").glob("*/")):
-        if not (crate / "src/lib.rt").is_file() or crate.name == "wg_tests":
+        if not (crate / "src/lib.rt").is_file() or crate.name.endswith("_tests"):
             continue
         modules, names = exported(crate)
         for path in sorted((crate / "src").glob("*.rt")):

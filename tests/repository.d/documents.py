@@ -157,7 +157,9 @@ CHECKS = (check_readme, check_crates, check_links, check_definitions, check_cove
 
 
 def check_shown(top, program, findings):
-    """What the README shows of the tool is what the tool prints."""
+    """What the README shows of the tool is what the tool prints, where the program is there."""
+    if not program.is_file():
+        return
     for shown in SHOWN.findall(text_of(top, "README.md")):
         command, *lines = shown.splitlines()
         words = [sys.executable, str(top / "wgsim"), *command.split()[2:]]
@@ -166,11 +168,9 @@ def check_shown(top, program, findings):
             findings.append(f"README.md: `{command[2:]}` does not print what is shown of it")
 
 
-def findings_of(top, crates, program):
-    """What all checks find; what the tool prints is looked at where the program is there."""
+def findings_of(top, crates):
+    """What all checks find that need no program."""
     findings = []
     for check in CHECKS:
         check(top, crates, findings)
-    if program.is_file():
-        check_shown(top, program, findings)
     return findings
