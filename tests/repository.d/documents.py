@@ -37,8 +37,9 @@ def documents(top):
 def check_readme(top, crates, findings):
     """The README is a page, and leads to each document."""
     text = text_of(top, "README.md")
-    if len(text.splitlines()) > README_LINES or len(text.split()) > README_WORDS:
-        findings.append(f"README.md: {len(text.splitlines())} lines and {len(text.split())} words, and at most {README_LINES} and {README_WORDS} are wanted")
+    lines, words = len(text.splitlines()), len(text.split())
+    if lines > README_LINES or words > README_WORDS:
+        findings.append(f"README.md: {lines} lines and {words} words, and at most {README_LINES} and {README_WORDS} are wanted")
     for path in sorted((top / "docs").glob("*.md")):
         if f"docs/{path.name}" not in text:
             findings.append(f"README.md: docs/{path.name} is not in it")
@@ -139,9 +140,14 @@ def check_blocks(top, crates, findings):
             findings.append(f"docs/embedding.md: no source has the block that begins `{block.splitlines()[0]}`")
 
 
+def code_of(folder):
+    """The text of all code of a folder."""
+    return "\n".join(path.read_text(encoding="utf-8") for path in sorted(folder.rglob("*.rt")))
+
+
 def check_clauses(top, crates, findings):
     """The second cells of the page on embedding name calls that exist, and clauses that stand at them."""
-    codes = {crate: "\n".join(path.read_text(encoding="utf-8") for path in sorted((top / "crates" / crate / "src").rglob("*.rt"))) for crate in crates}
+    codes = {crate: code_of(top / "crates" / crate / "src") for crate in crates}
     for row in text_of(top, "docs/embedding.md").splitlines():
         cells, crate = row.split("|"), None
         for name in NAMES.findall(cells[2]) if len(cells) == 4 else []:
