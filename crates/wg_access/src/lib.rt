@@ -216,6 +216,3 @@ pub fn host_step(
     let step = accessed_step(alloc, buffer, mapping, place)?;
     Ok(step)
 }
-
-#[cfg(test)]
-mod tests;

@@ -53,6 +53,3 @@ pub fn check_map(info: &BufferInfo, mode: u32, offset: u64, size: u64) -> Option
     }
     None
 }
-
-#[cfg(test)]
-mod tests;

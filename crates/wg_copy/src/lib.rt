@@ -96,6 +96,3 @@ pub fn check(command: &Command) -> Option<u16>
         | Command::DrawIndexedIndirect { .. } => return None,
     }
 }
-
-#[cfg(test)]
-mod tests;

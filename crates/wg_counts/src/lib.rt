@@ -247,6 +247,3 @@ impl Counts {
         self.fallen.clear();
     }
 }
-
-#[cfg(test)]
-mod tests;

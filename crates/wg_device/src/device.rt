@@ -164,6 +164,25 @@ impl Device {
         }
     }
 
+    /// A call that makes an object, which is handed over and dropped here, so that no caller drops one at its ways out.
+    pub(crate) fn make_of(
+        &self,
+        rt: &impl Wait,
+        pass: &mut DevicePass,
+        request: RequestOf<Handle>,
+    ) -> Result<(Handle, Reply), NoMemory>
+        requires pass { CanCall self.now.lock pass.old }
+        requires makes { is_some (kind_made request) ≡ true }
+        ensures called { HasCalled self.now.lock pass.old pass.new }
+        ensures done { IfOk result (λ t. IsAct self.now.lock pass.old pass.new (event_asked request) t.1) }
+        ensures handle { IfOk result (λ t. handle_made (setup_of self.now.lock).serial request t.1.answer ≡ Some t.0) }
+        ensures genuine { IfOk result (λ t. AreGenuine (setup_of self.now.lock) (front_in self.now.lock pass.new) (named request)
+            → IsGenuine (setup_of self.now.lock) (front_in self.now.lock pass.new) t.0) }
+        ensures refused { IfErr result (λ _. HasNotMade self.now.lock pass.old pass.new) }
+    {
+        self.make(rt, pass, &request)
+    }
+
     /// Ends the encoder of a recorder: what that has kept moves into the event. A recorder that was ended
     /// before hands over nothing. Without memory it is as before.
     #[tactic(auto, using(crate::proofs::Calling::finished_genuine, crate::proofs::Calling::finished_gives, crate::proofs::Taking::is_as_before, crate::proofs::Taking::is_unchanged))]

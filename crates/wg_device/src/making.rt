@@ -38,7 +38,7 @@ impl Device {
         ensures genuine { IfOk result (λ t. IsGenuine (setup_of self.now.lock) (front_in self.now.lock pass.new) t.0) }
         ensures refused { IfErr result (λ _. HasNotMade self.now.lock pass.old pass.new) }
     {
-        self.make(rt, pass, &RequestOf::CreateBuffer { info })
+        self.make_of(rt, pass, RequestOf::CreateBuffer { info })
     }
 
     /// Makes a texture (WebGPU, "createTexture").
@@ -56,7 +56,7 @@ impl Device {
         ensures genuine { IfOk result (λ t. IsGenuine (setup_of self.now.lock) (front_in self.now.lock pass.new) t.0) }
         ensures refused { IfErr result (λ _. HasNotMade self.now.lock pass.old pass.new) }
     {
-        self.make(rt, pass, &RequestOf::CreateTexture { info })
+        self.make_of(rt, pass, RequestOf::CreateTexture { info })
     }
 
     /// Makes a view of a texture (WebGPU, "createView"), of which no part is left out.
@@ -83,7 +83,7 @@ impl Device {
             layers: Some(desc.layers),
         };
         let texture = texture.share()?;
-        self.make(rt, pass, &RequestOf::CreateView { texture, asked })
+        self.make_of(rt, pass, RequestOf::CreateView { texture, asked })
     }
 
     /// Makes a sampler (WebGPU, "createSampler").
@@ -101,7 +101,7 @@ impl Device {
         ensures genuine { IfOk result (λ t. IsGenuine (setup_of self.now.lock) (front_in self.now.lock pass.new) t.0) }
         ensures refused { IfErr result (λ _. HasNotMade self.now.lock pass.old pass.new) }
     {
-        self.make(rt, pass, &RequestOf::CreateSampler { kind })
+        self.make_of(rt, pass, RequestOf::CreateSampler { kind })
     }
 
     /// Makes a bind group layout (WebGPU, "createBindGroupLayout").
@@ -123,7 +123,7 @@ impl Device {
             entries: Items::from_vec(entries),
         };
         let info = Shared::new(self.alloc, info)?;
-        self.make(rt, pass, &RequestOf::CreateBindGroupLayout { info })
+        self.make_of(rt, pass, RequestOf::CreateBindGroupLayout { info })
     }
 
     /// Makes a pipeline layout (WebGPU, "createPipelineLayout").
@@ -141,7 +141,7 @@ impl Device {
         ensures refused { IfErr result (λ _. HasNotMade self.now.lock pass.old pass.new) }
     {
         let layouts = Items::from_vec(layouts);
-        self.make(rt, pass, &RequestOf::CreatePipelineLayout { layouts })
+        self.make_of(rt, pass, RequestOf::CreatePipelineLayout { layouts })
     }
 
     /// Makes a bind group (WebGPU, "createBindGroup").
@@ -161,7 +161,7 @@ impl Device {
     {
         let layout = layout.share()?;
         let entries = Items::from_vec(entries);
-        self.make(rt, pass, &RequestOf::CreateBindGroup { layout, entries })
+        self.make_of(rt, pass, RequestOf::CreateBindGroup { layout, entries })
     }
 
     /// Makes a compute pipeline (WebGPU, "createComputePipeline"), whose shader uses these bindings.
@@ -184,11 +184,7 @@ impl Device {
             entries: Items::from_vec(iface),
         };
         let iface = Shared::new(self.alloc, iface)?;
-        self.make(
-            rt,
-            pass,
-            &RequestOf::CreateComputePipeline { layout, iface },
-        )
+        self.make_of(rt, pass, RequestOf::CreateComputePipeline { layout, iface })
     }
 
     /// Makes a render pipeline (WebGPU, "createRenderPipeline").
@@ -208,7 +204,7 @@ impl Device {
     {
         let layout = layout.share()?;
         let desc = Shared::new(self.alloc, desc)?;
-        self.make(rt, pass, &RequestOf::CreateRenderPipeline { layout, desc })
+        self.make_of(rt, pass, RequestOf::CreateRenderPipeline { layout, desc })
     }
 
     /// Makes an encoder (WebGPU, "createCommandEncoder"), with a recorder that is open for it.
@@ -226,7 +222,7 @@ impl Device {
         ensures genuine { IfOk result (λ t. IsGenuine (setup_of self.now.lock) (front_in self.now.lock pass.new) t.1) }
         ensures refused { IfErr result (λ _. HasNotMade self.now.lock pass.old pass.new) }
     {
-        let (handle, reply) = self.make(rt, pass, &RequestOf::CreateEncoder)?;
+        let (handle, reply) = self.make_of(rt, pass, RequestOf::CreateEncoder)?;
         let recorder = recorder_for(self.alloc, &handle);
         Ok((recorder, handle, reply))
     }

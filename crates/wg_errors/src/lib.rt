@@ -240,6 +240,3 @@ impl Errors {
         settled(scope.first)
     }
 }
-
-#[cfg(test)]
-mod tests;

@@ -19,6 +19,3 @@ pub use handles::{
 };
 pub use layout::{bytes_fit, required};
 pub use memory::{bytes_of, texture_bytes};
-
-#[cfg(test)]
-mod tests;

@@ -4,7 +4,7 @@ ghost use Rattle.wg_gen.specs.Generator.{next, drawn, spot_at};
 
 /// Where an iteration writes, and what it copies: from a buffer, at an offset, to another buffer, at the
 /// same offset.
-#[derive(Clone, Copy, Debug, PartialEq, Eq)]
+#[derive(Clone, Copy, PartialEq, Eq)]
 pub struct Spot {
     pub source: u32,
     pub target: u32,
@@ -12,7 +12,7 @@ pub struct Spot {
 }
 
 /// The numbers of a lane, each of which follows from the one before.
-#[derive(Clone, Copy, Debug)]
+#[derive(Clone, Copy)]
 pub struct Draws {
     pub state: u64,
 }

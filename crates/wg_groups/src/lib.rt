@@ -6,6 +6,3 @@ mod fits;
 pub mod making;
 
 pub use check::check_group;
-
-#[cfg(test)]
-mod tests;

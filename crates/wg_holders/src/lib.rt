@@ -213,6 +213,3 @@ impl Holders {
         self.counts.clear();
     }
 }
-
-#[cfg(test)]
-mod tests;

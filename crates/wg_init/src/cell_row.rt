@@ -2,7 +2,7 @@ use wg_types::parts::Aspect;
 
 /// A row of cells: the bytes of a buffer, the queries of a query set, the layers of a mip level and
 /// aspect of a texture, or the slices of a mip level of a 3D texture.
-#[derive(Clone, Copy, PartialEq, Eq, Debug)]
+#[derive(Clone, Copy, PartialEq, Eq)]
 pub enum CellRow {
     Buffer(u64),
     Queries(u64),

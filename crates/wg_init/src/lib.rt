@@ -10,6 +10,3 @@ pub mod unset;
 pub use cell_row::CellRow;
 pub use state::CellState;
 pub use wg_entry::NoMemory;
-
-#[cfg(test)]
-mod tests;

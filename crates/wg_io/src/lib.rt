@@ -5,8 +5,6 @@ mod copying;
 mod memory;
 mod reading;
 mod standard;
-#[cfg(test)]
-mod tests;
 
 ghost use Rattle.std.specs.Prelude.{◌<◌, ℕ, List, length, IfOk};
 ghost use Rattle.std.specs.declared.option.Option.{Option};
@@ -20,7 +18,7 @@ pub use standard::{StdSink, StdSource};
 pub use wg_entry::NoMemory;
 
 /// A read or a write that moved no byte.
-#[derive(Clone, Copy, Debug, PartialEq, Eq)]
+#[derive(Clone, Copy, PartialEq, Eq, Debug)]
 pub struct Failed;
 
 /// Gives bytes.

@@ -8,7 +8,7 @@ use crate::{Failed, Source};
 use std::alloc::{AllocError, Global};
 
 /// Why a source was not read to its end.
-#[derive(Clone, Copy, Debug, PartialEq, Eq)]
+#[derive(Clone, Copy, PartialEq, Eq, Debug)]
 pub enum ReadError {
     /// There was no memory for more bytes.
     NoMemory,

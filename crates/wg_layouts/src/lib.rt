@@ -19,6 +19,3 @@ pub use checks::{check_group_layout, check_pipeline_layout};
 pub use equivalence::equivalent;
 pub use setting::{check_set, group_in, known_group, layouts_in};
 pub use touching::bound_touches;
-
-#[cfg(test)]
-mod tests;

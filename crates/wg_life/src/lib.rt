@@ -8,6 +8,3 @@ mod waiting;
 
 pub use life::Life;
 pub use rows::{Made, Resource, Row};
-
-#[cfg(test)]
-mod tests;

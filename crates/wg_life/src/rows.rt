@@ -7,7 +7,7 @@ use wg_holders::Links;
 use wg_types::steps::Sort;
 
 /// The memory of a valid object: of which sort it is, and how many bytes it takes of the budget.
-#[derive(Clone, Copy, PartialEq, Eq, Debug)]
+#[derive(Clone, Copy, PartialEq, Eq)]
 pub struct Resource {
     pub sort: Sort,
     pub bytes: u64,

@@ -37,6 +37,3 @@ pub fn default_limits() -> Limits
         max_queries_per_set: 4096,
     }
 }
-
-#[cfg(test)]
-mod tests;

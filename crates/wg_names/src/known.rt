@@ -10,7 +10,7 @@ use wg_types::wanted::{Kind, Wanted};
 
 /// What a name stands for, the phase and the lane whose call made it, and how many names were made
 /// before it.
-#[derive(Clone, Copy, Debug, PartialEq, Eq)]
+#[derive(Clone, Copy, PartialEq, Eq)]
 pub struct Mark {
     pub kind: Kind,
     pub phase: u32,

@@ -6,6 +6,3 @@ pub mod set;
 
 pub use set::RunSet;
 pub use wg_entry::NoMemory;
-
-#[cfg(test)]
-mod tests;

@@ -6,6 +6,3 @@ mod interface;
 mod targets;
 
 pub use checks::{check_compute, check_render};
-
-#[cfg(test)]
-mod tests;

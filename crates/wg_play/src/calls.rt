@@ -5,7 +5,7 @@ ghost use Rattle.wg_play.specs.Lanes.{command_seen, noted_on, request_seen};
 ghost use Rattle.wg_play.specs.Objects.{ended_by, is_late_on};
 ghost use Rattle.wg_play.specs.Sights.{SeesSame, sight_of, handle_in_sight};
 
-use crate::objects::{Stand, begun_by, record_on};
+use crate::objects::{Object, Stand, begun_by, record_on};
 use crate::seen::Seen;
 use std::alloc::Global;
 use wg_encoder::Noted;
@@ -99,8 +99,11 @@ pub fn note_command(
     let begun = begun_by(seen.own.as_slice(), stand.encoder, &command, made);
     seen.own.reserve(1)?;
     let noted = record_on(&mut seen.own, stand, command)?;
-    if let Some(pass) = begun {
-        seen.own.push_reserved(pass);
+    if let Some(number) = begun {
+        seen.own.push_reserved(Object::Pass {
+            encoder: stand.encoder,
+            number,
+        });
     }
     Ok(noted)
 }

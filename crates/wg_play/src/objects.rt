@@ -1,6 +1,7 @@
 //! What the calls of a lane have made, each at its place.
 ghost use Rattle.std.specs.Prelude.{◌≡◌, true, [], option_to_list, slice_get, vec_len, vec_capacity, IfOk, OnOk, OnErr};
-ghost use Rattle.std.specs.Option.{option_map_or};
+ghost use Rattle.std.specs.Option.{option_map, option_map_or};
+ghost use Rattle.wg_play.specs.declared.objects.Object.TheVariants.{Pass};
 ghost use Rattle.wg_encoder.specs.Recorders.{noted};
 ghost use Rattle.wg_play.specs.Objects.{handle_at, reference_at, recorder_in, changed, stand_at, is_begun, is_late_by, is_late_on, recorded_by, recorded_on, passes_at, begun_by, recorder_for, object_of};
 
@@ -27,7 +28,7 @@ pub enum Object {
 }
 
 /// Where a recording call stands: the place of its encoder, and whether on that itself or on a pass of it.
-#[derive(Clone, Copy, Debug)]
+#[derive(Clone, Copy)]
 pub struct Stand {
     pub encoder: u32,
     pub on: On,
@@ -149,21 +150,18 @@ fn passes_at(objects: &[Object], place: u32) -> u32
     }
 }
 
-/// The pass that a command begins on the encoder of a place, where it begins one that has a slot. It is
-/// asked before the command is recorded, and the pass is made after that.
+/// The number of the pass that a command begins on the encoder of a place, where it begins one that has a
+/// slot. It is asked before the command is recorded, and the pass is made after that.
 pub fn begun_by(
     objects: &[Object],
     encoder: u32,
     command: &Command,
     made: Option<u32>,
-) -> Option<Object>
-    ensures { option_to_list result ≡ begun_by objects.now encoder command.now made }
+) -> Option<u32>
+    ensures { option_to_list (option_map (λ number. Pass encoder number) result) ≡ begun_by objects.now encoder command.now made }
 {
     match (made, command.kind_begun()) {
-        (Some(_), Some(_)) => Some(Object::Pass {
-            encoder,
-            number: passes_at(objects, encoder),
-        }),
+        (Some(_), Some(_)) => Some(passes_at(objects, encoder)),
         _ => None,
     }
 }

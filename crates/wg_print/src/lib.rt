@@ -6,8 +6,6 @@ mod entries;
 mod items;
 mod pieces;
 mod printing;
-#[cfg(test)]
-mod tests;
 mod usage_sets;
 mod words;
 

@@ -196,6 +196,3 @@ impl Queue {
         self.settled = 0;
     }
 }
-
-#[cfg(test)]
-mod tests;

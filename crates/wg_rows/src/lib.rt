@@ -57,6 +57,3 @@ pub fn sets_of_uses()
 pub fn cells_lie()
     ensures { CellsLie }
 {}
-
-#[cfg(test)]
-mod tests;

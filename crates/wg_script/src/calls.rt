@@ -1,11 +1,11 @@
-ghost use Rattle.std.specs.Prelude.{◌≡◌, IfOk, option_map};
+ghost use Rattle.std.specs.Prelude.{◌≡◌, IfOk};
 ghost use Rattle.wg_script.specs.CallOf.{map_call};
 
 use crate::NoMemory;
 use crate::name::Name;
 use std::alloc::Global;
 use wg_types::commands::CommandOf;
-use wg_types::refs::Find;
+use wg_types::refs::{self, Find};
 use wg_types::requests::RequestOf;
 
 /// A call of a script, with its names as `R`. A recording call stands on an encoder or a pass, and any
@@ -30,15 +30,6 @@ pub type Call = CallOf<Name>;
 /// order, and a name's slot is its number.
 pub type BoundCall = CallOf<u32>;
 
-fn map_made<R, S: Drop, F: Find<R, S>>(find: &F, made: &Option<R>) -> Result<Option<S>, NoMemory>
-    ensures { IfOk result (λ found. found ≡ option_map (F.finds find.now) made.now) }
-{
-    match made {
-        Some(name) => Ok(Some(find.find(name)?)),
-        None => Ok(None),
-    }
-}
-
 impl<R> CallOf<R> {
     /// The call with what stands for each name in place of it.
     pub fn map<S: Drop, F: Find<R, S>>(
@@ -52,11 +43,11 @@ impl<R> CallOf<R> {
             CallOf::Record { on, command, made } => Ok(CallOf::Record {
                 on: find.find(on)?,
                 command: command.map(alloc, find)?,
-                made: map_made(find, made)?,
+                made: refs::map_maybe(find, made)?,
             }),
             CallOf::Ask { request, made } => Ok(CallOf::Ask {
                 request: request.map(alloc, find)?,
-                made: map_made(find, made)?,
+                made: refs::map_maybe(find, made)?,
             }),
         }
     }

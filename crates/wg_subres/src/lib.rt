@@ -263,6 +263,3 @@ pub fn runs_are_printed()
     ensures copies { CopiesPrinted }
     ensures cells { CellsPrinted }
 {}
-
-#[cfg(test)]
-mod tests;

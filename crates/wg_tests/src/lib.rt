@@ -1,17 +1,26 @@
-//! Tests of other crates, so that those are not proved a second time with tests of their own.
+//! Tests of recording, of the device and of the turn lock, in a crate of their own, so that those crates are not proved a second time with
+//! tests of their own.
 #![tactic(auto)]
 
+#[cfg(test)]
+mod access;
 #[cfg(test)]
 mod calls;
 #[cfg(test)]
 mod compute;
 #[cfg(test)]
+mod counter;
+#[cfg(test)]
 mod events;
 #[cfg(test)]
 mod groups;
+#[cfg(test)]
+mod recorders;
 #[cfg(test)]
 mod render;
 #[cfg(test)]
 mod tests;
 #[cfg(test)]
 mod threads;
+#[cfg(test)]
+mod turns;

@@ -8,6 +8,3 @@ mod view;
 pub use create::check_create;
 pub use defaults::{Asked, view_of};
 pub use view::check_view;
-
-#[cfg(test)]
-mod tests;

@@ -4,7 +4,7 @@ ghost use Rattle.wg_gen.specs.Alike.{MayGenerate};
 ghost use Rattle.wg_top.specs.Words.{IsJobOf, Spells, generation_words};
 
 /// What is asked for.
-#[derive(Clone, Copy, Debug, PartialEq, Eq)]
+#[derive(Clone, Copy, PartialEq, Eq)]
 pub enum Job {
     /// A script is read and played.
     Run,

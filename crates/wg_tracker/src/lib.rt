@@ -17,6 +17,3 @@ pub use wg_entry::NoMemory;
 pub fn releases()
     ensures { FreesKeep }
 {}
-
-#[cfg(test)]
-mod tests;

@@ -2,4 +2,3 @@ pub mod Entries
 pub mod Turns
 pub mod Passes
 pub mod Closings
-pub mod Counters

@@ -11,6 +11,3 @@ mod view;
 pub use lock::{Closed, Pass, TurnLock};
 pub use logged::Logged;
 pub use wg_entry::{Entry, NoMemory, Refused};
-
-#[cfg(test)]
-mod tests;

@@ -13,7 +13,7 @@ use crate::wanted::Wanted;
 use std::alloc::Global;
 
 /// What a buffer is bound as (WebGPU, "GPUBufferBindingType").
-#[derive(Clone, Copy, PartialEq, Eq, Debug)]
+#[derive(Clone, Copy, PartialEq, Eq)]
 pub enum BufferBinding {
     Uniform,
     Storage,
@@ -21,7 +21,7 @@ pub enum BufferBinding {
 }
 
 /// The kinds of samplers, and what a binding asks of one (WebGPU, "GPUSamplerBindingType").
-#[derive(Clone, Copy, PartialEq, Eq, Debug)]
+#[derive(Clone, Copy, PartialEq, Eq)]
 pub enum SamplerKind {
     Filtering,
     NonFiltering,
@@ -29,7 +29,7 @@ pub enum SamplerKind {
 }
 
 /// How a storage texture is accessed (WebGPU, "GPUStorageTextureAccess").
-#[derive(Clone, Copy, PartialEq, Eq, Debug)]
+#[derive(Clone, Copy, PartialEq, Eq)]
 pub enum StorageAccess {
     ReadOnly,
     WriteOnly,
@@ -39,7 +39,7 @@ pub enum StorageAccess {
 /// What a binding holds (WebGPU, "Bind Group Layout Creation"): a buffer, with an offset that is given
 /// when its group is set where it is `dynamic`, and of at least `min_size` bytes; a sampler; a texture
 /// that is sampled, with four samples where it is `multi`; or a texture that is used as storage.
-#[derive(Clone, Copy, PartialEq, Eq, Debug)]
+#[derive(Clone, Copy, PartialEq, Eq)]
 pub enum BindingKind {
     Buffer {
         binding: BufferBinding,
@@ -63,7 +63,7 @@ pub enum BindingKind {
 
 /// An entry of a bind group layout (WebGPU, "GPUBindGroupLayoutEntry"): the number of a binding, the
 /// stages that see it (WebGPU, "GPUShaderStage": vertex 1, fragment 2, compute 4), and what it holds.
-#[derive(Clone, Copy, PartialEq, Eq, Debug)]
+#[derive(Clone, Copy, PartialEq, Eq)]
 pub struct LayoutEntry {
     pub binding: u32,
     pub visibility: u32,
@@ -71,7 +71,7 @@ pub struct LayoutEntry {
 }
 
 /// The stages of a pipeline.
-#[derive(Clone, Copy, PartialEq, Eq, Debug)]
+#[derive(Clone, Copy, PartialEq, Eq)]
 pub enum Stage {
     Vertex,
     Fragment,
@@ -80,7 +80,7 @@ pub enum Stage {
 
 /// What a shader of a stage uses of a group (WebGPU, "GPUProgrammableStage"). Of a buffer neither an
 /// offset nor a least size is looked at.
-#[derive(Clone, Copy, PartialEq, Eq, Debug)]
+#[derive(Clone, Copy, PartialEq, Eq)]
 pub struct IfaceEntry {
     pub group: u32,
     pub binding: u32,
@@ -113,7 +113,7 @@ pub struct GroupEntryOf<R> {
 }
 
 /// What a bind group binds, with what was known of it when the group was made.
-#[derive(Clone, Copy, PartialEq, Eq, Debug)]
+#[derive(Clone, Copy, PartialEq, Eq)]
 pub enum BoundResource {
     Buffer {
         buffer: ObjRef,
@@ -132,7 +132,7 @@ pub enum BoundResource {
 }
 
 /// An entry of a bind group.
-#[derive(Clone, Copy, PartialEq, Eq, Debug)]
+#[derive(Clone, Copy, PartialEq, Eq)]
 pub struct BoundEntry {
     pub binding: u32,
     pub resource: BoundResource,

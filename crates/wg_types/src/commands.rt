@@ -16,7 +16,7 @@ use std::alloc::Global;
 
 /// What a command stands on: the encoder itself, or the pass with this number. Passes are numbered
 /// from 0 by the commands that begin them.
-#[derive(Clone, Copy, PartialEq, Eq, Debug)]
+#[derive(Clone, Copy, PartialEq, Eq)]
 pub enum On {
     Encoder,
     Pass(u32),
@@ -24,7 +24,7 @@ pub enum On {
 
 /// The kinds of places on which commands stand: a command encoder, a pass of it, or a bundle encoder
 /// (WebGPU, "Command Encoding" and "Bundles").
-#[derive(Clone, Copy, PartialEq, Eq, Debug)]
+#[derive(Clone, Copy, PartialEq, Eq)]
 pub enum CommandPlace {
     Encoder,
     ComputePass,
@@ -34,7 +34,7 @@ pub enum CommandPlace {
 
 /// What a command opens or closes on what it stands on: a pass, or a debug group (WebGPU, "Command
 /// Encoding" and "Debug Markers").
-#[derive(Clone, Copy, PartialEq, Eq, Debug)]
+#[derive(Clone, Copy, PartialEq, Eq)]
 pub enum Bracket {
     BeginComputePass,
     BeginRenderPass,
@@ -428,39 +428,48 @@ impl<R> CommandOf<R> {
                 target,
                 target_offset,
                 size,
-            } => Ok(CommandOf::CopyBufferToBuffer {
-                source: find.find(source)?,
-                source_offset: *source_offset,
-                target: find.find(target)?,
-                target_offset: *target_offset,
-                size: *size,
-            }),
+            } => {
+                let (source, target) = refs::find_two(find, source, target)?;
+                Ok(CommandOf::CopyBufferToBuffer {
+                    source,
+                    source_offset: *source_offset,
+                    target,
+                    target_offset: *target_offset,
+                    size: *size,
+                })
+            }
             CommandOf::CopyBufferToTexture {
                 buffer,
                 layout,
                 texture,
                 spot,
                 size,
-            } => Ok(CommandOf::CopyBufferToTexture {
-                buffer: find.find(buffer)?,
-                layout: *layout,
-                texture: find.find(texture)?,
-                spot: *spot,
-                size: *size,
-            }),
+            } => {
+                let (buffer, texture) = refs::find_two(find, buffer, texture)?;
+                Ok(CommandOf::CopyBufferToTexture {
+                    buffer,
+                    layout: *layout,
+                    texture,
+                    spot: *spot,
+                    size: *size,
+                })
+            }
             CommandOf::CopyTextureToBuffer {
                 buffer,
                 layout,
                 texture,
                 spot,
                 size,
-            } => Ok(CommandOf::CopyTextureToBuffer {
-                buffer: find.find(buffer)?,
-                layout: *layout,
-                texture: find.find(texture)?,
-                spot: *spot,
-                size: *size,
-            }),
+            } => {
+                let (buffer, texture) = refs::find_two(find, buffer, texture)?;
+                Ok(CommandOf::CopyTextureToBuffer {
+                    buffer,
+                    layout: *layout,
+                    texture,
+                    spot: *spot,
+                    size: *size,
+                })
+            }
             CommandOf::CopyTextureToTexture {
                 source,
                 source_mip,
@@ -469,15 +478,18 @@ impl<R> CommandOf<R> {
                 target_mip,
                 target_origin,
                 size,
-            } => Ok(CommandOf::CopyTextureToTexture {
-                source: find.find(source)?,
-                source_mip: *source_mip,
-                source_origin: *source_origin,
-                target: find.find(target)?,
-                target_mip: *target_mip,
-                target_origin: *target_origin,
-                size: *size,
-            }),
+            } => {
+                let (source, target) = refs::find_two(find, source, target)?;
+                Ok(CommandOf::CopyTextureToTexture {
+                    source,
+                    source_mip: *source_mip,
+                    source_origin: *source_origin,
+                    target,
+                    target_mip: *target_mip,
+                    target_origin: *target_origin,
+                    size: *size,
+                })
+            }
             CommandOf::ClearBuffer {
                 buffer,
                 offset,

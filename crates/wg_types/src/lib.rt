@@ -24,6 +24,3 @@ pub mod wanted;
 pub mod words;
 
 pub use wg_entry::NoMemory;
-
-#[cfg(test)]
-mod tests;

@@ -1,14 +1,14 @@
 //! What is said of the mappings of buffers.
 
 /// What a mapping is for (WebGPU, "GPUMapMode").
-#[derive(Clone, Copy, PartialEq, Eq, Debug)]
+#[derive(Clone, Copy, PartialEq, Eq)]
 pub enum MapMode {
     Read,
     Write,
 }
 
 /// How a buffer stands (WebGPU, "GPUBufferMapState").
-#[derive(Clone, Copy, PartialEq, Eq, Debug)]
+#[derive(Clone, Copy, PartialEq, Eq)]
 pub enum MapState {
     Unmapped,
     Pending,
@@ -26,7 +26,7 @@ pub enum Unmapped {
 }
 
 /// A map that is settled: its buffer, the number of its promise, and the bytes from `lo` to below `hi`.
-#[derive(Clone, Copy, PartialEq, Eq, Debug)]
+#[derive(Clone, Copy, PartialEq, Eq)]
 pub struct MapDone {
     pub buffer: u64,
     pub promise: u64,
@@ -36,7 +36,7 @@ pub struct MapDone {
 }
 
 /// How a buffer is mapped: the bytes from `lo` to below `hi`.
-#[derive(Clone, Copy, PartialEq, Eq, Debug)]
+#[derive(Clone, Copy, PartialEq, Eq)]
 pub struct Mapping {
     pub mode: MapMode,
     pub lo: u64,
@@ -44,7 +44,7 @@ pub struct Mapping {
 }
 
 /// A map that waits until the operations up to `last` are complete.
-#[derive(Clone, Copy, PartialEq, Eq, Debug)]
+#[derive(Clone, Copy, PartialEq, Eq)]
 pub struct PendingMap {
     pub promise: u64,
     pub buffer: u64,

@@ -14,7 +14,7 @@ use crate::wanted::Wanted;
 use std::alloc::Global;
 
 /// What a render pipeline does with depth and stencil (WebGPU, "GPUDepthStencilState").
-#[derive(Clone, Copy, PartialEq, Eq, Debug)]
+#[derive(Clone, Copy, PartialEq, Eq)]
 pub struct DepthState {
     pub format: Format,
     pub depth_write: bool,
@@ -46,14 +46,14 @@ pub struct TargetInfo {
 }
 
 /// What becomes of an attachment as its pass begins (WebGPU, "GPULoadOp").
-#[derive(Clone, Copy, PartialEq, Eq, Debug)]
+#[derive(Clone, Copy, PartialEq, Eq)]
 pub enum LoadOp {
     Load,
     Clear,
 }
 
 /// What becomes of an attachment as its pass ends (WebGPU, "GPUStoreOp").
-#[derive(Clone, Copy, PartialEq, Eq, Debug)]
+#[derive(Clone, Copy, PartialEq, Eq)]
 pub enum StoreOp {
     Store,
     Discard,

@@ -5,7 +5,7 @@ ghost use Rattle.wg_types.specs.Vertex.{vertex_bytes, index_bytes};
 use crate::items::Items;
 
 /// The formats of vertex attributes (WebGPU, "GPUVertexFormat").
-#[derive(Clone, Copy, PartialEq, Eq, Debug)]
+#[derive(Clone, Copy, PartialEq, Eq)]
 pub enum VertexFormat {
     Uint8x2,
     Uint8x4,
@@ -43,7 +43,7 @@ impl VertexFormat {
 }
 
 /// Whether a vertex buffer goes on with each vertex or with each instance (WebGPU, "GPUVertexStepMode").
-#[derive(Clone, Copy, PartialEq, Eq, Debug)]
+#[derive(Clone, Copy, PartialEq, Eq)]
 pub enum VertexStep {
     Vertex,
     Instance,
@@ -51,7 +51,7 @@ pub enum VertexStep {
 
 /// An attribute of a vertex buffer (WebGPU, "GPUVertexAttribute"): its offset in bytes from where its
 /// vertex or instance begins, and the location in the shader.
-#[derive(Clone, Copy, PartialEq, Eq, Debug)]
+#[derive(Clone, Copy, PartialEq, Eq)]
 pub struct VertexAttribute {
     pub format: VertexFormat,
     pub offset: u32,
@@ -68,7 +68,7 @@ pub struct VertexBuffer {
 }
 
 /// The formats of indexes (WebGPU, "GPUIndexFormat").
-#[derive(Clone, Copy, PartialEq, Eq, Debug)]
+#[derive(Clone, Copy, PartialEq, Eq)]
 pub enum IndexFormat {
     Uint16,
     Uint32,

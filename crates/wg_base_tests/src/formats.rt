@@ -1,0 +1,80 @@
+//! What no script reaches: how formats are sampled and stored and what they take of memory, levels past
+//! the last, layouts of more bytes than 64 bits can say, and textures of as many.
+use wg_formats::{end_layer, extent, required, texture_bytes};
+use wg_types::formats::{Format, SampleType, StorageAccesses};
+use wg_types::textures::{DataLayout, TextureDim, TextureInfo};
+
+/// The accesses as storage: none, reads and writes apart, and both at once too.
+const NONE: (bool, bool, bool) = (false, false, false);
+
+const APART: (bool, bool, bool) = (true, true, false);
+
+const ALL: (bool, bool, bool) = (true, true, true);
+
+#[rattlefmt::skip]
+#[test]
+fn formats_are_those_of_the_standard(rt: HostRuntime) {
+    for (format, bytes, sampled, storage) in [
+        (Format::R8Unorm, 1, SampleType::Float, NONE),
+        (Format::Rg8Unorm, 2, SampleType::Float, NONE),
+        (Format::Rgba8Unorm, 4, SampleType::Float, APART),
+        (Format::Rgba8UnormSrgb, 4, SampleType::Float, NONE),
+        (Format::Bgra8Unorm, 4, SampleType::Float, NONE),
+        (Format::R32Uint, 4, SampleType::Uint, ALL),
+        (Format::R32Float, 4, SampleType::UnfilterableFloat, ALL),
+        (Format::Rgba16Float, 8, SampleType::Float, APART),
+        (Format::Rgba32Float, 16, SampleType::UnfilterableFloat, APART),
+        (Format::Depth16Unorm, 2, SampleType::Depth, NONE),
+        (Format::Depth24Plus, 4, SampleType::Depth, NONE),
+        (Format::Depth24PlusStencil8, 5, SampleType::Depth, NONE),
+        (Format::Depth32Float, 4, SampleType::Depth, NONE),
+        (Format::Stencil8, 1, SampleType::Uint, NONE),
+    ] {
+        let row = format.row();
+        let StorageAccesses { read_only, write_only, read_write } = row.storage;
+        assert_eq!(rt; (row.bytes, row.sampled), (bytes, sampled), "{format:?}");
+        assert_eq!(rt; (read_only, write_only, read_write), storage, "{format:?}");
+    }
+}
+
+#[test]
+fn numbers_may_be_vast(rt: HostRuntime) {
+    let vast = 4294967295;
+    let texture = TextureInfo {
+        size: [vast, vast, 6],
+        usage: 1,
+        format: Format::Rgba8Unorm,
+        dim: TextureDim::Two,
+        mips: 1,
+        samples: 1,
+    };
+    assert_eq!(rt; extent(&texture, 30), [3, 3, 6]);
+    assert_eq!(rt; extent(&texture, 32), [1, 1, 6]);
+    assert_eq!(rt; extent(&texture, vast), [1, 1, 6]);
+    assert_eq!(rt;
+        end_layer(TextureDim::Two, [0, 0, vast], [1, 1, vast]),
+        8589934590
+    );
+    let layout = DataLayout {
+        offset: 0,
+        bytes_per_row: Some(vast),
+        rows_per_image: Some(vast),
+    };
+    let bytes = Some(79228162458924105385300197360);
+    assert_eq!(rt; required(&layout, 16, [268435455, vast, vast]), bytes);
+}
+
+#[test]
+fn levels_add_up(rt: HostRuntime) {
+    let mut texture = TextureInfo {
+        size: [4, 4, 1],
+        usage: 1,
+        format: Format::Rgba8Unorm,
+        dim: TextureDim::Two,
+        mips: 3,
+        samples: 1,
+    };
+    assert_eq!(rt; texture_bytes(&texture), Some((16 + 4 + 1) * 4));
+    texture.size = [4294967295, 4294967295, 1];
+    assert_eq!(rt; texture_bytes(&texture), None);
+}

@@ -1,0 +1,149 @@
+//! Examples by the words of the standard.
+use std::alloc::Global;
+use std::test::Fail;
+use wg_layouts::{check_group_layout, check_pipeline_layout, equivalent};
+use wg_types::NoMemory;
+use wg_types::bindings::{BindingKind, BufferBinding, LayoutEntry, StorageAccess};
+use wg_types::formats::{Format, SampleType};
+use wg_types::groups::GroupLayoutInfo;
+use wg_types::items::Items;
+use wg_types::limits::Limits;
+use wg_types::shared::Shared;
+use wg_types::textures::ViewDim;
+
+/// The limits that each device has at least, of those that count here.
+const DEFAULT: Limits = Limits {
+    max_texture_dimension_1d: 0,
+    max_texture_dimension_2d: 0,
+    max_texture_dimension_3d: 0,
+    max_texture_array_layers: 0,
+    max_bind_groups: 4,
+    max_bindings_per_bind_group: 1000,
+    max_dynamic_uniform_buffers_per_pipeline_layout: 8,
+    max_dynamic_storage_buffers_per_pipeline_layout: 4,
+    max_sampled_textures_per_shader_stage: 16,
+    max_samplers_per_shader_stage: 16,
+    max_storage_buffers_per_shader_stage: 8,
+    max_storage_textures_per_shader_stage: 4,
+    max_uniform_buffers_per_shader_stage: 12,
+    max_uniform_buffer_binding_size: 0,
+    max_storage_buffer_binding_size: 0,
+    min_uniform_buffer_offset_alignment: 0,
+    min_storage_buffer_offset_alignment: 0,
+    max_vertex_buffers: 0,
+    max_vertex_attributes: 0,
+    max_vertex_buffer_array_stride: 0,
+    max_buffer_size: 0,
+    max_color_attachments: 0,
+    max_compute_workgroups_per_dimension: 0,
+    max_queries_per_set: 0,
+};
+
+const STORAGE: BindingKind = BindingKind::Buffer {
+    binding: BufferBinding::Storage,
+    dynamic: false,
+    min_size: 0,
+};
+
+const READ_ONLY: BindingKind = BindingKind::Buffer {
+    binding: BufferBinding::ReadOnlyStorage,
+    dynamic: false,
+    min_size: 0,
+};
+
+const MOVED: BindingKind = BindingKind::Buffer {
+    binding: BufferBinding::Uniform,
+    dynamic: true,
+    min_size: 0,
+};
+
+const MULTISAMPLED: BindingKind = BindingKind::Texture {
+    sample: SampleType::Float,
+    dim: ViewDim::Two,
+    multi: true,
+};
+
+const READ_WRITE: BindingKind = BindingKind::StorageTexture {
+    access: StorageAccess::ReadWrite,
+    format: Format::Rgba8Unorm,
+    dim: ViewDim::Two,
+};
+
+fn entry(binding: u32, visibility: u32, kind: BindingKind) -> LayoutEntry {
+    LayoutEntry {
+        binding,
+        visibility,
+        kind,
+    }
+}
+
+/// Eight entries from binding 0 on.
+fn eight(visibility: u32, kind: BindingKind) -> [LayoutEntry; 8] {
+    [
+        entry(0, visibility, kind),
+        entry(1, visibility, kind),
+        entry(2, visibility, kind),
+        entry(3, visibility, kind),
+        entry(4, visibility, kind),
+        entry(5, visibility, kind),
+        entry(6, visibility, kind),
+        entry(7, visibility, kind),
+    ]
+}
+
+/// The rule of eight such entries and one more.
+fn nine(visibility: u32, kind: BindingKind, last: BindingKind) -> Option<u16> {
+    let [a, b, c, d, e, f, g, h] = eight(visibility, kind);
+    let i = entry(8, visibility, last);
+    check_group_layout(&[a, b, c, d, e, f, g, h, i], &DEFAULT)
+}
+
+/// The rule of a single entry.
+fn alone(binding: u32, visibility: u32, kind: BindingKind) -> Option<u16> {
+    check_group_layout(&[entry(binding, visibility, kind)], &DEFAULT)
+}
+
+#[test]
+fn group_layouts_have_their_rules(rt: HostRuntime) {
+    let twice = [entry(3, 4, STORAGE), entry(3, 4, MOVED)];
+    assert_eq!(rt; check_group_layout(&twice, &DEFAULT), Some(130));
+    assert_eq!(rt; alone(1000, 4, STORAGE), Some(131));
+    assert_eq!(rt; alone(999, 8, STORAGE), Some(132));
+    assert_eq!(rt; alone(999, 1, STORAGE), Some(133));
+    assert_eq!(rt; alone(999, 1, READ_ONLY), None);
+    assert_eq!(rt; alone(0, 2, MULTISAMPLED), Some(134));
+    assert_eq!(rt; alone(0, 4, READ_WRITE), Some(135));
+    assert_eq!(rt; check_group_layout(&eight(4, STORAGE), &DEFAULT), None);
+    assert_eq!(rt; nine(4, STORAGE, READ_ONLY), Some(136));
+    assert_eq!(rt; nine(4, STORAGE, MOVED), None);
+    assert_eq!(rt; nine(0, MOVED, MOVED), Some(137));
+}
+
+fn layout(alloc: Global, entries: &[LayoutEntry]) -> Result<GroupLayoutInfo, NoMemory> {
+    let mut found = Items::new(alloc);
+    for entry in entries {
+        found.push(*entry)?;
+    }
+    Ok(GroupLayoutInfo { entries: found })
+}
+
+#[test]
+fn layouts_are_counted_together_and_compared(rt: HostRuntime) -> Result<(), Fail> {
+    let alloc = rt.alloc();
+    let full = Shared::new(alloc, layout(alloc, &eight(4, STORAGE))?)?;
+    let moved = Shared::new(alloc, layout(alloc, &eight(0, MOVED))?)?;
+    let [first, second] = [entry(0, 4, READ_ONLY), entry(1, 2, MOVED)];
+    let pair = Shared::new(alloc, layout(alloc, &[first, second])?)?;
+    let swapped = layout(alloc, &[second, first])?;
+    let other = layout(alloc, &[first, entry(1, 4, MOVED)])?;
+    assert!(rt; equivalent(pair.get(), &swapped));
+    assert!(rt; !equivalent(pair.get(), &other));
+    let both = [full.share()?, moved.share()?];
+    assert_eq!(rt; check_pipeline_layout(&both, &DEFAULT), None);
+    assert_eq!(rt;
+        check_pipeline_layout(&[full, pair.share()?], &DEFAULT),
+        Some(141)
+    );
+    assert_eq!(rt; check_pipeline_layout(&[pair, moved], &DEFAULT), Some(142));
+    Ok(())
+}

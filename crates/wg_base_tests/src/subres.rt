@@ -1,0 +1,83 @@
+use std::test::Fail;
+use wg_subres::{cells_of_copy, of_copy, of_view, views_meet};
+use wg_types::formats::Format;
+use wg_types::handles::ObjRef;
+use wg_types::parts::{Aspect, Cells, PartRun};
+use wg_types::textures::{AspectWord, TextureDim, TextureInfo, TextureSpot, ViewDim, ViewInfo};
+
+/// Two layers of 4 by 4 texels, and a smaller mip level.
+const TEXTURE: TextureInfo = TextureInfo {
+    size: [4, 4, 2],
+    usage: 4,
+    format: Format::Depth24PlusStencil8,
+    dim: TextureDim::Two,
+    mips: 2,
+    samples: 1,
+};
+
+/// The second layer of the second mip level.
+fn run(aspect: Aspect) -> PartRun {
+    PartRun::Texture {
+        object: 7,
+        aspect,
+        mip: 1,
+        lo: 1,
+        hi: 2,
+    }
+}
+
+/// A view of mip levels and layers from these on.
+fn view_from(aspect: AspectWord, base_mip: u32, base_layer: u32) -> ViewInfo {
+    ViewInfo {
+        texture: ObjRef {
+            device: 1,
+            number: 7,
+        },
+        texture_info: TEXTURE,
+        dim: ViewDim::TwoArray,
+        aspect,
+        base_mip,
+        mips: u32::MAX,
+        base_layer,
+        layers: u32::MAX,
+    }
+}
+
+#[test]
+fn views_meet_in_a_subresource(rt: HostRuntime) {
+    let whole = view_from(AspectWord::All, 0, 0);
+    let depth = view_from(AspectWord::DepthOnly, 1, 1);
+    let stencil = view_from(AspectWord::StencilOnly, 1, 1);
+    assert!(rt; views_meet(&whole, &depth));
+    assert!(rt; views_meet(&depth, &whole));
+    assert!(rt; !views_meet(&depth, &stencil));
+    // There is no mip level 2.
+    let past = view_from(AspectWord::All, 2, 0);
+    assert!(rt; !views_meet(&whole, &past));
+    assert!(rt; !views_meet(&past, &past));
+}
+
+#[test]
+fn runs_of_a_view_and_a_copy(rt: HostRuntime) -> Result<(), Fail> {
+    // Also where a view goes past the end of its texture.
+    let view = view_from(AspectWord::All, 1, 1);
+    let both = [run(Aspect::Depth), run(Aspect::Stencil)];
+    assert_eq!(rt; of_view(rt.alloc(), &view)?.as_slice(), both.as_slice());
+    let spot = TextureSpot {
+        mip: 1,
+        origin: [0, 0, 1],
+        aspect: AspectWord::StencilOnly,
+    };
+    let runs = of_copy(rt.alloc(), 7, &TEXTURE, &spot, [2, 2, 1])?;
+    assert_eq!(rt; runs.as_slice(), [run(Aspect::Stencil)].as_slice());
+    let cells = cells_of_copy(rt.alloc(), 7, &TEXTURE, &spot, [2, 2, 1])?;
+    let layer = Cells::Layers {
+        object: 7,
+        aspect: Aspect::Stencil,
+        mip: 1,
+        lo: 1,
+        hi: 2,
+    };
+    assert_eq!(rt; cells.as_slice(), [layer].as_slice());
+    Ok(())
+}

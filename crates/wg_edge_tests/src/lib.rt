@@ -1,0 +1,12 @@
+//! Tests of what reads and writes, of the printed text, of names, and of the top call, in a crate of their own, so that those crates are not
+//! proved a second time with tests of their own.
+#![tactic(auto)]
+
+#[cfg(test)]
+mod names;
+#[cfg(test)]
+mod print;
+#[cfg(test)]
+mod sources;
+#[cfg(test)]
+mod top;

@@ -1,0 +1,54 @@
+ghost use Rattle.std.specs.Prelude.{◌++◌, codes};
+ghost use Rattle.wg_print.specs.Entries.{entry_text};
+ghost use Rattle.wg_print.specs.Items.{item_text};
+ghost use Rattle.wg_print.specs.Pieces.{line_text};
+ghost use Rattle.wg_print.specs.Printing.{Written};
+
+use std::test::Fail;
+use wg_io::{Failed, MemSink, Sink};
+use wg_print::{Out, entry, item, line};
+use wg_types::items::Items;
+use wg_types::parts::PartRun;
+use wg_types::replies::{Answer, Reply, Verb};
+use wg_types::steps::Item;
+use wg_types::usages::Usages;
+use wg_types::words::Word;
+
+// Prints a report of one entry and one item.
+fn report<W: Sink>(sink: &mut W, reply: &Reply, only: &Item) -> Result<(), Failed>
+    ensures { Written (W.taken sink.old) (W.taken sink.new) (W.faults sink.old) (W.faults sink.new)
+        (line_text (codes "history") ++ entry_text 0 0 (Verb.Call Word.CreateBuffer) reply.now ++ item_text 0 only.now) result }
+{
+    let mut out = Out::new(sink);
+    line(&mut out, "history")?;
+    entry(&mut out, 0, 0, Verb::Call(Word::CreateBuffer), reply)?;
+    item(&mut out, 0, only)?;
+    out.finish()
+}
+
+#[test]
+fn a_report_is_printed(rt: HostRuntime) -> Result<(), Fail> {
+    let alloc = rt.alloc();
+    let reply = Reply {
+        answer: Answer::Made {
+            number: 0,
+            valid: true,
+        },
+        fault: None,
+        settled: Items::new(alloc),
+    };
+    let bar = Item::Bar {
+        part: PartRun::Buffer { object: 0 },
+        from: None,
+        to: Usages::COPY_SRC | Usages::COPY_DST,
+    };
+    let want = "history\n0 0 createBuffer made 0 valid\nbar b 0 none copy-src+copy-dst\n";
+    let mut sink = MemSink::new(alloc, 100, 7, Vec::new(alloc)).expect(&rt, "memory");
+    assert!(rt; report(&mut sink, &reply, &bar).is_ok());
+    assert_eq!(rt; sink.taken(), want.as_bytes());
+    // The second write fails.
+    let mut sink = MemSink::new(alloc, 100, 5, [2].to_vec(alloc)?).expect(&rt, "memory");
+    assert_eq!(rt; report(&mut sink, &reply, &bar), Err(Failed));
+    assert_eq!(rt; sink.taken(), b"histo".as_slice());
+    Ok(())
+}

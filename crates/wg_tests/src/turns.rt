@@ -1,0 +1,182 @@
+//! Callers of one counter, in one thread and in two.
+ghost use Rattle.std.specs.Prelude.{◌≡◌, ◌+◌, ◌^◌, ◌<◌, ◌≤◌, IfSome, vec_len, vec_capacity};
+ghost use mathlib.Core.List.{IsPrefix};
+ghost use Rattle.wg_turn.specs.Passes.{IsPassOf, callers_of, calls_of, front_of, number_of};
+ghost use Rattle.wg_turn.specs.Closings.{passes_of};
+
+use crate::counter::Counter;
+use std::alloc::Global;
+use std::sync::Wait;
+use std::test::Fail;
+use std::thread;
+use std::thread::Threads;
+use wg_turn::{Closed, Entry, Pass, Refused, TurnLock};
+
+/// How often each of two threads calls.
+const TIMES: u64 = 2000;
+
+fn counter(alloc: Global, limit: usize) -> Counter {
+    Counter {
+        start: 5,
+        total: 5,
+        log: Vec::new(alloc),
+        limit,
+    }
+}
+
+#[test]
+fn two_callers_act_in_turn(rt: HostRuntime) -> Result<(), Fail> {
+    let Ok((lock, mut passes)) = TurnLock::open(rt.alloc(), counter(rt.alloc(), usize::MAX), 2)
+    else {
+        panic!(rt; "memory");
+    };
+    let a = lock.act(&rt, &mut passes[0], 10);
+    let b = lock.act(&rt, &mut passes[1], 20);
+    assert!(rt; matches!(a, Ok(15)) && matches!(b, Ok(35)));
+    assert!(rt; passes[0].number() == 0 && passes[0].calls() == 1);
+    assert!(rt; passes[1].number() == 1 && passes[1].calls() == 1);
+    Ok(())
+}
+
+#[test]
+fn a_refused_call_passes_the_turn_on(rt: HostRuntime) -> Result<(), Fail> {
+    let Ok((lock, mut passes)) = TurnLock::open(rt.alloc(), counter(rt.alloc(), 1), 2) else {
+        panic!(rt; "memory");
+    };
+    let a = lock.act(&rt, &mut passes[0], 10);
+    let b = lock.act(&rt, &mut passes[0], 20);
+    let c = lock.act(&rt, &mut passes[1], 30);
+    assert!(rt; matches!(a, Ok(15)));
+    assert!(rt; matches!(b, Err(Refused { call: 20 })) && matches!(c, Err(Refused { call: 30 })));
+    assert!(rt; passes[0].calls() == 2 && passes[1].calls() == 1);
+    Ok(())
+}
+
+/// The first pass acts and tells the second, which acts then.
+fn told<R: Wait>(
+    rt: &R,
+    lock: &TurnLock<Counter>,
+    first: &mut Pass<Counter>,
+    second: &mut Pass<Counter>,
+) -> bool
+    requires passes { IsPassOf lock.now first.old × IsPassOf lock.now second.old }
+    requires room { (calls_of first.old < 2 ^ 40) × (calls_of second.old < 2 ^ 40) }
+    ensures passes { IsPassOf lock.now first.new × IsPassOf lock.now second.new }
+    ensures numbers { (number_of first.new ≡ number_of first.old)
+        × (number_of second.new ≡ number_of second.old) }
+    ensures begins { IsPrefix (front_of (λ c. c.log.items) lock.now first.new)
+        (front_of (λ c. c.log.items) lock.now second.new) }
+{
+    let a = lock.act(rt, first, 10);
+    lock.meet(first, second);
+    let b = lock.act(rt, second, 20);
+    a.is_ok() && b.is_ok()
+}
+
+/// A lock with its two passes, and the list that had them.
+fn opened(
+    alloc: Global,
+) -> Option<
+    (
+        TurnLock<Counter>,
+        Vec<Pass<Counter>>,
+        Pass<Counter>,
+        Pass<Counter>,
+    ),
+>
+    ensures lock { IfSome result (λ t.
+        (callers_of t.0 ≡ 2) × (vec_len t.1 ≡ 0) × (2 ≤ vec_capacity t.1)) }
+    ensures first { IfSome result (λ t.
+        IsPassOf t.0 t.2 × (number_of t.2 ≡ 0) × (calls_of t.2 ≡ 0)) }
+    ensures second { IfSome result (λ t.
+        IsPassOf t.0 t.3 × (number_of t.3 ≡ 1) × (calls_of t.3 ≡ 0)) }
+{
+    let (lock, mut passes) = TurnLock::open(alloc, counter(alloc, usize::MAX), 2).ok()?;
+    let second = passes.pop().unwrap();
+    let first = passes.pop().unwrap();
+    Some((lock, passes, first, second))
+}
+
+/// The lock after one call of each pass, with a meet between them.
+fn closed_after<R: Wait>(rt: &R, alloc: Global) -> Option<Closed<Counter>>
+    ensures { IfSome result (λ c. passes_of c ≡ 2) }
+{
+    let (lock, mut passes, mut first, mut second) = opened(alloc)?;
+    if !told(rt, &lock, &mut first, &mut second) {
+        return None;
+    }
+    passes.push_reserved(first);
+    passes.push_reserved(second);
+    Some(lock.close(passes))
+}
+
+#[test]
+fn two_callers_close_with_an_entry_each(rt: HostRuntime) -> Result<(), Fail> {
+    let Some(closed) = closed_after(&rt, rt.alloc()) else {
+        panic!(rt; "memory");
+    };
+    let log = closed.state().log.as_slice();
+    assert!(rt; closed.entries() == 2 && closed.callers() == 2 && closed.state().total == 35);
+    assert!(rt; log.len() == 2 && log[0].who == 0 && log[1].who == 1);
+    assert!(rt;
+        log[0].event == 10 && log[0].reply == 15 && log[1].event == 20 && log[1].reply == 35
+    );
+    Ok(())
+}
+
+/// How many entries one caller made.
+fn made_by(log: &[Entry<u64, u64>], who: u32) -> u64 {
+    log.iter().filter(|entry| entry.who == who).count() as u64
+}
+
+/// Calls the counter, again and again.
+fn lane<R: Wait>(
+    rt: &R,
+    lock: &TurnLock<Counter>,
+    mut pass: Pass<Counter>,
+    amount: u64,
+) -> Pass<Counter>
+    requires { IsPassOf lock.now pass × (calls_of pass ≡ 0) }
+    ensures { IsPassOf lock.now result × (number_of result ≡ number_of pass) }
+{
+    for _ in 0..TIMES {
+        if lock.act(rt, &mut pass, amount).is_err() {
+            break;
+        }
+    }
+    pass
+}
+
+/// The lock after the calls of two threads.
+fn by_threads<R: Threads + Wait + Sync>(rt: &R, alloc: Global) -> Option<Closed<Counter>>
+    ensures { IfSome result (λ c. passes_of c ≡ 2) }
+{
+    let (lock, mut passes, first, second) = opened(alloc)?;
+    let shared = &lock;
+    let (first, second) = thread::join(
+        rt,
+        || -> Pass<Counter>
+            requires { IsPassOf shared.now first × (calls_of first ≡ 0) }
+            ensures { IsPassOf shared.entry.now result × (number_of result ≡ number_of first) }
+        { lane(rt, shared, first, 1) },
+        || -> Pass<Counter>
+            requires { IsPassOf shared.now second × (calls_of second ≡ 0) }
+            ensures { IsPassOf shared.entry.now result × (number_of result ≡ number_of second) }
+        { lane(rt, shared, second, 2) },
+    );
+    passes.push_reserved(first);
+    passes.push_reserved(second);
+    Some(lock.close(passes))
+}
+
+#[test]
+fn two_threads_close_with_all_entries(rt: HostRuntime) -> Result<(), Fail> {
+    let Some(closed) = by_threads(&rt, rt.alloc()) else {
+        panic!(rt; "memory");
+    };
+    assert!(rt; closed.entries() == 2 * TIMES && closed.callers() == 2);
+    assert!(rt; closed.state().total == 5 + 3 * TIMES);
+    let log = closed.state().log.as_slice();
+    assert!(rt; made_by(log, 0) == TIMES && made_by(log, 1) == TIMES);
+    Ok(())
+}
