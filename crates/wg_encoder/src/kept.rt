@@ -52,27 +52,24 @@ impl Kept {
         )
     }
 
-    /// Keeps a command.
-    pub fn add(
-        &mut self,
-        alloc: Global,
-        device: u64,
-        on: On,
-        command: Command,
-    ) -> Result<(), NoMemory>
+    /// Adds a command.
+    fn add(&mut self, alloc: Global, device: u64, on: On, command: Command) -> Result<(), NoMemory>
         requires { IsWalkOf device (reverse self.old.commands.items) self.old.walk }
         ensures walk { IsWalkOf device (reverse self.new.commands.items) self.new.walk }
         ensures ok { OnOk result (self.new.commands.items ≡ self.old.commands.items ++ (on, command) ∷ []) }
         ensures err { OnErr result (self.new.commands.items ≡ self.old.commands.items) }
     {
-        self.prepare(alloc, device, on, &command)?;
+        if let Err(error) = self.prepare(alloc, device, on, &command) {
+            drop(command);
+            return Err(error);
+        }
         self.commands.push_reserved((on, command));
         Ok(())
     }
 }
 
 /// Makes what is kept, where nothing was.
-pub fn make(kept: &mut Option<Box<Kept>>, alloc: Global) -> Result<(), NoMemory>
+fn make(kept: &mut Option<Box<Kept>>, alloc: Global) -> Result<(), NoMemory>
     ensures some { OnOk result (is_some kept.new ≡ true) }
     ensures same { commands_of kept.new ≡ commands_of kept.old }
     ensures kept { (device : ℕ) → IsKeptOf device kept.old → IsKeptOf device kept.new }
@@ -82,4 +79,27 @@ pub fn make(kept: &mut Option<Box<Kept>>, alloc: Global) -> Result<(), NoMemory>
     }
     *kept = Some(Box::new(alloc, Kept::new(alloc))?);
     Ok(())
+}
+
+/// Keeps a command.
+pub fn keep(
+    kept: &mut Option<Box<Kept>>,
+    alloc: Global,
+    device: u64,
+    on: On,
+    command: Command,
+) -> Result<(), NoMemory>
+    requires { IsKeptOf device kept.old }
+    ensures kept { IsKeptOf device kept.new }
+    ensures ok { OnOk result (commands_of kept.new ≡ commands_of kept.old ++ (on, command) ∷ []) }
+    ensures err { OnErr result (commands_of kept.new ≡ commands_of kept.old) }
+{
+    if let Err(error) = make(kept, alloc) {
+        drop(command);
+        return Err(error);
+    }
+    let Some(held) = kept else {
+        unreachable!();
+    };
+    held.add(alloc, device, on, command)
 }
