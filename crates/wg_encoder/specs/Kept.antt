@@ -1,12 +1,24 @@
--- What holds of a recorder's fields.
-use Rattle.std.specs.Prelude.{◌≡◌, ℕ, nat_lt, true, List, [], reverse}
+-- What holds of the fields of a recorder and of a recording.
+use Rattle.std.specs.Prelude.{◌≡◌, ℕ, nat_lt, true, List, [], Option, Some, None, reverse}
+use Rattle.std.specs.Global.{Global}
+use Rattle.std.specs.declared.boxed.Box.{Box}
 use Rattle.wg_types.specs.declared.commands.On.{On}
 use Rattle.wg_types.specs.Commands.{Command}
 use Rattle.wg_model.specs.Walk.{begins}
 use Rattle.wg_encoder.specs.Walked.{IsWalkOf}
-use Rattle.wg_encoder.specs.declared.walk.Walk.{Walk}
+use Rattle.wg_encoder.specs.declared.kept.Kept.{Kept}
 
-pub record IsRecorder (device : ℕ) (commands : List (On × Command)) (takes passes : ℕ) (walk : Walk) : Type 0 where
-  pub walk_is : IsWalkOf device (reverse commands) walk
+-- the kept commands, in order: none as long as there is no place for them
+abbrev pub commands_of : Option (Box Kept Global) → List (On × Command)
+commands_of None = []
+commands_of (Some kept) = kept.value.commands.items
+
+-- What is known of the kept commands is what the walk over them finds.
+abbrev pub IsKeptOf : ℕ → Option (Box Kept Global) → Type 0
+IsKeptOf device None = Unit {0}
+IsKeptOf device (Some kept) = IsWalkOf device (reverse kept.value.commands.items) kept.value.walk
+
+-- How often a recorder was taken, and how many passes were begun on it, fit its commands.
+pub record IsRecorder (commands : List (On × Command)) (takes passes : ℕ) : Type 0 where
   pub passes_are : takes ≡ 0 → passes ≡ begins (reverse commands)
   pub nothing : nat_lt 0 takes ≡ true → commands ≡ []

@@ -2,7 +2,7 @@
 ghost use Rattle.std.specs.Prelude.{◌≡◌};
 ghost use Rattle.serde_json.specs.View.{view};
 ghost use Rattle.wg_script.specs.Giving.{Gives};
-ghost use Rattle.wg_script.specs.TextureCalls.{create_texture_of, create_view_of, write_texture_of, texel_copy_of, copy_buffer_to_texture_of, copy_texture_to_buffer_of, copy_texture_to_texture_of};
+ghost use Rattle.wg_script.specs.TextureCalls.{view_asked_keys, layout_keys, spot_keys, create_texture_of, create_view_of, write_texture_of, texel_copy_of, copy_buffer_to_texture_of, copy_texture_to_buffer_of, copy_texture_to_texture_of};
 
 use crate::calling::{asking, making, recording};
 use crate::calls::Call;
@@ -36,6 +36,20 @@ pub fn create_texture(alloc: Global, call: &Value) -> Result<Call, Refusal>
         => making(RequestOf::CreateTexture { info: TextureInfo { size, usage, format, dim, mips, samples } }, made))
 }
 
+/// What of a texture a view takes.
+fn view_asked_in(call: &Value) -> Result<ViewAsked, u8>
+    ensures { result ≡ view_asked_keys.read (view call.now) }
+{
+    Ok(ViewAsked {
+        dim: word_if(call, "dim", &VIEW_DIMS)?,
+        aspect: word_or(call, "aspect", &ASPECTS, AspectWord::All)?,
+        base_mip: short_or(call, "baseMip", 0)?,
+        mips: short_if(call, "mips")?,
+        base_layer: short_or(call, "baseLayer", 0)?,
+        layers: short_if(call, "layers")?,
+    })
+}
+
 /// Reads `createView`.
 #[tactic(auto, unfolding(crate::specs::TextureCalls::create_view_of))]
 pub fn create_view(alloc: Global, call: &Value) -> Result<Call, Refusal>
@@ -43,14 +57,31 @@ pub fn create_view(alloc: Global, call: &Value) -> Result<Call, Refusal>
 {
     reading!(call:
         need texture = name_at(alloc, "texture");
-        may dim = word_if("dim", &VIEW_DIMS);
-        may aspect = word_or("aspect", &ASPECTS, AspectWord::All);
-        may base_mip = short_or("baseMip", 0);
-        may mips = short_if("mips");
-        may base_layer = short_or("baseLayer", 0);
-        may layers = short_if("layers");
+        part asked = view_asked_in("dim", "aspect", "baseMip", "mips", "baseLayer", "layers");
         need made = name_at(alloc, "as");
-        => making(RequestOf::CreateView { texture, asked: ViewAsked { dim, aspect, base_mip, mips, base_layer, layers } }, made))
+        => making(RequestOf::CreateView { texture, asked }, made))
+}
+
+/// How texels lie in bytes.
+fn layout_in(call: &Value) -> Result<DataLayout, u8>
+    ensures { result ≡ layout_keys.read (view call.now) }
+{
+    Ok(DataLayout {
+        offset: whole_or(call, "offset", MOST_WHOLE, 0)?,
+        bytes_per_row: short_if(call, "bytesPerRow")?,
+        rows_per_image: short_if(call, "rowsPerImage")?,
+    })
+}
+
+/// Where in a texture a copy begins.
+fn spot_in(call: &Value) -> Result<TextureSpot, u8>
+    ensures { result ≡ spot_keys.read (view call.now) }
+{
+    Ok(TextureSpot {
+        mip: short_or(call, "mip", 0)?,
+        origin: triple_or_zero(call, "origin")?,
+        aspect: word_or(call, "aspect", &ASPECTS, AspectWord::All)?,
+    })
 }
 
 /// Reads `writeTexture`.
@@ -60,21 +91,11 @@ pub fn write_texture(alloc: Global, call: &Value) -> Result<Call, Refusal>
 {
     reading!(call:
         need texture = name_at(alloc, "texture");
-        may mip = short_or("mip", 0);
-        may origin = triple_or_zero("origin");
-        may aspect = word_or("aspect", &ASPECTS, AspectWord::All);
+        part spot = spot_in("mip", "origin", "aspect");
         need size = triple_at("size");
-        may offset = whole_or("offset", MOST_WHOLE, 0);
-        may bytes_per_row = short_if("bytesPerRow");
-        may rows_per_image = short_if("rowsPerImage");
+        part layout = layout_in("offset", "bytesPerRow", "rowsPerImage");
         need data_size = whole_at("dataSize", MOST_WHOLE);
-        => asking(RequestOf::WriteTexture {
-            texture,
-            spot: TextureSpot { mip, origin, aspect },
-            layout: DataLayout { offset, bytes_per_row, rows_per_image },
-            size,
-            data_size,
-        }))
+        => asking(RequestOf::WriteTexture { texture, spot, layout, size, data_size }))
 }
 
 /// A copy between a buffer and a texture, and what it stands on.
@@ -95,22 +116,11 @@ fn texel_copy(alloc: Global, call: &Value) -> Result<TexelCopy, Refusal>
     reading!(call:
         need on = name_at(alloc, "on");
         need buffer = name_at(alloc, "buffer");
-        may offset = whole_or("offset", MOST_WHOLE, 0);
-        may bytes_per_row = short_if("bytesPerRow");
-        may rows_per_image = short_if("rowsPerImage");
+        part layout = layout_in("offset", "bytesPerRow", "rowsPerImage");
         need texture = name_at(alloc, "texture");
-        may mip = short_or("mip", 0);
-        may origin = triple_or_zero("origin");
-        may aspect = word_or("aspect", &ASPECTS, AspectWord::All);
+        part spot = spot_in("mip", "origin", "aspect");
         need size = triple_at("size");
-        => TexelCopy {
-            on,
-            buffer,
-            layout: DataLayout { offset, bytes_per_row, rows_per_image },
-            texture,
-            spot: TextureSpot { mip, origin, aspect },
-            size,
-        })
+        => TexelCopy { on, buffer, layout, texture, spot, size })
 }
 
 /// Reads `copyBufferToTexture`.

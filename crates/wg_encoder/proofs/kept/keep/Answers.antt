@@ -1,0 +1,4 @@
+use Rattle.wg_encoder.proofs.kept.keep.Goals as goal
+
+pub add-requires : goal.add-requires
+add-requires c = let known = c.make.ensures.kept c.args.device c.requires in rw c.deref_mut.ensures.value (rw c.in-Some.is at known)
