@@ -48,10 +48,10 @@ fn released(alloc: Global, life: &mut Life, completed: u64) -> Result<Option<u64
     }
 }
 
-type Released = Result<Option<u64>, NoMemory>;
+type Release = Result<Option<u64>, NoMemory>;
 
 /// What is released of a dropped buffer, before its operation is complete and after, and the bytes left.
-fn after_drop(alloc: Global) -> Result<(Released, Released, u64), NoMemory> {
+fn after_drop(alloc: Global) -> Result<(Release, Release, u64), NoMemory> {
     let mut life = with_buffer(alloc)?;
     life.dropped(0);
     let early = released(alloc, &mut life, 2);
@@ -65,7 +65,7 @@ fn a_dropped_buffer_waits_for_operations(rt: HostRuntime) {
 }
 
 /// Whether a destroyed buffer is not dropped, what is released of it, and whether that is noted.
-fn after_destroy(alloc: Global) -> Result<(bool, Released, bool), NoMemory> {
+fn after_destroy(alloc: Global) -> Result<(bool, Release, bool), NoMemory> {
     let mut life = with_buffer(alloc)?;
     life.ended(0);
     life.consumed(0);

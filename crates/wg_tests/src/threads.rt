@@ -106,7 +106,7 @@ fn by_threads<R: Threads + Wait + Sync>(rt: &R, alloc: Global) -> Option<Ended>
 type Told = (u64, u32, [(u32, bool); 2], [Answer; 2]);
 
 /// What the device tells that was left, where it has two entries.
-fn told(ended: &Ended) -> Option<Told> {
+fn told_of(ended: &Ended) -> Option<Told> {
     match ended.state().history() {
         [a, b] => Some((
             ended.entries(),
@@ -124,7 +124,7 @@ fn told(ended: &Ended) -> Option<Told> {
 /// The same, of a device that is dropped here.
 fn told_by_threads<R: Threads + Wait + Sync>(rt: &R, alloc: Global) -> Option<Told> {
     let ended = by_threads(rt, alloc)?;
-    told(&ended)
+    told_of(&ended)
 }
 
 #[test]
