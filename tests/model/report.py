@@ -4,10 +4,10 @@ Rows of a step, and barriers before it, are printed in the order of object, aspe
 or are neighbours, and have equal values, are one row.
 """
 
-from calls import RECORDING
-from formats import ASPECTS
-from steps import USAGES
-from traces import trace_of
+from .calls import RECORDING
+from .formats import ASPECTS
+from .steps import USAGES
+from .traces import trace_of
 
 
 def report(history):
