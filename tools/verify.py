@@ -137,7 +137,7 @@ class Verified:
             valid = "valid, since no rule is unmet" if played.is_valid else "invalid, since " + ("the device is lost" if played.on_lost else f"rule {played.rule} is unmet")
             return f"objects are numbered from 0 on: this one is number {played.made}, and {valid}"
         if played.op is not None:
-            return f"operations are numbered from 1 on: this one is number {played.op}"
+            return f"it is queued: operations are numbered from 1 on, and this one is number {played.op}"
         if played.answer == "promise":
             return f"{played.do} makes a promise"
         if played.do == "complete":
@@ -201,7 +201,7 @@ def verify(script, report):
 def told(verified, wrong, name):
     """A wrong line in words: where it is, what it is, what is right, and why."""
     line = verified.line()
-    yield f"{name}:{wrong.number + 1}: no report of the script: this line and no earlier one is wrong, by {second.SAID}"
+    yield f"{name}:{wrong.number + 1}: no report of the script, and this is its first line that is wrong"
     if line is None:
         line = verified.lines[-1] + " (with no end of the line)" if verified.lines[-1] else "the end of the report"
     yield f"    is:       {cut(line)}"
