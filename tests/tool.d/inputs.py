@@ -17,7 +17,7 @@ def test_words():
                   ["diff", "a", "b", "c"], ["diff", "-", "-"], ["diff", "a", "b", "--script"], ["--help", "run"], ["--unproved"], ["--unproved", "--help"],
                   ["run", "--callers"], ["run", "--callers", "0,x"], ["run", "--callers", "0;1"], ["explain", "--callers", "0"], ["verify"], ["verify", "a"], ["verify", "a", "b", "c"],
                   ["verify", "-", "-"], ["outcomes", "a", "b"], ["judge"], ["judge", "a", "b"], ["judge", "--quick", "a"], ["script"], ["words"], ["words", "a", "b"], ["prove", "a"]):
-        ran = subprocess.run([*python, *words], capture_output=True, env={**os.environ, **{k: v for k, v in nothing.items() if v}}, timeout=20)
+        ran = subprocess.run([*python, *words], capture_output=True, env={**os.environ, **{k: v for k, v in nothing.items() if v}}, timeout=300)
         said = " ".join(words)
         check(ran.returncode == 2, f"wgsim {said}: status {ran.returncode} and not 2")
         check(b"usage: wgsim" in ran.stderr and not ran.stdout, f"wgsim {said}: the usage is to be on standard error alone")
