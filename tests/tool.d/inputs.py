@@ -55,10 +55,10 @@ def test_inputs(folder):
             check(ran.returncode == status, f"wgsim {command} on {name}: status {ran.returncode} and not {status}")
         for stdin, stdout, how in ((None, os.devnull, "no standard input"), (os.devnull, "/dev/full", "a full device")):
             redirect = f"exec {TOP}/wgsim {command} >{stdout} {'<&-' if stdin is None else '<' + stdin}"
-            ran = subprocess.run(["bash", "-c", redirect], capture_output=True, timeout=60)
+            ran = subprocess.run(["bash", "-c", redirect], capture_output=True, timeout=300)
             check(ran.returncode in (3, 4, 5) and b"Traceback" not in ran.stderr, f"wgsim {command} with {how}: status {ran.returncode}, {ran.stderr[-300:]}")
         piped = f"set -o pipefail; {TOP}/wgsim {command} {TOP}/examples/first-frame.json | true"
-        ran = subprocess.run(["bash", "-c", piped], capture_output=True, timeout=60)
+        ran = subprocess.run(["bash", "-c", piped], capture_output=True, timeout=300)
         check(ran.returncode in (0, 5, 141) and not ran.stderr, f"wgsim {command} into a closed pipe: status {ran.returncode}, {ran.stderr[-300:]}")
     told = wgsim("explain", str(folder / "bytes")).stdout.decode()
     check("bytes:1:13" in told and "0xff" in told, f"wgsim explain on bad UTF-8 does not tell the byte:\n{told}")
