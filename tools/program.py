@@ -17,6 +17,8 @@ OWN = {0, ends.WORDS, ends.REFUSED, ends.UNREAD, ends.UNWRITTEN, ends.NO_MEMORY,
 class Program:
     """A program that can be asked about scripts. `said` tells what it is, for those who read its answers."""
 
+    plays = True
+
     def __init__(self, is_unproved):
         named = os.environ.get(NAMED)
         self.is_unproved = is_unproved

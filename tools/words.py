@@ -1,6 +1,7 @@
 """The words of the command line."""
 
 import os
+import re
 import signal
 import sys
 
@@ -15,7 +16,9 @@ USAGE = """\
 usage: wgsim run [FILE]       plays a script and writes the program's report, byte for byte
        wgsim gen N [L]        plays a generated script of N iterations in one lane, or in each of L lanes at once, and
                               writes what the program counts: N is from 1 to 8000, L to 64, and N times L to 8000
-       wgsim explain [FILE]   the report in words, beside the script: which call, why, and what a driver has to do
+       wgsim explain [--json] [--report REPORT] [FILE]
+                              the report in words, beside the script: which call, why, and what a driver has to do;
+                              with --json for a machine, with --report of a report that is there and not of a new play
        wgsim picture [FILE]   the trace as one HTML page: steps, barriers, clears and releases
        wgsim diff [--script FILE] A B
                               compares two reports, entry by entry and step by step; a script in the place of a
@@ -55,10 +58,15 @@ class Words:
         self.is_unproved = False
         self.command = None
         self.script = None
+        self.report = None
+        self.is_json = False
+        self.wants_help = False
         self.rest = []
         words = list(words)
         while words:
             self.take(words.pop(0), words)
+        if self.wants_help:
+            return
         if self.command in ("--help", "--version"):
             if self.rest or self.is_unproved:
                 raise Wrong(f"{self.command} stands alone")
@@ -72,6 +80,14 @@ class Words:
             if not after:
                 raise Wrong("--script needs a FILE")
             self.script = after.pop(0)
+        elif word == "--report" and self.command == "explain":
+            if not after:
+                raise Wrong("--report needs a REPORT")
+            self.report = after.pop(0)
+        elif word == "--json" and self.command == "explain":
+            self.is_json = True
+        elif word == "--help" and self.command in MOST:
+            self.wants_help = True
         elif self.command is None and (word in MOST or word in ("--help", "--version")):
             self.command = word
         elif self.command is None:
@@ -90,7 +106,7 @@ class Words:
             raise Wrong("gen needs a number of iterations")
         if self.command == "diff" and len(self.rest) < 2:
             raise Wrong("diff needs two files")
-        if self.command == "diff" and [*self.rest, self.script].count("-") > 1:
+        if [*self.rest, self.script, self.report].count("-") > 1:
             raise Wrong("standard input can be one file alone")
         if self.command == "rules" and self.rest and not (self.rest[0].isascii() and self.rest[0].isdigit()):
             raise Wrong(f"a rule has a number, and not {self.rest[0]}")
@@ -142,8 +158,14 @@ def generated(words):
 
 
 def explained(words):
+    import faults
+    import given
+
+    if words.report is not None and not words.rest and words.report == "-":
+        raise ends.End(ends.WORDS, "standard input can be one file alone")
     data, name = read(words.rest[0] if words.rest else "-")
-    text, status = explain.explain(places.Text(data, name), data, Program(words.is_unproved))
+    program = given.Given(*read(words.report)) if words.report is not None else Program(words.is_unproved)
+    text, status = (faults.explained if words.is_json else explain.explain)(places.Text(data, name), data, program)
     write(text.encode("utf-8"))
     return status
 
@@ -186,6 +208,13 @@ def show_help(words):
     return 0
 
 
+def usage_of(words):
+    """The usage of the commands among some words, or of all of them: what helps after a wrong word."""
+    blocks = re.split(r"^(?=usage: wgsim|       wgsim)", USAGE.split("\n\n")[0] + "\n", flags=re.M)
+    own = [block[7:] for block in blocks if re.match(r"(?:usage:)? *wgsim (\S+)", block) and re.match(r"(?:usage:)? *wgsim (\S+)", block)[1] in words]
+    return f"usage: {''.join(own)}" if own else "usage: wgsim " + "|".join(MOST) + " ..\n"
+
+
 def write(data):
     sys.stdout.buffer.write(data)
     sys.stdout.buffer.flush()
@@ -199,8 +228,10 @@ def main(given):
     try:
         words = Words(given)
     except Wrong as wrong:
-        sys.stderr.write(f"wgsim: {wrong}\n{USAGE}")
+        sys.stderr.write(f"wgsim: {wrong}\n{usage_of(given)}`wgsim --help` has all words\n")
         return ends.WORDS
+    if words.wants_help:
+        return show_help(words)
     for number in (signal.SIGTERM, signal.SIGHUP):
         signal.signal(number, lambda number, _: sys.exit(128 + number))
     try:

@@ -1,0 +1,203 @@
+"""Plays a script by the second reading, in the order of a report, and finds the cause of each fault of it."""
+
+from . import second
+from .making import RULES, listed
+
+# How a thing stands in a call, by the key of a list.
+IN_LISTS = {"entries": "bound by entry {}", "colors": "among the colors", "depth": "the view of depth"}
+LATE, DROPPED = 14, 11
+
+
+class Case:
+    """A rule that is unmet: the history up to its entry, the call of the entry, and the command that brought it where it is one of an encoder.
+
+    `played` is the call that the rule is of: the command, or the call of the entry. `earlier` has the commands before it on the same encoder
+    or pass, `open_pass` the pass that is open where it comes, and `commands` all of the encoder that a finish ends."""
+
+    def __init__(self, play, entry, played=None, earlier=(), open_pass=None, commands=(), number=None):
+        self.play = play
+        self.second = play.second
+        self.history = play.turns.history
+        self.entry = entry
+        self.played = played or entry
+        self.is_of_command = played is not None
+        self.earlier = list(earlier)
+        self.open_pass = open_pass
+        self.commands = list(commands)
+        self.number = number
+        self.call = self.played.call
+        self.uses = self.played.uses
+        self.do = self.played.do
+
+    @property
+    def is_of_commands(self):
+        """Whether the rule is the finish's own, on what its commands are."""
+        return not self.is_of_command and bool(self.commands)
+
+    def place(self, thing):
+        """The line and column of a call that was played."""
+        return self.play.place(thing.call)
+
+    def name(self, thing):
+        return f'"{thing.call["as"]}"'
+
+    def named(self, thing):
+        """What a call made, with the line and column of that call."""
+        return f"{self.name(thing)} ({self.place(thing)})"
+
+    def aspects(self, format):
+        return listed(self.second.formats.aspects_of(format))
+
+    def object_of(self, part):
+        return self.history.objects[part[1]]
+
+    def part(self, part):
+        """A part or a cell in words: a buffer, bytes of it, or a subresource of a texture."""
+        named = self.named(self.object_of(part))
+        if part[0] == "t":
+            aspect, mip, layer = part[2:]
+            return f"{named} {self.second.formats.ASPECTS[aspect]} mip {mip} layer {layer}"
+        return f"{named} bytes {part[2]} to {part[3] - 1}" if len(part) > 2 else named
+
+    def part_values(self, part):
+        values = {"object": self.object_of(part).call["as"]}
+        if part[0] == "t":
+            return {**values, "aspect": self.second.formats.ASPECTS[part[2]], "mip": part[3], "layer": part[4]}
+        return {**values, "firstByte": part[2], "lastByte": part[3] - 1} if len(part) > 2 else values
+
+    def destroy_of(self, thing):
+        return next(entry for entry in self.history.entries() if entry.do == "destroy" and entry.is_met and entry.uses["object"] is thing)
+
+    def named_things(self):
+        """The objects that the call names, each with words for where it stands in it; those of a command without what it stands on."""
+        found = []
+        for key, value in self.uses.items():
+            if key == "on" and self.is_of_command:
+                continue
+            for number, thing in enumerate(value if type(value) is list else [value]):
+                many = IN_LISTS.get(key, f"item {{}} of {key}") if type(value) is list else f"the {key if key != 'on' else 'encoder'}"
+                found.append((many.format(number), thing))
+        return found
+
+
+class Play:
+    """A script that is played, beside the script as the tool reads it."""
+
+    def __init__(self, data, script):
+        self.second = second.modules()
+        self.script = script
+        budget, phases, refusal = self.second.answers.read(data)
+        self.is_refused = refusal is not None
+        self.calls = {}
+        if self.is_refused:
+            return
+        for place, call in (found for lanes in phases for lane in lanes for found in lane):
+            self.calls[id(call)] = script.lanes[place[:2]][place[2]]
+        self.turns = self.second.turns.Turns(budget, phases)
+
+    def call_of(self, call):
+        """The call as the tool reads it."""
+        return self.calls[id(call)]
+
+    def place(self, call):
+        return "{}:{}".format(*self.script.text.place(self.call_of(call).value.start))
+
+    def take(self, caller):
+        """Plays the next event of a caller; None where it has none."""
+        if caller not in self.turns.open_lanes():
+            return None
+        self.turns.take(caller)
+        return self.turns.history.entries()[-1]
+
+    def case(self, played):
+        """The case of an entry that has a fault."""
+        history, encoder = self.turns.history, played.uses.get("on")
+        if played.do != "finish" or history.is_dropped(encoder) or history.finishes(encoder)[0] is not played:
+            return Case(self, played)
+        commands = history.commands_on(encoder)
+        return self.blamed(played, commands) or Case(self, played, commands=commands)
+
+    def blamed(self, finish, commands):
+        """The case of the command that invalidated an encoder, or None where none did."""
+        recording, passes, first_unmet = self.second.recording, self.second.passes, self.second.rules.first_unmet
+        for at, command in enumerate(commands):
+            place, (open_pass, _) = command.uses["on"], passes.walk(commands[:at])
+            if place.do == "createEncoder":
+                if first_unmet(command.do, recording.command_rules(command, commands[:at], open_pass)) is not None:
+                    return Case(self, finish, command, passes.on(place, commands[:at]), open_pass, commands, at + 1)
+            elif command.do == "end" and place is open_pass:
+                found = self.blamed_in_pass(finish, open_pass, passes.on(open_pass, commands[:at]) + [command], commands)
+                if found:
+                    return found
+        return None
+
+    def blamed_in_pass(self, finish, begin, inside, commands):
+        """The same of the commands of a pass, its begin first."""
+        passes, first_unmet = self.second.passes, self.second.rules.first_unmet
+        if first_unmet(begin.do, passes.begin_rules(begin)) is not None:
+            return Case(self, finish, begin, [], None, commands, commands.index(begin) + 1)
+        for number, command in enumerate(inside):
+            if first_unmet(command.do, passes.command_rules(command, inside[:number])) is not None:
+                return Case(self, finish, command, inside[:number], begin, commands, commands.index(command) + 1)
+        return None
+
+
+class Told:
+    """What is told of a fault: its cause, or None with the reason why there is none; and the command that brought it, if one did."""
+
+    def __init__(self, cause=None, why_none=None, command=None, number=None, total=None):
+        self.cause = cause
+        self.why_none = why_none
+        self.command = command
+        self.number = number
+        self.total = total
+
+
+class Causes:
+    """The causes of the faults of a report, by the numbers of their entries."""
+
+    def __init__(self, told):
+        self.told = told
+
+    def of(self, entry):
+        return self.told.get(entry.number) or Told()
+
+    def root(self, entry):
+        """The entry whose fault brought that of another, or None where a fault is a cause of its own."""
+        number = self.step(entry.number)
+        while number is not None and self.step(number) is not None:
+            number = self.step(number)
+        return number
+
+    def step(self, number):
+        told = self.told.get(number)
+        return told.cause.follows_from if told and told.cause else None
+
+    def follows(self, entry):
+        return self.root(entry) is not None
+
+
+def of_report(data, beside):
+    """The causes of the faults of a report that stands beside its script; none where it has no script, or no fault."""
+    if beside.script is None or not any(entry.fault for entry in beside.report.entries) or second.modules() is None:
+        return Causes({})
+    play, told = Play(data, beside.script), {}
+    for entry in beside.report.entries if not play.is_refused else []:
+        played = play.take(entry.lane)
+        if played is None:
+            break
+        if entry.fault:
+            told[entry.number] = told_of(play, played, entry.fault[1])
+    return Causes(told)
+
+
+def told_of(play, played, rule):
+    """What is told of a fault with a rule, where the second reading has just played its entry."""
+    if played.fault is None or played.fault[1] != rule:
+        other = f"rule {played.fault[1]}" if played.fault else "no fault"
+        return Told(why_none=f"no cause is told: the second reading of the rules finds {other} here")
+    case = play.case(played)
+    cause = RULES[rule](case) if rule in RULES else None
+    if not case.is_of_command:
+        return Told(cause)
+    return Told(cause, None, play.call_of(case.call), case.number, len(case.commands))
