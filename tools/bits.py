@@ -31,7 +31,7 @@ def words(number, names):
 def said(number, names):
     """A number with its names, as `12 = COPY_SRC | COPY_DST`."""
     found = words(number, names)
-    return f"{number} = {' | '.join(found)}" if found else str(number)
+    return f"{number} = {' | '.join(found)}" if found and found != [str(number)] else str(number)
 
 
 def one(bit, names):

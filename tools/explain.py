@@ -43,7 +43,7 @@ class Explained:
         if self.status in SILENT:
             raise End(self.status, f"{text.name}: {SILENT[self.status]}")
         said = out.decode("utf-8", "replace")
-        self.say(f"{text.name}: the answer of {program.said}")
+        self.say(f"{text.name}: the answer of {program.said}" if program.plays else f"{text.name}: {program.said}")
         if self.status == REFUSED:
             self.lines += refusal.explained(text, said)
             return

@@ -24,7 +24,7 @@ def late(case):
     through = "" if what is place else f", on which {case.named(place)} was begun,"
     did = "ended" if by.do == "end" else "finished"
     values = {"object": what.call["as"], "by": case.place(by), "call": case.do}
-    return Cause(f"{case.named(what)}{through} was {did} at {case.place(by)}, and this {case.do} comes after it", values, f"Make it before the {by.do}.")
+    return Cause(f"{case.named(what)}{through} was {did} at {case.place(by)}, and this {case.do} comes after it", values, "Leave it out." if case.do == by.do else f"Make it before the {by.do}.")
 
 
 @rule(180)

@@ -53,8 +53,8 @@ def budget(case):
     left = total - sum(taken.values())
     if asked <= left:
         return None
-    largest = sorted(taken, key=lambda thing: (-taken[thing], thing.entry))[:LARGEST]
-    said = f"{case.name(case.entry)} takes {plural(asked, 'byte')}, and of the budget of {total} {sum(taken.values())} are taken and {left} are left"
+    largest = sorted((thing for thing in taken if taken[thing]), key=lambda thing: (-taken[thing], thing.entry))[:LARGEST]
+    said = f"{case.name(case.entry)} takes {plural(asked, 'byte')}, and of the budget of {plural(total, 'byte')}, {sum(taken.values())} are taken and {left} are left"
     if largest:
         said += "; most is taken by " + listed(f"{case.named(thing)} with {taken[thing]}" for thing in largest)
     values = {"asked": asked, "budget": total, "taken": sum(taken.values()), "left": left}

@@ -147,9 +147,9 @@ def texel_layout(case):
     values = {"size": list(call["size"]), "texel": size, "bytesPerRow": row, "rowsPerImage": rows}
     if row is None and (height > 1 or depth > 1):
         what = f"{height} rows" if height > 1 else f"{depth} images"
-        return Cause(f"bytesPerRow is left out, and the copy has {what}", values, f"Give at least {width} texels of {plural(size, 'byte')}: {width * size}.")
+        return Cause(f"bytesPerRow is left out, and the copy has {what}", values, f"Give at least {width * size}: {plural(width, 'texel')} of {plural(size, 'byte')}.")
     if row is not None and row < width * size:
-        return Cause(f"bytesPerRow is {row}, and a row has {width} texels of {plural(size, 'byte')}, which are {width * size}", {**values, "least": width * size})
+        return Cause(f"bytesPerRow is {row}, and a row has {plural(width, 'texel')} of {plural(size, 'byte')}: {width * size}", {**values, "least": width * size})
     if rows is None and depth > 1:
         return Cause(f"rowsPerImage is left out, and the copy has {depth} images", values, f"Give at least the height, {height}.")
     if rows is not None and rows < height:

@@ -62,7 +62,8 @@ def holds(case):
         key, wanted = case.second.calls.bound_by(one.entry), case.second.groups.WANTED[one.asked["kind"]]
         if key != wanted:
             layout = case.uses["layout"]
-            said = f"it holds {HOLDS[key]}, {case.named(one.thing)}, and {case.named(layout)} asks for {one.asked['kind']}, which is {HOLDS[wanted]}"
+            asks = HOLDS[wanted] + (f" as {one.asked['kind']}" if one.asked["kind"] != wanted else "")
+            said = f"it holds {HOLDS[key]}, {case.named(one.thing)}, and {case.named(layout)} asks for {asks}"
             return one.cause(said, {"holds": key, "object": one.entry[key], "asked": wanted, "kind": one.asked["kind"]})
     return None
 

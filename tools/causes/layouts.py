@@ -49,10 +49,10 @@ def visibility(case):
 def vertex_writes(case):
     for said, number, entry in entries(case):
         if entry["visibility"] & 1 and case.second.groups.is_written(entry):
-            what = "storage" if entry["kind"] == "storage" else f"storage-texture with the access {entry['access']}"
+            what = "kind storage" if entry["kind"] == "storage" else f"kind storage-texture, the access {entry['access']}"
             values = {"entry": number, "binding": entry["binding"], "kind": entry["kind"], "visibility": entry["visibility"], "visibilityWords": bits.words(entry["visibility"], bits.STAGES)}
             other = "read-only-storage" if entry["kind"] == "storage" else "read-only"
-            return Cause(f"{said} is a {what} and has the visibility {bits.said(entry['visibility'], bits.STAGES)}, and VERTEX (1) may not see what is written", values, f"Take VERTEX away, or make it {other}.")
+            return Cause(f"{said} has the {what} and the visibility {bits.said(entry['visibility'], bits.STAGES)}, and VERTEX (1) may not see what is written", values, f"Take VERTEX away, or make it {other}.")
     return None
 
 

@@ -55,7 +55,15 @@ def lacks(case, thing, bit, where=""):
         return None
     said = f"{where}{case.named(thing)} has usage {bits.said(usage, names)}; {bits.one(bit, names)} is missing"
     values = {"object": thing.call["as"], "usage": usage, "usageWords": bits.words(usage, names), "missing": bit, "missingWord": names[bit]}
-    return Cause(said, values, f"Add it where {case.name(thing)} is made.")
+    return Cause(said, values, to_add(case, thing, bit, names))
+
+
+def to_add(case, thing, bit, names):
+    """What to do where a usage is missing. Beside MAP_READ only COPY_DST may stand, and beside MAP_WRITE only COPY_SRC."""
+    for mode, may in ((1, 8), (2, 4)) if names is bits.BUFFER else ():
+        if thing.call["usage"] & mode and bit != may:
+            return f"It cannot be added beside {names[mode]}: copy between {case.name(thing)} and a buffer that has it."
+    return f"Add it where {case.name(thing)} is made."
 
 
 def known_usage(case, names, what):

@@ -1,7 +1,7 @@
 """The rules of mapAsync, and that a buffer is not pending, mapped or destroyed."""
 
 import bits
-from .making import Cause, fits, multiple, rule
+from .making import Cause, fits, multiple, rule, to_add
 
 MAP_READ, MAP_WRITE = 1, 2
 MODES = {1: "reading", 2: "writing"}
@@ -48,7 +48,7 @@ def map_usage(case):
         return None
     said = f"mode is {bits.said(number, bits.MODES)}, and {case.named(buffer)} has usage {bits.said(usage, bits.BUFFER)}; {bits.one(number, bits.BUFFER)} is missing"
     values = {"mode": number, "object": buffer.call["as"], "usage": usage, "usageWords": bits.words(usage, bits.BUFFER), "missing": number, "missingWord": bits.BUFFER[number]}
-    return Cause(said, values, f"Add it where {case.name(buffer)} is made.")
+    return Cause(said, values, to_add(case, buffer, number, bits.BUFFER))
 
 
 @rule(203, 225)

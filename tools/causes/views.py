@@ -16,6 +16,10 @@ def told(case, view, key):
     return f"{key} {view[key]}" + (" (left out)" if case.call[key] is None else "")
 
 
+def that_is(case, view, key):
+    return f"{key} is {view[key]}" if case.call[key] is not None else f"{key}, which is left out, is {view[key]}"
+
+
 @rule(120)
 def aspect(case):
     texture, call, view = known(case)
@@ -30,7 +34,7 @@ def run_of(case, key, base, count, of):
     texture, call, view = known(case)
     have = call["mips"] if key == "mips" else case.second.formats.layer_count(call)
     if view[count] < 1:
-        return Cause(f"{told(case, view, count)} is less than 1, at {base} {view[base]} of {case.named(texture)}, which has {plural(have, of)}", {count: view[count], base: view[base], "object": call["as"], "has": have})
+        return Cause(f"{that_is(case, view, count)}, which is less than 1, at {base} {view[base]} of {case.named(texture)}, which has {plural(have, of)}", {count: view[count], base: view[base], "object": call["as"], "has": have})
     if view[base] + view[count] > have:
         said = f"{base} {view[base]} and {told(case, view, count)} end at {view[base] + view[count]}, and {case.named(texture)} has {plural(have, of)}"
         return Cause(said, {base: view[base], count: view[count], "end": view[base] + view[count], "object": call["as"], "has": have})
@@ -62,11 +66,11 @@ def layers_of_dimension(case):
     _, _, view = known(case)
     asked = LAYERS.get(view["dim"])
     if view["dim"] == "cube-array" and view["layers"] % 6:
-        return Cause(f"a cube-array has a multiple of 6 layers, and here are {told(case, view, 'layers')}", {"dim": "cube-array", "layers": view["layers"], "multipleOf": 6})
+        return Cause(f"a cube-array has a multiple of 6 layers, and {that_is(case, view, 'layers')}", {"dim": "cube-array", "layers": view["layers"], "multipleOf": 6})
     if asked is None or view["layers"] == asked:
         return None
     remedy = "Take the dim 2d-array." if view["dim"] == "2d" else None
-    return Cause(f"a view of the dim {view['dim']} has {plural(asked, 'layer')}, and here are {told(case, view, 'layers')}", {"dim": view["dim"], "layers": view["layers"], "asked": asked}, remedy)
+    return Cause(f"a view of the dim {view['dim']} has {plural(asked, 'layer')}, and {that_is(case, view, 'layers')}", {"dim": view["dim"], "layers": view["layers"], "asked": asked}, remedy)
 
 
 @rule(125)
