@@ -60,9 +60,11 @@ def lacks(case, thing, bit, where=""):
 
 def to_add(case, thing, bit, names):
     """What to do where a usage is missing. Beside MAP_READ only COPY_DST may stand, and beside MAP_WRITE only COPY_SRC."""
+    usage = thing.call["usage"]
     for mode, may in ((1, 8), (2, 4)) if names is bits.BUFFER else ():
-        if thing.call["usage"] & mode and bit != may:
-            return f"It cannot be added beside {names[mode]}: copy between {case.name(thing)} and a buffer that has it."
+        if (usage | bit) & mode and (usage | bit) & ~(mode | may):
+            clash = mode if bit != mode else usage & ~may
+            return f"It cannot be added beside {' and '.join(bits.words(clash, names))}: copy between {case.name(thing)} and a buffer that has it."
     return f"Add it where {case.name(thing)} is made."
 
 
