@@ -48,14 +48,14 @@ def each(number, names):
 
 
 def of_call(call):
-    """The numbers of a script's call that have names, in words: `usage 12 = COPY_SRC | COPY_DST`, each once, in the order of the text."""
+    """The numbers of a script's call that have names, but for 0, in words: `usage 12 = COPY_SRC | COPY_DST`, each once, in the order of the text."""
     found = []
     for key, value in call.value.what if call.value.kind == "object" else []:
         names = OF_CALLS.get((call.word, key.what))
-        if names and value.kind == "number" and value.what.isdigit():
+        if names and value.kind == "number" and value.what.isdigit() and int(value.what):
             found.append(f"{key.what} {said(int(value.what), names)}")
         for item in value.what if value.kind == "list" else []:
             number = item.member(VISIBILITY) if item.kind == "object" else None
-            if number is not None and number.kind == "number" and number.what.isdigit():
+            if number is not None and number.kind == "number" and number.what.isdigit() and int(number.what):
                 found.append(f"{VISIBILITY} {said(int(number.what), STAGES)}")
     return list(dict.fromkeys(found))

@@ -1,6 +1,6 @@
 """The rules of what is attached to a render pass, and of a pipeline that is set in one."""
 
-from .making import Cause, first, lacks, listed, plural, rule
+from .making import Cause, first, lacks, plural, rule
 
 RENDER_ATTACHMENT = 16
 ASPECT_KEYS = {"depth": ("depthLoad", "depthStore", "depthReadOnly"), "stencil": ("stencilLoad", "stencilStore", "stencilReadOnly")}

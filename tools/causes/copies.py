@@ -1,6 +1,6 @@
 """The rules of copies and clears, and what writeTexture has in common with them: places in textures, and layouts of texels."""
 
-from .making import Cause, first, fits, lacks, listed, multiple, plural, rule, with_left_out
+from .making import Cause, first, fits, lacks, listed, multiple, plural, rule
 from .textures import EXTENTS
 
 COPY_SRC, COPY_DST = 4, 8

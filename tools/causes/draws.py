@@ -1,6 +1,6 @@
 """The rules of vertex and index buffers, and of indirect and other draws."""
 
-from .making import Cause, at_most, first, fits, lacks, listed, multiple, plural, rule
+from .making import Cause, at_most, first, fits, lacks, multiple, plural, rule
 
 INDEX, VERTEX, INDIRECT = 16, 32, 256
 

@@ -1,6 +1,5 @@
 """The rules of createBindGroup."""
 
-import bits
 from .layouts import twice
 from .making import Cause, fits, first, lacks, listed, multiple, rule, with_left_out
 

@@ -1,7 +1,7 @@
 """The rules of createBindGroupLayout and createPipelineLayout."""
 
 import bits
-from .making import Cause, at_most, first, listed, plural, rule
+from .making import Cause, listed, plural, rule
 
 
 def entries(case):

@@ -2,13 +2,14 @@
 
 import bits
 from .layouts import twice
-from .making import Cause, at_most, first, listed, plural, rule
+from .making import Cause, first, listed, plural, rule
 
 OF_KINDS = ("type", "sample", "dim", "multi", "access", "format")
 
 
 def told(value):
-    return {True: "true", False: "false"}.get(value, value) if isinstance(value, bool) else value
+    """A value as a script has it."""
+    return str(value).lower() if isinstance(value, bool) else value
 
 
 @rule(160)

@@ -1,7 +1,7 @@
 """The rules of bind groups that are set in a pass, and of what is set where a dispatch or a draw comes."""
 
 import bits
-from .making import Cause, at_most, first, fits, listed, plural, rule
+from .making import Cause, at_most, first, listed, plural, rule
 
 
 @rule(325)

@@ -1,7 +1,7 @@
 """The rules of createTexture."""
 
 import bits
-from .making import Cause, at_most, first, known_usage, listed, rule
+from .making import Cause, first, known_usage, listed, rule
 
 # What the three numbers of a size are called, by the dimension.
 EXTENTS = {"1d": ("width", "height", "depth"), "2d": ("width", "height", "layers"), "3d": ("width", "height", "depth")}
