@@ -50,7 +50,7 @@ class Explained:
         self.beside = set_beside(text, said, self.say)
         self.scopes = Scopes(self.beside)
         self.causes = causes.of_report(data, self.beside)
-        self.say(self.head())
+        self.say(self.head(), *[self.causes.why_none] * (self.causes.why_none is not None))
         self.faults()
         self.history()
         self.trace()

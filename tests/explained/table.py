@@ -45,7 +45,7 @@ def call(line):
         return line
     word, *keys = line.split()
     pairs = [key.partition("=") for key in keys]
-    return json.dumps({"do": word})[:-1] + "".join(f',"{name}":{value(held)}' for name, _, held in pairs) + "}"
+    return f'{{"do":"{word}"' + "".join(f',"{name}":{value(held)}' for name, _, held in pairs) + "}"
 
 
 def script(budget, before, lines, after):

@@ -5,7 +5,8 @@ from .making import RULES, listed
 
 # How a thing stands in a call, by the key of a list.
 IN_LISTS = {"entries": "bound by entry {}", "colors": "among the colors", "depth": "the view of depth"}
-LATE, DROPPED = 14, 11
+# The second reading is slow: of longer scripts no causes are told.
+MOST_CALLS = 20000
 
 
 class Case:
@@ -80,6 +81,32 @@ class Case:
         return found
 
 
+def keep_beside(history):
+    """Has a history keep beside it what it else looks for at each entry: its live bytes, and what may fall due, which is what was dropped or
+    destroyed. Its answers stay what they are."""
+    add, release, bytes_of = history.add, history.release, second.modules().memory.bytes_of
+    live, given_back = [0], set()
+
+    def is_memory(thing):
+        return thing.do in ("createBuffer", "createTexture") and thing.is_valid
+
+    def adding(played):
+        add(played)
+        live[0] += bytes_of(played.call) if played.entry is not None and is_memory(played) else 0
+
+    def releasing(things):
+        if things:
+            release(things)
+            given_back.update(things)
+            live[0] -= sum(bytes_of(thing.call) for thing in things)
+
+    def newly_due():
+        gone = [thing for thing in {*history.destroyed, *history.drops} if is_memory(thing) and thing not in given_back and history.is_due(thing)]
+        return sorted(gone, key=lambda thing: thing.made)
+
+    history.add, history.release, history.newly_due, history.live_bytes = adding, releasing, newly_due, lambda: live[0]
+
+
 class Play:
     """A script that is played, beside the script as the tool reads it."""
 
@@ -94,6 +121,7 @@ class Play:
         for place, call in (found for lanes in phases for lane in lanes for found in lane):
             self.calls[id(call)] = script.lanes[place[:2]][place[2]]
         self.turns = self.second.turns.Turns(budget, phases)
+        keep_beside(self.turns.history)
 
     def call_of(self, call):
         """The call as the tool reads it."""
@@ -154,10 +182,11 @@ class Told:
 
 
 class Causes:
-    """The causes of the faults of a report, by the numbers of their entries."""
+    """The causes of the faults of a report, by the numbers of their entries; or why there are none of any."""
 
-    def __init__(self, told):
+    def __init__(self, told, why_none=None):
         self.told = told
+        self.why_none = why_none
 
     def of(self, entry):
         return self.told.get(entry.number) or Told()
@@ -181,8 +210,11 @@ def of_report(data, beside):
     """The causes of the faults of a report that stands beside its script; none where it has no script, or no fault."""
     if beside.script is None or not any(entry.fault for entry in beside.report.entries) or second.modules() is None:
         return Causes({})
+    if len(beside.script.calls) > MOST_CALLS:
+        return Causes({}, f"(no causes are told: the script has {len(beside.script.calls)} calls, and they are looked for in scripts of at most {MOST_CALLS})")
     play, told = Play(data, beside.script), {}
-    for entry in beside.report.entries if not play.is_refused else []:
+    last = max(entry.number for entry in beside.report.entries if entry.fault)
+    for entry in beside.report.entries[: last + 1] if not play.is_refused else []:
         played = play.take(entry.lane)
         if played is None:
             break
