@@ -33,7 +33,11 @@ def something(case):
     if colors(case) or depth_view(case):
         return None
     given = "colors is empty" if not case.call["colors"] else "each color is null"
-    return Cause(f"{given}, and depth is left out, so that nothing is attached", {"colors": len(case.call["colors"]), "depth": False}, "Attach a color or depth.")
+    return Cause(
+        f"{given}, and depth is left out, so that nothing is attached",
+        {"colors": len(case.call["colors"]), "depth": False},
+        "Attach a color or depth.",
+    )
 
 
 def color_view(case, where, view):
@@ -44,7 +48,11 @@ def color_view(case, where, view):
         return lacking
     format = texture.call["format"]
     if not case.second.formats.is_color(format):
-        return Cause(f"{where}: {case.named(view)} has the format {format}, which has {case.aspects(format)} and no color", {"view": view.call["as"], "format": format}, "Attach it as depth." if where.startswith("color") else None)
+        return Cause(
+            f"{where}: {case.named(view)} has the format {format}, which has {case.aspects(format)} and no color",
+            {"view": view.call["as"], "format": format},
+            "Attach it as depth." if where.startswith("color") else None,
+        )
     return flat(case, where, view)
 
 
@@ -55,7 +63,11 @@ def flat(case, where, view):
         return Cause(f"{where}: {case.named(view)} has the dim {told['dim']}, and 2d or 2d-array is asked for", {"view": view.call["as"], "dim": told["dim"]})
     for key, word in (("mips", "mip level"), ("layers", "layer")):
         if told[key] != 1:
-            return Cause(f"{where}: {case.named(view)} has {plural(told[key], word)}, and 1 is asked for", {"view": view.call["as"], key: told[key], "asked": 1}, f"Make a view with {key} 1.")
+            return Cause(
+                f"{where}: {case.named(view)} has {plural(told[key], word)}, and 1 is asked for",
+                {"view": view.call["as"], key: told[key], "asked": 1},
+                f"Make a view with {key} 1.",
+            )
     return None
 
 
@@ -75,9 +87,17 @@ def depth_views(case):
         return lacking
     format, aspect = texture.call["format"], case.second.textures.told(view)["aspect"]
     if formats.is_color(format):
-        return Cause(f"depth: {case.named(view)} has the format {format}, which has color, and neither depth nor stencil", {"view": view.call["as"], "format": format}, "Attach it as a color.")
+        return Cause(
+            f"depth: {case.named(view)} has the format {format}, which has color, and neither depth nor stencil",
+            {"view": view.call["as"], "format": format},
+            "Attach it as a color.",
+        )
     if formats.named_aspects(format, aspect) != formats.aspects_of(format):
-        return Cause(f"depth: {case.named(view)} has the aspect {aspect}, and all aspects of {format} are asked for, {case.aspects(format)}", {"view": view.call["as"], "aspect": aspect, "format": format}, "Make a view with the aspect all.")
+        return Cause(
+            f"depth: {case.named(view)} has the aspect {aspect}, and all aspects of {format} are asked for, {case.aspects(format)}",
+            {"view": view.call["as"], "aspect": aspect, "format": format},
+            "Make a view with the aspect all.",
+        )
     return flat(case, "depth", view)
 
 
@@ -95,7 +115,11 @@ def load_and_store(case):
                 continue
             values = {"view": view.call["as"], "format": format, "key": key, "given": state[key], "hasAspect": has, "readOnly": state[read_only]}
             if not is_given:
-                return Cause(f"{key} is left out, and {format} of {case.named(view)} has {aspect}, with {read_only} false", values, f"Give {load} and {store}, or {read_only} true.")
+                return Cause(
+                    f"{key} is left out, and {format} of {case.named(view)} has {aspect}, with {read_only} false",
+                    values,
+                    f"Give {load} and {store}, or {read_only} true.",
+                )
             why = f"{read_only} is true" if has else f"{format} of {case.named(view)} has no {aspect}"
             return Cause(f"{key} is {state[key]}, and {why}", values, "Leave it out.")
     return None
@@ -145,7 +169,11 @@ def resolve_of(case, place, view, resolve):
     where, color, target = f"the resolve view of color {place}", view.uses["texture"].call, resolve.uses["texture"].call
     values = {"color": place, "view": view.call["as"], "resolve": resolve.call["as"]}
     if color["samples"] != 4:
-        return Cause(f"color {place} ({case.named(view)}) has {plural(color['samples'], 'sample')} and a resolve view, and 4 are asked for", {**values, "samples": color["samples"]}, "Leave resolve out.")
+        return Cause(
+            f"color {place} ({case.named(view)}) has {plural(color['samples'], 'sample')} and a resolve view, and 4 are asked for",
+            {**values, "samples": color["samples"]},
+            "Leave resolve out.",
+        )
     wrong = color_view(case, where, resolve)
     if wrong:
         return wrong
@@ -155,7 +183,10 @@ def resolve_of(case, place, view, resolve):
     pairs += zip(("width", "height"), case.second.attachments.width_and_height(view), case.second.attachments.width_and_height(resolve))
     for what, one, other in pairs:
         if one != other:
-            return Cause(f"{where} ({case.named(resolve)}) has the {what} {other}, and color {place} ({case.named(view)}) has {one}", {**values, "what": what, "colorHas": one, "resolveHas": other})
+            return Cause(
+                f"{where} ({case.named(resolve)}) has the {what} {other}, and color {place} ({case.named(view)}) has {one}",
+                {**values, "what": what, "colorHas": one, "resolveHas": other},
+            )
     return None
 
 
@@ -170,9 +201,15 @@ def same_targets(case):
     values = {"pipeline": pipeline.call["as"], "pass": begin.call["as"]}
     for place, (target, color) in enumerate(zip(asked, has)):
         if target != color:
-            return Cause(f"target {place} of {one} is {target or 'null'}, and color {place} of {other} is {color or 'null'}", {**values, "at": place, "target": target, "color": color})
+            return Cause(
+                f"target {place} of {one} is {target or 'null'}, and color {place} of {other} is {color or 'null'}",
+                {**values, "at": place, "target": target, "color": color},
+            )
     if len(asked) != len(has):
-        return Cause(f"{one} has {plural(len(asked), 'target')}, and {other} has {plural(len(has), 'color')}, without nulls at the end", {**values, "targets": len(asked), "colors": len(has)})
+        return Cause(
+            f"{one} has {plural(len(asked), 'target')}, and {other} has {plural(len(has), 'color')}, without nulls at the end",
+            {**values, "targets": len(asked), "colors": len(has)},
+        )
     return same_depth(case, pipeline, begin, values)
 
 
@@ -186,7 +223,11 @@ def same_depth(case, pipeline, begin, values):
         return Cause(f"{one} has {told[0]}, and {other} has {told[1]}", {**values, "pipelineDepth": asked, "passDepth": has})
     samples = attachments.attached_views(begin)[0].uses["texture"].call["samples"]
     if pipeline.call["samples"] != samples:
-        return Cause(f"{one} has {plural(pipeline.call['samples'], 'sample')}, and {other} has {samples}", {**values, "pipelineSamples": pipeline.call["samples"], "passSamples": samples}, f"Make the pipeline with samples {samples}.")
+        return Cause(
+            f"{one} has {plural(pipeline.call['samples'], 'sample')}, and {other} has {samples}",
+            {**values, "pipelineSamples": pipeline.call["samples"], "passSamples": samples},
+            f"Make the pipeline with samples {samples}.",
+        )
     return None
 
 
@@ -196,5 +237,9 @@ def read_only(case):
     state, depth = pipeline.call["depth"], begin.call.get("depth")
     for write, key in (("depthWrite", "depthReadOnly"), ("stencilWrite", "stencilReadOnly")):
         if state is not None and depth is not None and state[write] and depth[key]:
-            return Cause(f"{write} of {case.named(pipeline)} is true, and so is {key} of {case.named(begin)}", {"pipeline": pipeline.call["as"], "pass": begin.call["as"], write: True, key: True}, f"Leave {write} out, or {key}.")
+            return Cause(
+                f"{write} of {case.named(pipeline)} is true, and so is {key} of {case.named(begin)}",
+                {"pipeline": pipeline.call["as"], "pass": begin.call["as"], write: True, key: True},
+                f"Leave {write} out, or {key}.",
+            )
     return None

@@ -24,7 +24,11 @@ def late(case):
     through = "" if what is place else f", on which {case.named(place)} was begun,"
     did = "ended" if by.do == "end" else "finished"
     values = {"object": what.call["as"], "by": case.place(by), "call": case.do}
-    return Cause(f"{case.named(what)}{through} was {did} at {case.place(by)}, and this {case.do} comes after it", values, "Leave it out." if case.do == by.do else f"Make it before the {by.do}.")
+    return Cause(
+        f"{case.named(what)}{through} was {did} at {case.place(by)}, and this {case.do} comes after it",
+        values,
+        "Leave it out." if case.do == by.do else f"Make it before the {by.do}.",
+    )
 
 
 @rule(180)
@@ -77,7 +81,11 @@ def no_group(case):
     place = case.uses["on"]
     pushed = sum(command.do == "pushDebugGroup" for command in case.earlier)
     told = "none was pushed on it" if pushed == 0 else f"{plural(pushed, 'group')} pushed on it {'was' if pushed == 1 else 'were'} popped before"
-    return Cause(f"no debug group of {case.named(place)} is open: {told}", {"object": place.call["as"], "pushed": pushed}, "Leave it out, or push a group on the same encoder or pass before.")
+    return Cause(
+        f"no debug group of {case.named(place)} is open: {told}",
+        {"object": place.call["as"], "pushed": pushed},
+        "Leave it out, or push a group on the same encoder or pass before.",
+    )
 
 
 @rule(240)
@@ -85,4 +93,8 @@ def locked(case):
     found = case.open_pass
     if found is None:
         return None
-    return Cause(f"{case.named(found)} is open, and locks {case.named(case.uses['on'])}", {"object": found.call["as"], "begun": case.place(found), "encoder": case.uses["on"].call["as"]}, "End it before.")
+    return Cause(
+        f"{case.named(found)} is open, and locks {case.named(case.uses['on'])}",
+        {"object": found.call["as"], "begun": case.place(found), "encoder": case.uses["on"].call["as"]},
+        "End it before.",
+    )

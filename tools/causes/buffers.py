@@ -59,4 +59,8 @@ def budget(case):
         said += "; most is taken by " + listed(f"{case.named(thing)} with {taken[thing]}" for thing in largest)
     values = {"asked": asked, "budget": total, "taken": sum(taken.values()), "left": left}
     values |= {"largest": [thing.call["as"] for thing in largest], "largestBytes": [taken[thing] for thing in largest]}
-    return Cause(said, values, "Destroy or drop what is not needed any longer, and complete the work that uses it." if asked <= total else "It is more than the whole budget.")
+    return Cause(
+        said,
+        values,
+        "Destroy or drop what is not needed any longer, and complete the work that uses it." if asked <= total else "It is more than the whole budget.",
+    )

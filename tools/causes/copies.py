@@ -119,7 +119,11 @@ def aspect(case):
     values = {"object": texture.call["as"], "format": format, "aspect": word, "aspects": list(aspects)}
     where = "copied from" if case.do == "copyTextureToBuffer" else "copied to"
     if len(aspects) > 1:
-        return Cause(f"aspect is {word}, which is {listed(aspects)} of {format} of {case.named(texture)}, and one is asked for", values, "Copy one aspect, with the aspect stencil-only.")
+        return Cause(
+            f"aspect is {word}, which is {listed(aspects)} of {format} of {case.named(texture)}, and one is asked for",
+            values,
+            "Copy one aspect, with the aspect stencil-only.",
+        )
     if not aspects:
         return Cause(f"aspect is {word}, and {case.named(texture)} has the format {format}, which has {case.aspects(format)} alone", values)
     return Cause(f"the {aspects[0]} of {format} of {case.named(texture)} cannot be {where}", values)
@@ -147,9 +151,16 @@ def texel_layout(case):
     values = {"size": list(call["size"]), "texel": size, "bytesPerRow": row, "rowsPerImage": rows}
     if row is None and (height > 1 or depth > 1):
         what = f"{height} rows" if height > 1 else f"{depth} images"
-        return Cause(f"bytesPerRow is left out, and the copy has {what}", values, f"Give at least {width * size}: {plural(width, 'texel')} of {plural(size, 'byte')}.")
+        return Cause(
+            f"bytesPerRow is left out, and the copy has {what}",
+            values,
+            f"Give at least {width * size}: {plural(width, 'texel')} of {plural(size, 'byte')}.",
+        )
     if row is not None and row < width * size:
-        return Cause(f"bytesPerRow is {row}, and a row has {plural(width, 'texel')} of {plural(size, 'byte')}: {width * size}", {**values, "least": width * size})
+        return Cause(
+            f"bytesPerRow is {row}, and a row has {plural(width, 'texel')} of {plural(size, 'byte')}: {width * size}",
+            {**values, "least": width * size},
+        )
     if rows is None and depth > 1:
         return Cause(f"rowsPerImage is left out, and the copy has {depth} images", values, f"Give at least the height, {height}.")
     if rows is not None and rows < height:
@@ -192,7 +203,15 @@ def target_texture(case):
 def differ(case, key, why):
     source, target = case.uses["source"], case.uses["target"]
     said = f"{case.named(source)} has {why} {source.call[key]}, and {case.named(target)} has {target.call[key]}"
-    return Cause(said, {"source": source.call["as"], "target": target.call["as"], f"source{key.capitalize()}": source.call[key], f"target{key.capitalize()}": target.call[key]})
+    return Cause(
+        said,
+        {
+            "source": source.call["as"],
+            "target": target.call["as"],
+            f"source{key.capitalize()}": source.call[key],
+            f"target{key.capitalize()}": target.call[key],
+        },
+    )
 
 
 @rule(272)

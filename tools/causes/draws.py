@@ -90,7 +90,11 @@ def vertex_buffers_set(case):
 def index_buffer_set(case):
     if case.second.draws.index_buffer_set(case.earlier) is not None:
         return None
-    return Cause(f"no index buffer is set on {case.named(case.uses['on'])} where the {case.do} comes", {"pass": case.uses["on"].call["as"], "call": case.do}, "Set one before.")
+    return Cause(
+        f"no index buffer is set on {case.named(case.uses['on'])} where the {case.do} comes",
+        {"pass": case.uses["on"].call["as"], "call": case.do},
+        "Set one before.",
+    )
 
 
 @rule(353)
@@ -103,7 +107,11 @@ def indices(case):
         return None
     said = f"firstIndex {low} and indices {count} ask for ({low} + {count}) * {size} = {asked} bytes, and {bytes_set(case, setting, there)} as the index buffer at {case.place(setting)}"
     values = {"firstIndex": low, "indices": count, "bytesOfIndex": size, "asked": asked, "bytes": there, "object": setting.uses["buffer"].call["as"]}
-    return Cause(said, values, f"{plural(there // size, 'index') if there // size == 1 else f'{there // size} indices'} of {setting.call['format']} {'is' if there // size == 1 else 'are'} there.")
+    return Cause(
+        said,
+        values,
+        f"{plural(there // size, 'index') if there // size == 1 else f'{there // size} indices'} of {setting.call['format']} {'is' if there // size == 1 else 'are'} there.",
+    )
 
 
 def bytes_set(case, setting, there):
@@ -129,7 +137,17 @@ def elements_of(case, at, one):
     last = asked - (low + count - 1) * one["stride"]
     product = f"({low} + {count} - 1) * {one['stride']} + {last} = {asked}"
     said = f"slot {at}: {low_key} {low} and {count_key} {count} ask for {product} bytes, and {bytes_set(case, setting, there)} at {case.place(setting)}"
-    values = {"slot": at, "step": one["step"], low_key: low, count_key: count, "stride": one["stride"], "lastElement": last, "asked": asked, "bytes": there, "object": setting.uses["buffer"].call["as"]}
+    values = {
+        "slot": at,
+        "step": one["step"],
+        low_key: low,
+        count_key: count,
+        "stride": one["stride"],
+        "lastElement": last,
+        "asked": asked,
+        "bytes": there,
+        "object": setting.uses["buffer"].call["as"],
+    }
     return Cause(said, values, remedy_of(low, one["stride"], last, there, one["step"]))
 
 

@@ -45,13 +45,23 @@ def bindings(case):
     missing = [binding for binding in asked if binding not in given]
     if missing:
         many = f"the binding {missing[0]}" if len(missing) == 1 else f"the bindings {listed(missing)}"
-        return Cause(f"{case.named(layout)} has {many}, and no entry has {'it' if len(missing) == 1 else 'them'}", {"layout": layout.call["as"], "missing": missing, "given": given})
+        return Cause(
+            f"{case.named(layout)} has {many}, and no entry has {'it' if len(missing) == 1 else 'them'}",
+            {"layout": layout.call["as"], "missing": missing, "given": given},
+        )
     pair = twice(given)
     if pair:
-        return Cause(f"entries {pair[0]} and {pair[1]} both have the binding {given[pair[0]]}", {"entries": list(pair), "binding": given[pair[0]]}, "Leave one of them out.")
+        return Cause(
+            f"entries {pair[0]} and {pair[1]} both have the binding {given[pair[0]]}",
+            {"entries": list(pair), "binding": given[pair[0]]},
+            "Leave one of them out.",
+        )
     for number, binding in enumerate(given):
         if binding not in asked:
-            return Cause(f"entry {number} has the binding {binding}, and {case.named(layout)} has {listed(asked)}", {"entry": number, "binding": binding, "layout": layout.call["as"], "has": asked})
+            return Cause(
+                f"entry {number} has the binding {binding}, and {case.named(layout)} has {listed(asked)}",
+                {"entry": number, "binding": binding, "layout": layout.call["as"], "has": asked},
+            )
     return None
 
 
@@ -84,7 +94,10 @@ def buffer_range(case):
     for one, offset, size, is_left_out in ranges(case):
         cause = multiple("offset", offset, 256, one.words)
         if cause is None and size == 0:
-            cause = one.cause(f"{with_left_out('size', 0, is_left_out)} is nothing to bind, at offset {offset} of {case.named(one.thing)}, which has {one.thing.call['size']} bytes", {"offset": offset, "size": 0, "bytes": one.thing.call["size"]})
+            cause = one.cause(
+                f"{with_left_out('size', 0, is_left_out)} is nothing to bind, at offset {offset} of {case.named(one.thing)}, which has {one.thing.call['size']} bytes",
+                {"offset": offset, "size": 0, "bytes": one.thing.call["size"]},
+            )
         cause = cause or fits(case, one.thing, offset, size, is_left_out=is_left_out, where=one.words)
         if cause:
             return with_values(cause, one)
@@ -98,11 +111,22 @@ def buffer_size(case):
         kind, most = one.asked["kind"], groups.BUFFER_KINDS[one.asked["kind"]][1]
         told, values = with_left_out("size", size, is_left_out), {"size": size, "kind": kind}
         if size > most:
-            return one.cause(f"{told} is above {most}, the most of a {kind} binding", {**values, "most": most}, f"Give a size of at most {most}." if is_left_out else None)
+            return one.cause(
+                f"{told} is above {most}, the most of a {kind} binding",
+                {**values, "most": most},
+                f"Give a size of at most {most}." if is_left_out else None,
+            )
         if kind in groups.STORAGE_KINDS and size % 4:
-            return one.cause(f"{told} is no multiple of 4, as {kind} asks", {**values, "multipleOf": 4}, f"The nearest multiples are {size - size % 4} and {size - size % 4 + 4}.")
+            return one.cause(
+                f"{told} is no multiple of 4, as {kind} asks",
+                {**values, "multipleOf": 4},
+                f"The nearest multiples are {size - size % 4} and {size - size % 4 + 4}.",
+            )
         if size < one.asked["minSize"]:
-            return one.cause(f"{told} is below the minSize {one.asked['minSize']} of {case.named(layout)}", {**values, "least": one.asked["minSize"], "layout": layout.call["as"]})
+            return one.cause(
+                f"{told} is below the minSize {one.asked['minSize']} of {case.named(layout)}",
+                {**values, "least": one.asked["minSize"], "layout": layout.call["as"]},
+            )
     return None
 
 
@@ -121,17 +145,31 @@ def sampled_one(case, one):
     format, name = texture.call["format"], case.named(one.thing)
     aspects = formats.named_aspects(format, view["aspect"])
     if len(aspects) != 1:
-        return one.cause(f"{name} has the aspects {listed(aspects)} of {format}, and one is asked for", {"view": one.thing.call["as"], "format": format, "aspects": list(aspects)}, "Make a view with the aspect depth-only or stencil-only.")
+        return one.cause(
+            f"{name} has the aspects {listed(aspects)} of {format}, and one is asked for",
+            {"view": one.thing.call["as"], "format": format, "aspects": list(aspects)},
+            "Make a view with the aspect depth-only or stencil-only.",
+        )
     has = formats.sampled_as(format, aspects[0])
     asks = f"{case.named(layout)} asks for"
     if not case.second.groups.takes_sample(one.asked["sample"], has):
-        return one.cause(f"{name} of {format} is sampled as {has}, and {asks} {one.asked['sample']}", {"view": one.thing.call["as"], "format": format, "sampled": has, "asked": one.asked["sample"]})
+        return one.cause(
+            f"{name} of {format} is sampled as {has}, and {asks} {one.asked['sample']}",
+            {"view": one.thing.call["as"], "format": format, "sampled": has, "asked": one.asked["sample"]},
+        )
     if view["dim"] != one.asked["dim"]:
-        return one.cause(f"{name} has the dim {view['dim']}, and {asks} {one.asked['dim']}", {"view": one.thing.call["as"], "dim": view["dim"], "asked": one.asked["dim"]}, f"Make a view with the dim {one.asked['dim']}.")
+        return one.cause(
+            f"{name} has the dim {view['dim']}, and {asks} {one.asked['dim']}",
+            {"view": one.thing.call["as"], "dim": view["dim"], "asked": one.asked["dim"]},
+            f"Make a view with the dim {one.asked['dim']}.",
+        )
     samples = texture.call["samples"]
     if (samples == 4) != one.asked["multi"]:
         told = "true" if one.asked["multi"] else "false"
-        return one.cause(f"{case.named(texture)} has {samples} sample{'s' * (samples != 1)}, and {case.named(layout)} has multi {told}", {"object": texture.call["as"], "samples": samples, "multi": one.asked["multi"]})
+        return one.cause(
+            f"{case.named(texture)} has {samples} sample{'s' * (samples != 1)}, and {case.named(layout)} has multi {told}",
+            {"object": texture.call["as"], "samples": samples, "multi": one.asked["multi"]},
+        )
     return None
 
 
@@ -144,10 +182,17 @@ def stored(case):
         if lacking:
             return with_values(lacking, one)
         if view["mips"] != 1:
-            return one.cause(f"{name} has {view['mips']} mip levels, and one is asked for", {"view": one.thing.call["as"], "mips": view["mips"], "asked": 1}, "Make a view with mips 1.")
+            return one.cause(
+                f"{name} has {view['mips']} mip levels, and one is asked for",
+                {"view": one.thing.call["as"], "mips": view["mips"], "asked": 1},
+                "Make a view with mips 1.",
+            )
         for key, has in (("format", texture.call["format"]), ("dim", view["dim"])):
             if has != one.asked[key]:
-                return one.cause(f"{name} has the {key} {has}, and {case.named(layout)} asks for {one.asked[key]}", {"view": one.thing.call["as"], key: has, "asked": one.asked[key]})
+                return one.cause(
+                    f"{name} has the {key} {has}, and {case.named(layout)} asks for {one.asked[key]}",
+                    {"view": one.thing.call["as"], key: has, "asked": one.asked[key]},
+                )
     return None
 
 
@@ -157,5 +202,9 @@ def samplers(case):
         kind, asked = one.thing.call["kind"], one.asked["type"]
         if not case.second.groups.takes_sampler(asked, kind):
             will = "filtering or non-filtering" if asked == "filtering" else asked
-            return one.cause(f"{case.named(one.thing)} is a {kind} sampler, and {case.named(case.uses['layout'])} asks for {asked}", {"object": one.thing.call["as"], "kind": kind, "asked": asked}, f"A {will} sampler will do.")
+            return one.cause(
+                f"{case.named(one.thing)} is a {kind} sampler, and {case.named(case.uses['layout'])} asks for {asked}",
+                {"object": one.thing.call["as"], "kind": kind, "asked": asked},
+                f"A {will} sampler will do.",
+            )
     return None

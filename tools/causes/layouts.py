@@ -25,14 +25,21 @@ def distinct(case):
     if found is None:
         return None
     binding = case.call["entries"][found[0]]["binding"]
-    return Cause(f"entries {found[0]} and {found[1]} both have the binding {binding}", {"entries": list(found), "binding": binding}, "Give each a binding of its own.")
+    return Cause(
+        f"entries {found[0]} and {found[1]} both have the binding {binding}",
+        {"entries": list(found), "binding": binding},
+        "Give each a binding of its own.",
+    )
 
 
 @rule(131)
 def binding_limit(case):
     for _, number, entry in entries(case):
         if entry["binding"] > 999:
-            return Cause(f"entry {number} has the binding {entry['binding']}, and the greatest is 999", {"entry": number, "binding": entry["binding"], "most": 999})
+            return Cause(
+                f"entry {number} has the binding {entry['binding']}, and the greatest is 999",
+                {"entry": number, "binding": entry["binding"], "most": 999},
+            )
     return None
 
 
@@ -41,7 +48,11 @@ def visibility(case):
     for said, number, entry in entries(case):
         seen, unknown = entry["visibility"], entry["visibility"] & ~7
         if seen > 7:
-            return Cause(f"{said} has the visibility {bits.said(seen, bits.STAGES)}; {unknown} is no stage", {"entry": number, "binding": entry["binding"], "visibility": seen, "unknown": unknown, "most": 7}, f"Take {unknown} away.")
+            return Cause(
+                f"{said} has the visibility {bits.said(seen, bits.STAGES)}; {unknown} is no stage",
+                {"entry": number, "binding": entry["binding"], "visibility": seen, "unknown": unknown, "most": 7},
+                f"Take {unknown} away.",
+            )
     return None
 
 
@@ -50,9 +61,19 @@ def vertex_writes(case):
     for said, number, entry in entries(case):
         if entry["visibility"] & 1 and case.second.groups.is_written(entry):
             what = "kind storage" if entry["kind"] == "storage" else f"kind storage-texture, the access {entry['access']}"
-            values = {"entry": number, "binding": entry["binding"], "kind": entry["kind"], "visibility": entry["visibility"], "visibilityWords": bits.words(entry["visibility"], bits.STAGES)}
+            values = {
+                "entry": number,
+                "binding": entry["binding"],
+                "kind": entry["kind"],
+                "visibility": entry["visibility"],
+                "visibilityWords": bits.words(entry["visibility"], bits.STAGES),
+            }
             other = "read-only-storage" if entry["kind"] == "storage" else "read-only"
-            return Cause(f"{said} has the {what} and the visibility {bits.said(entry['visibility'], bits.STAGES)}, and VERTEX (1) may not see what is written", values, f"Take VERTEX away, or make it {other}.")
+            return Cause(
+                f"{said} has the {what} and the visibility {bits.said(entry['visibility'], bits.STAGES)}, and VERTEX (1) may not see what is written",
+                values,
+                f"Take VERTEX away, or make it {other}.",
+            )
     return None
 
 
@@ -64,7 +85,11 @@ def multisampled(case):
             if entry["dim"] != "2d":
                 return Cause(f"{said} has multi true and the dim {entry['dim']}, where 2d is asked for", values)
             if entry["sample"] == "float":
-                return Cause(f"{said} has multi true and the sample type float, which cannot be filtered with several samples", values, "Take unfilterable-float.")
+                return Cause(
+                    f"{said} has multi true and the sample type float, which cannot be filtered with several samples",
+                    values,
+                    "Take unfilterable-float.",
+                )
     return None
 
 
@@ -79,7 +104,11 @@ def storage_texture(case):
         formats = case.second.formats
         if not formats.has_access(entry["format"], entry["access"]):
             allowed = [name for name in formats.FORMATS if formats.has_access(name, entry["access"])]
-            return Cause(f"{said} has the format {entry['format']}, which has no {entry['access']} access", {**values, "allowed": allowed}, f"Formats that have it are {listed(allowed)}.")
+            return Cause(
+                f"{said} has the format {entry['format']}, which has no {entry['access']} access",
+                {**values, "allowed": allowed},
+                f"Formats that have it are {listed(allowed)}.",
+            )
     return None
 
 
@@ -89,7 +118,13 @@ def seen(case, layouts):
     for stage, bit in groups.STAGES.items():
         for kinds, most in groups.SEEN_LIMITS.values():
             counts = [(said, sum(entry["kind"] in kinds and entry["visibility"] & bit != 0 for entry in items)) for said, items in layouts]
-            cause = too_many(counts, most, f"{stage.upper()} ({bit}) sees", f"of {' and '.join(kinds)}", {"stage": bit, "stageWord": stage.upper(), "kinds": list(kinds)})
+            cause = too_many(
+                counts,
+                most,
+                f"{stage.upper()} ({bit}) sees",
+                f"of {' and '.join(kinds)}",
+                {"stage": bit, "stageWord": stage.upper(), "kinds": list(kinds)},
+            )
             if cause:
                 return cause
     return None

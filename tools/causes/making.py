@@ -85,7 +85,11 @@ def multiple(key, number, of, where="", why=""):
     if number % of == 0:
         return None
     low = number - number % of
-    return Cause(f"{where}{key} is {number}, which is no multiple of {of}{why}", {key: number, "multipleOf": of}, f"The nearest multiples are {low} and {low + of}.")
+    return Cause(
+        f"{where}{key} is {number}, which is no multiple of {of}{why}",
+        {key: number, "multipleOf": of},
+        f"The nearest multiples are {low} and {low + of}.",
+    )
 
 
 def at_most(key, number, most, where="", remedy=None):

@@ -47,7 +47,14 @@ def map_usage(case):
     if usage & number:
         return None
     said = f"mode is {bits.said(number, bits.MODES)}, and {case.named(buffer)} has usage {bits.said(usage, bits.BUFFER)}; {bits.one(number, bits.BUFFER)} is missing"
-    values = {"mode": number, "object": buffer.call["as"], "usage": usage, "usageWords": bits.words(usage, bits.BUFFER), "missing": number, "missingWord": bits.BUFFER[number]}
+    values = {
+        "mode": number,
+        "object": buffer.call["as"],
+        "usage": usage,
+        "usageWords": bits.words(usage, bits.BUFFER),
+        "missing": number,
+        "missingWord": bits.BUFFER[number],
+    }
     return Cause(said, values, to_add(case, buffer, number, bits.BUFFER))
 
 
@@ -63,7 +70,11 @@ def busy(case, buffer, where=""):
     pending = [asked for asked in maps.pending_maps(history, buffer) if asked is not case.entry]
     if pending:
         by = case.place(pending[0])
-        return Cause(f"{name} is pending: the map that the mapAsync at {by} asks for waits", {**values, "state": "pending", "by": by}, "Complete the work that uses it and unmap it before, or unmap it at once.")
+        return Cause(
+            f"{name} is pending: the map that the mapAsync at {by} asks for waits",
+            {**values, "state": "pending", "by": by},
+            "Complete the work that uses it and unmap it before, or unmap it at once.",
+        )
     mapping = maps.mapping_of(history, buffer)
     if mapping is not None:
         by = mapped_by(case, buffer)

@@ -17,7 +17,11 @@ def dropped(case):
         drop = case.history.drop_of(thing)
         if drop is not None and drop is not case.entry:
             by = case.place(drop)
-            return Cause(f"{case.named(thing)}, which is {key}, was dropped at {by}", {"object": thing.call["as"], "key": key, "by": by}, "Drop it after its last use.")
+            return Cause(
+                f"{case.named(thing)}, which is {key}, was dropped at {by}",
+                {"object": thing.call["as"], "key": key, "by": by},
+                "Drop it after its last use.",
+            )
     return None
 
 
@@ -88,7 +92,11 @@ def gone(case, texture, by=""):
     if not case.history.is_destroyed(texture):
         return None
     at = case.place(case.destroy_of(texture))
-    return Cause(f"{case.named(texture)}{by} was destroyed at {at}", {"object": texture.call["as"], "state": "destroyed", "by": at}, "Destroy it after its last use.")
+    return Cause(
+        f"{case.named(texture)}{by} was destroyed at {at}",
+        {"object": texture.call["as"], "state": "destroyed", "by": at},
+        "Destroy it after its last use.",
+    )
 
 
 @rule(200)

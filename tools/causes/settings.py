@@ -18,7 +18,11 @@ def offsets(case):
         return None
     has = f"{plural(len(bindings), 'dynamic binding')}" + (f" ({listed(bindings)})" if bindings else "")
     values = {"offsets": given, "dynamic": bindings, "group": group.call["as"], "layout": layout.call["as"]}
-    return Cause(f"offsets has {plural(given, 'item')}, and {case.named(layout)} of {case.named(group)} has {has}", values, f"Give {plural(len(bindings), 'offset')}." if bindings else "Leave offsets out.")
+    return Cause(
+        f"offsets has {plural(given, 'item')}, and {case.named(layout)} of {case.named(group)} has {has}",
+        values,
+        f"Give {plural(len(bindings), 'offset')}." if bindings else "Leave offsets out.",
+    )
 
 
 @rule(327)
@@ -26,7 +30,11 @@ def offset_alignment(case):
     for place, offset in enumerate(case.call["offsets"]):
         if offset % 256:
             low = offset - offset % 256
-            return Cause(f"item {place} of offsets is {offset}, which is no multiple of 256", {"item": place, "offset": offset, "multipleOf": 256}, f"The nearest multiples are {low} and {low + 256}.")
+            return Cause(
+                f"item {place} of offsets is {offset}, which is no multiple of 256",
+                {"item": place, "offset": offset, "multipleOf": 256},
+                f"The nearest multiples are {low} and {low + 256}.",
+            )
     return None
 
 
@@ -41,7 +49,16 @@ def moved(case):
         end = move + offset + size
         if end > thing.call["size"]:
             said = f"binding {entry['binding']} of {case.named(group)}: the offset {offset}, the given offset {move} and the size {size} end at {end}, and {case.named(thing)} has {plural(thing.call['size'], 'byte')}"
-            values = {"group": group.call["as"], "binding": entry["binding"], "offset": offset, "given": move, "size": size, "end": end, "object": thing.call["as"], "bytes": thing.call["size"]}
+            values = {
+                "group": group.call["as"],
+                "binding": entry["binding"],
+                "offset": offset,
+                "given": move,
+                "size": size,
+                "end": end,
+                "object": thing.call["as"],
+                "bytes": thing.call["size"],
+            }
             return Cause(said, values, "Give the entry of the group a size that leaves room." if entry["size"] is None else None)
     return None
 
@@ -130,7 +147,12 @@ def overlap(case, one, other):
     common = ("b", cell[1], max(cell[2], found[2]), min(cell[3], found[3])) if cell[0] == "b" else cell
     words = [f"binding {each['binding']} of {case.named(whose)} at index {where} ({each['kind']})" for where, whose, each in ((at, group, asked), (other_at, other_group, other_asked))]
     said = f"{words[0]} and {words[1]} overlap in {case.part(common)}, and {bits.each(seen, bits.STAGES)} {'sees' if bin(seen).count('1') == 1 else 'see'} both"
-    values = {"groups": [group.call["as"], other_group.call["as"]], "indexes": [at, other_at], "bindings": [asked["binding"], other_asked["binding"]], "kinds": [asked["kind"], other_asked["kind"]]}
+    values = {
+        "groups": [group.call["as"], other_group.call["as"]],
+        "indexes": [at, other_at],
+        "bindings": [asked["binding"], other_asked["binding"]],
+        "kinds": [asked["kind"], other_asked["kind"]],
+    }
     return Cause(said, {**values, "visibility": seen, **case.part_values(common)}, "Bind parts that have nothing in common, or both for reading alone.")
 
 

@@ -32,7 +32,10 @@ def extent_limits(case):
     for name, length, most in extents(case):
         if length > most:
             asked = f"has a {name} of 1" if most == 1 else f"has at most {most}"
-            return Cause(f"{name} is {length} in the size {case.call['size']}, and a {dim} texture {asked}", {"extent": name, "is": length, "most": most, "dim": dim})
+            return Cause(
+                f"{name} is {length} in the size {case.call['size']}, and a {dim} texture {asked}",
+                {"extent": name, "is": length, "most": most, "dim": dim},
+            )
     return None
 
 
@@ -72,13 +75,25 @@ def four_samples(case):
             four("layers", call["size"][2], 1, call["size"][2] == 1),
             None
             if has & RENDER_ATTACHMENT
-            else Cause(f"with 4 samples usage is to have RENDER_ATTACHMENT (16), and it is {bits.said(has, bits.TEXTURE)}", {"samples": 4, **usage, "missing": 16}, "Add it."),
+            else Cause(
+                f"with 4 samples usage is to have RENDER_ATTACHMENT (16), and it is {bits.said(has, bits.TEXTURE)}",
+                {"samples": 4, **usage, "missing": 16},
+                "Add it.",
+            ),
             None
             if not has & STORAGE_BINDING
-            else Cause(f"with 4 samples usage may not have STORAGE_BINDING (8), and it is {bits.said(has, bits.TEXTURE)}", {"samples": 4, **usage, "notAllowed": 8}, "Take it away."),
+            else Cause(
+                f"with 4 samples usage may not have STORAGE_BINDING (8), and it is {bits.said(has, bits.TEXTURE)}",
+                {"samples": 4, **usage, "notAllowed": 8},
+                "Take it away.",
+            ),
             None
             if call["format"] in allowed
-            else Cause(f"the format {call['format']} has 1 sample alone, and samples is 4", {"samples": 4, "format": call["format"], "allowed": allowed}, f"Formats with 4 samples are {listed(allowed)}."),
+            else Cause(
+                f"the format {call['format']} has 1 sample alone, and samples is 4",
+                {"samples": 4, "format": call["format"], "allowed": allowed},
+                f"Formats with 4 samples are {listed(allowed)}.",
+            ),
         ]
     )
 
@@ -88,7 +103,11 @@ def color_alone(case):
     format, dim = case.call["format"], case.call["dim"]
     if dim == "2d" or case.second.formats.is_color(format):
         return None
-    return Cause(f"a {dim} texture has a color format, and {format} has {case.aspects(format)}", {"dim": dim, "format": format}, 'Take a 2d texture, or a color format.')
+    return Cause(
+        f"a {dim} texture has a color format, and {format} has {case.aspects(format)}",
+        {"dim": dim, "format": format},
+        'Take a 2d texture, or a color format.',
+    )
 
 
 @rule(117)
