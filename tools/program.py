@@ -21,6 +21,8 @@ class Program:
     It is the proved one where that is built from the sources as they are, and else, or where that is asked for, the one that is compiled
     without proofs, of which one line on standard error says so."""
 
+    plays = True
+
     def __init__(self, is_unproved):
         named = os.environ.get(NAMED)
         self.is_unproved = not named and (is_unproved or not building.is_built())

@@ -10,8 +10,28 @@ import ends
 
 sys.path.append(str(building.TOP / "tests"))
 
-from model import answers, report, traces, turns  # noqa: E402
-from model.calls import RECORDING  # noqa: E402, F401
+from model import (  # noqa: E402, F401
+    answers,
+    attachments,
+    bound_groups,
+    buffers,
+    calls,
+    cells,
+    copies,
+    draws,
+    formats,
+    groups,
+    history,
+    maps,
+    memory,
+    passes,
+    recording,
+    report,
+    rules,
+    textures,
+    traces,
+    turns,
+)
 
 SAID = "the second reading of the rules (tests/model), which is not proved"
 

@@ -121,7 +121,7 @@ class Verified:
         if played.fault is None:
             return []
         kind, number = played.fault
-        word = "late" if played.do in second.RECORDING else played.do
+        word = "late" if played.do in second.calls.RECORDING else played.do
         lines = []
         for rule in rules.of(number, word)[:1]:
             lines += [f"rule {number} is the first that is unmet; it asks of {rule.label}: {rule.asks}", rules.section(rule)]

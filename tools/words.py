@@ -1,12 +1,12 @@
 """The words of the command line."""
 
 import os
+import re
 import signal
 import sys
 
 import building
 import ends
-import explain
 import places
 import rules
 from program import NAMED, Program
@@ -23,7 +23,9 @@ usage: wgsim run [FILE]       plays a script and writes the program's report, by
        wgsim script N [L]     writes that generated script
        wgsim judge [--json] FOLDER
                               runs each script NAME.json of a folder, and compares it with NAME.expected
-       wgsim explain [FILE]   the report in words, beside the script: which call, why, and what a driver has to do
+       wgsim explain [--json] [--report REPORT] [FILE]
+                              the report in words, beside the script: which call, why, and what a driver has to do;
+                              with --json for a machine, with --report of a report that is there and not of a new play
        wgsim picture [FILE]   the trace as one HTML page: steps, barriers, clears and releases
        wgsim diff [--script FILE] A B
                               compares two reports, entry by entry and step by step; a script in the place of a
@@ -70,11 +72,15 @@ class Words:
         self.is_json = False
         self.command = None
         self.script = None
+        self.report = None
         self.callers = None
+        self.wants_help = False
         self.rest = []
         words = list(words)
         while words:
             self.take(words.pop(0), words)
+        if self.wants_help:
+            return
         if self.command in ("--help", "--version"):
             if self.rest or self.is_unproved or self.is_proved:
                 raise Wrong(f"{self.command} stands alone")
@@ -88,10 +94,14 @@ class Words:
             self.is_proved = True
         elif word == "--script" and self.command == "diff":
             self.script = value_of(word, "a FILE", after)
+        elif word == "--report" and self.command == "explain":
+            self.report = value_of(word, "a REPORT", after)
         elif word == "--callers" and self.command == "run":
             self.callers = callers_in(value_of(word, "a list of callers", after))
-        elif word == "--json" and self.command == "judge":
+        elif word == "--json" and self.command in ("explain", "judge"):
             self.is_json = True
+        elif word == "--help" and self.command in MOST:
+            self.wants_help = True
         elif self.command is None and (word in MOST or word in ("--help", "--version")):
             self.command = word
         elif self.command is None:
@@ -109,9 +119,9 @@ class Words:
         least, what = LEAST.get(self.command, (0, None))
         if len(self.rest) < least:
             raise Wrong(f"{self.command} needs {what}")
-        if self.is_proved and (self.is_unproved or self.command in UNPROVED or self.callers is not None):
+        if self.is_proved and (self.is_unproved or self.command in UNPROVED or self.callers is not None or self.report is not None):
             raise Wrong("--proved asks for the proved program, which does not answer this")
-        if self.command in ("diff", "verify") and [*self.rest, self.script].count("-") > 1:
+        if [*self.rest, self.script, self.report].count("-") > 1 or (self.report == "-" and not self.rest):
             raise Wrong("standard input can be one file alone")
         if self.command == "rules" and self.rest and not (self.rest[0].isascii() and self.rest[0].isdigit()):
             raise Wrong(f"a rule has a number, and not {self.rest[0]}")
@@ -247,8 +257,13 @@ def generated(words):
 
 
 def explained(words):
+    import explain
+    import faults
+    import given
+
     data, name = read(words.rest[0] if words.rest else "-")
-    text, status = explain.explain(places.Text(data, name), data, Program(words.is_unproved))
+    program = given.Given(*read(words.report)) if words.report is not None else Program(words.is_unproved)
+    text, status = (faults.explained if words.is_json else explain.explain)(places.Text(data, name), data, program)
     write(text.encode("utf-8"))
     return status
 
@@ -301,6 +316,13 @@ def show_help(words):
     return 0
 
 
+def usage_of(words):
+    """The usage of the commands among some words, or of all of them: what helps after a wrong word."""
+    blocks = re.split(r"^(?=usage: wgsim|       wgsim)", USAGE.split("\n\n")[0] + "\n", flags=re.M)
+    own = [block[7:] for block in blocks if re.match(r"(?:usage:)? *wgsim (\S+)", block) and re.match(r"(?:usage:)? *wgsim (\S+)", block)[1] in words]
+    return f"usage: {''.join(own)}" if own else "usage: wgsim " + "|".join(MOST) + " ..\n"
+
+
 def write(data):
     sys.stdout.buffer.write(data)
     sys.stdout.buffer.flush()
@@ -319,8 +341,10 @@ def main(given):
     try:
         words = Words(given)
     except Wrong as wrong:
-        sys.stderr.write(f"wgsim: {wrong}\n{USAGE}")
+        sys.stderr.write(f"wgsim: {wrong}\n{usage_of(given)}`wgsim --help` has all words\n")
         return ends.WORDS
+    if words.wants_help:
+        return show_help(words)
     for number in (signal.SIGTERM, signal.SIGHUP):
         signal.signal(number, lambda number, _: sys.exit(128 + number))
     try:

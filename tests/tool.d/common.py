@@ -13,6 +13,8 @@ findings = []
 class Asked:
     """The program that the tool asks in these tests, once it is known."""
 
+    plays = True
+
     def __init__(self):
         self.program = None
         self.said = "the program of the tests"

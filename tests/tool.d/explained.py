@@ -72,8 +72,7 @@ def test_bound():
     """What explain says of bind groups and pipelines: which of the objects is invalid or dropped, and where the layouts were made."""
     told = explain.explain(places.Text(BOUND.encode(), "S"), BOUND.encode(), asked)[0]
     for words in (
-        "rule 12 asks of createBindGroup: ",
-        "none is invalid since it was made: entry 1, by rule 100, S:3:1",
+        'follows from entry 1: entry 3, S:5:1: createBindGroup: "none" (3:1), which is bound by entry 1, is invalid since it was made, at entry 1, by rule 100 (rule 12)',
         "rule 150 asks of createBindGroup: ",
         "    l: createBindGroupLayout at S:4:1",
         "rule 160 asks of createComputePipeline: ",

@@ -16,12 +16,16 @@ def test_words():
     for words in ([], ["play"], ["run", "a", "b"], ["--quick"], ["run", "--quick"], ["rules", "x"], ["rules", "1", "2"], ["diff"], ["diff", "a"],
                   ["diff", "a", "b", "c"], ["diff", "-", "-"], ["diff", "a", "b", "--script"], ["--help", "run"], ["--unproved"], ["--unproved", "--help"],
                   ["run", "--callers"], ["run", "--callers", "0,x"], ["run", "--callers", "0;1"], ["explain", "--callers", "0"], ["verify"], ["verify", "a"], ["verify", "a", "b", "c"],
-                  ["verify", "-", "-"], ["outcomes", "a", "b"], ["judge"], ["judge", "a", "b"], ["judge", "--quick", "a"], ["script"], ["words"], ["words", "a", "b"], ["prove", "a"]):
+                  ["verify", "-", "-"], ["outcomes", "a", "b"], ["judge"], ["judge", "a", "b"], ["judge", "--quick", "a"], ["script"], ["words"], ["words", "a", "b"], ["prove", "a"],
+                  ["explain", "--report"], ["run", "--json"], ["explain", "--report", "-", "-"], ["explain", "--report", "-"], ["--proved", "explain", "--report", "a", "b"]):
         ran = subprocess.run([*python, *words], capture_output=True, env={**os.environ, **{k: v for k, v in nothing.items() if v}}, timeout=300)
         said = " ".join(words)
         check(ran.returncode == 2, f"wgsim {said}: status {ran.returncode} and not 2")
         check(b"usage: wgsim" in ran.stderr and not ran.stdout, f"wgsim {said}: the usage is to be on standard error alone")
     check(wgsim("--help").stdout.startswith(b"usage: wgsim"), "wgsim --help: no usage on standard output")
+    check(wgsim("explain", "--help").stdout.startswith(b"usage: wgsim"), "wgsim explain --help: no usage on standard output")
+    told = wgsim("explain", "--quick").stderr.decode()
+    check(told.startswith("wgsim: explain takes no --quick\nusage: wgsim explain ") and len(told.splitlines()) < 8, f"wgsim explain --quick: the line that matters is hidden:\n{told}")
     check(b"sources " in wgsim("--version").stdout, "wgsim --version: no sources")
     check(wgsim("rules", "99999").returncode == 2, "wgsim rules 99999: the status is not 2")
 

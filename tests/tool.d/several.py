@@ -59,6 +59,7 @@ class InTurns:
     """A program that has one report for a script, and is asked about all others."""
 
     said = "a program of one order"
+    plays = True
 
     def __init__(self, data, report):
         self.data, self.report = data, report

@@ -82,7 +82,7 @@ def test_objects(*parts):
     for word, keys in kinds:
         has(of_form("layout entry", word), keys, f"the kind {word}")
     holders = {"sampler": "`kind` of `createSampler`, and `type`", "sample": "`sample`", "access": "`access`", "stage": "`stage`", "step": "`step`"}
-    holders |= {"attribute format": "`format` of an attribute", "load": "`load`, `depthLoad`, `stencilLoad`", "store": "`store`, `depthStore`, `stencilStore`"}
+    holders.update({"attribute format": "`format` of an attribute", "load": "`load`, `depthLoad`, `stencilLoad`", "store": "`store`, `depthStore`, `stencilStore`"})
     for word, row in holders.items():
         check(re.findall(r"`([\w-]+)`", dict(rows).get(row, "")) == calls.WORDS[word], f"tools/calls.json: not the words of {row} of docs/script.md")
     said = re.search(r"`format` of a `setIndexBuffer` is `(\w+)` or `(\w+)`", parts[2])
@@ -104,8 +104,8 @@ def test_words():
         ("usage of a texture", "The `usage` of a texture is a sum of bits: "),
         ("visibility", "`visibility` is a sum of bits: "),
     ):
-        written = {word: int(bit) for word, bit in re.findall(r"([A-Z_]+) (\d+)", text.split(begin)[1].split(".")[0])}
+        written = {int(bit): word for word, bit in re.findall(r"([A-Z_]+) (\d+)", text.split(begin)[1].split(".")[0])}
         check(written == bits.KINDS[kind], f"tools/bits.py: not the words of {kind} of docs/script.md: {written}")
     modes = re.search(r"READ is (\d) and WRITE is (\d)", text)
-    check({"READ": int(modes[1]), "WRITE": int(modes[2])} == bits.KINDS["mode of a mapAsync"], "tools/bits.py: not the modes of docs/script.md")
+    check({int(modes[1]): "READ", int(modes[2]): "WRITE"} == bits.KINDS["mode of a mapAsync"], "tools/bits.py: not the modes of docs/script.md")
     check(len(re.findall("is a sum of bits", text)) == 3, "docs/script.md has other sums of bits than the three that wgsim words knows")

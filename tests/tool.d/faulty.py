@@ -78,9 +78,12 @@ def test_explained(path):
         return
     check("cannot match" not in told, f"{path.name}: explain cannot match report and script")
     script, beside = json.loads(data), explain.set_beside(text, report.decode(), lambda *lines: None)
-    pieces = dict(re.findall(r"^FAULT at entry (\d+): (.*?)(?=^FAULT at entry|^HISTORY)", told, re.M | re.S))
-    faults = [entry for entry in beside.report.entries if entry.fault]
-    check(len(pieces) == len(faults), f"{path.name}: explain has {len(pieces)} faults of {len(faults)}")
+    pieces = dict(re.findall(r"^FAULT at entry (\d+): (.*?)(?=^FAULT at entry|^follows from|^HISTORY)", told, re.M | re.S))
+    follow = dict(re.findall(r"^follows from entry (\d+): entry (\d+), S:.* \(rule 12\)$", told, re.M))
+    own = set(re.findall(r"^follows from entry \d+: entry (\d+), ", told, re.M))
+    check(set(follow) <= set(pieces), f"{path.name}: what follows does not follow from a fault that is told: {follow}")
+    faults = [entry for entry in beside.report.entries if entry.fault and str(entry.number) not in own]
+    check(len(pieces) == len(faults), f"{path.name}: explain has {len(pieces)} faults of {len(faults)}, with {len(own)} that follow")
     for entry in faults:
         call, piece = beside.call_of[entry.number], pieces.get(str(entry.number), "")
         number = entry.fault[1]
