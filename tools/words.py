@@ -16,7 +16,9 @@ usage: wgsim run [FILE]       plays a script and writes the program's report, by
        wgsim gen N [L]        plays a generated script of N iterations in one lane, or in each of L lanes at once, and
                               writes what the program counts: N is from 1 to 8000, L to 64, and N times L to 8000
        wgsim explain [FILE]   the report in words, beside the script: which call, why, and what a driver has to do
-       wgsim picture [FILE]   the trace as one HTML page: steps, barriers, clears and releases
+       wgsim picture [--report REPORT] [FILE]
+                              the trace as one HTML page: steps, barriers, clears and releases; of a report that is
+                              there, where one is named, and then nothing is played
        wgsim diff [--script FILE] A B
                               compares two reports, entry by entry and step by step; a script in the place of a
                               report is played first
@@ -55,6 +57,7 @@ class Words:
         self.is_unproved = False
         self.command = None
         self.script = None
+        self.report = None
         self.rest = []
         words = list(words)
         while words:
@@ -72,6 +75,10 @@ class Words:
             if not after:
                 raise Wrong("--script needs a FILE")
             self.script = after.pop(0)
+        elif word == "--report" and self.command == "picture":
+            if not after:
+                raise Wrong("--report needs a REPORT")
+            self.report = after.pop(0)
         elif self.command is None and (word in MOST or word in ("--help", "--version")):
             self.command = word
         elif self.command is None:
@@ -90,7 +97,7 @@ class Words:
             raise Wrong("gen needs a number of iterations")
         if self.command == "diff" and len(self.rest) < 2:
             raise Wrong("diff needs two files")
-        if self.command == "diff" and [*self.rest, self.script].count("-") > 1:
+        if [*self.rest, self.script, self.report].count("-") > 1 or (self.report == "-" and not self.rest):
             raise Wrong("standard input can be one file alone")
         if self.command == "rules" and self.rest and not (self.rest[0].isascii() and self.rest[0].isdigit()):
             raise Wrong(f"a rule has a number, and not {self.rest[0]}")
@@ -152,7 +159,10 @@ def picture(words):
     import picture as pictures
 
     data, name = read(words.rest[0] if words.rest else "-")
-    text, status = pictures.picture(places.Text(data, name), data, Program(words.is_unproved))
+    if words.report is not None:
+        text, status = pictures.of_report(places.Text(data, name), *read(words.report), words.is_unproved)
+    else:
+        text, status = pictures.picture(places.Text(data, name), data, Program(words.is_unproved))
     write(text.encode("utf-8"))
     return status
 
