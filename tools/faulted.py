@@ -52,6 +52,8 @@ def fault(beside, entry, program):
         at = f"line {beside.script.line(found.call)}"
         lines.append(f"<p>The command that {escape(found.said)} is number {found.number} of {found.total}, at {at}:</p>")
         lines.append(f"<code>{escape(beside.script.said(found.call))}</code>")
+    elif calls.ends_encoder(entry.word) and program is None:
+        lines.append("<p><small>The command was not looked for; <code>wgsim explain</code> finds it.</small></p>")
     return f"<li>{''.join(lines)}</li>\n"
 
 
