@@ -25,9 +25,10 @@ function count(window, matching) {
 function texts(window) {
   const { FILTER_REJECT, FILTER_SKIP, FILTER_ACCEPT, SHOW_ELEMENT, SHOW_TEXT } = window.NodeFilter;
   const walker = window.document.createTreeWalker(window.document.body, SHOW_ELEMENT | SHOW_TEXT, (node) => {
-    if (node.nodeType === 3) return node.data.trim() ? FILTER_ACCEPT : FILTER_SKIP;
-    const isAway = node.matches("script, datalist") || (node.parentElement.matches("details:not([open])") && !node.matches("summary"));
-    return isAway ? FILTER_REJECT : FILTER_SKIP;
+    const isText = node.nodeType === 3;
+    const isAway = node.parentElement.matches("details:not([open])") && (isText || !node.matches("summary"));
+    if (isAway || (!isText && node.matches("script, datalist"))) return FILTER_REJECT;
+    return isText && node.data.trim() ? FILTER_ACCEPT : FILTER_SKIP;
   });
   const found = [], range = window.document.createRange();
   while (walker.nextNode()) {
@@ -61,12 +62,13 @@ function noOverlaps(window) {
   const frames = shown(window, FRAMES).map((node) => ({ node, rectangle: node.getBoundingClientRect(), what: node.textContent.trim().slice(0, 60) }));
   const written = texts(window);
   const found = [...overlaps(written, (a, b) => a === b), ...overlaps(frames, (a, b) => a.contains(b) || b.contains(a))];
+  const wide = window.document.documentElement.clientWidth;
   for (const { node, rectangle, what } of written) {
     const frame = node.parentElement.closest(FRAMES);
-    const around = frame ? frame.getBoundingClientRect() : { left: 0, right: window.innerWidth, top: -Infinity, bottom: Infinity };
+    const around = frame ? frame.getBoundingClientRect() : { left: 0, right: wide, top: -Infinity, bottom: Infinity };
     const isIn = rectangle.left >= around.left - NEAR && rectangle.right <= around.right + NEAR && rectangle.top >= around.top - NEAR && rectangle.bottom <= around.bottom + NEAR;
     if (!isIn) found.push(`"${what}" reaches out of its frame`);
-    if (rectangle.left < 0 || rectangle.right > window.document.documentElement.clientWidth) found.push(`"${what}" lies beside the window`);
+    if (rectangle.left < 0 || rectangle.right > wide) found.push(`"${what}" lies beside the window`);
   }
   return found;
 }
