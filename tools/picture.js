@@ -282,7 +282,6 @@
     }
   }
 
-  document.documentElement.classList.add("scripted");
   const names = [...new Set(rows.map((row) => row[NAME]))];
   document.getElementById("resources").append(...names.map((name) => Object.assign(made("option", ""), { value: name })));
   document.querySelector(".folds").hidden = columns.length <= MOST;

@@ -21,7 +21,7 @@ from report import SORTS, NotReport, Release, Report, summary
 
 FOLDER = pathlib.Path(__file__).resolve().parent
 STYLE, SCRIPT = ((FOLDER / name).read_text(encoding="utf-8") for name in ("picture.css", "picture.js"))
-# Lines of a box that are shown at once; the others open on a click.
+# Lines of a box, and barriers before it, that are shown at once; the others open on a click.
 MOST = 6
 # Runs of layers that the name of a row has at most.
 MOST_RUNS = 3
@@ -177,7 +177,7 @@ class Picture:
 
     def cell(self, key, column):
         """What a step has in a row: the barriers before it, and its box."""
-        barriers = "".join(self.barrier(self.rows[key], *each) for each in column.cells[key]["barriers"])
+        barriers = folded([self.barrier(self.rows[key], *each) for each in column.cells[key]["barriers"]], "")
         return self.framed(key, (f"<div class='bars'>{barriers}</div>" if barriers else "") + self.box(key, column))
 
     def barrier(self, row, part, before, after):
@@ -189,10 +189,7 @@ class Picture:
         look = "wipe" if column.step.name == "clear" else look_of({kind for kind, _ in cell["accesses"]})
         uses, accesses = self.lines(self.rows[key], cell)
         lines = [f"<b>{escape(line)}</b>" for line in uses] + [escape(line) for line in accesses]
-        further = lines[MOST:] if len(lines) > MOST + 1 else []
-        shown = "<br>".join(lines[: len(lines) - len(further)])
-        more = f"<details><summary>and {len(further)} more</summary>{'<br>'.join(further)}</details>" if further else ""
-        return f"<div class='box {look}'>{shown}{more}</div>"
+        return f"<div class='box {look}'>{folded(lines, '<br>')}</div>"
 
     def lines(self, row, cell):
         """The lines of a box: how the step uses the parts, and then how it accesses the cells."""
@@ -209,6 +206,13 @@ def run(part):
     if part.high - part.low == 1:
         return f"{words} {part.low}"
     return f"{'queries' if part.sort == 'q' else words + 's'} {part.low}\u2013{part.high - 1}"
+
+
+def folded(items, between):
+    """Some items, those past the first few folded."""
+    further = items[MOST:] if len(items) > MOST + 1 else []
+    more = f"<details><summary>and {len(further)} more</summary>{between.join(further)}</details>" if further else ""
+    return between.join(items[: len(items) - len(further)]) + more
 
 
 def look_of(kinds):
@@ -232,9 +236,11 @@ def parted(name):
 
 
 def page(title, body, script=""):
+    # What the script will lay out is not laid out as a list before.
+    early = "<script>document.documentElement.classList.add('scripted')</script>\n" if script else ""
     return (
         "<!DOCTYPE html>\n<html lang='en'>\n<head>\n<meta charset='utf-8'>\n<meta name='viewport' content='width=device-width'>\n"
-        f"<title>{escape(title)}</title>\n<style>\n{STYLE}</style>\n</head>\n<body>\n<h1>{escape(title)}</h1>\n{body}\n{script}</body>\n</html>\n"
+        f"<title>{escape(title)}</title>\n<style>\n{STYLE}</style>\n{early}</head>\n<body>\n<h1>{escape(title)}</h1>\n{body}\n{script}</body>\n</html>\n"
     )
 
 

@@ -69,6 +69,7 @@ async function folds(picture, window) {
     picture.opening = Math.round(performance.now() - start);
     say(picture, look(window), "with all groups opened");
   }
+  for (const details of window.document.querySelectorAll(".bars details")) details.open = true;
   say(picture, whole(window, picture.counts), "with all steps");
 }
 
@@ -134,9 +135,9 @@ async function byKind(picture, window) {
 
 // A box with many lines opens on a click, a step is found by its number, and so is a fault past the first ones.
 async function rest(picture, window) {
-  for (const details of window.document.querySelectorAll(".box details, .more")) details.open = true;
+  for (const details of window.document.querySelectorAll(".cell details, .more")) details.open = true;
   await settled();
-  say(picture, look(window).filter((line) => !/piece \d+ (has room|is wider)|beside the window/.test(line)), "with all boxes opened");
+  say(picture, look(window).filter((line) => !/piece \d+ (has room|is wider)|beside the window/.test(line)), "with all that is folded opened");
   const last = picture.counts.steps - 1, input = window.document.getElementById("goto");
   window.document.getElementById("fold").click();
   input.value = String(last);
