@@ -104,10 +104,12 @@
     if (within.length && first < last) {
       const [low, high] = [within[0], within[within.length - 1]].map((number) => side.findIndex((column) => column.number === number));
       const from = first < side[low].number ? 2 + 2 * low : 3 + 2 * low;
-      const line = place(made("i", "line"), at, from, 4 + 2 * high - from);
+      // At its end the line reaches into the last mark: a box is as wide as its column, and what is given back is not.
+      const isGiven = side[high].step === null;
+      const line = place(made("i", "line"), at, from, (isGiven ? 3 : 4) + 2 * high - from);
       line.style.marginLeft = first < side[low].number ? "0" : "8px";
       if (last > side[high].number) line.style.gridColumnEnd = -1;
-      else line.style.marginRight = "8px";
+      else line.style.marginRight = isGiven ? "-8px" : "8px";
       line.dataset.resource = resources[row];
       elements.push(line);
     }
@@ -235,6 +237,9 @@
     const resource = button.dataset.resource;
     if (!chosen.delete(resource)) chosen.add(resource);
     choose();
+    // Where the names were made anew the keyboard stays on the one that was pressed.
+    const again = button.isConnected ? button : [...main.querySelectorAll(".label button")].find((each) => each.dataset.resource === resource);
+    if (again) again.focus();
   });
   const clear = () => {
     chosen.clear();

@@ -258,14 +258,14 @@ def controls():
     )
 
 
-def drawn(beside, head, notes, program):
-    """The page of a report beside its script."""
+def drawn(name, beside, head, notes, program):
+    """The page of a report beside its script, which has a name."""
     lines = [f"<p>{escape(head)}: {escape(summary(beside.report))}.</p>", *(f"<p>{escape(note)}</p>" for note in notes if note), faults(beside, program)]
     if not beside.report.items:
-        return page(beside.name, "\n".join([*lines, "<p>The trace is empty: no accepted work touches memory.</p>"]))
+        return page(name, "\n".join([*lines, "<p>The trace is empty: no accepted work touches memory.</p>"]))
     legend = "".join(f"<span class='{look}'>{escape(what)}</span>" for look, what in LEGEND)
     lines += [f"<p class='legend'>{legend}</p>", "<p>Time goes from left to right, and then down. A click on a name dims all else.</p>", controls(), Picture(beside).steps()]
-    return page(beside.name, "\n".join(lines), f"<script>\n{SCRIPT}</script>\n")
+    return page(name, "\n".join(lines), f"<script>\n{SCRIPT}</script>\n")
 
 
 def of_answer(text, said, head, program):
@@ -275,8 +275,7 @@ def of_answer(text, said, head, program):
         return page(text.name, f"<pre class='fault'>{escape(lines)}</pre>")
     notes = []
     beside = explain.set_beside(text, said, lambda *lines: notes.extend(lines))
-    beside.name = text.name
-    return drawn(beside, head, notes, program)
+    return drawn(text.name, beside, head, notes, program)
 
 
 def picture(text, data, program):
