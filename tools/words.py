@@ -26,7 +26,8 @@ usage: wgsim run [FILE]       plays a script and writes the program's report, by
        wgsim explain [--json] [--report REPORT] [FILE]
                               the report in words, beside the script: which call, why, and what a driver has to do;
                               with --json for a machine, with --report of a report that is there and not of a new play
-       wgsim picture [FILE]   the trace as one HTML page: steps, barriers, clears and releases
+       wgsim picture [--report REPORT] [FILE]
+                              the trace as one HTML page: steps, barriers, clears and releases
        wgsim diff [--script FILE] A B
                               compares two reports, entry by entry and step by step; a script in the place of a
                               report is played first
@@ -94,7 +95,7 @@ class Words:
             self.is_proved = True
         elif word == "--script" and self.command == "diff":
             self.script = value_of(word, "a FILE", after)
-        elif word == "--report" and self.command == "explain":
+        elif word == "--report" and self.command in ("explain", "picture"):
             self.report = value_of(word, "a REPORT", after)
         elif word == "--callers" and self.command == "run":
             self.callers = callers_in(value_of(word, "a list of callers", after))
@@ -256,14 +257,22 @@ def generated(words):
     program.become(["gen", *words.rest])
 
 
+def asked(words):
+    """A script, and what is asked about it: the program, or a report that is there."""
+    data, name = read(words.rest[0] if words.rest else "-")
+    text = places.Text(data, name)
+    if words.report is None:
+        return text, data, Program(words.is_unproved)
+    import given
+
+    return text, data, given.Given(*read(words.report), text)
+
+
 def explained(words):
     import explain
     import faults
-    import given
 
-    data, name = read(words.rest[0] if words.rest else "-")
-    program = given.Given(*read(words.report)) if words.report is not None else Program(words.is_unproved)
-    text, status = (faults.explained if words.is_json else explain.explain)(places.Text(data, name), data, program)
+    text, status = (faults.explained if words.is_json else explain.explain)(*asked(words))
     write(text.encode("utf-8"))
     return status
 
@@ -271,8 +280,7 @@ def explained(words):
 def picture(words):
     import picture as pictures
 
-    data, name = read(words.rest[0] if words.rest else "-")
-    text, status = pictures.picture(places.Text(data, name), data, Program(words.is_unproved))
+    text, status = pictures.picture(*asked(words))
     write(text.encode("utf-8"))
     return status
 

@@ -1,10 +1,12 @@
-"""The picture of each example and case, and what diff says of two reports."""
+"""The picture of each example and case and of reports that are there, and what diff says of two reports."""
 
+import html
 import html.parser
 import re
 
 import picture
 import places
+import program as programs
 import report as reports
 
 from common import TOP, answered, asked, check, wgsim
@@ -13,7 +15,7 @@ from common import TOP, answered, asked, check, wgsim
 class Tags(html.parser.HTMLParser):
     """Whether each tag of a page is closed, and which other pages it asks for."""
 
-    EMPTY = {"meta", "br", "wbr"}
+    EMPTY = {"meta", "br", "wbr", "input"}
 
     def __init__(self):
         super().__init__()
@@ -42,8 +44,51 @@ def test_picture(path):
         counts = reports.Report(answered(path)[1].decode()).counts()
         text = " ".join(tags.text)
         check(len(re.findall(r"step \d+\b", text)) == counts["steps"], f"{path.name}: the picture has not each step")
-        check(page.count("<span class='bar' title") == counts["barriers"], f"{path.name}: the picture has not each barrier")
+        check(page.count("<span class='bar'>") - page.count("<span class='bar'>barrier: from") == counts["barriers"], f"{path.name}: the picture has not each barrier")
         check(page.count(">given back<") >= counts["releases"], f"{path.name}: the picture has not each release")
+
+
+def test_picture_words():
+    """A fault has its cause, its rule's sentence, its call and the command that it is about; a store that discards has that word; a row has its mip level and layers."""
+    def of(name):
+        data = (TOP / f"examples/{name}.json").read_bytes()
+        return html.unescape(picture.picture(places.Text(data, name), data, asked)[0])
+
+    page = of("copy-within-one-buffer")
+    for words in (
+        "Fault at line 8: finish breaks rule 254",
+        '"b" (5:5) is both source and target',
+        "source and target are two buffers",
+        '{"do": "finish", "on": "e", "as": "c"}',
+        "is number 1 of 1, at line 7",
+        '{"do": "copyBufferToBuffer", "on": "e", "source": "b"',
+    ):
+        check(words in page, f"the picture of copy-within-one-buffer does not say `{words}`")
+    boxes = re.findall(r"<div class='box (\w+)'>(.*?)</div>", of("discarded-and-loaded"))
+    said = [(look, lines.split("<br>")[-1]) for look, lines in boxes]
+    check(said == [("discard", "discard"), ("wipe", "write"), ("both", "read and write")], f"the picture of discarded-and-loaded has the boxes {said}")
+    page = of("layers-written-apart")
+    names = set(re.findall(r"data-row='\d+' aria-label='(.*?)'", page))
+    check(names and all(re.search(r" mip 0 layers? [\d\u2013, ]+$", name) for name in names if not name.startswith("b")), f"layers-written-apart: the rows are {names}")
+
+
+def test_picture_of_a_report(folder):
+    """A picture of a report that is there is that of the play which brought it, but for the line that says whose it is."""
+    nothing = {programs.NAMED: "/nowhere/wgsim"}
+    for name in ("first-frame", "copy-within-one-buffer", "unknown-name"):
+        script, report = TOP / f"examples/{name}.json", TOP / f"examples/{name}.report"
+        ran, played = wgsim("picture", "--report", str(report), str(script), environment=nothing), wgsim("picture", str(script))
+        own = ran.stdout.decode().replace(f"Of the report {report}:", "A:")
+        other = re.sub(r"The answer of the program \S+, which WGSIM_PROGRAM names:", "A:", played.stdout.decode())
+        check(ran.returncode == played.returncode and own == other, f"wgsim picture --report {name}.report: not the picture of {name}.json")
+    (folder / "none").write_text("history\n0 0 what\nend\n")
+    (folder / "other").write_text("bad script 10 7 0 0\n")
+    for command in ("picture", "explain"):
+        for report in ("none", "missing", "other"):
+            ran = wgsim(command, "--report", str(folder / report), str(TOP / "examples/first-frame.json"))
+            check(ran.returncode == 4 and not ran.stdout, f"wgsim {command} --report {report}: status {ran.returncode} and not 4")
+        for words in (["--report"], ["--report", "-"], ["--report", "-", "-"]):
+            check(wgsim(command, *words).returncode == 2, f"wgsim {command} {' '.join(words)}: the status is not 2")
 
 
 def renumbered(report):
