@@ -11,6 +11,7 @@ import subprocess
 import sys
 import time
 
+import costs
 import ends
 from report import count
 
@@ -20,7 +21,6 @@ PROGRAM = CRATE / "out/wgsim"
 STAMP = CRATE / "out/wgsim.sources"
 # What a check of one crate takes at most, in kB.
 MEMORY = 2_000_000
-FROM_NOTHING = "17 minutes on four processors (32 processor minutes)"
 SHORTEST, ITS_REPORT = b'{"budget":0,"phases":[]}', b"history\ntrace\nend\n"
 NEEDS_RT = "the toolchain `rt` is needed to {}, and is not on the PATH; README.md says which one"
 
@@ -88,6 +88,12 @@ def clock(since):
     return f"{seconds // 60}:{seconds % 60:02}"
 
 
+def from_nothing():
+    """What a proof of all crates takes here, by what each took where they were measured."""
+    below, at_once = listed(), jobs()
+    return f"some {costs.told(costs.clock_of(set(below), below, at_once))} with {count(at_once, 'crate')} at a time"
+
+
 @contextlib.contextmanager
 def started(words, **how):
     """Runs a command with all that it starts in a group of its own, which is stopped where the tool is."""
@@ -106,9 +112,8 @@ def build():
         raise ends.End(ends.NOT_BUILT, NEEDS_RT.format("prove and build the program"))
     sources, start, at_once = sum_of_sources(), time.monotonic(), jobs()
     why = "its sources have changed since it was built" if PROGRAM.exists() else "it is not built yet"
-    say(f"the proved program is to be built, since {why}; {count(at_once, 'crate')} at a time")
-    say(f"from nothing this took {FROM_NOTHING}; later only what")
-    say("changed is proved, with all that stands on it. `wgsim --unproved` answers in about a minute, without proofs")
+    say(f"the program is proved and built, since {why}; {count(at_once, 'crate')} at a time")
+    say(f"from nothing that takes {from_nothing()}, by a table; what was proved before is kept, and the estimate goes by this run")
     say("first the toolchain looks through all sources, which prints nothing")
     said = prove(at_once, start)
     words = ["rt", "run", "--", "run"]
@@ -120,12 +125,12 @@ def build():
     if sum_of_sources() != sources:
         raise ends.End(ends.NOT_BUILT, "the sources changed while the program was built: run it again")
     STAMP.write_text(stamp_of(PROGRAM, sources), encoding="utf-8")
-    say(f"the program is proved and built ({clock(start)})")
+    say(f"the program is proved and built ({clock(start)}); from now on it answers, until its sources change")
 
 
 def prove(at_once, start):
     """Proves all crates, with a line for each. Returns what the toolchain said where a proof was stopped from outside."""
-    words, said, progress = ["rt", "all", "check", "--jobs", str(at_once)], [], Progress(start)
+    words, said, progress = ["rt", "all", "check", "--jobs", str(at_once)], [], Progress(start, at_once)
     how = {"stdin": subprocess.DEVNULL, "stdout": subprocess.PIPE, "stderr": subprocess.STDOUT}
     with started(words, cwd=TOP, text=True, errors="replace", **how) as run:
         for line in run.stdout:
@@ -152,14 +157,15 @@ def telling(said):
 
 
 class Progress:
-    """Prints a line for each crate, from what the toolchain prints when it is done with one."""
+    """Prints a line for each crate, from what the toolchain prints when it is done with one, with an estimate of what is left."""
 
-    def __init__(self, start):
+    def __init__(self, start, at_once):
         self.start = start
         self.total = len(listed())
         self.done = 0
         self.crate = None
         self.is_bad = False
+        self.estimate = costs.Estimate(listed(), at_once)
 
     def take(self, line):
         begins = re.match(r"== (\w+)$", line)
@@ -174,4 +180,6 @@ class Progress:
 
     def tell(self, how):
         self.done += 1
-        say(f"{self.done:3} of {self.total}  {self.crate} {how} ({clock(self.start)})")
+        self.estimate.take(self.crate, how == "proved")
+        left = costs.told(self.estimate.seconds(time.monotonic() - self.start)) if self.estimate.left else "only the build"
+        say(f"{self.done:3} of {self.total}  {self.crate} {how} ({clock(self.start)}; about {left} left)".replace("about only", "only"))

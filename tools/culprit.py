@@ -150,6 +150,13 @@ def find(beside, finish, rule, program):
     return Found(call, found, len(cuts.commands), len(cuts.asked), said_of(rule, beside.script.begin_of(call) is not None))
 
 
+def told(beside, rule, cause):
+    """The command as the second reading of the rules finds it, where no program is to be asked; or None."""
+    if cause.command is None:
+        return None
+    return Found(cause.command, cause.number, cause.total, 0, said_of(rule, beside.script.begin_of(cause.command) is not None))
+
+
 def first(cuts, rule, closed):
     """The least number of commands with which the finish has the rule. Once it has it, more commands do not take it away."""
     low, high = 0, len(cuts.commands)

@@ -1,6 +1,6 @@
 """How the tool may end: the exit statuses, and an end with a message."""
 
-SAME, DIFFERENT, WORDS, REFUSED, UNREAD, UNWRITTEN, NO_MEMORY, TOO_LARGE, NOT_BUILT, NO_ANSWER = range(10)
+SAME, DIFFERENT, WORDS, REFUSED, UNREAD, UNWRITTEN, NO_MEMORY, TOO_LARGE, NOT_BUILT, NO_ANSWER, TOO_MANY = range(11)
 
 # What the program's own statuses mean where it writes nothing.
 SILENT = {

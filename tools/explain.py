@@ -1,13 +1,15 @@
-"""`wgsim explain`: what the program says of a script, beside the script."""
+"""`wgsim explain`: what the program says of a script, beside the script, and why each fault was made."""
 
+import bits
 import calls
+import causes
 import culprit
 import refusal
 import rules
 import script as scripts
 from beside import Beside, DoNotMatch
 from ends import REFUSED, SILENT, End
-from places import NotJson
+from places import NotJson, escaped
 from report import NotReport, Release, Report, count, summary
 from scopes import Scopes
 
@@ -41,13 +43,14 @@ class Explained:
         if self.status in SILENT:
             raise End(self.status, f"{text.name}: {SILENT[self.status]}")
         said = out.decode("utf-8", "replace")
-        self.say(f"{text.name}: the answer of {program.said}")
+        self.say(f"{text.name}: the answer of {program.said}" if program.plays else f"{text.name}: {program.said}")
         if self.status == REFUSED:
             self.lines += refusal.explained(text, said)
             return
         self.beside = set_beside(text, said, self.say)
         self.scopes = Scopes(self.beside)
-        self.say(summary(self.beside.report))
+        self.causes = causes.of_report(data, self.beside)
+        self.say(self.head(), *[self.causes.why_none] * (self.causes.why_none is not None))
         self.faults()
         self.history()
         self.trace()
@@ -55,18 +58,37 @@ class Explained:
     def say(self, *lines):
         self.lines += lines
 
+    def head(self):
+        """How much of everything the report has. Of the faults those are counted that have a cause of their own, with what follows beside them."""
+        entries = self.beside.report.entries
+        follow = sum(self.causes.follows(entry) for entry in entries if entry.fault)
+        faults = sum(entry.fault is not None for entry in entries)
+        and_follow = f"{count(faults - follow, 'fault')} and {follow} that {'follows' if follow == 1 else 'follow'}"
+        return summary(self.beside.report).replace(count(faults, "fault"), and_follow, 1) if follow else summary(self.beside.report)
+
     def faults(self):
-        """The calls that were wrong, each with the rule that it breaks and why."""
+        """The calls that were wrong, each with the rule that it breaks and why. What only follows from another fault has one line."""
         wrong = [entry for entry in self.beside.report.entries if entry.fault]
         for entry in wrong:
             call = self.beside.call_of.get(entry.number)
+            if self.causes.follows(entry):
+                self.following(entry, call)
+                continue
             self.say("", f"FAULT at entry {entry.number}: " + (self.beside.script.where(call) if call else entry.word))
             if call is not None:
-                self.say(f"    {self.beside.script.said(call)}")
+                self.say(f"    {self.beside.script.said(call)}", *[f"    {line}" for line in bits.of_call(call)])
             self.fault(entry, call)
         if not wrong:
             self.say("", "NO FAULT: every call was taken" if self.scopes.lost is None else "NO FAULT: every call before the loss was taken")
         self.say(*self.scopes.loss())
+
+    def following(self, entry, call):
+        """The line of a fault that only follows from another, and the error scope that caught it, if one did."""
+        told = self.causes.of(entry)
+        by = f" in the {told.command.word} at {self.place(told.command).strip()}" if told.command else ""
+        where = f"entry {entry.number}, {self.beside.script.where(call)}"
+        self.say("", f"follows from entry {self.causes.root(entry)}: {where}: {entry.word}{by}: {told.cause.condition} (rule {entry.fault[1]})")
+        self.say(*[f"    {line}" for line in self.scopes.of_fault(entry)])
 
     def history(self):
         self.say("", "HISTORY: what the device answered, with the line and column of each call", "")
@@ -76,6 +98,7 @@ class Explained:
             call = self.beside.call_of.get(entry.number)
             turn = (f"phase {call.place[0]}  " if has_phases else "") + (f"lane {entry.lane}  " if has_lanes else "")
             self.say(f"{entry.number:4}  {self.place(call)}{turn}{self.beside.script.said(call) if call else entry.word}")
+            self.say(*[f"      {line}" for line in bits.of_call(call)] if call else [])
             why = f", by rule {entry.fault[1]}" if entry.fault else ""
             self.say(f"      {self.answer(entry)}{why}")
             for promise, how in entry.settled:
@@ -104,10 +127,12 @@ class Explained:
         kind, number, caught = entry.fault
         uncaught = "uncaptured" if caught == "uncaptured" else f"caught by error {caught}"
         self.say(f"    breaks rule {number} ({kind} error, {uncaught})")
+        told = self.causes.of(entry)
+        self.say(*[f"    {line}" for line in ([told.cause.text()] if told.cause else [told.why_none] if told.why_none else [])])
         self.say(*[f"    {line}" for line in self.scopes.of_fault(entry)])
         found = None
         if call is not None and calls.ends_encoder(call.word):
-            found = culprit.find(self.beside, call, number, self.program)
+            found = culprit.find(self.beside, call, number, self.program) if self.program.plays else culprit.told(self.beside, number, told)
         self.sentence(number, found.call.word if found and number not in culprit.OF_FINISH else entry.word, found is not None)
         if found:
             self.command(found, number)
@@ -126,7 +151,8 @@ class Explained:
         script = self.beside.script
         self.say(f"    the command that {found.said} is number {found.number} of {found.total}: {script.where(found.call)}")
         self.say(f"        {script.said(found.call)}")
-        self.say(f"    (found by asking the program about {count(found.asked, 'recording')} of the encoder, cut short at different commands)")
+        if self.program.plays:
+            self.say(f"    (found by asking the program about {count(found.asked, 'recording')} of the encoder, cut short at different commands)")
         for _, name in found.call.names():
             self.invalid(name.what)
         if number == LOCKED and found.call.locked_by is not None:
@@ -268,4 +294,4 @@ def set_beside(text, said, say):
 def explain(text, data, program):
     """The explanation of a script, and the program's status."""
     explained = Explained(text, program, data)
-    return "\n".join(explained.lines) + "\n", explained.status
+    return "".join(escaped(line) + "\n" for line in explained.lines), explained.status

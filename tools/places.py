@@ -2,6 +2,7 @@
 
 import bisect
 import re
+import unicodedata
 
 SPACE = re.compile(r"[ \t\n\r]*")
 NUMBER = re.compile(r"-?(?:0|[1-9][0-9]*)(?:\.[0-9]+)?(?:[eE][+-]?[0-9]+)?")
@@ -12,12 +13,23 @@ DEEPEST = 127
 
 
 class NotJson(Exception):
-    """The text is no JSON: at the place `offset`, for the reason `why`."""
+    """The text is no JSON: at the place `offset`, where something was found in place of what is expected."""
 
-    def __init__(self, offset, why):
-        super().__init__(why)
+    def __init__(self, offset, found, expected):
+        super().__init__(f"{found}; expected is {expected}")
         self.offset = offset
-        self.why = why
+        self.found = found
+        self.expected = expected
+
+
+def escaped(text):
+    """A text whose control characters, and those that change how others are shown, are written as `\\x1b` or `\\u202e`."""
+    return "".join(letter if unicodedata.category(letter) not in ("Cc", "Cf", "Co", "Cs") else escape_of(letter) for letter in text)
+
+
+def escape_of(letter):
+    code = ord(letter)
+    return f"\\x{code:02x}" if code < 256 else f"\\u{code:04x}" if code < 65536 else f"\\U{code:08x}"
 
 
 class Value:
@@ -56,8 +68,15 @@ class Reader:
         self.text = text
         self.at = 0
 
-    def fail(self, why, at=None):
-        raise NotJson(self.at if at is None else at, why)
+    def fail(self, found, expected, at=None):
+        raise NotJson(self.at if at is None else at, found, expected)
+
+    def here(self):
+        """What stands at the place, as a reader sees it."""
+        if self.next() == "":
+            return "the end of the text"
+        piece = re.match(r"[\w.+-]+|.", self.text[self.at : self.at + 40], re.S)[0]
+        return "the line's end" if piece in "\r\n" else escaped(piece)
 
     def space(self):
         self.at = SPACE.match(self.text, self.at).end()
@@ -66,20 +85,20 @@ class Reader:
         return self.text[self.at] if self.at < len(self.text) else ""
 
     def whole(self):
+        if self.next() == "\ufeff":
+            self.fail("a byte order mark, the bytes EF BB BF, before the text", "the text alone: save it as UTF-8 without a byte order mark")
         value = self.value(0)
         self.space()
         if self.at < len(self.text):
-            self.fail("the text has to end here, after its one value")
+            self.fail(self.here(), "the end of the text, after its one value")
         return value
 
     def value(self, depth):
         self.space()
         letter = self.next()
-        if letter == "":
-            self.fail("the text ends where a value is expected")
-        if letter in "{[":
+        if letter != "" and letter in "{[":
             if depth == DEEPEST:
-                self.fail(f"lists and objects may be nested {DEEPEST} deep, and here they are nested deeper")
+                self.fail(f"a list or an object that is nested {DEEPEST + 1} deep", f"lists and objects that are nested at most {DEEPEST} deep")
             return self.object(depth + 1) if letter == "{" else self.list(depth + 1)
         if letter == '"':
             return self.string()
@@ -89,18 +108,19 @@ class Reader:
             if self.text.startswith(word, self.at):
                 start, self.at = self.at, self.at + len(word)
                 return Value(word, what, start, self.at)
-        self.fail("a value is expected: an object, a list, a string, a number, true, false or null")
+        self.fail(self.here(), "a value: an object, a list, a string, a number, true, false or null")
 
     def number(self):
         start = self.at
         found = NUMBER.match(self.text, start)
         if not found:
-            self.fail("a digit is expected after the sign")
+            self.fail(self.here(), "a digit after the sign")
         self.at = found.end()
         if re.match(r"[0-9.eE+-]", self.next()):
-            self.fail("the number is not written as JSON has it: no leading zeros, and digits on both sides of a point")
+            whole = re.match(r"[0-9.eE+-]+", self.text[start : start + 60])[0]
+            self.fail(f"the number {whole}", "a number as JSON has it, with no leading zeros, and with digits on both sides of a point")
         if abs(float(found[0])) == float("inf"):
-            self.fail("the number is too large", start)
+            self.fail(f"the number {found[0][:60]}, which is too large", "a number that a float of 64 bits holds", start)
         return Value("number", found[0], start, self.at)
 
     def string(self):
@@ -116,9 +136,9 @@ class Reader:
                 self.at += 1
                 return Value("string", "".join(parts), start, self.at)
             if letter == "":
-                self.fail("the text ends within the string that begins here", start)
+                self.fail("the end of the text within the string that begins here", 'the " that ends the string', start)
             if letter != "\\":
-                self.fail("a control character stands in a string: it has to be written as \\n, \\t or \\u and four digits")
+                self.fail(f"the control character {escaped(letter)} in a string", "that it is written as \\n, \\t or \\u and four digits")
             parts.append(self.escape())
 
     def escape(self):
@@ -126,27 +146,28 @@ class Reader:
         if letter == "u":
             return self.unicode()
         if letter not in ESCAPES or not letter:
-            self.fail("after a backslash one of \" \\ / b f n r t u is expected")
+            self.fail(f"a backslash with {escaped(letter) or 'nothing'} after it", "one of \" \\ / b f n r t u after a backslash")
         self.at += 2
         return ESCAPES[letter]
 
     def unicode(self):
+        pair = "a pair of surrogates, both as \\u and four digits"
         first = self.four_digits()
         if 0xDC00 <= first <= 0xDFFF:
-            self.fail("half a pair of surrogates, without its first half", self.at - 6)
+            self.fail("half a pair of surrogates, without its first half", pair, self.at - 6)
         if not 0xD800 <= first <= 0xDBFF:
             return chr(first)
         if self.text[self.at : self.at + 2] != "\\u":
-            self.fail("half a pair of surrogates, without its second half")
+            self.fail("half a pair of surrogates, without its second half", pair)
         second = self.four_digits()
         if not 0xDC00 <= second <= 0xDFFF:
-            self.fail("half a pair of surrogates, without its second half", self.at - 6)
+            self.fail("half a pair of surrogates, without its second half", pair, self.at - 6)
         return chr(0x10000 + (first - 0xD800) * 0x400 + second - 0xDC00)
 
     def four_digits(self):
         digits = self.text[self.at + 2 : self.at + 6]
         if not re.fullmatch(r"[0-9a-fA-F]{4}", digits):
-            self.fail("four hexadecimal digits are expected after \\u")
+            self.fail(f"\\u{escaped(digits)}", "four hexadecimal digits after \\u")
         self.at += 6
         return int(digits, 16)
 
@@ -165,13 +186,13 @@ class Reader:
 
     def separator(self, closing, kind, start):
         if self.next() == "":
-            self.fail(f"the text ends within the {kind} that begins here", start)
+            self.fail(f"the text ends within the {kind} that begins here", f"a comma or {closing}", start)
         if self.next() != ",":
-            self.fail(f"a comma or {closing} is expected")
+            self.fail(self.here(), f"a comma or {closing}")
         self.at += 1
         self.space()
         if self.next() == closing:
-            self.fail(f"a comma stands before {closing}, where another item is expected")
+            self.fail(f"{closing} after a comma", "another item, or no comma")
 
     def object(self, depth):
         start = self.at
@@ -182,11 +203,11 @@ class Reader:
             if pairs:
                 self.separator("}", "object", start)
             if self.next() != '"':
-                self.fail("a key in double quotes is expected" if self.next() else "the text ends where a key is expected")
+                self.fail(self.here(), "a key in double quotes")
             key = self.string()
             self.space()
             if self.next() != ":":
-                self.fail("a colon is expected after the key")
+                self.fail(self.here(), "a colon after the key")
             self.at += 1
             pairs.append((key, self.value(depth)))
             self.space()
@@ -221,7 +242,9 @@ class Text:
         """The text's one value; NotJson where it has none."""
         if self.bad_byte:
             offset, byte = self.bad_byte
-            raise NotJson(offset, f"the byte 0x{byte:02x} is no part of UTF-8 here")
+            is_wide = offset == 0 and byte in (0xFE, 0xFF)
+            mark = ", which begins a byte order mark of UTF-16" if is_wide else ""
+            raise NotJson(offset, f"the byte 0x{byte:02x}{mark}", "a text in UTF-8")
         return Reader(self.text).whole()
 
     def of(self, value):

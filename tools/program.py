@@ -11,30 +11,50 @@ import unproved
 
 # Names a program to ask in place of the proved one, for tests of the tool.
 NAMED = "WGSIM_PROGRAM"
+SHORTEST = building.SHORTEST
 OWN = {0, ends.WORDS, ends.REFUSED, ends.UNREAD, ends.UNWRITTEN, ends.NO_MEMORY, ends.TOO_LARGE}
 
 
 class Program:
-    """A program that can be asked about scripts. `said` tells what it is, for those who read its answers."""
+    """A program that can be asked about scripts. `said` tells what it is, for those who read its answers.
+
+    It is the proved one where that is built from the sources as they are, and else, or where that is asked for, the one that is compiled
+    without proofs, of which one line on standard error says so."""
+
+    plays = True
 
     def __init__(self, is_unproved):
         named = os.environ.get(NAMED)
-        self.is_unproved = is_unproved
+        self.is_unproved = not named and (is_unproved or not building.is_built())
         self.answers = {}
         if named:
             self.path, self.said = pathlib.Path(named), f"the program {named}, which {NAMED} names"
-        elif is_unproved:
+        elif self.is_unproved:
             self.path, self.said = unproved.PROGRAM, "the program, compiled WITHOUT its proofs"
         else:
             self.path, self.said = building.PROGRAM, "the proved program"
-            if not building.is_built():
-                building.build()
-        self.is_ready = bool(named) or not is_unproved
+        self.is_ready = not self.is_unproved or unproved.is_kept()
+        if self.is_unproved:
+            self.warn(is_unproved)
+
+    def warn(self, is_asked_for):
+        """Says in a line that the answers are not proved, and what would make them so."""
+        first = "" if self.is_ready else "; it is compiled now, once, which takes about a minute"
+        if is_asked_for:
+            building.say(f"this answer is from {self.said}, which claims nothing{first}")
+            return
+        why = "no program is proved here yet" if not building.PROGRAM.exists() else "the sources have changed since the program was proved"
+        building.say(f"{why}, so this answer is from {self.said}{first}; `./wgsim prove` proves and builds it, in {building.from_nothing()} from nothing")
 
     def is_kept(self):
         """Whether there is a program to run: the unproved one has to be compiled first."""
         self.is_ready = self.is_ready or unproved.is_kept()
         return self.is_ready
+
+    def ready(self):
+        """Compiles the program first where that is needed."""
+        if not self.is_kept():
+            self.ask(SHORTEST)
 
     def ask(self, data):
         """The status of a run on a script, and what it wrote."""
@@ -44,7 +64,9 @@ class Program:
 
     def run(self, data):
         if not self.is_kept():
-            return unproved.first(data)
+            answer = unproved.first(data)
+            if answer is not None:
+                return answer
         try:
             ran = subprocess.run([self.path, "run"], input=data, capture_output=True)
         except OSError as error:

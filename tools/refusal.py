@@ -8,9 +8,10 @@ import difflib
 import re
 
 import calls
+import lacking
 import rules
 import script as scripts
-from places import NotJson
+from places import NotJson, escaped
 
 NAME = re.compile(r"[A-Za-z0-9_]{1,64}")
 PARTS = ("phase", "lane", "call")
@@ -18,7 +19,7 @@ LIMITS = {"budget": "a whole number from 0 to 9007199254740991, in decimal digit
 
 
 class Refusal:
-    """A refusal: its rule, the offset of its place in the text, what stands there, and what was expected."""
+    """A refusal: its rule, the offset of its place in the text, what stands there, what was expected, and what of the rule it is that refuses."""
 
     def __init__(self, rule, place):
         self.rule = rule
@@ -27,10 +28,22 @@ class Refusal:
         self.found = None
         self.expected = None
         self.more = []
+        self.refuses = sentence(rule, place)
+
+    def by(self, refuses):
+        """Names the part of a rule that refuses several things."""
+        self.refuses = refuses
+        return self
 
     def at(self, offset, found, expected, *more):
         self.offset, self.found, self.expected, self.more = offset, found, expected, [each for each in more if each]
         return self
+
+
+def sentence(rule, place):
+    """The sentence of a rule of scripts; of a rule that has several, that of the kind of place."""
+    row = next((row for row in rules.script_rows(rule) if len(rules.place_of(row)) == len(place)), None) or next(iter(rules.script_rows(rule)), None)
+    return row["refuses"] if row else None
 
 
 def find(text, line):
@@ -41,7 +54,7 @@ def find(text, line):
         top = text.read()
     except NotJson as error:
         if refusal.rule == 1:
-            refusal.at(error.offset, None, error.why)
+            refusal.at(error.offset, error.found, error.expected)
         return refusal
     if refusal.rule != 1:
         {0: at_top, 1: at_phase, 2: at_lane, 3: at_call}[len(refusal.place)](refusal, text, top)
@@ -113,20 +126,25 @@ def unknown_call(refusal, text, call):
         return refusal.at(call.start, "no key do", "the key do, with the word of a call")
     if do.kind != "string":
         return refusal.at(do.start, f"{kind_of(do)} under do", "the word of a call, as a string")
-    return refusal.at(do.start, f"the word {quoted(do.what)}", "the word of a call", near(do.what, known))
+    hint = lacking.call(do.what) or near(do.what, known)
+    return refusal.at(do.start, f"the word {quoted(do.what)}", "the word of a call", hint)
 
 
 def not_built(refusal, text, call, top):
     do = call.member("do")
     if do is not None and do.what in calls.LATER:
-        return refusal.at(do.start, f"the call {do.what}", "a call that is built: this one is not built yet")
+        refusal.by("A call that is not built yet")
+        return refusal.at(do.start, f"the call {do.what}", "a call that is built: this one is not built yet", lacking.LACKING)
     for name, word in calls.unbuilt(do.what if do is not None else None).items():
         value = call.member(name)
         if value is not None and value.kind == "string" and value.what == word:
-            return refusal.at(value.start, f"the word {quoted(word)} under {name}", f"{calls.keys_of(do.what)[name].expected()}: this word is not built yet")
+            refusal.by(f"The word `{word}` as the `{name}` of a pipeline, which is not built yet")
+            return refusal.at(value.start, f"the word {quoted(word)} under {name}", f"{calls.keys_of(do.what)[name].expected()}: this word is not built yet", lacking.LACKING)
     for path in calls.unbuilt_keys(do.what if do is not None else None):
         for key in keys_at(call, path):
-            return refusal.at(key.start, f"the key {key.what}", "no such key: it is not built yet")
+            where = f"`{do.what}`" if len(path) == 1 else f"an object in the list `{path[0]}` of a `{do.what}`"
+            refusal.by(f"The key `{key.what}` of {where}, which is not built yet")
+            return refusal.at(key.start, f"the key {key.what}", "no such key: it is not built yet", lacking.LACKING)
     return refusal
 
 
@@ -153,11 +171,18 @@ def wrong_keys(refusal, value, word, keys, others=()):
     has = "has the keys " + ", ".join(told) if told else "has the key do alone"
     for key, _ in value.what:
         if key.what not in keys and key.what not in others:
-            return refusal.at(key.start, f"the key {quoted(key.what)}", f"no such key: {word} {has}", near(key.what, keys))
+            refusal.by(of_keys(refusal, "a key that it does not have", "A key that the call does not have"))
+            return refusal.at(key.start, f"the key {quoted(key.what)}", f"no such key: {word} {has}", lacking.key(key.what) or near(key.what, keys))
     for name, key in keys.items():
         if value.member(name) is None and not key.may_be_left_out:
+            refusal.by(of_keys(refusal, "no key of some name that it needs", "A needed key that is missing"))
             return refusal.at(value.start, f"no key {name}", f"the key {name}: {key.expected()}")
     return None
+
+
+def of_keys(refusal, of_object, of_call):
+    """What is refused of keys: rule 7 is of those of a call, and rule 8 of those of an object in it."""
+    return of_call if refusal.rule == 7 else f"An object in a call, with {of_object}"
 
 
 def values_of_call(refusal, text, call, top):
@@ -174,12 +199,26 @@ def wrong_values(refusal, text, owner, keys):
             found = shown(text.of(wrong))
             if wrong is value and value.kind == "list":
                 found = f"a list of {len(value.what)}"
-            hint = near(wrong.what, calls.WORDS[key.detail]) if key.sort in ("word", "words") and wrong.kind == "string" else None
+            is_word = key.sort in ("word", "words") and wrong.kind == "string"
+            hint = lacking.word(wrong.what, key.detail) or near(wrong.what, calls.WORDS[key.detail]) if is_word else None
+            refusal.by(why_wrong(wrong, key, wrong is value))
             return refusal.at(wrong.start, f"{found} under {name}", key.expected(), hint)
         for item in objects_in(value, key):
             if wrong_object(refusal, text, item, key.detail):
                 return refusal
     return None
+
+
+def why_wrong(wrong, key, is_whole_value):
+    """What rule 8 refuses of a value, or of an item of it, that is not what its key asks for."""
+    if is_whole_value and key.sort in ("three", *ITEMS) and wrong.kind == "list":
+        return "A list of other than three numbers where three are asked for" if key.sort == "three" else "A list in a call of more than 1,024 items"
+    is_number = key.sort in ("number", "numbers", "three") and wrong.kind == "number"
+    if is_number:
+        return "A number out of range" if wrong.what.isdigit() or wrong.what[1:].isdigit() else "A number that is no whole number in decimal digits"
+    if key.sort in ("word", "words") and wrong.kind == "string":
+        return "A word that the key does not have"
+    return "A value of the wrong type"
 
 
 def objects_in(value, key):
@@ -197,16 +236,29 @@ def wrong_object(refusal, text, item, sort):
         return wrong_keys(refusal, item, said, keys) or wrong_values(refusal, text, item, keys)
     form = calls.form_of(sort, item)
     if form is None and by is None:
-        return refusal.at(item.start, "none of the keys " + ", ".join(forms), f"one of them: {said} has just one")
+        refusal.by("An object in a call, with no key of some name that it needs")
+        return refusal.at(item.start, "none of the keys " + ", ".join(forms), f"one of them: {said} has just one", near_key(item, forms, sort))
     if form is None:
         kind = calls.Key(calls.OBJECTS[sort]["keys"][by])
         value = item.member(by)
         if value is None:
-            return refusal.at(item.start, f"no key {by}", f"the key {by}: {kind.expected()}")
-        hint = near(value.what, forms) if value.kind == "string" else None
+            refusal.by("An object in a call, with no key of some name that it needs")
+            return refusal.at(item.start, f"no key {by}", f"the key {by}: {kind.expected()}", near_key(item, [by], sort))
+        hint = lacking.word(value.what, kind.detail) or near(value.what, forms) if value.kind == "string" else None
+        refusal.by("A word that the key does not have" if value.kind == "string" else "A value of the wrong type")
         return refusal.at(value.start, f"{shown(text.of(value))} under {by}", kind.expected(), hint)
     keys = calls.keys_of_object(sort, item)
     return wrong_keys(refusal, item, f"{said} with {f'a {form}' if by is None else f'the {by} {form}'}", keys) or wrong_values(refusal, text, item, keys)
+
+
+def near_key(item, wanted, sort):
+    """Which key of an object is likely one that it needs, written otherwise, or None."""
+    known = {*calls.OBJECTS[sort]["keys"], *(key for form in calls.forms_of(sort).values() for key in form)}
+    for key, _ in item.what:
+        hint = near(key.what, wanted) if key.what not in known else None
+        if hint:
+            return f"of the key {quoted(key.what)} {hint}"
+    return None
 
 
 def wrong_in(value, key):
@@ -318,10 +370,9 @@ def shown(text):
 def explained(text, line):
     """The lines that explain a refusal."""
     refusal = find(text, line)
-    said = rules.script_rules(refusal.rule)
     where = ", ".join(f"{part} {number}" for part, number in zip(PARTS, refusal.place))
     lines = [f"The script is refused: {line.strip()}" + (f" ({where})" if where else "")]
-    lines += [f"  script rule {refusal.rule} refuses: {each}" for each in said]
+    lines += [f"  script rule {refusal.rule} refuses: {refusal.refuses}"] if refusal.refuses else []
     if refusal.offset is None:
         return lines + ["  what of it breaks the rule was not found: the program tells no more than the line above"]
     lines += ["", f"{text.where(refusal.offset)}"]
@@ -338,5 +389,5 @@ def pointed(text, offset):
     line, column = text.place(offset)
     whole = text.text.split("\n")[line - 1].expandtabs(1).rstrip("\r")
     first = max(0, column - 60)
-    piece = whole[first : first + 100]
-    return ["", f"  {'..' if first else ''}{piece}{'..' if first + 100 < len(whole) else ''}", "  " + " " * (column - 1 - first + 2 * bool(first)) + "^"]
+    before, after = escaped(whole[first : column - 1]), escaped(whole[column - 1 : first + 100])
+    return ["", f"  {'..' if first else ''}{before}{after}{'..' if first + 100 < len(whole) else ''}", "  " + " " * (len(before) + 2 * bool(first)) + "^"]

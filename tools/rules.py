@@ -22,7 +22,8 @@ class Rule:
         self.label = call.get("label", self.call)
         self.numbers = row["rules"]
         self.asks = row["asks"]
-        self.sections = row.get("section", call["section"])
+        self.own_sections = row.get("section")
+        self.sections = self.own_sections or call["section"]
         self.see = row.get("see", [])
 
 
@@ -39,10 +40,12 @@ def of(number, call=None):
 
 
 def completed(rule, whole):
-    """A rule whose words are `as above`, with those of the rule above in place of them. The table itself stays as it is: a row may have several numbers."""
+    """A rule whose words are `as above`, with those of the rule above in place of them. The table itself stays as it is: a row may have several numbers.
+
+    The section is that of the rule's own call, but where the row above has one of its own."""
     made = copy.copy(rule)
     made.asks = whole.asks + rule.asks[len(ABOVE) :]
-    made.sections, made.see = whole.sections, whole.see
+    made.sections, made.see = whole.own_sections or rule.sections, whole.see
     return made
 
 
@@ -55,9 +58,19 @@ def notes(titles):
     return [part for part in TABLE["parts"] if part.get("title") in titles]
 
 
+def script_rows(number):
+    """The rows of a rule of scripts."""
+    return [row for row in TABLE["scripts"] if row["rule"] == number]
+
+
+def place_of(row):
+    """The words of the place that a rule of scripts tells: phase, lane and call, as far as it has them."""
+    return [] if row["place"] == "none" else row["place"].split(", ")
+
+
 def script_rules(number):
     """What a rule of scripts refuses."""
-    return [row["refuses"] for row in TABLE["scripts"] if row["rule"] == number]
+    return [row["refuses"] for row in script_rows(number)]
 
 
 def page():

@@ -1,9 +1,9 @@
 """What the program answers to the bytes of a script, and whether a report is one of those that the script can have."""
 
-import names
-import report
-import script
-import turns
+from . import names
+from . import report
+from . import script
+from . import turns
 
 DONE, BAD_SCRIPT, TOO_LARGE = 0, 3, 7
 

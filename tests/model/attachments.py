@@ -3,10 +3,10 @@
 The colors of a pass are the dictionaries that the script has, with all of their keys, or None where they are null.
 """
 
-import formats
-import textures
-from cells import in_texture
-from rules import at_most
+from . import formats
+from . import textures
+from .cells import in_texture
+from .rules import at_most
 
 MOST_COLORS = 8
 FLAT_DIMS = ("2d", "2d-array")

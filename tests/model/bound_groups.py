@@ -1,14 +1,12 @@
 """Bind groups as they are set in a pass: the rules of setBindGroup, those on what is set where a dispatch or a draw comes, and what is
 touched by it.
-
-What is set is seen by looking back over the earlier commands of the same pass.
 """
 
-import buffers
-import groups
-import textures
-from cells import do_meet, in_buffer, in_texture
-from rules import at_most
+from . import buffers
+from . import groups
+from . import textures
+from .cells import do_meet, in_buffer, in_texture
+from .rules import at_most
 
 MOST_GROUPS = 4
 OFFSET_ALIGNMENT = 256
@@ -45,28 +43,16 @@ def bindings(group, offsets):
     return [(asked[entry["binding"]], entry, thing, moves.get(entry["binding"], 0)) for entry, thing in bound]
 
 
-def pipeline_set(earlier):
-    """The pipeline that was set last, or None."""
-    found = [command.uses["pipeline"] for command in earlier if command.do == "setPipeline"]
-    return found[-1] if found else None
-
-
-def group_set(earlier, index):
-    """The setBindGroup that was the last at an index, or None."""
-    found = [command for command in earlier if command.do == "setBindGroup" and command.call["index"] == index]
-    return found[-1] if found else None
-
-
-def asked_for(earlier):
+def asked_for(settings):
     """Of each layout of the pipeline that has an entry, its entries, and the setBindGroup at its index, or None."""
-    layouts = [layout.call["entries"] for layout in pipeline_set(earlier).uses["layout"].uses["layouts"]]
-    return [(entries, group_set(earlier, index)) for index, entries in enumerate(layouts) if entries]
+    layouts = [layout.call["entries"] for layout in settings.pipeline.uses["layout"].uses["layouts"]]
+    return [(entries, settings.groups.get(index)) for index, entries in enumerate(layouts) if entries]
 
 
-def bound_rules(earlier):
+def bound_rules(settings):
     """Rules 340, 341 and 342, on what is set where a dispatch or a draw comes."""
-    yield 340, "pipeline", pipeline_set(earlier) is not None
-    asked = asked_for(earlier)
+    yield 340, "pipeline", settings.pipeline is not None
+    asked = asked_for(settings)
     for entries, setting in asked:
         yield 341, "a group is set", setting is not None
         yield from equivalent_rules(entries, layout_of(setting.uses["group"]))

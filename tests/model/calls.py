@@ -4,8 +4,8 @@ A key is a tuple of its name, the sort of its value, and the value that it has w
 uses stand in the order in which script rules 10 and 11 look at them.
 """
 
-from formats import ACCESS_WORDS, ASPECT_WORDS, FORMATS, SAMPLE_WORDS, TEXTURE_DIMS, VERTEX_FORMATS, VIEW_DIMS
-from scopes import FILTERS
+from .formats import ACCESS_WORDS, ASPECT_WORDS, FORMATS, SAMPLE_WORDS, TEXTURE_DIMS, VERTEX_FORMATS, VIEW_DIMS
+from .scopes import FILTERS
 
 NEEDED = object()
 
@@ -239,7 +239,7 @@ MADE = {
 }
 
 # What the name stands for that a call gives. A pass is no object.
-GIVEN = MADE | {"beginComputePass": "compute pass", "beginRenderPass": "render pass"}
+GIVEN = {**MADE, "beginComputePass": "compute pass", "beginRenderPass": "render pass"}
 
 
 def name_keys(do):

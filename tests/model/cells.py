@@ -5,7 +5,7 @@ A part is `("b", N)` or `("t", N, aspect, mip, layer)`. A cell is such a subreso
 is a cell, with the usage of its part and the kind of its access.
 """
 
-import formats
+from . import formats
 
 
 def part_of(cell):

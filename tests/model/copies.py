@@ -1,8 +1,8 @@
 """The rules of copies that a texture has a part in, and of writeTexture; subresources and bytes of such copies."""
 
-import buffers
-import formats
-import textures
+from . import buffers
+from . import formats
+from . import textures
 
 
 def spot_rules(number, which, texture, mip, origin, size):

@@ -1,13 +1,9 @@
-"""Vertex and index buffers as they are set in a render pass, the rules of draws, and what they touch.
+"""Vertex and index buffers as they are set in a render pass, the rules of draws, and what they touch."""
 
-What is set is seen by looking back over the earlier commands of the same pass.
-"""
-
-import bound_groups
-import buffers
-import formats
-from cells import in_buffer, set_in_buffer
-from rules import at_most
+from . import buffers
+from . import formats
+from .cells import in_buffer, set_in_buffer
+from .rules import at_most
 
 VERTEX, INDEX, INDIRECT = 32, 16, 256
 SLOTS = 8
@@ -59,31 +55,19 @@ def indirect_rules(command):
     yield 346, "just the end" if offset + length == buffer["size"] else "range", buffers.fits(buffer, offset, length)
 
 
-def vertex_buffer_set(earlier, slot):
-    """The setVertexBuffer that was the last at a slot, or None."""
-    found = [command for command in earlier if command.do == "setVertexBuffer" and command.call["slot"] == slot]
-    return found[-1] if found else None
-
-
-def index_buffer_set(earlier):
-    """The setIndexBuffer that was the last, or None."""
-    found = [command for command in earlier if command.do == "setIndexBuffer"]
-    return found[-1] if found else None
-
-
-def draw_rules(command, earlier):
+def draw_rules(command, settings):
     """The rules of a draw on vertex and index buffers. An indirect one asks only that they are set."""
-    wanted = bound_groups.pipeline_set(earlier).call["buffers"]
+    wanted, vertex_buffers = settings.pipeline.call["buffers"], settings.vertex_buffers
     for slot in range(len(wanted)):
-        yield 350, f"slot {slot}", vertex_buffer_set(earlier, slot) is not None
+        yield 350, f"slot {slot}", slot in vertex_buffers
     if command.do in ("drawIndexed", "drawIndexedIndirect"):
-        yield 352, "index buffer", index_buffer_set(earlier) is not None
+        yield 352, "index buffer", settings.index_buffer is not None
     if command.do == "drawIndexed":
-        yield from index_rules(command, index_buffer_set(earlier))
+        yield from index_rules(command, settings.index_buffer)
     if command.do in ("draw", "drawIndexed"):
         for slot, vertex_buffer in enumerate(wanted):
             if command.do == "draw" or vertex_buffer["step"] == "instance":
-                yield from element_rules(command.call, vertex_buffer, vertex_buffer_set(earlier, slot))
+                yield from element_rules(command.call, vertex_buffer, vertex_buffers[slot])
 
 
 def index_rules(command, setting):

@@ -130,7 +130,7 @@ def named_aspects(format, named):
     """The aspects of a format that a word names: all of them, or the depth alone, or the stencil alone."""
     if named == "all":
         return aspects_of(format)
-    return tuple(aspect for aspect in aspects_of(format) if aspect == named.removesuffix("-only"))
+    return tuple(aspect for aspect in aspects_of(format) if f"{aspect}-only" == named)
 
 
 def copied_aspect(format, named):
@@ -151,7 +151,7 @@ def texel_to(format, named):
 
 def are_copy_compatible(one, other):
     """Two formats are equal, or differ in `-srgb` alone."""
-    return one.removesuffix("-srgb") == other.removesuffix("-srgb")
+    return one.replace("-srgb", "") == other.replace("-srgb", "")
 
 
 def layer_count(texture):

@@ -4,11 +4,11 @@ An entry of a layout or of a bind group is the dictionary that the script has, w
 of a bind group goes with the object that it binds.
 """
 
-import buffers
-import formats
-import textures
-from calls import bound_by
-from rules import at_most
+from . import buffers
+from . import formats
+from . import textures
+from .calls import bound_by
+from .rules import at_most
 
 VERTEX, FRAGMENT, COMPUTE = 1, 2, 4
 STAGES = {"vertex": VERTEX, "fragment": FRAGMENT, "compute": COMPUTE}

@@ -1,21 +1,16 @@
 """The calls that were played so far, and what is seen by looking back over them.
 
-All looking back is over plain lists: the calls that were played, oldest first, all of them and those of each word; the objects, in
-the order in which they were made; and what was released. What is asked for again and again is kept beside them, and brought up to
-date by each call that is added, so that scripts of thousands of calls can be played.
+All looking back is over plain lists: the calls that were played, oldest first, and the objects, in the order in which they were made. What is
+asked for again and again is kept beside them, and brought up to date by each call that is added, so that no call walks what came before it.
 """
 
 import collections
 
-import maps
-import memory
-import passes
-import scopes
-from calls import WAITING, name_keys, names_in
-
-
-# The calls that make an object which refers to all that they name.
-REFERRING = {"createView", "createPipelineLayout", "createBindGroup", "createComputePipeline", "createRenderPipeline"}
+from . import maps
+from . import passes
+from . import scopes
+from .calls import WAITING, name_keys, names_in
+from .lives import Lives
 
 
 class Played:
@@ -86,12 +81,12 @@ def resources_in(thing):
 class History:
     def __init__(self, budget):
         self.budget = budget
-        self.played = []
-        self.played_of = collections.defaultdict(list)
         self.objects = []
         self.names = {}
         self.with_entry = []
+        self.has_loss = False
         self.recorded = collections.defaultdict(list)
+        self.walks = collections.defaultdict(passes.Walk)
         self.finished = collections.defaultdict(list)
         self.destroyed = set()
         self.drops = {}
@@ -99,18 +94,21 @@ class History:
         self.last_op = 0
         self.last_ops = {}
         self.last_completed = 0
-        self.unsettled = []
+        self.completed_before = 0
+        self.unsettled = {}
+        self.waiting_for = collections.defaultdict(list)
+        self.pending = {}
         self.mappings = {}
-        self.scopes = []
-        self.kept = []
+        self.scopes = scopes.Stack()
         self.named = {}
+        self.lives = Lives(self)
 
     def add(self, played):
         """Adds a call that was answered, or a command that was recorded, and notes what it changes."""
-        self.played.append(played)
-        self.played_of[played.do].append(played)
         if played.entry is None:
-            self.recorded[encoder_of(played.uses["on"])].append(played)
+            encoder = encoder_of(played.uses["on"])
+            self.recorded[encoder].append(played)
+            self.walks[encoder].take(played)
             return
         self.with_entry.append(played)
         if played.do == "finish":
@@ -122,23 +120,28 @@ class History:
         if played.do == "submit":
             self.consumed.update(played.uses["buffers"])
         if played.do == "complete" and played.answer == "plain":
-            self.last_completed = played.call["op"]
-        if played.do in ("createBuffer", "createTexture") and played.is_valid:
-            self.kept.append(played)
+            self.completed_before, self.last_completed = self.last_completed, played.call["op"]
+        if played.do == "lose":
+            self.has_loss = True
         if played.op is not None:
             self.last_op = played.op
             self.last_ops.update(dict.fromkeys(self.used_by(played), played.op))
-        if played.do in WAITING:
-            self.unsettled.append(played)
-        if played.settled:
-            settled = {promise for promise, _ in played.settled}
-            self.unsettled = [promise for promise in self.unsettled if promise not in settled]
+        self.follow_promises(played)
         maps.follow(self.mappings, played)
         scopes.follow(self.scopes, played)
+        played.released = self.lives.follow(played)
 
-    def release(self, things):
-        """Buffers and textures are given back, each once."""
-        self.kept = [thing for thing in self.kept if thing not in things]
+    def follow_promises(self, played):
+        """Notes which promises wait after an entry, for which operations, and of which buffer."""
+        if played.do in WAITING:
+            self.unsettled[played] = True
+            self.waiting_for[played.awaited].append(played)
+            if played.do == "mapAsync" and not played.settled:
+                self.pending[played.uses["buffer"]] = played
+        for promise, _ in played.settled:
+            self.unsettled.pop(promise, None)
+            if promise.do == "mapAsync" and promise is not played:
+                del self.pending[promise.uses["buffer"]]
 
     def uses_of(self, call):
         """The objects that the names of a call stand for, key by key; of an object, and of a list of names or of objects, a list."""
@@ -153,7 +156,7 @@ class History:
 
     def is_lost(self):
         """The device is lost from its first loss on."""
-        return self.played_of["lose"] != []
+        return self.has_loss
 
     def finishes(self, encoder):
         """The finishes that named an encoder, accepted, refused or on a lost device."""
@@ -165,7 +168,7 @@ class History:
     def has_ended(self, place):
         """An encoder has ended from its first finish on. A pass has ended where its encoder has, or by its own end, if it was open."""
         encoder = encoder_of(place)
-        return self.has_finished(encoder) or place in passes.walk(self.commands_on(encoder))[1]
+        return self.has_finished(encoder) or place in self.walks[encoder].ended
 
     def commands_on(self, encoder):
         """The commands that were recorded on an encoder and on its passes, in order; a late one was not."""
@@ -196,27 +199,6 @@ class History:
         """Some submit listed the command buffer, accepted, refused or on a lost device."""
         return command_buffer in self.consumed
 
-    def is_open(self, encoder):
-        """An encoder is open until a finish names it, be that accepted, refused or on a lost device, or until it is dropped."""
-        return not self.has_finished(encoder) and not self.is_dropped(encoder)
-
-    def is_held(self, thing):
-        """An object is held while it is not dropped, and after that while something else holds it."""
-        return not self.is_dropped(thing) or any(self.holds(other, thing) for other in self.objects)
-
-    def holds(self, other, thing):
-        """Whether an object holds one that was dropped.
-
-        A valid object that is itself held holds what it refers to: a view its texture, a pipeline layout its bind group layouts, a
-        bind group its layout and what it binds, a pipeline its layout. A valid command buffer that is neither consumed nor dropped
-        holds what it names; and an encoder that is open, valid or not, holds all that was dropped since it was made.
-        """
-        if other.do in REFERRING:
-            return thing in other.referred() and other.is_valid and self.is_held(other)
-        if other.do == "finish":
-            return other.is_valid and not self.is_consumed(other) and not self.is_dropped(other) and thing in self.named_by([other])
-        return other.do == "createEncoder" and self.is_open(other) and not self.was_dropped_before(thing, other)
-
     def issued(self):
         """How many operations were queued; they are numbered from 1."""
         return self.last_op
@@ -227,7 +209,16 @@ class History:
 
     def waiting(self):
         """The promises of workDones and mapAsyncs that no entry has settled, in their order."""
-        return self.unsettled
+        return list(self.unsettled)
+
+    def waiting_until(self, op):
+        """Those of them that wait for an operation which is not complete and is at most the one of a number, in their order."""
+        found = [promise for one in range(self.completed() + 1, op + 1) for promise in self.waiting_for[one] if promise in self.unsettled]
+        return sorted(found, key=lambda promise: promise.entry)
+
+    def pending_map(self, buffer):
+        """The mapAsync of a buffer whose promise waits, of which there is one at most, or None."""
+        return self.pending.get(buffer)
 
     def last_use(self, thing):
         """The last operation that uses an object, or 0."""
@@ -250,16 +241,8 @@ class History:
     def resources_of(self, command_buffers):
         """The buffers and textures that the commands of some command buffers name, themselves, through a view that they attach, or
         through a bind group, whether or not a step comes of it."""
-        return [found for thing in self.named_by(command_buffers) for found in resources_in(thing)]
-
-    def is_due(self, thing):
-        """A valid buffer or texture is due where it is destroyed or not held, and every operation that uses it is complete."""
-        return self.last_use(thing) <= self.completed() and (self.is_destroyed(thing) or not self.is_held(thing))
-
-    def newly_due(self):
-        """What is due after the last entry and was released by none before, in the order of numbers."""
-        return [thing for thing in self.kept if self.is_due(thing)]
+        return [found for thing in dict.fromkeys(self.named_by(command_buffers)) for found in resources_in(thing)]
 
     def live_bytes(self):
         """The bytes of all that is valid and was not released."""
-        return sum(memory.bytes_of(thing.call) for thing in self.kept)
+        return self.lives.bytes

@@ -12,6 +12,8 @@ import re
 MOST_NESTED = 127
 SPACE = re.compile(r"[ \t\n\r]*")
 NUMBER = re.compile(r"-?(?:0|[1-9][0-9]*)(?:\.[0-9]+)?(?:[eE][+-]?[0-9]+)?")
+# What stands in a string as itself: neither its end, nor an escape, nor a control character.
+PLAIN = re.compile(r'[^"\\\x00-\x1f]*')
 FOUR_DIGITS = re.compile(r"[0-9a-fA-F]{4}")
 ESCAPES = {'"': '"', "\\": "\\", "/": "/", "b": "\b", "f": "\f", "n": "\n", "r": "\r", "t": "\t"}
 WORDS = {"true": True, "false": False, "null": None}
@@ -120,15 +122,18 @@ def read_object(text, nested):
 def read_string(text):
     """A string; characters below the space stand in it only as escapes."""
     text.take('"')
-    letters = []
+    pieces = []
     while True:
+        plain = PLAIN.match(text.text, text.at)
+        pieces.append(plain.group())
+        text.at = plain.end()
         letter = text.peek()
-        if not letter or letter < " ":
-            raise NoJson("a string without its end, or with a control character")
         text.at += 1
         if letter == '"':
-            return "".join(letters)
-        letters.append(read_escape(text) if letter == "\\" else letter)
+            return "".join(pieces)
+        if letter != "\\":
+            raise NoJson("a string without its end, or with a control character")
+        pieces.append(read_escape(text))
 
 
 def read_escape(text):

@@ -4,7 +4,7 @@ A mapping is a triple of its mode, its offset and its size. A buffer is mapped b
 map of it as mapped, until it is unmapped or destroyed. It is pending while the promise of a map of it waits.
 """
 
-import buffers
+from . import buffers
 
 READ, WRITE = 1, 2
 
@@ -39,12 +39,7 @@ def idle_rules(history, number, buffer):
 
 
 def is_pending(history, buffer):
-    return pending_maps(history, buffer) != []
-
-
-def pending_maps(history, buffer):
-    """The maps of a buffer that wait; there is one at most."""
-    return [played for played in history.waiting() if played.do == "mapAsync" and played.uses["buffer"] is buffer]
+    return history.pending_map(buffer) is not None
 
 
 def mapping_of(history, buffer):

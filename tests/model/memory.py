@@ -1,6 +1,6 @@
 """The bytes that a buffer or a texture takes of the budget of its device."""
 
-import formats
+from . import formats
 
 
 def bytes_of(call):

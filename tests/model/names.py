@@ -6,8 +6,8 @@ the items of a list one after another, then the name that it gives. Of each name
 
 import re
 
-from calls import GIVEN, name_keys, names_in
-from script import ask
+from .calls import GIVEN, name_keys, names_in
+from .script import ask
 
 WELL_FORMED = re.compile(r"[A-Za-z0-9_]{1,64}")
 

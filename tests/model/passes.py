@@ -1,12 +1,14 @@
 """Passes: which one is open, the rules of its commands, and what its dispatches, or the pass as a whole, use."""
 
-import attachments
-import bound_groups
-import draws
-from calls import BEGINS, DISPATCHES, DRAWS
-from cells import part_of
-from draws import INDIRECT_BYTES
-from rules import at_most, first_unmet
+import collections
+
+from . import attachments
+from . import bound_groups
+from . import draws
+from .calls import BEGINS, DISPATCHES, DRAWS
+from .cells import part_of
+from .draws import INDIRECT_BYTES
+from .rules import at_most, first_unmet
 
 MOST_COUNT = 65_535
 
@@ -14,42 +16,69 @@ MOST_COUNT = 65_535
 READ_TOGETHER = {"input", "constant", "storage-read", "attachment-read"}
 
 
-def walk(commands):
-    """The pass that is open after the commands that were recorded on an encoder, or None, and the passes that have ended.
+class Walk:
+    """How far the commands that were recorded on an encoder have come: the pass that is open, or None, the passes that have ended, and of the
+    encoder and each pass its commands and how many debug groups they have open.
 
     A pass that is begun while another one is open is dead: it neither opens nor ends.
     """
-    open_pass, ended = None, []
-    for command in commands:
-        if command.do in BEGINS and open_pass is None:
-            open_pass = command
-        elif command.do == "end" and command.uses["on"] is open_pass:
-            ended.append(open_pass)
-            open_pass = None
-    return open_pass, ended
+
+    def __init__(self, commands=()):
+        self.open_pass = None
+        self.ended = set()
+        self.on = collections.defaultdict(list)
+        self.groups = collections.Counter()
+        for command in commands:
+            self.take(command)
+
+    def take(self, command):
+        place = command.uses["on"]
+        self.on[place].append(command)
+        self.groups[place] = groups_after(self.groups[place], command)
+        if command.do in BEGINS and self.open_pass is None:
+            self.open_pass = command
+        elif command.do == "end" and place is self.open_pass:
+            self.ended.add(place)
+            self.open_pass = None
 
 
-def on(place, commands):
-    """Those of some commands that stand on an encoder itself, or on a pass."""
-    return [command for command in commands if command.uses["on"] is place]
+class Settings:
+    """What is set of a pass after some of its commands, each as the command that set it last, and how many of its debug groups are open."""
+
+    def __init__(self):
+        self.pipeline = None
+        self.groups = {}
+        self.vertex_buffers = {}
+        self.index_buffer = None
+        self.open_groups = 0
+
+    def take(self, command):
+        self.open_groups = groups_after(self.open_groups, command)
+        if command.do == "setPipeline":
+            self.pipeline = command.uses["pipeline"]
+        elif command.do == "setBindGroup":
+            self.groups[command.call["index"]] = command
+        elif command.do == "setVertexBuffer":
+            self.vertex_buffers[command.call["slot"]] = command
+        elif command.do == "setIndexBuffer":
+            self.index_buffer = command
 
 
-def open_groups(commands):
-    """How many debug groups the commands of an encoder or a pass have open: a push opens one, a pop closes one if there is one."""
-    count = 0
-    for command in commands:
-        if command.do == "pushDebugGroup":
-            count += 1
-        elif command.do == "popDebugGroup":
-            count = max(count - 1, 0)
-    return count
+def groups_after(count, command):
+    """How many debug groups are open after a command on the same encoder or pass: a push opens one, a pop closes one if there is one."""
+    if command.do == "pushDebugGroup":
+        return count + 1
+    return max(count - 1, 0) if command.do == "popDebugGroup" else count
 
 
 def pass_rule(begin, commands):
     """The first rule that a pass leaves unmet: one of its begin, or else of its commands; or None."""
-    rule = first_unmet(begin.do, begin_rules(begin))
-    for place, command in enumerate(commands):
-        rule = rule or first_unmet(command.do, command_rules(command, commands[:place]))
+    rule, settings = first_unmet(begin.do, begin_rules(begin)), Settings()
+    for command in commands:
+        if rule is not None:
+            return rule
+        rule = first_unmet(command.do, command_rules(command, settings))
+        settings.take(command)
     return rule
 
 
@@ -60,8 +89,8 @@ def begin_rules(begin):
         yield from attachments.begin_rules(begin)
 
 
-def command_rules(command, earlier):
-    """The rules of a command of a pass after its earlier commands: those on what it names, then its own."""
+def command_rules(command, settings):
+    """The rules of a command of a pass by what is set where it comes: those on what it names, then its own."""
     yield from named_rules(command)
     call, uses = command.call, command.uses
     if command.do == "setPipeline":
@@ -73,15 +102,15 @@ def command_rules(command, earlier):
     elif command.do == "setIndexBuffer":
         yield from draws.index_buffer_rules(command)
     elif command.do in DISPATCHES | DRAWS:
-        yield from bound_groups.bound_rules(earlier)
-        yield from work_rules(command, earlier)
+        yield from bound_groups.bound_rules(settings)
+        yield from work_rules(command, settings)
     elif command.do == "popDebugGroup":
-        yield 285, "open group of a pass", open_groups(earlier) > 0
+        yield 285, "open group of a pass", settings.open_groups > 0
     elif command.do == "end":
-        yield 310, "groups are closed", open_groups(earlier) == 0
+        yield 310, "groups are closed", settings.open_groups == 0
 
 
-def work_rules(command, earlier):
+def work_rules(command, settings):
     """The rules of a dispatch or a draw after those on what is bound."""
     if command.do == "dispatch":
         for key in ("x", "y", "z"):
@@ -89,7 +118,7 @@ def work_rules(command, earlier):
     if command.do in INDIRECT_BYTES:
         yield from draws.indirect_rules(command)
     if command.do in DRAWS:
-        yield from draws.draw_rules(command, earlier)
+        yield from draws.draw_rules(command, settings)
 
 
 def named_rules(command):
@@ -99,10 +128,10 @@ def named_rules(command):
         yield 12, key, thing.is_valid
 
 
-def touches_of_dispatch(dispatch, earlier):
-    """What a dispatch touches after the earlier commands of its pass: all that the groups bind which its pipeline asks for, and the
-    counts of one that is indirect."""
-    touches = [touch for _, setting in bound_groups.asked_for(earlier) for _, found in bound_groups.touched(setting) for touch in found]
+def touches_of_dispatch(dispatch, settings):
+    """What a dispatch touches by what is set where it comes: all that the groups bind which its pipeline asks for, and the counts of one
+    that is indirect."""
+    touches = [touch for _, setting in bound_groups.asked_for(settings) for _, found in bound_groups.touched(setting) for touch in found]
     return touches + draws.touches_of_indirect(dispatch)
 
 
@@ -117,22 +146,24 @@ def touches_of_pass(begin, commands):
     return touches
 
 
-def touches_of_scope(command, commands):
-    """What a usage scope touches, which is that of a dispatch or of a render pass, after all commands of its encoder are known; of any
-    other command None."""
-    if command.do in DISPATCHES:
-        return touches_of_dispatch(command, on(command.uses["on"], commands[:commands.index(command)]))
-    if command.do == "beginRenderPass":
-        return touches_of_pass(command, on(command, commands))
-    return None
+def scopes_of(commands):
+    """Of each command of an encoder, in order, what its usage scope touches, which is that of a dispatch or of a render pass; of any other
+    command None."""
+    on, settings = Walk(commands).on, collections.defaultdict(Settings)
+    for command in commands:
+        if command.do in DISPATCHES:
+            yield command, touches_of_dispatch(command, settings[command.uses["on"]])
+        else:
+            yield command, touches_of_pass(command, on[command]) if command.do == "beginRenderPass" else None
+        settings[command.uses["on"]].take(command)
 
 
 def scope_rules(commands):
     """Rule 184: the usage scope of each dispatch and of each render pass is compatible. The commands are those of an encoder that no
     rule invalidated."""
-    for command in commands:
+    for _, touches in scopes_of(commands):
         uses = {}
-        for cell, usage, _ in touches_of_scope(command, commands) or []:
+        for cell, usage, _ in touches or []:
             uses.setdefault(part_of(cell), set()).add(usage)
         for part, usages in uses.items():
             what = "buffer" if part[0] == "b" else "subresource"

@@ -1,9 +1,9 @@
 """The rules of pipelines: what the interface uses, and what a render pipeline reads and draws to."""
 
-import formats
-from draws import attribute_end
-from groups import COMPUTE, STAGES
-from rules import at_most
+from . import formats
+from .draws import attribute_end
+from .groups import COMPUTE, STAGES
+from .rules import at_most
 
 MOST_VERTEX_BUFFERS = 8
 MOST_ATTRIBUTES = 16

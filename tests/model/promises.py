@@ -1,8 +1,8 @@
 """Promises: which of them an event settles, and how. A promise is the call that made it."""
 
-import maps
-from rules import note
-from scopes import how_popped
+from . import maps
+from .rules import note
+from .scopes import how_popped
 
 # How a promise is settled for which the wait ends, and how one that waits when the device is lost.
 AT_THE_END = {"workDone": "done", "mapAsync": "mapped"}
@@ -18,10 +18,11 @@ def settled_by(history, played):
     if played.do == "mapAsync":
         return settled_map(history, played)
     if played.do == "complete" and played.answer == "plain":
-        return [(promise, AT_THE_END[promise.do]) for promise in history.waiting() if is_over(promise, played.call["op"])]
+        return [(promise, AT_THE_END[promise.do]) for promise in history.waiting_until(played.call["op"])]
     if played.do == "lose":
         return [(promise, AT_THE_LOSS[promise.do]) for promise in history.waiting()]
-    return [(promise, "aborted") for thing in maps.unmapped_by(played) for promise in maps.pending_maps(history, thing)]
+    pending = [history.pending_map(thing) for thing in maps.unmapped_by(played)]
+    return [(promise, "aborted") for promise in pending if promise is not None]
 
 
 def settled_map(history, played):

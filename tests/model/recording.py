@@ -4,41 +4,44 @@ A command makes no fault when it is recorded. The first rule that goes to an enc
 on. A pass keeps the first rule of its begin and its own commands, and hands it over by its end.
 """
 
-import buffers
-import copies
-import passes
-from calls import BEGINS
-from rules import first_unmet
+from . import buffers
+from . import copies
+from . import passes
+from .calls import BEGINS
+from .rules import first_unmet
 
 
 def verdict(commands):
     """The rule that went to an encoder first, by the commands that were recorded on it and on its passes, or None."""
-    for place, command in enumerate(commands):
-        rule = rule_given(command, commands[:place])
+    walk = passes.Walk()
+    for command in commands:
+        rule = rule_given(command, walk)
         if rule is not None:
             return rule
+        walk.take(command)
     return None
 
 
-def rule_given(command, earlier):
-    """The rule that a command gives its encoder, or None: one on the encoder its own, and the end of the open pass that of the pass."""
-    open_pass, _ = passes.walk(earlier)
-    if command.uses["on"].do == "createEncoder":
-        return first_unmet(command.do, command_rules(command, earlier, open_pass))
-    if command.do == "end" and command.uses["on"] is open_pass:
-        return passes.pass_rule(open_pass, passes.on(open_pass, earlier) + [command])
+def rule_given(command, walk):
+    """The rule that a command gives its encoder after the earlier ones, or None: one on the encoder its own, and the end of the open pass
+    that of the pass."""
+    place = command.uses["on"]
+    if place.do == "createEncoder":
+        return first_unmet(command.do, command_rules(command, walk))
+    if command.do == "end" and place is walk.open_pass:
+        return passes.pass_rule(place, walk.on[place] + [command])
     return None
 
 
-def command_rules(command, earlier, open_pass):
+def command_rules(command, walk):
     """The rules of a command on an encoder, after the earlier commands. All but the first of a begin go to the pass that it begins."""
-    yield 240, "no pass is open", open_pass is None
+    yield 240, "no pass is open", walk.open_pass is None
     if command.do not in BEGINS:
         yield from passes.named_rules(command)
-        yield from own_rules(command, passes.on(command.uses["on"], earlier))
+        yield from own_rules(command, walk.groups[command.uses["on"]])
 
 
-def own_rules(command, earlier):
+def own_rules(command, open_groups):
     call, uses = command.call, command.uses
     if command.do == "copyBufferToBuffer":
         yield from buffers.copy_rules(call, uses["source"], uses["target"])
@@ -52,7 +55,7 @@ def own_rules(command, earlier):
         buffer = uses["buffer"]
         yield from buffers.clear_rules(buffer.call, call["offset"], clear_size(command))
     elif command.do == "popDebugGroup":
-        yield 285, "open group", passes.open_groups(earlier) > 0
+        yield 285, "open group", open_groups > 0
 
 
 def clear_size(clear):

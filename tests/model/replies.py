@@ -1,19 +1,21 @@
 """The reply to each call, after all that were played before it."""
 
-import buffers
-import copies
-import groups
-import maps
-import memory
-import passes
-import pipelines
-import promises
-import recording
-import scopes
-import textures
-from calls import BEGINS, MADE, PROMISING, QUEUED, RECORDING, bound_by
-from history import Played
-from rules import first_unmet, note
+import collections
+
+from . import buffers
+from . import copies
+from . import groups
+from . import maps
+from . import memory
+from . import passes
+from . import pipelines
+from . import promises
+from . import recording
+from . import scopes
+from . import textures
+from .calls import BEGINS, MADE, PROMISING, QUEUED, RECORDING, bound_by
+from .history import Played
+from .rules import first_unmet, note
 
 BUDGET_RULE, LATE_RULE = 13, 14
 
@@ -38,8 +40,6 @@ def answer_call(history, call, caller):
     played.answer = answer_of(history, played)
     played.settled = promises.settled_by(history, played)
     history.add(played)
-    played.released = history.newly_due()
-    history.release(played.released)
     return played
 
 
@@ -184,8 +184,8 @@ def finish_rules(history, encoder):
     invalidating = recording.verdict(commands)
     if invalidating is not None:
         yield invalidating, "invalidated the encoder", False
-    yield 182, "no pass is open", passes.walk(commands)[0] is None
-    yield 183, "groups are closed", passes.open_groups(passes.on(encoder, commands)) == 0
+    yield 182, "no pass is open", history.walks[encoder].open_pass is None
+    yield 183, "groups are closed", history.walks[encoder].groups[encoder] == 0
     for command in commands:
         for key, thing in command.named():
             yield 11, f"{key} that a command names", not history.was_dropped_before(thing, encoder)
@@ -197,23 +197,24 @@ def submit_rules(history, command_buffers):
     yield from of_objects(history, [("command buffer", one) for one in command_buffers], [])
     yield 190, "consumed", not any(history.is_consumed(one) for one in command_buffers)
     yield 191, "named twice", len(set(command_buffers)) == len(command_buffers)
-    named, used = history.named_by(command_buffers), dict.fromkeys(history.resources_of(command_buffers))
-    yield from used_rules(history, [thing for thing in used if thing.do == "createBuffer"], named)
+    used, how = dict.fromkeys(history.resources_of(command_buffers)), ways_of(history.named_by(command_buffers))
+    yield from used_rules(history, [thing for thing in used if thing.do == "createBuffer"], how)
     for thing in used:
         if thing.do == "createTexture":
-            yield 193, f"destroyed texture{through(thing, named)}", not history.is_destroyed(thing)
+            yield 193, f"destroyed texture{how[thing]}", not history.is_destroyed(thing)
 
 
-def used_rules(history, used, named):
+def used_rules(history, used, how):
     """Rule 192: no buffer that a command names, itself or through a bind group, is pending, mapped or destroyed."""
     for thing in used:
-        yield 192, f"pending buffer{through(thing, named)}", not maps.is_pending(history, thing)
-        yield 192, f"mapped buffer{through(thing, named)}", not maps.mapping_of(history, thing)
-        yield 192, f"destroyed buffer{through(thing, named)}", not history.is_destroyed(thing)
+        yield 192, f"pending buffer{how[thing]}", not maps.is_pending(history, thing)
+        yield 192, f"mapped buffer{how[thing]}", not maps.mapping_of(history, thing)
+        yield 192, f"destroyed buffer{how[thing]}", not history.is_destroyed(thing)
 
 
-def through(thing, named):
-    """A word for the counts, where no command names a buffer or texture itself."""
-    if thing in named:
-        return ""
-    return " that is attached" if any(one.do == "createView" and one.uses["texture"] is thing for one in named) else " in a bind group"
+def ways_of(named):
+    """Of each buffer and texture a word for the counts, where no command names it itself."""
+    ways = collections.defaultdict(lambda: " in a bind group")
+    ways.update((one.uses["texture"], " that is attached") for one in named if one.do == "createView")
+    ways.update((one, "") for one in named)
+    return ways

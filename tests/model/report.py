@@ -4,15 +4,15 @@ Rows of a step, and barriers before it, are printed in the order of object, aspe
 or are neighbours, and have equal values, are one row.
 """
 
-from calls import RECORDING
-from formats import ASPECTS
-from steps import USAGES
-from traces import trace_of
+from .calls import RECORDING
+from .formats import ASPECTS
+from .steps import USAGES
+from .traces import trace_of
 
 
 def report(history):
     lines = ["history"] + [entry_line(played) for played in history.entries()]
-    lines += ["trace"] + trace_lines(trace_of(history)) + ["end"]
+    lines += ["trace"] + [line for line, _ in trace_lines(trace_of(history))] + ["end"]
     return "".join(line + "\n" for line in lines)
 
 
@@ -35,16 +35,17 @@ def catcher_text(place):
 
 
 def trace_lines(items):
+    """The lines of the trace, each with its item: a barrier's is the step that it stands before."""
     lines, bars, count = [], [], 0
     for item in items:
         if item[0] == "bar":
             bars.append((place_of(item[1]), (item[2] and set_text(item[2]) or "none", set_text(item[3]))))
         elif item[0] == "step":
-            lines += [f"bar {part_text(place)} {values[0]} {values[1]}" for place, values in joined(bars)]
-            lines += step_lines(count, item[1])
+            texts = [f"bar {part_text(place)} {values[0]} {values[1]}" for place, values in joined(bars)] + step_lines(count, item[1])
+            lines += [(text, item) for text in texts]
             bars, count = [], count + 1
         else:
-            lines.append(f"free {'b' if item[1].do == 'createBuffer' else 't'} {item[1].made}")
+            lines.append((f"free {'b' if item[1].do == 'createBuffer' else 't'} {item[1].made}", item))
     return lines
 
 

@@ -4,7 +4,7 @@ A fault is a pair of its kind and its rule. A scope's place is its number on the
 outermost, all of them counted.
 """
 
-from rules import note
+from .rules import note
 
 # The filters of scopes; a scope catches the faults whose kind is its filter.
 FILTERS = ("validation", "out-of-memory", "internal")
@@ -22,30 +22,47 @@ class Scope:
             self.first = fault
 
 
+class Stack:
+    """The error scopes that are open, outermost first, and of each filter the places of those that have it."""
+
+    def __init__(self):
+        self.open = []
+        self.places = {filter: [] for filter in FILTERS}
+
+    def push(self, filter):
+        self.places[filter].append(len(self.open))
+        self.open.append(Scope(filter))
+
+    def pop(self):
+        self.places[self.open.pop().filter].pop()
+
+    def innermost(self, kind):
+        """The place of the innermost scope that catches a kind of fault, or None."""
+        return self.places[kind][-1] if self.places[kind] else None
+
+
 def follow(stack, played):
-    """Notes on the stack of the scopes that are open, outermost first, what an entry does to it: a pop closes the last, but where there is
-    none, and but on a lost device. The stack is the device's, whichever lane pushes and pops."""
+    """Notes on the stack of the scopes that are open what an entry does to it: a pop closes the last, but where there is none, and but on a
+    lost device. The stack is the device's, whichever lane pushes and pops."""
     if played.do == "pushErrorScope":
-        stack.append(Scope(played.call["filter"]))
-    elif played.do == "popErrorScope" and stack and not played.on_lost:
+        stack.push(played.call["filter"])
+    elif played.do == "popErrorScope" and stack.open and not played.on_lost:
         stack.pop()
     elif played.catcher is not None:
-        stack[played.catcher].receive(played.fault)
+        stack.open[played.catcher].receive(played.fault)
 
 
 def catcher_of(history, fault):
     """The place of the innermost open scope that catches a fault; None where it is uncaptured, or there is no fault."""
     if fault is None:
         return None
-    kind, _ = fault
     stack = history.scopes
-    places = [place for place, scope in enumerate(stack) if scope.filter == kind]
-    note("fault", 0, "caught", places != [])
-    if not places:
-        return None
-    note("fault", 0, "caught by the innermost scope", places[-1] == len(stack) - 1)
-    note("fault", 0, "caught first", stack[places[-1]].first is None)
-    return places[-1]
+    place = stack.innermost(fault[0])
+    note("fault", 0, "caught", place is not None)
+    if place is not None:
+        note("fault", 0, "caught by the innermost scope", place == len(stack.open) - 1)
+        note("fault", 0, "caught first", stack.open[place].first is None)
+    return place
 
 
 def how_popped(history, pop):
@@ -53,7 +70,7 @@ def how_popped(history, pop):
     note("popErrorScope", 0, "not lost", not pop.on_lost)
     if pop.on_lost:
         return "null"
-    stack = history.scopes
+    stack = history.scopes.open
     note("popErrorScope", 0, "open scope", stack != [])
     if not stack:
         return "rejected"

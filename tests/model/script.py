@@ -4,9 +4,9 @@ The first refusal that is found is the answer. At the top the rules are tested i
 is gone through in order, of each phase and of each lane 4 is tested when it is come to, and of each call 5, 6, 13, 7 and 8.
 """
 
-import json_text
-from calls import CALLS, FLAG, KIND, NAME, NEEDED, THREE, UNBUILT, WHOLE, WITH_KIND, WORD32, WORDS32
-from rules import note
+from . import json_text
+from .calls import CALLS, FLAG, KIND, NAME, NEEDED, THREE, UNBUILT, WHOLE, WITH_KIND, WORD32, WORDS32
+from .rules import note
 
 MOST_BYTES = 4_194_304
 MOST_PHASES = 1_024
@@ -43,9 +43,10 @@ def read(data):
     ask(2, "budget", is_whole(top["budget"], GREATEST_WHOLE))
     ask(2, "list of phases", type(top["phases"]) is list)
     ask(3, "phases", len(top["phases"]) <= MOST_PHASES)
-    phases = []
+    phases, calls = [], 0
     for number, phase in enumerate(top["phases"]):
-        phases.append(read_phase(number, phase, sum(len(lane) for earlier in phases for lane in earlier)))
+        phases.append(read_phase(number, phase, calls))
+        calls += sum(map(len, phases[-1]))
     return top["budget"], phases
 
 
@@ -88,7 +89,7 @@ def read_call(place, call):
     keys = CALLS[do]
     ask(7, "unknown key", set(call) <= {"do"} | {key for key, _, _ in keys}, place)
     ask(7, "missing key", all(key in call for key, _, default in keys if default is NEEDED), place)
-    return {"do": do} | read_values(place, "", call, keys)
+    return {"do": do, **read_values(place, "", call, keys)}
 
 
 def has_depth_slice(colors):

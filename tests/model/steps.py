@@ -1,11 +1,11 @@
 """The steps of an entry, those of its operation or of the host, each with what it uses and accesses."""
 
-import copies
-import formats
-import passes
-import recording
-from cells import in_buffer, in_texture, is_empty, part_of
-from maps import host_accesses
+from . import copies
+from . import formats
+from . import passes
+from . import recording
+from .cells import in_buffer, in_texture, is_empty, part_of
+from .maps import host_accesses
 
 # Usages in printed order, as far as steps of today use them.
 USAGES = (
@@ -66,11 +66,11 @@ def command_steps(commands, at):
     """The steps of recorded commands. A dispatch makes one whatever it touches, and so does a render pass as a whole; a copy or clear
     of size 0 makes none, nor do others."""
     steps = []
-    for command in commands:
-        in_scope = passes.touches_of_scope(command, commands)
+    for command, in_scope in passes.scopes_of(commands):
+        touches = touches_of(command) if in_scope is None else in_scope
         if in_scope is not None:
-            steps.append(Step(at, "renderPass" if command.do == "beginRenderPass" else "dispatch", in_scope))
-        elif touches := touches_of(command):
+            steps.append(Step(at, "renderPass" if command.do == "beginRenderPass" else "dispatch", touches))
+        elif touches:
             steps.append(Step(at, command.do, touches))
     return steps
 

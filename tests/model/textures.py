@@ -1,6 +1,6 @@
 """The rules of createTexture and createView, and what a view is of which keys are left out."""
 
-import formats
+from . import formats
 
 COPY_SRC, COPY_DST, TEXTURE_BINDING, STORAGE_BINDING, RENDER_ATTACHMENT = 1, 2, 4, 8, 16
 ALL_USAGES = 31
@@ -76,7 +76,7 @@ def view_of(call, texture, is_valid):
     layers = max(formats.layer_count(texture) - call["baseLayer"], 0) if is_valid else 0
     fixed = {"1d": 1, "2d": 1, "3d": 1, "cube": 6}
     left_out = {"dim": dim, "mips": mips, "layers": fixed.get(dim, layers)}
-    return call | {key: value for key, value in left_out.items() if call[key] is None}
+    return {**call, **{key: value for key, value in left_out.items() if call[key] is None}}
 
 
 def told(view):

@@ -1,12 +1,13 @@
 """The trace of a history: steps with their barriers and clears, and releases.
 
-An item is `("bar", part, from, to)`, `("step", step)` or `("free", object)`. Barriers and clears are found by looking back
-over the steps that the trace has so far, those that access an object one after another.
+An item is `("bar", part, from, to)`, `("step", step)` or `("free", object, entry)`. Barriers are found by the last usages of each part, and
+clears by the cells that are set, both as the steps of the trace so far have left them.
 """
 
+import bisect
 import collections
 
-from steps import Step, groups_of
+from .steps import Step, groups_of
 
 # The usages that only read, as far as steps of today use them.
 ONLY_READ = {"input", "constant", "storage-read", "attachment-read", "copy-src", "host-read"}
@@ -18,44 +19,85 @@ def trace_of(history):
     for played in history.entries():
         for group in groups_of(history, played):
             add_group(trace, group)
-        trace.items += [("free", thing) for thing in played.released]
+        trace.items += [("free", thing, played) for thing in played.released]
     return trace.items
 
 
+class Cells:
+    """A set of cells: of each buffer the runs of bytes that are in it, in order and with gaps between them, and subresources."""
+
+    def __init__(self):
+        self.runs = collections.defaultdict(lambda: ([], []))
+        self.subresources = set()
+
+    def add(self, cell):
+        """Takes a cell into the set."""
+        if cell[0] == "t":
+            self.subresources.add(cell)
+            return
+        lows, highs = self.runs[cell[1]]
+        first, last = bisect.bisect_left(highs, cell[2]), bisect.bisect_right(lows, cell[3])
+        low, high = min([cell[2], *lows[first:last][:1]]), max([cell[3], *highs[first:last][-1:]])
+        lows[first:last], highs[first:last] = [low], [high]
+
+    def remove(self, cell):
+        """Takes a cell out of the set."""
+        if cell[0] == "t":
+            self.subresources.discard(cell)
+            return
+        lows, highs = self.runs[cell[1]]
+        first, last = bisect.bisect_right(highs, cell[2]), bisect.bisect_left(lows, cell[3])
+        left = [(low, high) for low, high in ((min([cell[2], *lows[first:last]]), cell[2]), (cell[3], max([cell[3], *highs[first:last]]))) if low < high]
+        lows[first:last], highs[first:last] = [low for low, _ in left], [high for _, high in left]
+
+    def outside(self, cell):
+        """The pieces of a cell that are not in the set."""
+        if cell[0] == "t":
+            return [] if cell in self.subresources else [cell]
+        lows, highs = self.runs[cell[1]]
+        first, last = bisect.bisect_right(highs, cell[2]), bisect.bisect_left(lows, cell[3])
+        ends = [cell[2], *highs[first:last]]
+        begins = [*lows[first:last], cell[3]]
+        return [("b", cell[1], low, high) for low, high in zip(ends, begins) if low < high]
+
+
 class Trace:
-    """The items so far, the steps among them by the number of each object that they access, and of each part its last set of usages."""
+    """The items so far, of each part its last set of usages, and the cells that are set: whose last write did not leave them unset."""
 
     def __init__(self):
         self.items = []
-        self.steps_on = collections.defaultdict(list)
         self.last_sets = {}
-
-    def known(self, cell):
-        """The steps that access the object of a cell."""
-        return self.steps_on[cell[1]]
+        self.set = Cells()
 
 
 def add_group(trace, group):
     """Before a group stands one clear of what some step of it reads, no earlier step of it writes, and is unset."""
     if not group:
         return
-    needed = []
-    for place, step in enumerate(group):
-        for whole in step.reads():
-            known = trace.known(whole)
-            for cell in cut([whole], known + group):
-                if not is_written(cell, group[:place]) and not is_set(cell, known):
-                    needed.append(cell)
+    needed, written = Cells(), Cells()
+    for step in group:
+        for cell in step.reads():
+            for unset in trace.set.outside(cell):
+                for piece in written.outside(unset):
+                    needed.add(piece)
+        for cell in step.writes():
+            written.add(cell)
     add_clear(trace, needed, group[0].at)
     for step in group:
-        add_clear(trace, [cell for whole in step.reads() for cell in cut([whole], trace.known(whole)) if not is_set(cell, trace.known(whole))], step.at)
+        unset = Cells()
+        for cell in step.reads():
+            for piece in trace.set.outside(cell):
+                unset.add(piece)
+        add_clear(trace, unset, step.at)
         add_step(trace, step)
 
 
 def add_clear(trace, cells, at):
     """A clear uses its parts as `clear` and writes its cells; one of no cells is no step."""
-    if cells:
-        add_step(trace, Step(at, "clear", [(cell, "clear", "write") for cell in cells]))
+    runs = [("b", number, low, high) for number, (lows, highs) in cells.runs.items() for low, high in zip(lows, highs)]
+    found = runs + list(cells.subresources)
+    if found:
+        add_step(trace, Step(at, "clear", [(cell, "clear", "write") for cell in found]))
 
 
 def add_step(trace, step):
@@ -68,36 +110,7 @@ def add_step(trace, step):
             trace.items.append(("bar", part, last, usages))
     trace.items.append(("step", step))
     trace.last_sets.update(step.uses)
-    for number in {cell[1] for cell, _ in step.accesses}:
-        trace.steps_on[number].append(step)
-
-
-def is_written(cell, steps):
-    """Some step writes the cell. A run of bytes is cut so that no step writes only some of it."""
-    return any(contains(other, cell) for step in steps for other in step.writes())
-
-
-def is_set(cell, steps):
-    """Some step writes the cell, and the last that does so does not leave it unset."""
-    writing = [step for step in steps if is_written(cell, [step])]
-    return writing != [] and not any(contains(other, cell) for other in writing[-1].drops())
-
-
-def contains(outer, inner):
-    if outer[0] == "b":
-        return inner[:2] == outer[:2] and outer[2] <= inner[2] and inner[3] <= outer[3]
-    return inner == outer
-
-
-def cut(cells, steps):
-    """The cells, with each run of bytes cut wherever an access of some step to that buffer begins or ends."""
-    pieces = []
-    for cell in cells:
-        if cell[0] == "b":
-            others = [other for step in steps for other, _ in step.accesses if other[:2] == cell[:2]]
-            ends = {end for other in others for end in other[2:] if cell[2] < end < cell[3]}
-            borders = sorted(ends | {cell[2], cell[3]})
-            pieces += [("b", cell[1], low, high) for low, high in zip(borders, borders[1:])]
-        else:
-            pieces.append(cell)
-    return pieces
+    for cell in step.writes():
+        trace.set.add(cell)
+    for cell in step.drops():
+        trace.set.remove(cell)

@@ -4,9 +4,9 @@ An order is a list of callers, one for each entry. A caller is the number of a l
 make no entry and take no turn; which these are is told by the lane alone, since none but it can end its encoders and passes.
 """
 
-from calls import BEGINS, RECORDING
-from history import History
-from replies import answer_call
+from .calls import BEGINS, RECORDING
+from .history import History
+from .replies import answer_call
 
 
 class NotLegal(Exception):

@@ -1,0 +1,111 @@
+"""The tables of the tool beside the documents."""
+
+import re
+
+import bits
+import calls
+import rules
+
+from common import EXAMPLES, TOP, check, wgsim
+
+
+def test_rules():
+    """The page of rules is the table's, the rules of scripts are those of docs/script.md, and each rule can be asked for."""
+    check((TOP / "docs/rules.md").read_text(encoding="utf-8") == rules.page(), "docs/rules.md is not what tools/rules.py makes of docs/rules.json")
+    refused = (TOP / "docs/script.md").read_text(encoding="utf-8").split("## What is refused")[1]
+    rows = [(int(number), said) for number, said in re.findall(r"^\| (\d+) \| (.*?) \| .* \|$", refused, re.M)]
+    check(rows == [(row["rule"], row["refuses"]) for row in rules.TABLE["scripts"]], "docs/rules.json does not have the rules of scripts as docs/script.md has them")
+    for number in sorted({number for rule in rules.RULES for number in rule.numbers}):
+        check(rules.shown(number) is not None, f"rule {number} cannot be asked for")
+    ran = wgsim("rules", "258")
+    check(b"origin and size are in its extent" in ran.stdout and b'"validating texture copy range"' in ran.stdout, f"wgsim rules 258: {ran.stdout}")
+    check(wgsim("rules").stdout.count(b"\n") > 100, "wgsim rules: not all rules")
+    rows = [(call["call"], row) for part in rules.TABLE["parts"] if "calls" in part for call in part["calls"] for row in call["rules"]]
+    for call, row in rows:
+        for number in row["rules"] if row["asks"].startswith(rules.ABOVE) else []:
+            whole = next(above["asks"] for _, above in rows if number in above["rules"] and not above["asks"].startswith(rules.ABOVE))
+            expected = [whole + row["asks"][len(rules.ABOVE) :]]
+            found = [rule.asks for rule in rules.of(number, call)]
+            check(found == expected, f"tools/rules.py: rule {number} asks {found} of {call}, and not {expected}")
+
+
+def test_calls():
+    """The table of calls has each call of docs/script.md with its keys, those that may be left out, and those that are to come."""
+    text = (TOP / "docs/script.md").read_text(encoding="utf-8").split("\n## Calls\n")[1].split("\n## Values\n")[0]
+    before = None
+    for word, keys in re.findall(r"^\| `(\w+)` \| (.*?) \| .* \|$", text.split("### Textures")[0], re.M):
+        keys = before if keys == "the same" else re.findall(r"`(\w+)`(=?)", keys)
+        before = keys
+        known = calls.keys_of(word)
+        own = [(name, "=" if key.may_be_left_out else "") for name, key in (known or {}).items()]
+        check(own == keys, f"tools/calls.json: {word} has not the keys of docs/script.md: {keys}")
+    test_objects(*[text.partition(f"\n### {title}\n")[2].split("\n### ")[0] for title in ("Bindings", "Render pipelines", "Render passes")])
+    later = set(re.findall(r"`(\w+)`", text.split("\n### Calls that are not built yet\n")[1]))
+    check(calls.LATER == later, f"tools/calls.json: not the calls to come of docs/script.md: {sorted(calls.LATER ^ later)}")
+    said = re.search(r"`on` names an encoder; a pass in (.*?); and either of the two in (.*?)\. The pass has to be a compute pass in (.*?), and a render pass in (.*?) and the four draws;", text)
+    of_passes, of_both, of_compute, of_render = ([set(re.findall(r"`(\w+)`", words)) for words in said.groups()]) if said else (set(),) * 4
+    of_render |= {word for word in of_passes if word.startswith("draw")}
+    for word in calls.CALLS:
+        passes = ["compute pass"] if word in of_compute else ["render pass"] if word in of_render else ["compute pass", "render pass"]
+        kinds = passes if word in of_passes else ["encoder", *passes] if word in of_both else ["encoder"]
+        own = calls.keys_of(word).get("on")
+        check(own is None or own.kinds() == kinds, f"tools/calls.json: `on` of {word} is not {calls.either(kinds)}, as docs/script.md says")
+        check(own is None or calls.records(word) or calls.ends_encoder(word), f"tools/calls.json: {word} has `on`, and is neither recorded nor a finish")
+    said = re.search(r"The key `(\w+)` of a `(\w+)`, whatever it holds, and the key `(\w+)` of an object in its list `(\w+)` are not built yet", text)
+    key, word, inner, outer = said.groups() if said else [None] * 4
+    check(calls.unbuilt_keys(word) == [[key], [outer, inner]], f"tools/calls.json: not the keys of {word} that are not built yet in docs/script.md")
+
+
+def test_objects(*parts):
+    """The same of the objects in calls, and of the words whose keys they have: in the parts of docs/script.md on bindings, render pipelines and render passes."""
+    def has(keys, written, what):
+        own = [(name, "=" if key.may_be_left_out else "") for name, key in keys.items()]
+        check(own == re.findall(r"`(\w+)`(=?)", written), f"tools/calls.json: {what} has not the keys of docs/script.md: {written}")
+
+    def of_form(sort, form):
+        further = calls.FORMS[calls.OBJECTS[sort]["forms"]][form]
+        return {name: calls.Key(text) for name, text in further.items()}
+
+    rows = [row for text in parts for row in re.findall(r"^\| (.*?) \| (.*?) \|", text, re.M)]
+    entries = {said.split(", ")[0].replace("`", ""): keys for said, keys in rows}
+    for sort, known in calls.OBJECTS.items():
+        check(known["said"] in entries, f"docs/script.md has no row for {known['said']}")
+        if calls.form_key(sort) or not calls.forms_of(sort):
+            has({name: calls.Key(text) for name, text in known["keys"].items()}, entries.get(known["said"], "").split(", and the keys")[0], known["said"])
+    for said, keys in rows:
+        found = re.fullmatch(r"an entry of a bind group, with a (\w+)", said)
+        if found:
+            has({"binding": calls.Key("number 32"), **of_form("group entry", found[1])}, keys, said)
+    of_bindings = re.findall(r"^\| (.*?) \| (.*?) \|", parts[0], re.M)
+    kinds = [(word, keys) for words, keys in of_bindings for word in re.findall(r"`([\w-]+)`", words) if word in calls.FORMS["binding kind"] and "entry" not in words]
+    check([word for word, _ in kinds] == list(calls.FORMS["binding kind"]) == calls.WORDS["binding kind"], f"tools/calls.json: not the kinds of docs/script.md: {kinds}")
+    for word, keys in kinds:
+        has(of_form("layout entry", word), keys, f"the kind {word}")
+    holders = {"sampler": "`kind` of `createSampler`, and `type`", "sample": "`sample`", "access": "`access`", "stage": "`stage`", "step": "`step`"}
+    holders.update({"attribute format": "`format` of an attribute", "load": "`load`, `depthLoad`, `stencilLoad`", "store": "`store`, `depthStore`, `stencilStore`"})
+    for word, row in holders.items():
+        check(re.findall(r"`([\w-]+)`", dict(rows).get(row, "")) == calls.WORDS[word], f"tools/calls.json: not the words of {row} of docs/script.md")
+    said = re.search(r"`format` of a `setIndexBuffer` is `(\w+)` or `(\w+)`", parts[2])
+    check(said and list(said.groups()) == calls.WORDS["index format"], "tools/calls.json: not the words of `format` of a setIndexBuffer of docs/script.md")
+
+
+def test_index():
+    """Each example stands in the index."""
+    index = (TOP / "examples/README.md").read_text(encoding="utf-8")
+    for path in EXAMPLES:
+        check(f"`{path.stem}`" in index, f"examples/README.md: {path.stem} is not in it")
+
+
+def test_words():
+    """The words of usages, stages and modes are those of docs/script.md, and each of its tables is one of the kinds."""
+    text = (TOP / "docs/script.md").read_text(encoding="utf-8")
+    for kind, begin in (
+        ("usage of a buffer", "The `usage` of a buffer is a sum of bits: "),
+        ("usage of a texture", "The `usage` of a texture is a sum of bits: "),
+        ("visibility", "`visibility` is a sum of bits: "),
+    ):
+        written = {int(bit): word for word, bit in re.findall(r"([A-Z_]+) (\d+)", text.split(begin)[1].split(".")[0])}
+        check(written == bits.KINDS[kind], f"tools/bits.py: not the words of {kind} of docs/script.md: {written}")
+    modes = re.search(r"READ is (\d) and WRITE is (\d)", text)
+    check({int(modes[1]): "READ", int(modes[2]): "WRITE"} == bits.KINDS["mode of a mapAsync"], "tools/bits.py: not the modes of docs/script.md")
+    check(len(re.findall("is a sum of bits", text)) == 3, "docs/script.md has other sums of bits than the three that wgsim words knows")

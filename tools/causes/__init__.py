@@ -1,0 +1,10 @@
+"""Why each fault of a report was made: which condition of its rule failed, on what, by which values, and what to do.
+
+A report has the number of the rule alone. Here the script is played once more by the second reading (tests/model), in the order of the
+report; where it finds the same rule, the function of that rule (`making.RULES`) looks at what is known at that entry. Nothing of this is
+proved, and where the two readings differ no cause is told.
+"""
+
+from . import attachments, brackets, buffers, copies, draws, groups, layouts, maps, pipelines, queue, scopes, settings, textures, views  # noqa: F401
+from .cases import Causes, of_report  # noqa: F401
+from .making import RULES  # noqa: F401

@@ -1,0 +1,245 @@
+"""The rules of what is attached to a render pass, and of a pipeline that is set in one."""
+
+from .making import Cause, first, lacks, plural, rule
+
+RENDER_ATTACHMENT = 16
+ASPECT_KEYS = {"depth": ("depthLoad", "depthStore", "depthReadOnly"), "stencil": ("stencilLoad", "stencilStore", "stencilReadOnly")}
+
+
+def colors(case):
+    """The colors that are not null, each with its place, itself, its view and its resolve view or None."""
+    places = [place for place, color in enumerate(case.call["colors"]) if color is not None]
+    return [(place, *found) for place, found in zip(places, case.second.attachments.colors_of(case.played))]
+
+
+def depth_view(case):
+    return next(iter(case.second.attachments.depth_of(case.played)), None)
+
+
+def attached(case):
+    """All that is attached but resolve views: words and view."""
+    views = [(f"color {place}", view) for place, _, view, _ in colors(case)]
+    return views + [("depth", view) for view in case.second.attachments.depth_of(case.played)]
+
+
+@rule(300)
+def most_colors(case):
+    count = len(case.call["colors"])
+    return None if count <= 8 else Cause(f"colors has {count} items, and at most 8 are allowed", {"colors": count, "most": 8})
+
+
+@rule(301)
+def something(case):
+    if colors(case) or depth_view(case):
+        return None
+    given = "colors is empty" if not case.call["colors"] else "each color is null"
+    return Cause(
+        f"{given}, and depth is left out, so that nothing is attached",
+        {"colors": len(case.call["colors"]), "depth": False},
+        "Attach a color or depth.",
+    )
+
+
+def color_view(case, where, view):
+    """What rule 302 asks of the view of a color, and rule 307 of a resolve view."""
+    texture = view.uses["texture"]
+    lacking = lacks(case, texture, RENDER_ATTACHMENT, f"{where}: ")
+    if lacking:
+        return lacking
+    format = texture.call["format"]
+    if not case.second.formats.is_color(format):
+        return Cause(
+            f"{where}: {case.named(view)} has the format {format}, which has {case.aspects(format)} and no color",
+            {"view": view.call["as"], "format": format},
+            "Attach it as depth." if where.startswith("color") else None,
+        )
+    return flat(case, where, view)
+
+
+def flat(case, where, view):
+    """A view that is attached is 2d or 2d-array, with one mip level and one layer."""
+    told = case.second.textures.told(view)
+    if told["dim"] not in ("2d", "2d-array"):
+        return Cause(f"{where}: {case.named(view)} has the dim {told['dim']}, and 2d or 2d-array is asked for", {"view": view.call["as"], "dim": told["dim"]})
+    for key, word in (("mips", "mip level"), ("layers", "layer")):
+        if told[key] != 1:
+            return Cause(
+                f"{where}: {case.named(view)} has {plural(told[key], word)}, and 1 is asked for",
+                {"view": view.call["as"], key: told[key], "asked": 1},
+                f"Make a view with {key} 1.",
+            )
+    return None
+
+
+@rule(302)
+def color_views(case):
+    return first(color_view(case, f"color {place}", view) for place, _, view, _ in colors(case))
+
+
+@rule(303)
+def depth_views(case):
+    view = depth_view(case)
+    if view is None:
+        return None
+    texture, formats = view.uses["texture"], case.second.formats
+    lacking = lacks(case, texture, RENDER_ATTACHMENT, "depth: ")
+    if lacking:
+        return lacking
+    format, aspect = texture.call["format"], case.second.textures.told(view)["aspect"]
+    if formats.is_color(format):
+        return Cause(
+            f"depth: {case.named(view)} has the format {format}, which has color, and neither depth nor stencil",
+            {"view": view.call["as"], "format": format},
+            "Attach it as a color.",
+        )
+    if formats.named_aspects(format, aspect) != formats.aspects_of(format):
+        return Cause(
+            f"depth: {case.named(view)} has the aspect {aspect}, and all aspects of {format} are asked for, {case.aspects(format)}",
+            {"view": view.call["as"], "aspect": aspect, "format": format},
+            "Make a view with the aspect all.",
+        )
+    return flat(case, "depth", view)
+
+
+@rule(304)
+def load_and_store(case):
+    view = depth_view(case)
+    if view is None:
+        return None
+    state, format = case.call["depth"], view.uses["texture"].call["format"]
+    for aspect, (load, store, read_only) in ASPECT_KEYS.items():
+        has = aspect in case.second.formats.aspects_of(format)
+        for key in (load, store):
+            is_given = state[key] is not None
+            if is_given == (has and not state[read_only]):
+                continue
+            values = {"view": view.call["as"], "format": format, "key": key, "given": state[key], "hasAspect": has, "readOnly": state[read_only]}
+            if not is_given:
+                return Cause(
+                    f"{key} is left out, and {format} of {case.named(view)} has {aspect}, with {read_only} false",
+                    values,
+                    f"Give {load} and {store}, or {read_only} true.",
+                )
+            why = f"{read_only} is true" if has else f"{format} of {case.named(view)} has no {aspect}"
+            return Cause(f"{key} is {state[key]}, and {why}", values, "Leave it out.")
+    return None
+
+
+@rule(305)
+def alike(case):
+    views = attached(case)
+    width_and_height = case.second.attachments.width_and_height
+    for where, view in views[1:]:
+        pairs = list(zip(("width", "height"), width_and_height(views[0][1]), width_and_height(view)))
+        pairs.append(("samples", *(each.uses["texture"].call["samples"] for each in (views[0][1], view))))
+        for what, one, other in pairs:
+            if one != other:
+                said = f"{views[0][0]} ({case.named(views[0][1])}) has {the(what)} {one}, and {where} ({case.named(view)}) has {the(what)} {other}"
+                return Cause(said, {"first": views[0][1].call["as"], "other": view.call["as"], "what": what, "firstHas": one, "otherHas": other})
+    return None
+
+
+def the(what):
+    return "samples" if what == "samples" else f"the {what}"
+
+
+@rule(306)
+def apart(case):
+    """No subresource is attached twice: colors come first, then resolve views, then depth."""
+    found = colors(case)
+    views = [(f"color {place}", view) for place, _, view, _ in found]
+    views += [(f"the resolve view of color {place}", resolve) for place, _, _, resolve in found if resolve is not None]
+    views += [("depth", view) for view in case.second.attachments.depth_of(case.played)]
+    for number, (one, view) in enumerate(views):
+        for other, second in views[number + 1 :]:
+            both = [cell for cell in case.second.attachments.cells_of(view) if cell in case.second.attachments.cells_of(second)]
+            if both:
+                values = {"first": view.call["as"], "other": second.call["as"], **case.part_values(both[0])}
+                return Cause(f"{one} ({case.named(view)}) and {other} ({case.named(second)}) both attach {case.part(both[0])}", values)
+    return None
+
+
+@rule(307)
+def resolves(case):
+    return first(resolve_of(case, place, view, resolve) for place, _, view, resolve in colors(case) if resolve is not None)
+
+
+def resolve_of(case, place, view, resolve):
+    """What is wrong with the resolve view of a color."""
+    where, color, target = f"the resolve view of color {place}", view.uses["texture"].call, resolve.uses["texture"].call
+    values = {"color": place, "view": view.call["as"], "resolve": resolve.call["as"]}
+    if color["samples"] != 4:
+        return Cause(
+            f"color {place} ({case.named(view)}) has {plural(color['samples'], 'sample')} and a resolve view, and 4 are asked for",
+            {**values, "samples": color["samples"]},
+            "Leave resolve out.",
+        )
+    wrong = color_view(case, where, resolve)
+    if wrong:
+        return wrong
+    if target["samples"] != 1:
+        return Cause(f"{where} ({case.named(resolve)}) has {target['samples']} samples, and 1 is asked for", {**values, "samples": target["samples"]})
+    pairs = [("format", color["format"], target["format"])]
+    pairs += zip(("width", "height"), case.second.attachments.width_and_height(view), case.second.attachments.width_and_height(resolve))
+    for what, one, other in pairs:
+        if one != other:
+            return Cause(
+                f"{where} ({case.named(resolve)}) has the {what} {other}, and color {place} ({case.named(view)}) has {one}",
+                {**values, "what": what, "colorHas": one, "resolveHas": other},
+            )
+    return None
+
+
+@rule(320)
+def same_targets(case):
+    """A pipeline draws to what the pass has attached."""
+    begin, pipeline = case.uses["on"], case.uses["pipeline"]
+    if begin.do != "beginRenderPass":
+        return None
+    attachments, one, other = case.second.attachments, case.named(pipeline), case.named(begin)
+    asked, has = attachments.without_last_nulls(pipeline.call["targets"]), attachments.without_last_nulls(attachments.color_formats(begin))
+    values = {"pipeline": pipeline.call["as"], "pass": begin.call["as"]}
+    for place, (target, color) in enumerate(zip(asked, has)):
+        if target != color:
+            return Cause(
+                f"target {place} of {one} is {target or 'null'}, and color {place} of {other} is {color or 'null'}",
+                {**values, "at": place, "target": target, "color": color},
+            )
+    if len(asked) != len(has):
+        return Cause(
+            f"{one} has {plural(len(asked), 'target')}, and {other} has {plural(len(has), 'color')}, without nulls at the end",
+            {**values, "targets": len(asked), "colors": len(has)},
+        )
+    return same_depth(case, pipeline, begin, values)
+
+
+def same_depth(case, pipeline, begin, values):
+    """The same of depth and of samples."""
+    attachments, one, other = case.second.attachments, case.named(pipeline), case.named(begin)
+    state, views = pipeline.call["depth"], attachments.depth_of(begin)
+    asked, has = state["format"] if state else None, views[0].uses["texture"].call["format"] if views else None
+    if asked != has:
+        told = [f"the depth {format}" if format else "no depth" for format in (asked, has)]
+        return Cause(f"{one} has {told[0]}, and {other} has {told[1]}", {**values, "pipelineDepth": asked, "passDepth": has})
+    samples = attachments.attached_views(begin)[0].uses["texture"].call["samples"]
+    if pipeline.call["samples"] != samples:
+        return Cause(
+            f"{one} has {plural(pipeline.call['samples'], 'sample')}, and {other} has {samples}",
+            {**values, "pipelineSamples": pipeline.call["samples"], "passSamples": samples},
+            f"Make the pipeline with samples {samples}.",
+        )
+    return None
+
+
+@rule(321)
+def read_only(case):
+    begin, pipeline = case.uses["on"], case.uses["pipeline"]
+    state, depth = pipeline.call["depth"], begin.call.get("depth")
+    for write, key in (("depthWrite", "depthReadOnly"), ("stencilWrite", "stencilReadOnly")):
+        if state is not None and depth is not None and state[write] and depth[key]:
+            return Cause(
+                f"{write} of {case.named(pipeline)} is true, and so is {key} of {case.named(begin)}",
+                {"pipeline": pipeline.call["as"], "pass": begin.call["as"], write: True, key: True},
+                f"Leave {write} out, or {key}.",
+            )
+    return None

@@ -1,0 +1,180 @@
+"""The rules of createBindGroupLayout and createPipelineLayout."""
+
+import bits
+from .making import Cause, listed, plural, rule
+
+
+def entries(case):
+    """The entries of a bind group layout, each with words for it."""
+    return [(f"entry {number} (binding {entry['binding']})", number, entry) for number, entry in enumerate(case.call["entries"])]
+
+
+def twice(numbers):
+    """The places of the first two of some numbers that are equal, or None."""
+    seen = {}
+    for place, number in enumerate(numbers):
+        if number in seen:
+            return seen[number], place
+        seen[number] = place
+    return None
+
+
+@rule(130)
+def distinct(case):
+    found = twice([entry["binding"] for _, _, entry in entries(case)])
+    if found is None:
+        return None
+    binding = case.call["entries"][found[0]]["binding"]
+    return Cause(
+        f"entries {found[0]} and {found[1]} both have the binding {binding}",
+        {"entries": list(found), "binding": binding},
+        "Give each a binding of its own.",
+    )
+
+
+@rule(131)
+def binding_limit(case):
+    for _, number, entry in entries(case):
+        if entry["binding"] > 999:
+            return Cause(
+                f"entry {number} has the binding {entry['binding']}, and the greatest is 999",
+                {"entry": number, "binding": entry["binding"], "most": 999},
+            )
+    return None
+
+
+@rule(132)
+def visibility(case):
+    for said, number, entry in entries(case):
+        seen, unknown = entry["visibility"], entry["visibility"] & ~7
+        if seen > 7:
+            return Cause(
+                f"{said} has the visibility {bits.said(seen, bits.STAGES)}; {unknown} is no stage",
+                {"entry": number, "binding": entry["binding"], "visibility": seen, "unknown": unknown, "most": 7},
+                f"Take {unknown} away.",
+            )
+    return None
+
+
+@rule(133)
+def vertex_writes(case):
+    for said, number, entry in entries(case):
+        if entry["visibility"] & 1 and case.second.groups.is_written(entry):
+            what = "kind storage" if entry["kind"] == "storage" else f"kind storage-texture, the access {entry['access']}"
+            values = {
+                "entry": number,
+                "binding": entry["binding"],
+                "kind": entry["kind"],
+                "visibility": entry["visibility"],
+                "visibilityWords": bits.words(entry["visibility"], bits.STAGES),
+            }
+            other = "read-only-storage" if entry["kind"] == "storage" else "read-only"
+            return Cause(
+                f"{said} has the {what} and the visibility {bits.said(entry['visibility'], bits.STAGES)}, and VERTEX (1) may not see what is written",
+                values,
+                f"Take VERTEX away, or make it {other}.",
+            )
+    return None
+
+
+@rule(134)
+def multisampled(case):
+    for said, number, entry in entries(case):
+        if entry["kind"] == "texture" and entry["multi"]:
+            values = {"entry": number, "binding": entry["binding"], "dim": entry["dim"], "sample": entry["sample"]}
+            if entry["dim"] != "2d":
+                return Cause(f"{said} has multi true and the dim {entry['dim']}, where 2d is asked for", values)
+            if entry["sample"] == "float":
+                return Cause(
+                    f"{said} has multi true and the sample type float, which cannot be filtered with several samples",
+                    values,
+                    "Take unfilterable-float.",
+                )
+    return None
+
+
+@rule(135)
+def storage_texture(case):
+    for said, number, entry in entries(case):
+        if entry["kind"] != "storage-texture":
+            continue
+        values = {"entry": number, "binding": entry["binding"], "dim": entry["dim"], "format": entry["format"], "access": entry["access"]}
+        if entry["dim"] in ("cube", "cube-array"):
+            return Cause(f"{said} is a storage-texture with the dim {entry['dim']}", values, "Take the dim 2d-array.")
+        formats = case.second.formats
+        if not formats.has_access(entry["format"], entry["access"]):
+            allowed = [name for name in formats.FORMATS if formats.has_access(name, entry["access"])]
+            return Cause(
+                f"{said} has the format {entry['format']}, which has no {entry['access']} access",
+                {**values, "allowed": allowed},
+                f"Formats that have it are {listed(allowed)}.",
+            )
+    return None
+
+
+def seen(case, layouts):
+    """Rules 136 and 141: what a stage sees too much of. `layouts` are pairs of words for a layout, or None, and its entries."""
+    groups = case.second.groups
+    for stage, bit in groups.STAGES.items():
+        for kinds, most in groups.SEEN_LIMITS.values():
+            counts = [(said, sum(entry["kind"] in kinds and entry["visibility"] & bit != 0 for entry in items)) for said, items in layouts]
+            cause = too_many(
+                counts,
+                most,
+                f"{stage.upper()} ({bit}) sees",
+                f"of {' and '.join(kinds)}",
+                {"stage": bit, "stageWord": stage.upper(), "kinds": list(kinds)},
+            )
+            if cause:
+                return cause
+    return None
+
+
+def dynamic(case, layouts):
+    """Rules 137 and 142: what is dynamic too often."""
+    for kinds, most in case.second.groups.DYNAMIC_LIMITS.values():
+        counts = [(said, sum(entry["kind"] in kinds and entry["dynamic"] for entry in items)) for said, items in layouts]
+        cause = too_many(counts, most, "", f"of {' and '.join(kinds)} with dynamic true", {"kinds": list(kinds)})
+        if cause:
+            return cause
+    return None
+
+
+def too_many(counts, most, before, after, values):
+    total = sum(number for _, number in counts)
+    if total <= most:
+        return None
+    by = ": " + listed(f"{number} in {said}" for said, number in counts if said and number) if counts[0][0] else ""
+    many = f"{plural(total, 'entry') if total == 1 else f'{total} entries'} {after}"
+    said = f"{before} {many}" if before else f"there are {many}"
+    return Cause(f"{said}, and at most {most} are allowed{by}", {**values, "count": total, "most": most})
+
+
+@rule(136)
+def seen_of_one(case):
+    return seen(case, [(None, case.call["entries"])])
+
+
+@rule(137)
+def dynamic_of_one(case):
+    return dynamic(case, [(None, case.call["entries"])])
+
+
+def layouts_of(case):
+    return [(case.named(layout), layout.call["entries"]) for layout in case.uses["layouts"]]
+
+
+@rule(140)
+def layouts(case):
+    count = len(case.uses["layouts"])
+    return None if count <= 4 else Cause(f"layouts has {count} items, and at most 4 are allowed", {"layouts": count, "most": 4})
+
+
+@rule(141)
+def seen_of_all(case):
+    return seen(case, layouts_of(case))
+
+
+@rule(142)
+def dynamic_of_all(case):
+    return dynamic(case, layouts_of(case))

@@ -1,0 +1,87 @@
+"""The rule of usage scopes: which two uses of a part clash, each with the command that brought it."""
+
+import collections
+
+from .making import Cause, rule
+
+
+class Use:
+    """A use of a part in a scope: the usage, the words that tell of what it comes, and the place of the command."""
+
+    def __init__(self, usage, words, at):
+        self.usage = usage
+        self.words = words
+        self.at = at
+
+
+def of_setting(case, setting):
+    """What a setBindGroup brings: pairs of a cell and its use."""
+    group, found = setting.uses["group"], []
+    for asked, entry, thing, move in case.second.bound_groups.bindings(group, setting.call["offsets"]):
+        words = f"binding {entry['binding']} of {case.named(group)}, set at {case.place(setting)}"
+        touches = case.second.bound_groups.touches_of(asked, entry, thing, move)
+        found += [(cell, Use(usage, words, case.place(setting))) for cell, usage, _ in touches]
+    return found
+
+
+def of_command(case, command):
+    """What a setVertexBuffer, a setIndexBuffer or an indirect command brings."""
+    touches = case.second.draws.touches_of_range(command) + case.second.draws.touches_of_indirect(command)
+    return [(cell, Use(usage, f"the {command.do} at {case.place(command)}", case.place(command))) for cell, usage, _ in touches]
+
+
+def of_attachments(case, begin):
+    """What is attached to a render pass."""
+    found, at = [], case.place(begin)
+    attachments = case.second.attachments
+    for place, (color, view, resolve) in enumerate(attachments.colors_of(begin)):
+        for touch_view, words in ((view, "a color"), (resolve, "a resolve view")):
+            if touch_view is not None:
+                touches = attachments.touches_of_view(touch_view, "attachment", None)
+                found += [(cell, Use(usage, f"{case.named(touch_view)}, attached as {words} at {at}", at)) for cell, usage, _ in touches]
+    for view in attachments.depth_of(begin):
+        touches = attachments.touches_of_depth(begin.call["depth"], view)
+        found += [(cell, Use(usage, f"{case.named(view)}, attached as depth at {at}", at)) for cell, usage, _ in touches]
+    return found
+
+
+def scopes_of(case):
+    """Each dispatch and each render pass of an encoder, with all uses of its scope."""
+    bound_groups, passes = case.second.bound_groups, case.second.passes
+    on, settings = passes.Walk(case.commands).on, collections.defaultdict(passes.Settings)
+    for command in case.commands:
+        place = command.uses["on"]
+        if command.do in case.second.calls.DISPATCHES:
+            found = [use for _, setting in bound_groups.asked_for(settings[place]) for use in of_setting(case, setting)]
+            yield command, found + of_command(case, command)
+        elif command.do == "beginRenderPass":
+            inside = [use for each in on[command] for use in (of_setting if each.do == "setBindGroup" else of_command)(case, each)]
+            yield command, of_attachments(case, command) + inside
+        settings[place].take(command)
+
+
+def clash(case, uses):
+    """The first of some uses of one part, and the first that does not go with it, or None. What goes with it goes with each other."""
+    one, together = uses[0], case.second.passes.READ_TOGETHER
+    return next(((one, other) for other in uses if other.usage != one.usage and not {one.usage, other.usage} <= together), None)
+
+
+@rule(184)
+def scope(case):
+    for command, uses in scopes_of(case):
+        parts = {}
+        for cell, use in uses:
+            parts.setdefault(case.second.cells.part_of(cell), []).append(use)
+        for part in sorted(parts):
+            pair = clash(case, parts[part])
+            if pair:
+                return clashing(case, command, part, *pair)
+    return None
+
+
+def clashing(case, command, part, one, other):
+    what = "the render pass" if command.do == "beginRenderPass" else f"the {command.do}"
+    said = f"{case.part(part)} is used as {one.usage} by {one.words}, and as {other.usage} by {other.words}, in the one scope of {what} at {case.place(command)}"
+    values = {**case.part_values(part), "first": one.usage, "firstBy": one.at, "other": other.usage, "otherBy": other.at, "scope": case.place(command)}
+    remedy = "Use them in two render passes." if command.do == "beginRenderPass" else "Use them in two dispatches, or bind both for reading alone."
+    return Cause(said, values, remedy)
