@@ -1,5 +1,7 @@
 """`wgsim explain`: what the program says of a script, beside the script, and why each fault was made."""
 
+import functools
+
 import bits
 import calls
 import causes
@@ -50,7 +52,7 @@ class Explained:
         self.beside = set_beside(text, said, self.say)
         self.scopes = Scopes(self.beside)
         self.causes = causes.of_report(data, self.beside)
-        self.say(self.head(), *[self.causes.why_none] * (self.causes.why_none is not None))
+        self.say(self.head())
         self.faults()
         self.history()
         self.trace()
@@ -227,14 +229,25 @@ class Explained:
         if place is not None and place.finish is not None:
             self.say(f"    {place.name} was finished at {self.beside.script.where(place.finish)}")
 
+    @functools.cached_property
+    def first_with(self):
+        """Of a word and a name the first call that has both, as the device took them, behind the number of its turn and the name's place in it."""
+        found = {}
+        for turn, call in enumerate(self.beside.turns):
+            for at, (_, name) in enumerate(call.names()):
+                found.setdefault((call.word, name.what), (turn, at, call))
+        return found
+
+    @functools.cached_property
+    def turn_of(self):
+        return {call: turn for turn, call in enumerate(self.beside.turns)}
+
     def before(self, call, names, words):
-        """The calls that the device took before one, that have one of some words and name one of some names."""
-        for other in self.beside.turns:
-            if other is call:
-                return
-            for _, name in other.names():
-                if other.word in words and name.what in names:
-                    self.say(f"    {name.what}: {other.word} at {self.beside.script.where(other)}")
+        """The first calls that the device took before one, that have one of some words and name one of some names."""
+        found = [(*self.first_with[word, name], name) for word in words for name in names if (word, name) in self.first_with]
+        for turn, _, other, name in sorted(found, key=lambda each: each[:2]):
+            if turn < self.turn_of[call]:
+                self.say(f"    {name}: {other.word} at {self.beside.script.where(other)}")
 
     def reached(self, call):
         """The names that a call uses, those that the commands of the command buffers among them use, and what is bound in bind groups and of what views are."""

@@ -278,4 +278,4 @@ def picture(text, data, program):
     beside = explain.set_beside(text, said, lambda *lines: notes.extend(lines))
     causes_of = causes.of_report(data, beside)
     head = f"The answer of {program.said}" if program.plays else f"Of {program.said}"
-    return drawn(text.name, beside, head, [*notes, causes_of.why_none], causes_of), status
+    return drawn(text.name, beside, head, notes, causes_of), status

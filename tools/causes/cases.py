@@ -8,8 +8,6 @@ from .making import RULES, listed
 
 # How a thing stands in a call, by the key of a list.
 IN_LISTS = {"entries": "bound by entry {}", "colors": "among the colors", "depth": "the view of depth"}
-# The second reading is slow: of longer scripts no causes are told.
-MOST_CALLS = 100000
 
 
 class Case:
@@ -186,11 +184,10 @@ class Told:
 
 
 class Causes:
-    """The causes of the faults of a report, by the numbers of their entries; or why there are none of any."""
+    """The causes of the faults of a report, by the numbers of their entries."""
 
-    def __init__(self, told, why_none=None):
+    def __init__(self, told):
         self.told = told
-        self.why_none = why_none
 
     def of(self, entry):
         return self.told.get(entry.number) or Told()
@@ -214,8 +211,6 @@ def of_report(data, beside):
     """The causes of the faults of a report that stands beside its script; none where it has no script, or no fault."""
     if beside.script is None or not any(entry.fault for entry in beside.report.entries):
         return Causes({})
-    if len(beside.script.calls) > MOST_CALLS:
-        return Causes({}, f"(no causes are told: the script has {len(beside.script.calls)} calls, and they are looked for in scripts of at most {MOST_CALLS})")
     play, told = Play(data, beside.script), {}
     last = max(entry.number for entry in beside.report.entries if entry.fault)
     for entry in beside.report.entries[: last + 1] if not play.is_refused else []:
