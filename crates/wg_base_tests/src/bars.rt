@@ -1,6 +1,5 @@
 use bitflags::Flags;
 use std::alloc::Global;
-use std::test::Fail;
 use wg_bars::LastUse;
 use wg_types::NoMemory;
 use wg_types::items::Items;
@@ -9,6 +8,10 @@ use wg_types::steps::{Item, Step, StepName, StepPlace};
 use wg_types::usages::Usages;
 
 const TEXTURE: u64 = 3;
+
+const ATTACHED: Usages = Usages::ATTACHMENT;
+
+const SAMPLED: Usages = Usages::CONSTANT;
 
 fn layers(lo: u32, hi: u32) -> PartRun {
     PartRun::Texture {
@@ -20,63 +23,96 @@ fn layers(lo: u32, hi: u32) -> PartRun {
     }
 }
 
-fn step(alloc: Global, uses: &[(PartRun, Usages)]) -> Result<Step, NoMemory> {
-    let mut held = Items::new(alloc);
-    for row in uses {
-        held.push(*row)?;
-    }
+/// A step that uses a part.
+fn step(alloc: Global, part: PartRun, to: Usages) -> Result<Step, NoMemory> {
+    let mut uses = Items::new(alloc);
+    uses.push((part, to))?;
     Ok(Step {
         place: StepPlace::Op(1),
         name: StepName::RenderPass,
-        uses: held,
+        uses,
         accesses: Items::new(alloc),
     })
 }
 
-/// The barriers of a step, and then the step noted.
-fn run(
+type Bar = (PartRun, Option<Usages>, Usages);
+
+/// Whether an item is this barrier.
+fn is_bar(item: &Item, bar: Bar) -> bool {
+    match item {
+        Item::Bar { part, from, to } => (*part, *from, *to) == bar,
+        _ => false,
+    }
+}
+
+/// Whether items are these barriers, of which there are at most two.
+fn are(items: &[Item], bars: &[Bar]) -> bool {
+    match (items, bars) {
+        ([], []) => true,
+        ([item], [bar]) => is_bar(item, *bar),
+        ([item, other], [bar, next]) => is_bar(item, *bar) && is_bar(other, *next),
+        _ => false,
+    }
+}
+
+/// Whether these are the barriers of a step that uses a part, and then the step noted.
+fn barred(
     state: &mut LastUse,
     alloc: Global,
-    uses: &[(PartRun, Usages)],
-) -> Result<Vec<(PartRun, Option<Usages>, Usages)>, NoMemory> {
-    let step = step(alloc, uses)?;
+    (part, to): (PartRun, Usages),
+    bars: &[Bar],
+) -> Result<bool, NoMemory> {
+    let step = step(alloc, part, to)?;
     let items = state.before(&step)?;
-    let mut bars = Vec::new(alloc);
-    for item in &items {
-        if let Item::Bar { part, from, to } = item {
-            bars.push((*part, *from, *to))?;
-        }
-    }
     state.note(&step)?;
-    Ok(bars)
+    Ok(are(&items, bars))
+}
+
+/// Whether a state has these rows of an object.
+fn is_row(state: &LastUse, object: u64, rows: &[(PartRun, Usages)]) -> bool {
+    state.rows_of(object) == rows
+}
+
+/// The barriers of three steps, and the rows after them.
+fn of_three(alloc: Global, state: &mut LastUse) -> [Result<bool, NoMemory>; 3] {
+    let wanted = [
+        (layers(0, 1), Some(ATTACHED), SAMPLED),
+        (layers(1, 3), None, SAMPLED),
+    ];
+    [
+        barred(
+            state,
+            alloc,
+            (layers(0, 1), ATTACHED),
+            &[(layers(0, 1), None, ATTACHED)],
+        ),
+        barred(state, alloc, (layers(0, 3), SAMPLED), &wanted),
+        barred(state, alloc, (layers(0, 3), SAMPLED), &[]),
+    ]
+}
+
+/// The rows of what is used and of what is not, and those of a copy.
+fn of_rows(state: &LastUse) -> Result<[bool; 4], NoMemory> {
+    let rows = [(layers(0, 3), SAMPLED)];
+    let other = state.copy()?;
+    Ok([
+        is_row(state, TEXTURE, &rows),
+        is_row(&other, TEXTURE, &rows),
+        is_row(state, TEXTURE + 1, &[]),
+        is_row(state, 0, &[]),
+    ])
+}
+
+/// Both of one state, which is dropped here.
+fn of_state(alloc: Global) -> ([Result<bool, NoMemory>; 3], Result<[bool; 4], NoMemory>) {
+    let mut state = LastUse::new(alloc);
+    let barred = of_three(alloc, &mut state);
+    (barred, of_rows(&state))
 }
 
 #[test]
-fn barriers_go_from_the_last_set(rt: HostRuntime) -> Result<(), Fail> {
-    let alloc = rt.alloc();
-    let mut state = LastUse::new(alloc);
-    let attached = Usages::ATTACHMENT;
-    let sampled = Usages::CONSTANT;
-    let bars = run(&mut state, alloc, &[(layers(0, 1), attached)])?;
-    assert_eq!(rt;
-        bars.as_slice(),
-        [(layers(0, 1), None, attached)].as_slice()
-    );
-    let bars = run(&mut state, alloc, &[(layers(0, 3), sampled)])?;
-    let wanted = [
-        (layers(0, 1), Some(attached), sampled),
-        (layers(1, 3), None, sampled),
-    ];
-    assert_eq!(rt; bars.as_slice(), wanted.as_slice());
-    assert_eq!(rt;
-        state.rows_of(TEXTURE),
-        [(layers(0, 3), sampled)].as_slice()
-    );
-    let bars = run(&mut state, alloc, &[(layers(0, 3), sampled)])?;
-    assert!(rt; bars.is_empty());
-    let other = state.copy()?;
-    assert_eq!(rt; other.rows_of(TEXTURE), state.rows_of(TEXTURE));
-    assert!(rt; state.rows_of(TEXTURE + 1).is_empty());
-    assert!(rt; state.rows_of(0).is_empty());
-    Ok(())
+fn barriers_go_from_the_last_set(rt: HostRuntime) {
+    let (barred, rows) = of_state(rt.alloc());
+    assert!(rt; barred == [Ok(true); 3]);
+    assert!(rt; rows == Ok([true; 4]));
 }

@@ -1,7 +1,8 @@
 //! Numbers that no script has: those past 2 to the 53, in buffers that are as large.
+use std::alloc::Global;
 use std::sync::Arc;
-use std::test::Fail;
 use wg_copy::{check, check_write_buffer, check_write_texture};
+use wg_types::NoMemory;
 use wg_types::commands::Command;
 use wg_types::formats::Format;
 use wg_types::handles::{BufferInfo, Handle, Info, ObjRef};
@@ -44,38 +45,44 @@ fn buffer(size: u64) -> BufferInfo {
 }
 
 #[test]
-fn sums_past_every_number_fit_nothing(rt: HostRuntime) -> Result<(), Fail> {
-    assert_eq!(rt;
-        check_write_buffer(&buffer(u64::MAX), GREATEST - 4, 4),
-        None
-    );
-    assert_eq!(rt;
-        check_write_buffer(&buffer(u64::MAX), GREATEST, 4),
-        Some(202)
-    );
+fn sums_past_every_number_fit_nothing(rt: HostRuntime) {
+    let whole = buffer(u64::MAX);
     let size = [4, 1, 2];
-    assert_eq!(rt;
+    let rules = [
+        check_write_buffer(&whole, GREATEST - 4, 4),
+        check_write_buffer(&whole, GREATEST, 4),
         check_write_texture(&TEXTURE, &START, &LAYOUT, size, BYTES),
-        None
-    );
-    assert_eq!(rt;
         check_write_texture(&TEXTURE, &START, &LAYOUT, size, BYTES - 1),
-        Some(209)
-    );
-    for (bytes, rule) in [(BYTES, None), (BYTES - 1, Some(262))] {
-        let device = 1;
-        let info = Arc::new(rt.alloc(), Info::Buffer(buffer(bytes)))?;
-        let buffer = Handle::new(ObjRef { device, number: 3 }, true, info);
-        let info = Arc::new(rt.alloc(), Info::Texture(TEXTURE))?;
-        let texture = Handle::new(ObjRef { device, number: 5 }, true, info);
-        let command = Command::CopyBufferToTexture {
-            buffer,
-            layout: LAYOUT,
-            texture,
-            spot: START,
-            size,
-        };
-        assert_eq!(rt; check(&command), rule);
-    }
-    Ok(())
+    ];
+    assert!(rt; rules == [None, Some(202), None, Some(209)]);
+}
+
+/// An object of a device.
+fn object(alloc: Global, number: u64, info: Info) -> Result<Handle, NoMemory> {
+    let reference = ObjRef { device: 1, number };
+    Ok(Handle::new(reference, true, Arc::new(alloc, info)?))
+}
+
+/// The rule of a copy from the first to the other, which are dropped here.
+fn rule_between(buffer: Handle, texture: Handle) -> Option<u16> {
+    check(&Command::CopyBufferToTexture {
+        buffer,
+        layout: LAYOUT,
+        texture,
+        spot: START,
+        size: [4, 1, 2],
+    })
+}
+
+/// The rule of a copy from a buffer of so many bytes.
+fn rule_from(alloc: Global, bytes: u64) -> Result<Option<u16>, NoMemory> {
+    let texture = object(alloc, 5, Info::Texture(TEXTURE))?;
+    let buffer = object(alloc, 3, Info::Buffer(buffer(bytes)))?;
+    Ok(rule_between(buffer, texture))
+}
+
+#[test]
+fn copies_past_every_number_fit_nothing(rt: HostRuntime) {
+    assert!(rt; rule_from(rt.alloc(), BYTES) == Ok(None));
+    assert!(rt; rule_from(rt.alloc(), BYTES - 1) == Ok(Some(262)));
 }

@@ -32,8 +32,8 @@ fn formats_are_those_of_the_standard(rt: HostRuntime) {
     ] {
         let row = format.row();
         let StorageAccesses { read_only, write_only, read_write } = row.storage;
-        assert_eq!(rt; (row.bytes, row.sampled), (bytes, sampled), "{format:?}");
-        assert_eq!(rt; (read_only, write_only, read_write), storage, "{format:?}");
+        let accesses = (read_only, write_only, read_write);
+        assert!(rt; (row.bytes, row.sampled, accesses) == (bytes, sampled, storage), "{format:?}");
     }
 }
 
@@ -48,25 +48,26 @@ fn numbers_may_be_vast(rt: HostRuntime) {
         mips: 1,
         samples: 1,
     };
-    assert_eq!(rt; extent(&texture, 30), [3, 3, 6]);
-    assert_eq!(rt; extent(&texture, 32), [1, 1, 6]);
-    assert_eq!(rt; extent(&texture, vast), [1, 1, 6]);
-    assert_eq!(rt;
-        end_layer(TextureDim::Two, [0, 0, vast], [1, 1, vast]),
-        8589934590
-    );
+    let extents = [
+        extent(&texture, 30),
+        extent(&texture, 32),
+        extent(&texture, vast),
+    ];
+    assert!(rt; extents == [[3, 3, 6], [1, 1, 6], [1, 1, 6]]);
+    let end = end_layer(TextureDim::Two, [0, 0, vast], [1, 1, vast]);
     let layout = DataLayout {
         offset: 0,
         bytes_per_row: Some(vast),
         rows_per_image: Some(vast),
     };
     let bytes = Some(79228162458924105385300197360);
-    assert_eq!(rt; required(&layout, 16, [268435455, vast, vast]), bytes);
+    let needed = required(&layout, 16, [268435455, vast, vast]);
+    assert!(rt; (end, needed) == (8589934590, bytes));
 }
 
 #[test]
 fn levels_add_up(rt: HostRuntime) {
-    let mut texture = TextureInfo {
+    let texture = TextureInfo {
         size: [4, 4, 1],
         usage: 1,
         format: Format::Rgba8Unorm,
@@ -74,7 +75,10 @@ fn levels_add_up(rt: HostRuntime) {
         mips: 3,
         samples: 1,
     };
-    assert_eq!(rt; texture_bytes(&texture), Some((16 + 4 + 1) * 4));
-    texture.size = [4294967295, 4294967295, 1];
-    assert_eq!(rt; texture_bytes(&texture), None);
+    let vast = TextureInfo {
+        size: [4294967295, 4294967295, 1],
+        ..texture
+    };
+    let bytes = [texture_bytes(&texture), texture_bytes(&vast)];
+    assert!(rt; bytes == [Some((16 + 4 + 1) * 4), None]);
 }

@@ -1,6 +1,5 @@
 //! Examples by the words of the standard.
 use std::alloc::Global;
-use std::test::Fail;
 use wg_layouts::{check_group_layout, check_pipeline_layout, equivalent};
 use wg_types::NoMemory;
 use wg_types::bindings::{BindingKind, BufferBinding, LayoutEntry, StorageAccess};
@@ -106,17 +105,36 @@ fn alone(binding: u32, visibility: u32, kind: BindingKind) -> Option<u16> {
 #[test]
 fn group_layouts_have_their_rules(rt: HostRuntime) {
     let twice = [entry(3, 4, STORAGE), entry(3, 4, MOVED)];
-    assert_eq!(rt; check_group_layout(&twice, &DEFAULT), Some(130));
-    assert_eq!(rt; alone(1000, 4, STORAGE), Some(131));
-    assert_eq!(rt; alone(999, 8, STORAGE), Some(132));
-    assert_eq!(rt; alone(999, 1, STORAGE), Some(133));
-    assert_eq!(rt; alone(999, 1, READ_ONLY), None);
-    assert_eq!(rt; alone(0, 2, MULTISAMPLED), Some(134));
-    assert_eq!(rt; alone(0, 4, READ_WRITE), Some(135));
-    assert_eq!(rt; check_group_layout(&eight(4, STORAGE), &DEFAULT), None);
-    assert_eq!(rt; nine(4, STORAGE, READ_ONLY), Some(136));
-    assert_eq!(rt; nine(4, STORAGE, MOVED), None);
-    assert_eq!(rt; nine(0, MOVED, MOVED), Some(137));
+    let rules = [
+        check_group_layout(&twice, &DEFAULT),
+        alone(1000, 4, STORAGE),
+        alone(999, 8, STORAGE),
+        alone(999, 1, STORAGE),
+        alone(999, 1, READ_ONLY),
+        alone(0, 2, MULTISAMPLED),
+        alone(0, 4, READ_WRITE),
+    ];
+    let wanted = [
+        Some(130),
+        Some(131),
+        Some(132),
+        Some(133),
+        None,
+        Some(134),
+        Some(135),
+    ];
+    assert!(rt; rules == wanted);
+}
+
+#[test]
+fn bindings_of_a_group_layout_are_counted(rt: HostRuntime) {
+    let rules = [
+        check_group_layout(&eight(4, STORAGE), &DEFAULT),
+        nine(4, STORAGE, READ_ONLY),
+        nine(4, STORAGE, MOVED),
+        nine(0, MOVED, MOVED),
+    ];
+    assert!(rt; rules == [None, Some(136), None, Some(137)]);
 }
 
 fn layout(alloc: Global, entries: &[LayoutEntry]) -> Result<GroupLayoutInfo, NoMemory> {
@@ -127,23 +145,48 @@ fn layout(alloc: Global, entries: &[LayoutEntry]) -> Result<GroupLayoutInfo, NoM
     Ok(GroupLayoutInfo { entries: found })
 }
 
+/// Whether the layout of two entries is equivalent to that of two others.
+fn alike(alloc: Global, pair: [LayoutEntry; 2], other: [LayoutEntry; 2]) -> Result<bool, NoMemory> {
+    let pair = layout(alloc, &pair)?;
+    let other = layout(alloc, &other)?;
+    Ok(equivalent(&pair, &other))
+}
+
 #[test]
-fn layouts_are_counted_together_and_compared(rt: HostRuntime) -> Result<(), Fail> {
-    let alloc = rt.alloc();
-    let full = Shared::new(alloc, layout(alloc, &eight(4, STORAGE))?)?;
-    let moved = Shared::new(alloc, layout(alloc, &eight(0, MOVED))?)?;
+fn layouts_are_compared(rt: HostRuntime) {
     let [first, second] = [entry(0, 4, READ_ONLY), entry(1, 2, MOVED)];
-    let pair = Shared::new(alloc, layout(alloc, &[first, second])?)?;
-    let swapped = layout(alloc, &[second, first])?;
-    let other = layout(alloc, &[first, entry(1, 4, MOVED)])?;
-    assert!(rt; equivalent(pair.get(), &swapped));
-    assert!(rt; !equivalent(pair.get(), &other));
-    let both = [full.share()?, moved.share()?];
-    assert_eq!(rt; check_pipeline_layout(&both, &DEFAULT), None);
-    assert_eq!(rt;
-        check_pipeline_layout(&[full, pair.share()?], &DEFAULT),
-        Some(141)
-    );
-    assert_eq!(rt; check_pipeline_layout(&[pair, moved], &DEFAULT), Some(142));
-    Ok(())
+    let other = entry(1, 4, MOVED);
+    let compared = [
+        alike(rt.alloc(), [first, second], [second, first]),
+        alike(rt.alloc(), [first, second], [first, other]),
+    ];
+    assert!(rt; compared == [Ok(true), Ok(false)]);
+}
+
+/// A layout that is shared.
+fn shared(alloc: Global, entries: &[LayoutEntry]) -> Result<Shared<GroupLayoutInfo>, NoMemory> {
+    Shared::new(alloc, layout(alloc, entries)?)
+}
+
+/// The rule of a pipeline layout of two groups, which are dropped here.
+fn both(
+    alloc: Global,
+    first: &[LayoutEntry],
+    second: &[LayoutEntry],
+) -> Result<Option<u16>, NoMemory> {
+    let layouts = [shared(alloc, first)?, shared(alloc, second)?];
+    Ok(check_pipeline_layout(&layouts, &DEFAULT))
+}
+
+#[test]
+fn layouts_are_counted_together(rt: HostRuntime) {
+    let full = eight(4, STORAGE);
+    let moved = eight(0, MOVED);
+    let pair = [entry(0, 4, READ_ONLY), entry(1, 2, MOVED)];
+    let rules = [
+        both(rt.alloc(), &full, &moved),
+        both(rt.alloc(), &full, &pair),
+        both(rt.alloc(), &pair, &moved),
+    ];
+    assert!(rt; rules == [Ok(None), Ok(Some(141)), Ok(Some(142))]);
 }

@@ -2,7 +2,6 @@ ghost use Rattle.std.specs.Prelude.{◌≡◌, None, IfOk};
 ghost use Rattle.wg_holders.specs.Holders.{mark_at};
 
 use std::alloc::Global;
-use std::test::Fail;
 use wg_holders::Links;
 use wg_life::{Life, Made, Resource};
 use wg_types::NoMemory;
@@ -49,26 +48,34 @@ fn released(alloc: Global, life: &mut Life, completed: u64) -> Result<Option<u64
     }
 }
 
-#[test]
-fn a_dropped_buffer_waits_for_operations(rt: HostRuntime) -> Result<(), Fail> {
-    let alloc = rt.alloc();
+type Release = Result<Option<u64>, NoMemory>;
+
+/// What is released of a dropped buffer, before its operation is complete and after, and the bytes left.
+fn after_drop(alloc: Global) -> Result<(Release, Release, u64), NoMemory> {
     let mut life = with_buffer(alloc)?;
     life.dropped(0);
-    assert_eq!(rt; released(alloc, &mut life, 2)?, None);
-    assert_eq!(rt; released(alloc, &mut life, 3)?, Some(0));
-    assert_eq!(rt; life.live(), 0);
-    Ok(())
+    let early = released(alloc, &mut life, 2);
+    let due = released(alloc, &mut life, 3);
+    Ok((early, due, life.live()))
 }
 
 #[test]
-fn a_destroyed_buffer_is_released(rt: HostRuntime) -> Result<(), Fail> {
-    let alloc = rt.alloc();
+fn a_dropped_buffer_waits_for_operations(rt: HostRuntime) {
+    assert!(rt; after_drop(rt.alloc()) == Ok((Ok(None), Ok(Some(0)), 0)));
+}
+
+/// Whether a destroyed buffer is not dropped, what is released of it, and whether that is noted.
+fn after_destroy(alloc: Global) -> Result<(bool, Release, bool), NoMemory> {
     let mut life = with_buffer(alloc)?;
     life.ended(0);
     life.consumed(0);
     life.destroyed(0);
-    assert!(rt; life.mark(0).dropped.is_none());
-    assert_eq!(rt; released(alloc, &mut life, 3)?, Some(0));
-    assert!(rt; life.row(0).released);
-    Ok(())
+    let kept = life.mark(0).dropped.is_none();
+    let due = released(alloc, &mut life, 3);
+    Ok((kept, due, life.row(0).released))
+}
+
+#[test]
+fn a_destroyed_buffer_is_released(rt: HostRuntime) {
+    assert!(rt; after_destroy(rt.alloc()) == Ok((true, Ok(Some(0)), true)));
 }

@@ -1,57 +1,98 @@
-use std::test::Fail;
-use wg_num::RunSet;
+use std::alloc::Global;
 use wg_num::runs::{covers_run, missing_runs};
+use wg_num::{NoMemory, RunSet};
 
-#[test]
-fn runs_are_joined_and_cut(rt: HostRuntime) -> Result<(), Fail> {
-    let alloc = rt.alloc();
-    let empty = RunSet::new(alloc);
-    assert!(rt; empty.runs().is_empty());
-    assert!(rt; covers_run(empty.runs(), 3, 3));
-    assert!(rt; !covers_run(empty.runs(), 3, 4));
-    let two = empty.with(0, 4)?.with(8, 12)?;
-    assert_eq!(rt; two.runs(), [(0, 4), (8, 12)].as_slice());
-    let one = two.with(4, 8)?;
-    assert_eq!(rt; one.runs(), [(0, 12)].as_slice());
-    assert_eq!(rt;
-        missing_runs(alloc, one.runs(), 0, 16)?.as_slice(),
-        [(12, 16)].as_slice()
-    );
-    assert!(rt; covers_run(one.runs(), 0, 12));
-    assert!(rt; !covers_run(one.runs(), 0, 13));
-    let before = one.copy()?;
-    let cut = one.without(2, 3)?;
-    assert_eq!(rt; cut.runs(), [(0, 2), (3, 12)].as_slice());
-    assert_eq!(rt;
-        missing_runs(alloc, cut.runs(), 1, 20)?.as_slice(),
-        [(2, 3), (12, 20)].as_slice()
-    );
-    assert!(rt; !covers_run(cut.runs(), 1, 4));
-    assert_eq!(rt; before.runs(), [(0, 12)].as_slice());
-    Ok(())
+/// Whether a set was made that has these runs.
+fn has(made: Result<RunSet, NoMemory>, runs: &[(u64, u64)]) -> bool {
+    match made {
+        Ok(set) => set.runs() == runs,
+        Err(NoMemory) => false,
+    }
+}
+
+/// Whether these runs are missing in a set from one number up to another.
+fn lacks(alloc: Global, set: &RunSet, (lo, hi): (u64, u64), runs: &[(u64, u64)]) -> bool {
+    match missing_runs(alloc, set.runs(), lo, hi) {
+        Ok(missing) => missing.as_slice() == runs,
+        Err(NoMemory) => false,
+    }
+}
+
+/// Whether a set covers the numbers from one up to another.
+fn covers(set: &RunSet, lo: u64, hi: u64) -> bool {
+    covers_run(set.runs(), lo, hi)
+}
+
+/// Two runs with a gap between them.
+fn two(alloc: Global) -> Result<RunSet, NoMemory> {
+    RunSet::new(alloc).with(0, 4)?.with(8, 12)
+}
+
+/// Four runs with gaps between them.
+fn four(alloc: Global) -> Result<RunSet, NoMemory> {
+    two(alloc)?.with(16, 20)?.with(24, 28)
+}
+
+/// The set with no numbers.
+fn of_none(alloc: Global) -> [bool; 3] {
+    let set = RunSet::new(alloc);
+    [has(set.copy(), &[]), covers(&set, 3, 3), covers(&set, 3, 4)]
+}
+
+/// Two runs that are joined by a third, which fills the gap.
+fn of_one(alloc: Global) -> Result<[bool; 5], NoMemory> {
+    let set = two(alloc)?.with(4, 8)?;
+    Ok([
+        has(set.copy(), &[(0, 12)]),
+        has(set.without(2, 3), &[(0, 2), (3, 12)]),
+        lacks(alloc, &set, (0, 16), &[(12, 16)]),
+        covers(&set, 0, 12),
+        covers(&set, 0, 13),
+    ])
+}
+
+/// Two runs, and what is missing and covered of them.
+fn of_two(alloc: Global) -> Result<[bool; 3], NoMemory> {
+    let set = two(alloc)?;
+    Ok([
+        has(set.copy(), &[(0, 4), (8, 12)]),
+        lacks(alloc, &set, (1, 20), &[(4, 8), (12, 20)]),
+        covers(&set, 1, 9),
+    ])
 }
 
 #[test]
-fn runs_on_both_sides_stay(rt: HostRuntime) -> Result<(), Fail> {
+fn runs_are_joined_and_cut(rt: HostRuntime) {
     let alloc = rt.alloc();
-    let held = RunSet::new(alloc).with(0, 4)?.with(8, 12)?.with(16, 20)?;
-    let set = held.with(24, 28)?;
-    assert_eq!(rt;
-        set.with(14, 15)?.runs(),
-        [(0, 4), (8, 12), (14, 15), (16, 20), (24, 28)].as_slice()
-    );
-    assert_eq!(rt;
-        set.without(10, 18)?.runs(),
-        [(0, 4), (8, 10), (18, 20), (24, 28)].as_slice()
-    );
-    assert_eq!(rt;
-        missing_runs(alloc, set.runs(), 9, 24)?.as_slice(),
-        [(12, 16), (20, 24)].as_slice()
-    );
-    assert!(rt; missing_runs(alloc, set.runs(), 9, 11)?.is_empty());
-    assert!(rt; covers_run(set.runs(), 9, 12));
-    assert!(rt; !covers_run(set.runs(), 9, 13));
-    assert!(rt; !covers_run(set.runs(), 7, 12));
-    assert!(rt; !covers_run(set.runs(), 26, 29));
-    Ok(())
+    assert!(rt; of_none(alloc) == [true, true, false]);
+    assert!(rt; of_one(alloc) == Ok([true, true, true, true, false]));
+    assert!(rt; of_two(alloc) == Ok([true, true, false]));
+}
+
+/// A run that is put between four, and one that is cut out of them.
+fn changed(alloc: Global) -> Result<[bool; 2], NoMemory> {
+    let set = four(alloc)?;
+    let put = [(0, 4), (8, 12), (14, 15), (16, 20), (24, 28)];
+    let cut = [(0, 4), (8, 10), (18, 20), (24, 28)];
+    Ok([has(set.with(14, 15), &put), has(set.without(10, 18), &cut)])
+}
+
+/// What is missing of four runs and what they cover.
+fn of_four(alloc: Global) -> Result<[bool; 6], NoMemory> {
+    let set = four(alloc)?;
+    Ok([
+        lacks(alloc, &set, (9, 24), &[(12, 16), (20, 24)]),
+        lacks(alloc, &set, (9, 11), &[]),
+        covers(&set, 9, 12),
+        covers(&set, 9, 13),
+        covers(&set, 7, 12),
+        covers(&set, 26, 29),
+    ])
+}
+
+#[test]
+fn runs_on_both_sides_stay(rt: HostRuntime) {
+    let alloc = rt.alloc();
+    assert!(rt; changed(alloc) == Ok([true; 2]));
+    assert!(rt; of_four(alloc) == Ok([true, true, true, false, false, false]));
 }

@@ -1,6 +1,5 @@
 //! Examples by the words of the standard.
 use std::alloc::Global;
-use std::test::Fail;
 use wg_pipes::check_compute;
 use wg_types::NoMemory;
 use wg_types::bindings::{BindingKind, BufferBinding, IfaceEntry, LayoutEntry, Stage};
@@ -37,34 +36,41 @@ fn uses(group: u32, binding: u32, kind: BindingKind) -> IfaceEntry {
     }
 }
 
+/// The rule of a compute pipeline over such a layout, which is dropped here.
+fn rule(
+    alloc: Global,
+    visibility: u32,
+    kind: BindingKind,
+    iface: &[IfaceEntry],
+) -> Result<Option<u16>, NoMemory> {
+    let layout = layout(alloc, visibility, kind)?;
+    Ok(check_compute(&layout, iface))
+}
+
+/// A storage buffer.
+fn buffer(binding: BufferBinding, dynamic: bool, min_size: u64) -> BindingKind {
+    BindingKind::Buffer {
+        binding,
+        dynamic,
+        min_size,
+    }
+}
+
 #[test]
-fn a_shader_uses_what_its_layout_has(rt: HostRuntime) -> Result<(), Fail> {
+fn a_shader_uses_what_its_layout_has(rt: HostRuntime) {
     let alloc = rt.alloc();
-    let moved = BindingKind::Buffer {
-        binding: BufferBinding::Storage,
-        dynamic: true,
-        min_size: 16,
-    };
-    let still = BindingKind::Buffer {
-        binding: BufferBinding::Storage,
-        dynamic: false,
-        min_size: 0,
-    };
-    let read_only = BindingKind::Buffer {
-        binding: BufferBinding::ReadOnlyStorage,
-        dynamic: true,
-        min_size: 16,
-    };
-    let seen = layout(alloc, 6, moved)?;
-    assert_eq!(rt; check_compute(&seen, &[]), None);
-    assert_eq!(rt; check_compute(&seen, &[uses(0, 5, still)]), None);
-    assert_eq!(rt;
-        check_compute(&seen, &[uses(0, 5, still), uses(1, 5, still)]),
-        Some(160)
-    );
-    assert_eq!(rt; check_compute(&seen, &[uses(0, 4, still)]), Some(160));
-    assert_eq!(rt; check_compute(&seen, &[uses(0, 5, read_only)]), Some(160));
-    let unseen = layout(alloc, 3, moved)?;
-    assert_eq!(rt; check_compute(&unseen, &[uses(0, 5, still)]), Some(160));
-    Ok(())
+    let moved = buffer(BufferBinding::Storage, true, 16);
+    let still = buffer(BufferBinding::Storage, false, 0);
+    let read_only = buffer(BufferBinding::ReadOnlyStorage, true, 16);
+    let there = uses(0, 5, still);
+    let rules = [
+        rule(alloc, 6, moved, &[]),
+        rule(alloc, 6, moved, &[there]),
+        rule(alloc, 6, moved, &[there, uses(1, 5, still)]),
+        rule(alloc, 6, moved, &[uses(0, 4, still)]),
+        rule(alloc, 6, moved, &[uses(0, 5, read_only)]),
+        rule(alloc, 3, moved, &[there]),
+    ];
+    let broken = Ok(Some(160));
+    assert!(rt; rules == [Ok(None), Ok(None), broken, broken, broken, broken]);
 }

@@ -1,18 +1,38 @@
-use std::test::Fail;
+use std::alloc::Global;
 use wg_queue::Queue;
+use wg_types::NoMemory;
+
+/// Whether promises were listed that are these.
+fn are(listed: Result<Vec<u64>, NoMemory>, promises: &[u64]) -> bool {
+    match listed {
+        Ok(listed) => listed.as_slice() == promises,
+        Err(NoMemory) => false,
+    }
+}
+
+/// Whether each of three promises is due at once, asked before the first operation, after it and after the
+/// second; and then what waits, before the first is complete and after.
+fn of_queue(alloc: Global) -> ([Result<bool, NoMemory>; 3], [bool; 4]) {
+    let mut queue = Queue::new(alloc);
+    let idle = queue.work_done(0);
+    queue.issue();
+    let first = queue.work_done(2);
+    queue.issue();
+    let second = queue.work_done(4);
+    let waits = are(queue.waiting(), &[2, 4]);
+    let due = are(queue.due(1), &[2]);
+    let completed = queue.complete(1);
+    let rest = are(queue.waiting(), &[4]);
+    ([idle, first, second], [waits, due, completed, rest])
+}
 
 #[test]
-fn promises_wait_for_operations(rt: HostRuntime) -> Result<(), Fail> {
-    let mut queue = Queue::new(rt.alloc());
-    queue.reserve(2)?;
-    assert!(rt; queue.work_done(0)?);
-    queue.issue();
-    assert!(rt; !queue.work_done(2)?);
-    queue.issue();
-    assert!(rt; !queue.work_done(4)?);
-    assert_eq!(rt; queue.waiting()?.as_slice(), [2u64, 4].as_slice());
-    assert_eq!(rt; queue.due(1)?.as_slice(), [2u64].as_slice());
-    assert!(rt; queue.complete(1));
-    assert_eq!(rt; queue.waiting()?.as_slice(), [4u64].as_slice());
-    Ok(())
+fn promises_wait_for_operations(rt: HostRuntime) {
+    let asked = [Ok(true), Ok(false), Ok(false)];
+    assert!(rt; of_queue(rt.alloc()) == (asked, [true; 4]));
+}
+
+#[test]
+fn room_is_made(rt: HostRuntime) {
+    assert!(rt; Queue::new(rt.alloc()).reserve(2) == Ok(()));
 }

@@ -21,10 +21,10 @@ fn a_cube_of_samples_is_refused(rt: HostRuntime) {
         base_layer: 0,
         layers: 6,
     };
-    assert_eq!(rt; check_view(&texture, &view), Some(126));
     let single = TextureInfo {
         samples: 1,
         ..texture
     };
-    assert_eq!(rt; check_view(&single, &view), None);
+    let rules = [check_view(&texture, &view), check_view(&single, &view)];
+    assert!(rt; rules == [Some(126), None]);
 }

@@ -1,7 +1,5 @@
 use bitflags::Flags;
 use std::alloc::Global;
-use std::process::Abort;
-use std::test::Fail;
 use wg_tracker::Tracker;
 use wg_types::NoMemory;
 use wg_types::items::Items;
@@ -19,130 +17,112 @@ fn bytes(object: u64, lo: u64, hi: u64) -> Cells {
     Cells::Bytes { object, lo, hi }
 }
 
+/// A list of these.
+fn items<T: Copy + Drop>(alloc: Global, rows: &[T]) -> Result<Items<T>, NoMemory> {
+    let mut held = Items::new(alloc);
+    for row in rows {
+        held.push(*row)?;
+    }
+    Ok(held)
+}
+
 fn step(
     alloc: Global,
     name: StepName,
     uses: &[(PartRun, Usages)],
     accesses: &[(Cells, Kind)],
 ) -> Result<Step, NoMemory> {
-    let mut held = Items::new(alloc);
-    for row in uses {
-        held.push(*row)?;
-    }
-    let mut accessed = Items::new(alloc);
-    for row in accesses {
-        accessed.push(*row)?;
-    }
     Ok(Step {
         place: OP,
         name,
-        uses: held,
-        accesses: accessed,
+        uses: items(alloc, uses)?,
+        accesses: items(alloc, accesses)?,
     })
 }
 
-fn group(alloc: Global, step: Step) -> Result<Items<Step>, NoMemory> {
+/// The groups of which one has this one step.
+fn groups(alloc: Global, step: Step) -> Result<Vec<Items<Step>>, NoMemory> {
     let mut steps = Items::new(alloc);
     steps.push(step)?;
-    Ok(steps)
+    let mut groups = Vec::new(alloc);
+    groups.push(steps)?;
+    Ok(groups)
 }
 
-/// Prepares one group, and applies it.
-fn added(tracker: &mut Tracker, alloc: Global, group: Items<Step>) -> Result<Vec<Item>, NoMemory> {
-    let mut groups = Vec::new(alloc);
-    groups.push(group)?;
-    let prepared = tracker.prepare(groups)?;
+/// Prepares a step, and applies it.
+fn added(tracker: &mut Tracker, alloc: Global, step: Step) -> Result<Vec<Item>, NoMemory> {
+    let prepared = tracker.prepare(groups(alloc, step)?)?;
     Ok(tracker.apply(prepared))
 }
 
-fn assert_bar(rt: &impl Abort, item: &Item, part: PartRun, from: Option<Usages>, to: Usages) {
+/// Whether an item is this barrier.
+fn is_bar(item: &Item, bar: (PartRun, Option<Usages>, Usages)) -> bool {
     match item {
-        Item::Bar {
-            part: seen,
-            from: seen_from,
-            to: seen_to,
-        } => {
-            assert_eq!(rt; *seen, part);
-            assert_eq!(rt; *seen_from, from);
-            assert_eq!(rt; *seen_to, to);
-        }
-        _ => assert!(rt; false),
+        Item::Bar { part, from, to } => (*part, *from, *to) == bar,
+        _ => false,
     }
 }
 
-fn assert_step(
-    rt: &impl Abort,
+/// Whether an item is this step.
+fn is_step(
     item: &Item,
     name: StepName,
     uses: &[(PartRun, Usages)],
     accesses: &[(Cells, Kind)],
-) {
+) -> bool {
     match item {
         Item::Step(step) => {
-            assert_eq!(rt; step.place, OP);
-            assert_eq!(rt; step.name, name);
-            assert_eq!(rt; step.uses.as_slice(), uses);
-            assert_eq!(rt; step.accesses.as_slice(), accesses);
+            step.place == OP
+                && step.name == name
+                && step.uses.as_slice() == uses
+                && step.accesses.as_slice() == accesses
         }
-        _ => assert!(rt; false),
+        _ => false,
     }
 }
 
-#[test]
-fn what_is_partly_written_is_cleared_in_part(rt: HostRuntime) -> Result<(), Fail> {
-    let alloc = rt.alloc();
-    let mut tracker = Tracker::new(alloc);
-    let written = [(buffer(0), Usages::COPY_DST)];
-    let write = step(
-        alloc,
-        StepName::WriteBuffer,
-        &written,
-        &[(bytes(0, 0, 4), Kind::Write)],
-    )?;
-    let items = added(&mut tracker, alloc, group(alloc, write)?)?;
-    assert_eq!(rt; items.len(), 1);
-    assert_step(
-        &rt,
-        &items[0],
-        StepName::WriteBuffer,
-        &written,
-        &[(bytes(0, 0, 4), Kind::Write)],
-    );
+/// A write of the first bytes of buffer 0: whether only it is added.
+fn written(tracker: &mut Tracker, alloc: Global) -> Result<bool, NoMemory> {
+    let uses = [(buffer(0), Usages::COPY_DST)];
+    let accesses = [(bytes(0, 0, 4), Kind::Write)];
+    let write = step(alloc, StepName::WriteBuffer, &uses, &accesses)?;
+    let items = added(tracker, alloc, write)?;
+    Ok(match items.as_slice() {
+        [only] => is_step(only, StepName::WriteBuffer, &uses, &accesses),
+        _ => false,
+    })
+}
+
+/// A copy of all of buffer 0: whether the rest of it is cleared before, and what lies between.
+fn copied(tracker: &mut Tracker, alloc: Global) -> Result<[bool; 4], NoMemory> {
     let uses = [(buffer(0), Usages::COPY_SRC), (buffer(1), Usages::COPY_DST)];
     let accesses = [
         (bytes(0, 0, 16), Kind::Read),
         (bytes(1, 0, 16), Kind::Write),
     ];
     let copy = step(alloc, StepName::CopyBufferToBuffer, &uses, &accesses)?;
-    let items = added(&mut tracker, alloc, group(alloc, copy)?)?;
-    assert_eq!(rt; items.len(), 4);
-    assert_bar(
-        &rt,
-        &items[0],
-        buffer(0),
-        Some(Usages::COPY_DST),
-        Usages::CLEAR,
-    );
-    assert_step(
-        &rt,
-        &items[1],
-        StepName::Clear,
-        &[(buffer(0), Usages::CLEAR)],
-        &[(bytes(0, 4, 16), Kind::Write)],
-    );
-    assert_bar(
-        &rt,
-        &items[2],
-        buffer(0),
-        Some(Usages::CLEAR),
-        Usages::COPY_SRC,
-    );
-    assert_step(
-        &rt,
-        &items[3],
-        StepName::CopyBufferToBuffer,
-        &uses,
-        &accesses,
-    );
-    Ok(())
+    let items = added(tracker, alloc, copy)?;
+    let cleared = [(buffer(0), Usages::CLEAR)];
+    let rest = [(bytes(0, 4, 16), Kind::Write)];
+    Ok(match items.as_slice() {
+        [to_clear, clear, to_copy, copy] => [
+            is_bar(to_clear, (buffer(0), Some(Usages::COPY_DST), Usages::CLEAR)),
+            is_step(clear, StepName::Clear, &cleared, &rest),
+            is_bar(to_copy, (buffer(0), Some(Usages::CLEAR), Usages::COPY_SRC)),
+            is_step(copy, StepName::CopyBufferToBuffer, &uses, &accesses),
+        ],
+        _ => [false; 4],
+    })
+}
+
+/// Both, of one tracker, which is dropped here.
+fn both(alloc: Global) -> (Result<bool, NoMemory>, Result<[bool; 4], NoMemory>) {
+    let mut tracker = Tracker::new(alloc);
+    let written = written(&mut tracker, alloc);
+    (written, copied(&mut tracker, alloc))
+}
+
+#[test]
+fn what_is_partly_written_is_cleared_in_part(rt: HostRuntime) {
+    assert!(rt; both(rt.alloc()) == (Ok(true), Ok([true; 4])));
 }

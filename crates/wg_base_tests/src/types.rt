@@ -1,35 +1,46 @@
+use std::alloc::Global;
 use std::sync::Arc;
-use std::test::Fail;
+use wg_types::NoMemory;
 use wg_types::handles::{BufferInfo, Handle, Info, ObjRef};
 use wg_types::items::Items;
 use wg_types::same::Same;
 
-#[test]
-fn a_shared_handle_is_the_same(rt: HostRuntime) -> Result<(), Fail> {
-    let reference = ObjRef {
-        device: 1,
-        number: 7,
-    };
+const OBJECT: ObjRef = ObjRef {
+    device: 1,
+    number: 7,
+};
+
+/// What a handle and one that shares it know alike: the object, whether it is valid, and its info.
+fn shared(alloc: Global) -> Result<(ObjRef, bool, bool), NoMemory> {
     let info = Info::Buffer(BufferInfo {
         size: 16,
         usage: 8,
         mapped: false,
     });
-    let handle = Handle::new(reference, true, Arc::new(rt.alloc(), info)?);
+    let handle = Handle::new(OBJECT, true, Arc::new(alloc, info)?);
     let shared = handle.share()?;
-    assert_eq!(rt; shared.reference(), reference);
-    assert!(rt; shared.valid());
-    assert!(rt; shared.info().same(handle.info()));
-    Ok(())
+    let same = shared.info().same(handle.info());
+    Ok((shared.reference(), shared.valid(), same))
 }
 
 #[test]
-fn a_list_grows_and_is_copied(rt: HostRuntime) -> Result<(), Fail> {
-    let mut items = Items::new(rt.alloc());
+fn a_shared_handle_is_the_same(rt: HostRuntime) {
+    assert!(rt; shared(rt.alloc()) == Ok((OBJECT, true, true)));
+}
+
+/// Whether a list of two and its copy have both.
+fn copied(alloc: Global) -> Result<(bool, bool), NoMemory> {
+    let mut items = Items::new(alloc);
     items.push(3u64)?;
-    items.push(5u64)?;
+    items.push(5)?;
     let copy = items.clone()?;
-    assert_eq!(rt; items.as_slice(), [3u64, 5].as_slice());
-    assert_eq!(rt; copy.as_slice(), [3u64, 5].as_slice());
-    Ok(())
+    Ok((
+        items.as_slice() == [3, 5].as_slice(),
+        copy.as_slice() == [3, 5].as_slice(),
+    ))
+}
+
+#[test]
+fn a_list_grows_and_is_copied(rt: HostRuntime) {
+    assert!(rt; copied(rt.alloc()) == Ok((true, true)));
 }

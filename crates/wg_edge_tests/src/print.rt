@@ -1,12 +1,13 @@
-ghost use Rattle.std.specs.Prelude.{◌++◌, codes};
+ghost use Rattle.std.specs.Prelude.{◌++◌, ◌<◌, codes};
 ghost use Rattle.wg_print.specs.Entries.{entry_text};
 ghost use Rattle.wg_print.specs.Items.{item_text};
 ghost use Rattle.wg_print.specs.Pieces.{line_text};
 ghost use Rattle.wg_print.specs.Printing.{Written};
 
-use std::test::Fail;
+use std::alloc::Global;
 use wg_io::{Failed, MemSink, Sink};
 use wg_print::{Out, entry, item, line};
+use wg_types::NoMemory;
 use wg_types::items::Items;
 use wg_types::parts::PartRun;
 use wg_types::replies::{Answer, Reply, Verb};
@@ -26,9 +27,16 @@ fn report<W: Sink>(sink: &mut W, reply: &Reply, only: &Item) -> Result<(), Faile
     out.finish()
 }
 
-#[test]
-fn a_report_is_printed(rt: HostRuntime) -> Result<(), Fail> {
-    let alloc = rt.alloc();
+/// What a sink with this room a call answers to a report of a createBuffer and a barrier, and whether it has then
+/// taken this.
+fn printed(
+    alloc: Global,
+    most: usize,
+    fails: &[u64],
+    text: &str,
+) -> Result<(Result<(), Failed>, bool), NoMemory>
+    requires { 0 < most }
+{
     let reply = Reply {
         answer: Answer::Made {
             number: 0,
@@ -42,13 +50,16 @@ fn a_report_is_printed(rt: HostRuntime) -> Result<(), Fail> {
         from: None,
         to: Usages::COPY_SRC | Usages::COPY_DST,
     };
+    let fails = Vec::from_slice(alloc, fails)?;
+    let mut sink = MemSink::new(alloc, 100, most, fails)?;
+    let answer = report(&mut sink, &reply, &bar);
+    Ok((answer, sink.taken() == text.as_bytes()))
+}
+
+#[test]
+fn a_report_is_printed(rt: HostRuntime) {
     let want = "history\n0 0 createBuffer made 0 valid\nbar b 0 none copy-src+copy-dst\n";
-    let mut sink = MemSink::new(alloc, 100, 7, Vec::new(alloc)).expect(&rt, "memory");
-    assert!(rt; report(&mut sink, &reply, &bar).is_ok());
-    assert_eq!(rt; sink.taken(), want.as_bytes());
+    assert!(rt; printed(rt.alloc(), 7, &[], want) == Ok((Ok(()), true)));
     // The second write fails.
-    let mut sink = MemSink::new(alloc, 100, 5, [2].to_vec(alloc)?).expect(&rt, "memory");
-    assert_eq!(rt; report(&mut sink, &reply, &bar), Err(Failed));
-    assert_eq!(rt; sink.taken(), b"histo".as_slice());
-    Ok(())
+    assert!(rt; printed(rt.alloc(), 5, &[2], "histo") == Ok((Err(Failed), true)));
 }

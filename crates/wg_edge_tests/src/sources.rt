@@ -1,7 +1,8 @@
+use std::alloc::Global;
 use std::io;
 use std::io::{Error, ErrorKind, Read, Write};
-use std::test::Fail;
 use wg_io::{Failed, MemSink, MemSource, ReadError, Sink, Source, StdSink, StdSource, read_all};
+use wg_types::NoMemory;
 
 // A reader that only fails.
 #[derive(Drop)]
@@ -27,35 +28,81 @@ impl Write for Stuck {
     }
 }
 
-#[test]
-fn memory_source_gives_in_turn(rt: HostRuntime) -> Result<(), Fail> {
-    let bytes = [1, 2, 3].to_vec(rt.alloc())?;
-    let mut source = MemSource::new(bytes, 2, [2].to_vec(rt.alloc())?);
+type Given = (Result<usize, Failed>, [u8; 4]);
+
+/// What a read gives, and what then stands in the bytes that it reads to.
+fn read(source: &mut MemSource, into: &mut [u8; 4]) -> Given {
+    let given = source.read(into);
+    (given, *into)
+}
+
+/// Four reads of three bytes, at most two at a time, of which the second fails.
+fn reads(alloc: Global) -> Result<[Given; 4], NoMemory> {
+    let bytes = Vec::from_slice(alloc, &[1, 2, 3])?;
+    let fails = Vec::from_slice(alloc, &[2])?;
+    let mut source = MemSource::new(bytes, 2, fails);
     let mut into = [9; 4];
-    assert_eq!(rt; source.read(&mut into), Ok(2));
-    assert_eq!(rt; into, [1, 2, 9, 9]);
-    assert_eq!(rt; source.read(&mut into), Err(Failed));
-    assert_eq!(rt; into, [1, 2, 9, 9]);
-    assert_eq!(rt; source.read(&mut into), Ok(1));
-    assert_eq!(rt; into, [3, 2, 9, 9]);
-    assert_eq!(rt; source.read(&mut into), Ok(0));
-    Ok(())
+    let first = read(&mut source, &mut into);
+    let second = read(&mut source, &mut into);
+    let third = read(&mut source, &mut into);
+    Ok([first, second, third, read(&mut source, &mut into)])
 }
 
 #[test]
-fn memory_sink_takes_in_turn(rt: HostRuntime) -> Result<(), Fail> {
-    let mut sink = MemSink::new(rt.alloc(), 3, 2, [2].to_vec(rt.alloc())?).expect(&rt, "memory");
-    assert_eq!(rt; sink.write(&[1, 2, 3]), Ok(2));
-    assert_eq!(rt; sink.write(&[3]), Err(Failed));
-    assert_eq!(rt; sink.write(&[3, 4]), Ok(1));
-    assert_eq!(rt; sink.write(&[4]), Err(Failed));
-    assert_eq!(rt; sink.write(&[]), Ok(0));
-    assert_eq!(rt; sink.taken(), [1, 2, 3].as_slice());
-    Ok(())
+fn memory_source_gives_in_turn(rt: HostRuntime) {
+    let wanted = [
+        (Ok(2), [1, 2, 9, 9]),
+        (Err(Failed), [1, 2, 9, 9]),
+        (Ok(1), [3, 2, 9, 9]),
+        (Ok(0), [3, 2, 9, 9]),
+    ];
+    assert!(rt; reads(rt.alloc()) == Ok(wanted));
+}
+
+/// Five writes to a sink.
+fn write_all(sink: &mut MemSink) -> [Result<usize, Failed>; 5] {
+    [
+        sink.write(&[1, 2, 3]),
+        sink.write(&[3]),
+        sink.write(&[3, 4]),
+        sink.write(&[4]),
+        sink.write(&[]),
+    ]
+}
+
+/// What each takes of a sink with room for three bytes, at most two at a time, of which the second fails; and
+/// whether it then has all three.
+fn writes(alloc: Global) -> Result<([Result<usize, Failed>; 5], bool), NoMemory> {
+    let fails = Vec::from_slice(alloc, &[2])?;
+    let mut sink = MemSink::new(alloc, 3, 2, fails)?;
+    let written = write_all(&mut sink);
+    Ok((written, sink.taken() == [1, 2, 3].as_slice()))
 }
 
 #[test]
-fn reading_stops_at_the_limit(rt: HostRuntime) -> Result<(), Fail> {
+fn memory_sink_takes_in_turn(rt: HostRuntime) {
+    let wanted = [Ok(2), Err(Failed), Ok(1), Err(Failed), Ok(0)];
+    assert!(rt; writes(rt.alloc()) == Ok((wanted, true)));
+}
+
+/// How many bytes are read, up to 5, of a source with so many, of whose reads of at most two bytes this one
+/// fails.
+fn read_up_to_five(
+    alloc: Global,
+    count: usize,
+    fails: u64,
+) -> Result<Result<usize, ReadError>, NoMemory> {
+    let fails = Vec::from_slice(alloc, &[fails])?;
+    let bytes = vec![in alloc; 7u8; count]?;
+    let mut source = MemSource::new(bytes, 2, fails);
+    Ok(match read_all(alloc, &mut source, 5) {
+        Ok(read) => Ok(read.len()),
+        Err(error) => Err(error),
+    })
+}
+
+#[test]
+fn reading_stops_at_the_limit(rt: HostRuntime) {
     // (bytes that the source has, the call that fails, what reading up to 5 bytes answers)
     let rows = [
         (0, 9, Ok(0)),
@@ -66,33 +113,43 @@ fn reading_stops_at_the_limit(rt: HostRuntime) -> Result<(), Fail> {
         (6, 4, Err(ReadError::TooLarge)),
     ];
     for (count, fails, want) in rows {
-        let mut bytes = Vec::new(rt.alloc());
-        bytes.resize(count, 7)?;
-        let mut source = MemSource::new(bytes, 2, [fails].to_vec(rt.alloc())?);
-        let read = read_all(rt.alloc(), &mut source, 5);
-        assert_eq!(rt; read.map(|bytes| bytes.len()), want, "of {count}");
+        assert!(rt;
+            read_up_to_five(rt.alloc(), count, fails) == Ok(want),
+            "of {count}"
+        );
     }
-    Ok(())
 }
 
-#[test]
-fn standard_readers_are_read(rt: HostRuntime) -> Result<(), Fail> {
+/// Whether all is read of a reader, and whether one that fails says so.
+fn of_readers(alloc: Global) -> (bool, Result<usize, Failed>) {
     let mut source = StdSource::new(b"hello".as_slice());
-    let bytes = read_all(rt.alloc(), &mut source, 5).expect(&rt, "all");
-    assert_eq!(rt; bytes.as_slice(), b"hello".as_slice());
-    let mut source = StdSource::new(Broken);
-    assert_eq!(rt; source.read(&mut [0; 4]), Err(Failed));
-    Ok(())
+    let whole = match read_all(alloc, &mut source, 5) {
+        Ok(read) => read.as_slice() == b"hello".as_slice(),
+        Err(_) => false,
+    };
+    (whole, StdSource::new(Broken).read(&mut [0; 4]))
 }
 
 #[test]
-fn standard_writers_are_written(rt: HostRuntime) -> Result<(), Fail> {
-    let mut taken = Vec::new(rt.alloc());
-    let mut sink = StdSink::new(&mut taken);
-    assert_eq!(rt; sink.write(b"hello"), Ok(5));
-    assert_eq!(rt; taken.as_slice(), b"hello".as_slice());
+fn standard_readers_are_read(rt: HostRuntime) {
+    assert!(rt; of_readers(rt.alloc()) == (true, Err(Failed)));
+}
+
+/// What a writer takes, and whether it then has that.
+fn of_writer(alloc: Global) -> (Result<usize, Failed>, bool) {
+    let mut taken = Vec::new(alloc);
+    let written = StdSink::new(&mut taken).write(b"hello");
+    (written, taken.as_slice() == b"hello".as_slice())
+}
+
+/// What one takes that takes nothing, of some bytes and of none.
+fn of_stuck() -> [Result<usize, Failed>; 2] {
     let mut sink = StdSink::new(Stuck);
-    assert_eq!(rt; sink.write(b"hello"), Err(Failed));
-    assert_eq!(rt; sink.write(b""), Ok(0));
-    Ok(())
+    [sink.write(b"hello"), sink.write(b"")]
+}
+
+#[test]
+fn standard_writers_are_written(rt: HostRuntime) {
+    assert!(rt; of_writer(rt.alloc()) == (Ok(5), true));
+    assert!(rt; of_stuck() == [Err(Failed), Ok(0)]);
 }

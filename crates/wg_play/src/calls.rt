@@ -97,7 +97,10 @@ pub fn note_command(
     ensures unchanged { OnErr result (sight_of seen.new ≡ sight_of seen.old) }
 {
     let begun = begun_by(seen.own.as_slice(), stand.encoder, &command, made);
-    seen.own.reserve(1)?;
+    if seen.own.reserve(1).is_err() {
+        drop(command);
+        return Err(NoMemory);
+    }
     let noted = record_on(&mut seen.own, stand, command)?;
     if let Some(number) = begun {
         seen.own.push_reserved(Object::Pass {

@@ -96,6 +96,7 @@ fn record_by(recorder: &mut Recorder, on: On, command: Command) -> Result<Noted,
     ensures unchanged { OnErr result (recorder.new ≡ recorder.old) }
 {
     if !is_begun(on, recorder.passes()) {
+        drop(command);
         return Ok(Noted::Late);
     }
     recorder.record(on, command)
@@ -112,7 +113,10 @@ fn record_in(object: &mut Object, on: On, command: Command) -> Result<Noted, NoM
             recorder: Some(recorder),
             ..
         } => record_by(recorder, on, command),
-        Object::Made { recorder: None, .. } | Object::Pass { .. } => Ok(Noted::Late),
+        Object::Made { recorder: None, .. } | Object::Pass { .. } => {
+            drop(command);
+            Ok(Noted::Late)
+        }
     }
 }
 
@@ -130,6 +134,7 @@ pub fn record_on(
 {
     let index = stand.encoder as usize;
     if index >= objects.len() {
+        drop(command);
         return Ok(Noted::Late);
     }
     record_in(&mut objects[index], stand.on, command)

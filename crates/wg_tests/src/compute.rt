@@ -1,7 +1,6 @@
 //! Dispatches of a compute pass make steps. The rules of its commands are for the scripts of tests/cases.
 use std::alloc::Global;
 use std::sync::Arc;
-use std::test::Fail;
 use wg_access::Done;
 use wg_compute::ComputeState;
 use wg_types::NoMemory;
@@ -12,7 +11,7 @@ use wg_types::handles::{BufferInfo, Handle, Info, ObjRef};
 use wg_types::items::Items;
 use wg_types::parts::{Cells, Kind, PartRun};
 use wg_types::shared::Shared;
-use wg_types::steps::StepName;
+use wg_types::steps::{Deed, StepName};
 use wg_types::usages::Usages;
 
 fn reference(number: u64) -> ObjRef {
@@ -119,23 +118,17 @@ fn dispatched(set: &mut ComputeState, done: &mut Done, alloc: Global) -> Result<
     take(set, done, alloc, indirect(alloc, 256, 4))
 }
 
-#[test]
-fn dispatches_make_steps(rt: HostRuntime) -> Result<(), Fail> {
-    let alloc = rt.alloc();
-    let mut set = ComputeState::new();
-    let mut done = Done::new(alloc);
-    dispatched(&mut set, &mut done, alloc)?;
-    let deeds = done.deeds.as_slice();
-    assert_eq!(rt; deeds.len(), 2);
-    assert_eq!(rt; deeds[1].name, StepName::Dispatch);
-    let bound = PartRun::Buffer { object: 7 };
-    let read = PartRun::Buffer { object: 8 };
-    assert_eq!(rt;
-        deeds[0].uses.as_slice(),
-        [(bound, Usages::CONSTANT)].as_slice()
-    );
-    let uses = [(bound, Usages::CONSTANT), (read, Usages::INPUT)];
-    assert_eq!(rt; deeds[1].uses.as_slice(), uses.as_slice());
+/// Whether a dispatch did this.
+fn is(deed: &Deed, uses: &[(PartRun, Usages)], accesses: &[(Cells, Kind)]) -> bool {
+    deed.name == StepName::Dispatch
+        && deed.uses.as_slice() == uses
+        && deed.accesses.as_slice() == accesses
+}
+
+/// Whether what was done is both dispatches.
+fn are(deeds: &[Deed]) -> (bool, bool) {
+    let bound = (PartRun::Buffer { object: 7 }, Usages::CONSTANT);
+    let read = (PartRun::Buffer { object: 8 }, Usages::INPUT);
     let all = Cells::Bytes {
         object: 7,
         lo: 0,
@@ -146,8 +139,25 @@ fn dispatches_make_steps(rt: HostRuntime) -> Result<(), Fail> {
         lo: 4,
         hi: 16,
     };
-    let accesses = [(all, Kind::Read), (counts, Kind::Read)];
-    assert_eq!(rt; deeds[1].accesses.as_slice(), accesses.as_slice());
-    assert!(rt; done.clash.is_none());
-    Ok(())
+    let all = (all, Kind::Read);
+    match deeds {
+        [direct, indirect] => (
+            is(direct, &[bound], &[all]),
+            is(indirect, &[bound, read], &[all, (counts, Kind::Read)]),
+        ),
+        _ => (false, false),
+    }
+}
+
+/// Whether both were done, and whether no usage scope has a clash.
+fn of_pass(alloc: Global) -> Result<((bool, bool), bool), NoMemory> {
+    let mut set = ComputeState::new();
+    let mut done = Done::new(alloc);
+    dispatched(&mut set, &mut done, alloc)?;
+    Ok((are(done.deeds.as_slice()), done.clash.is_none()))
+}
+
+#[test]
+fn dispatches_make_steps(rt: HostRuntime) {
+    assert!(rt; of_pass(rt.alloc()) == Ok(((true, true), true)));
 }

@@ -1,7 +1,6 @@
 //! Bind groups that are set touch what they bind.
 use std::alloc::Global;
 use std::sync::Arc;
-use std::test::Fail;
 use wg_layouts::bound_touches;
 use wg_types::NoMemory;
 use wg_types::bindings::{
@@ -77,41 +76,28 @@ fn group(
     })
 }
 
-/// A group of these, set with these offsets.
-fn bound(
-    alloc: Global,
-    layout_info: Shared<GroupLayoutInfo>,
-    list: &[BoundEntry],
-    offsets: &[u32],
-) -> Result<BoundGroup, NoMemory> {
-    let info = Info::Group(group(alloc, layout_info, list)?);
-    let offsets = Shared::new(alloc, items(alloc, offsets)?)?;
-    Ok(BoundGroup {
-        group: Handle::new(reference(3), true, Arc::new(alloc, info)?),
-        offsets,
-    })
-}
+/// Sampled by no stage, and so used all the same.
+const SAMPLED: LayoutEntry = LayoutEntry {
+    binding: 1,
+    visibility: 0,
+    kind: BindingKind::Texture {
+        sample: SampleType::Float,
+        dim: ViewDim::Two,
+        multi: false,
+    },
+};
 
-#[test]
-fn groups_touch_what_they_bind(rt: HostRuntime) -> Result<(), Fail> {
-    let alloc = rt.alloc();
-    let sampled = LayoutEntry {
-        binding: 1,
-        visibility: 0,
-        kind: BindingKind::Texture {
-            sample: SampleType::Float,
-            dim: ViewDim::Two,
-            multi: false,
-        },
-    };
-    let sampler = LayoutEntry {
-        binding: 2,
-        visibility: 4,
-        kind: BindingKind::Sampler {
-            sampler_type: SamplerKind::Filtering,
-        },
-    };
-    let view_info = ViewInfo {
+const SAMPLER: LayoutEntry = LayoutEntry {
+    binding: 2,
+    visibility: 4,
+    kind: BindingKind::Sampler {
+        sampler_type: SamplerKind::Filtering,
+    },
+};
+
+/// The second layer of the second mip level of texture 9.
+fn view_info() -> ViewInfo {
+    ViewInfo {
         texture: reference(9),
         texture_info: TextureInfo {
             size: [4, 4, 2],
@@ -127,31 +113,61 @@ fn groups_touch_what_they_bind(rt: HostRuntime) -> Result<(), Fail> {
         mips: 1,
         base_layer: 1,
         layers: 1,
+    }
+}
+
+/// What a group binds, from the last binding to the first.
+fn entries() -> [BoundEntry; 3] {
+    let sampler = BoundResource::Sampler {
+        sampler: reference(5),
+        sampler_info: SamplerKind::Filtering,
     };
-    let entries = [
+    let view = BoundResource::View {
+        view: reference(6),
+        view_info: view_info(),
+    };
+    [
         BoundEntry {
             binding: 2,
-            resource: BoundResource::Sampler {
-                sampler: reference(5),
-                sampler_info: SamplerKind::Filtering,
-            },
+            resource: sampler,
         },
         BoundEntry {
             binding: 1,
-            resource: BoundResource::View {
-                view: reference(6),
-                view_info,
-            },
+            resource: view,
         },
         range(0, 0, 16),
-    ];
-    let layouts = [
-        layout(alloc, &[])?,
-        layout(alloc, &[storage(0, true), sampled, sampler])?,
-    ];
-    let group = bound(alloc, layouts[1].share()?, &entries, &[256])?;
-    let unused = bound(alloc, layouts[1].share()?, &entries, &[0])?;
-    let touches = bound_touches(alloc, &layouts, &[Some(unused), Some(group)])?;
+    ]
+}
+
+/// The layout of three entries.
+fn three(alloc: Global) -> Result<Shared<GroupLayoutInfo>, NoMemory> {
+    layout(alloc, &[storage(0, true), SAMPLED, SAMPLER])
+}
+
+/// A group of that layout, set with this offset.
+fn bound(alloc: Global, offset: u32) -> Result<Option<BoundGroup>, NoMemory> {
+    let info = Info::Group(group(alloc, three(alloc)?, &entries())?);
+    let info = Arc::new(alloc, info)?;
+    let offsets = Shared::new(alloc, items(alloc, &[offset])?)?;
+    Ok(Some(BoundGroup {
+        group: Handle::new(reference(3), true, info),
+        offsets,
+    }))
+}
+
+/// Whether what is touched is that, where a layout of none comes before that of three, and a group that it
+/// does not use before the group.
+fn touched(alloc: Global, expected: &[Touch]) -> Result<bool, NoMemory> {
+    let layouts = [layout(alloc, &[])?, three(alloc)?];
+    let groups = [bound(alloc, 0)?, bound(alloc, 256)?];
+    let touches = bound_touches(alloc, &layouts, &groups)?;
+    Ok(touches.as_slice() == expected)
+}
+
+type Touch = (Cells, (Usages, Kind));
+
+#[test]
+fn groups_touch_what_they_bind(rt: HostRuntime) {
     let texels = Cells::Layers {
         object: 9,
         aspect: Aspect::Color,
@@ -168,6 +184,5 @@ fn groups_touch_what_they_bind(rt: HostRuntime) -> Result<(), Fail> {
         (texels, (Usages::CONSTANT, Kind::Read)),
         (bytes, (Usages::STORAGE, Kind::Both)),
     ];
-    assert_eq!(rt; touches.as_slice(), expected.as_slice());
-    Ok(())
+    assert!(rt; touched(rt.alloc(), &expected) == Ok(true));
 }

@@ -2,11 +2,18 @@
 use std::alloc::Global;
 use std::process::Abort;
 use std::sync::Arc;
-use std::test::Fail;
 use wg_encoder::{Noted, Recorder};
 use wg_types::NoMemory;
 use wg_types::commands::{Command, On};
 use wg_types::handles::{BufferInfo, Handle, Info, ObjRef};
+
+// A recorder is made and dropped in one function, and asked in others, which borrow it and give plain answers.
+
+type Answer = Result<Noted, NoMemory>;
+
+const KEPT: Answer = Ok(Noted::Kept);
+
+const LATE: Answer = Ok(Noted::Late);
 
 /// A recorder of device 1 that was opened and has kept nothing.
 fn opened(alloc: Global) -> Recorder {
@@ -20,13 +27,7 @@ fn opened(alloc: Global) -> Recorder {
 }
 
 /// Records a command. The pass that it stands on has to be begun.
-fn note(
-    rt: &impl Abort,
-    recorder: &mut Recorder,
-    on: On,
-    command: Command,
-) -> Result<Noted, NoMemory> {
-    assert!(rt; recorder.encoder().is_some());
+fn note(rt: &impl Abort, recorder: &mut Recorder, on: On, command: Command) -> Answer {
     if let On::Pass(pass) = on {
         assert!(rt; pass < recorder.passes());
     }
@@ -45,14 +46,13 @@ const BUFFER: Info = Info::Buffer(BufferInfo {
     mapped: false,
 });
 
-/// The rule that a copy of no bytes breaks first.
-fn rule_of_copy(
+/// Records a copy of no bytes.
+fn note_copy(
     rt: &impl Abort,
-    alloc: Global,
+    recorder: &mut Recorder,
     source: Handle,
     target: Handle,
-) -> Result<Option<u16>, NoMemory> {
-    let mut recorder = opened(alloc);
+) -> (Answer, Option<u16>) {
     let copy = Command::CopyBufferToBuffer {
         source,
         source_offset: 0,
@@ -60,97 +60,167 @@ fn rule_of_copy(
         target_offset: 0,
         size: 0,
     };
-    note(rt, &mut recorder, On::Encoder, copy)?;
-    Ok(recorder.verdict())
+    let noted = note(rt, recorder, On::Encoder, copy);
+    (noted, recorder.verdict())
+}
+
+/// The rule that a copy of no bytes breaks first, from such an object to a buffer of such a device.
+fn rule_of_copy(
+    rt: &impl Abort,
+    alloc: Global,
+    source: Info,
+    device: u64,
+) -> Result<(Answer, Option<u16>), NoMemory> {
+    let source = object(alloc, 1, source)?;
+    let target = object(alloc, device, BUFFER)?;
+    let mut recorder = opened(alloc);
+    Ok(note_copy(rt, &mut recorder, source, target))
 }
 
 #[test]
-fn objects_are_of_the_device_and_kind(rt: HostRuntime) -> Result<(), Fail> {
-    let alloc = rt.alloc();
-    let foreign = object(alloc, 2, BUFFER)?;
-    let rule = rule_of_copy(&rt, alloc, object(alloc, 1, BUFFER)?, foreign)?;
-    assert_eq!(rt; rule, Some(10));
-    let encoder = object(alloc, 1, Info::Encoder)?;
-    let rule = rule_of_copy(&rt, alloc, encoder, object(alloc, 1, BUFFER)?)?;
-    assert_eq!(rt; rule, Some(10));
-    Ok(())
+fn objects_are_of_the_device_and_kind(rt: HostRuntime) {
+    let foreign = rule_of_copy(&rt, rt.alloc(), BUFFER, 2);
+    let encoder = rule_of_copy(&rt, rt.alloc(), Info::Encoder, 1);
+    let broken = Ok((KEPT, Some(10)));
+    assert!(rt; (foreign, encoder) == (broken, broken));
 }
 
-/// A pass that is taken and put back while it is open, then ended, and then named once more.
-fn end_a_pass(rt: &impl Abort, recorder: &mut Recorder) -> Result<(), Fail> {
-    let first = On::Pass(0);
-    note(rt, recorder, On::Encoder, Command::BeginComputePass)?;
-    note(rt, recorder, first, Command::PushDebugGroup)?;
-    // What is put back is as if it had not been taken.
+/// What is told of what is taken and put back: whether a pass is open, whether a group is, how many commands
+/// were kept, and how many deeds are done.
+fn put_back(recorder: &mut Recorder) -> (bool, bool, usize, usize) {
     let recording = recorder.take();
-    assert!(rt; recording.open_pass() && !recording.open_group());
-    assert_eq!(rt; recording.commands().len(), 2);
+    let open = (recording.open_pass(), recording.open_group());
+    let kept = recording.commands().len();
+    let done = recording.done().len();
     recorder.put_back(recording);
-    assert!(rt; !recorder.has_ended());
-    // The end of a pass hands over that its group is open, and a pass ends once.
-    assert_eq!(rt; note(rt, recorder, first, Command::End)?, Noted::Kept);
-    assert_eq!(rt; recorder.verdict(), Some(310));
-    assert_eq!(rt; note(rt, recorder, first, Command::End)?, Noted::Late);
-    Ok(())
+    (open.0, open.1, kept, done)
 }
 
-/// What was recorded of it.
-fn end_an_encoder(rt: &impl Abort, recorder: &mut Recorder) {
+/// What is told of what is taken for good: its verdict, how many commands were kept and how many deeds are
+/// done, and whether no usage scope has a clash.
+fn taken(recorder: &mut Recorder) -> (Option<u16>, usize, usize, bool) {
     let recording = recorder.take();
-    assert_eq!(rt; recording.verdict(), Some(310));
-    assert_eq!(rt; recording.commands().len(), 3);
+    let kept = recording.commands().len();
+    let done = recording.done().len();
+    (
+        recording.verdict(),
+        kept,
+        done,
+        recording.scopes().is_none(),
+    )
+}
+
+/// A pass is begun, and a debug group in it.
+fn begin(rt: &impl Abort, recorder: &mut Recorder) -> [Answer; 2] {
+    [
+        note(rt, recorder, On::Encoder, Command::BeginComputePass),
+        note(rt, recorder, On::Pass(0), Command::PushDebugGroup),
+    ]
+}
+
+/// The pass is ended twice. Its end hands over that its group is open, and it ends once.
+fn end(rt: &impl Abort, recorder: &mut Recorder) -> ([Answer; 2], Option<u16>) {
+    let first = note(rt, recorder, On::Pass(0), Command::End);
+    let rule = recorder.verdict();
+    let second = note(rt, recorder, On::Pass(0), Command::End);
+    ([first, second], rule)
+}
+
+type Begun = ([Answer; 2], (bool, bool, usize, usize), bool);
+
+/// What is put back is as if it had not been taken.
+fn begin_a_pass(rt: &impl Abort, recorder: &mut Recorder) -> Begun {
+    let begun = begin(rt, recorder);
+    let told = put_back(recorder);
+    (begun, told, recorder.has_ended())
+}
+
+type Ended = (
+    ([Answer; 2], Option<u16>),
+    (Option<u16>, usize, usize, bool),
+    Answer,
+);
+
+/// After the end of the encoder each call is late.
+fn end_a_pass(rt: &impl Abort, recorder: &mut Recorder) -> Ended {
+    let ended = end(rt, recorder);
+    let told = taken(recorder);
+    let late = note(rt, recorder, On::Encoder, Command::PushDebugGroup);
+    (ended, told, late)
+}
+
+/// Both, of one recorder, which is dropped here.
+fn of_pass(rt: &impl Abort, alloc: Global) -> (Begun, Ended) {
+    let mut recorder = opened(alloc);
+    let begun = begin_a_pass(rt, &mut recorder);
+    (begun, end_a_pass(rt, &mut recorder))
 }
 
 #[test]
-fn passes_open_and_end(rt: HostRuntime) -> Result<(), Fail> {
-    let mut recorder = opened(rt.alloc());
-    end_a_pass(&rt, &mut recorder)?;
-    end_an_encoder(&rt, &mut recorder);
-    let late = note(&rt, &mut recorder, On::Encoder, Command::PushDebugGroup)?;
-    assert_eq!(rt; late, Noted::Late);
-    Ok(())
+fn passes_open_and_end(rt: HostRuntime) {
+    let (begun, ended) = of_pass(&rt, rt.alloc());
+    assert!(rt; begun == ([KEPT, KEPT], (true, false, 2, 0), false));
+    let told = (Some(310), 3, 0, true);
+    assert!(rt; ended == (([KEPT, LATE], Some(310)), told, LATE));
 }
 
-/// A pass that is begun in another one.
-fn begin_twice(rt: &impl Abort, recorder: &mut Recorder) -> Result<(), Fail> {
-    note(rt, recorder, On::Encoder, Command::BeginComputePass)?;
-    note(rt, recorder, On::Encoder, Command::BeginComputePass)?;
-    assert_eq!(rt; recorder.verdict(), Some(240));
-    let dead = On::Pass(1);
-    assert_eq!(rt; note(rt, recorder, dead, Command::End)?, Noted::Kept);
-    assert_eq!(rt; note(rt, recorder, dead, Command::End)?, Noted::Kept);
-    assert!(rt; recorder.take().open_pass());
-    Ok(())
+/// A pass that is begun in another one, whose end is named twice.
+fn begin_twice(rt: &impl Abort, recorder: &mut Recorder) -> ([Answer; 4], Option<u16>) {
+    let first = note(rt, recorder, On::Encoder, Command::BeginComputePass);
+    let second = note(rt, recorder, On::Encoder, Command::BeginComputePass);
+    let rule = recorder.verdict();
+    let end = note(rt, recorder, On::Pass(1), Command::End);
+    let again = note(rt, recorder, On::Pass(1), Command::End);
+    ([first, second, end, again], rule)
+}
+
+/// The same, and whether a pass is then open, of a recorder that is dropped here.
+fn of_dead_pass(rt: &impl Abort, alloc: Global) -> (([Answer; 4], Option<u16>), bool) {
+    let mut recorder = opened(alloc);
+    let begun = begin_twice(rt, &mut recorder);
+    (begun, put_back(&mut recorder).0)
 }
 
 #[test]
-fn a_pass_on_a_locked_encoder_is_dead(rt: HostRuntime) -> Result<(), Fail> {
-    let mut recorder = opened(rt.alloc());
-    begin_twice(&rt, &mut recorder)
+fn a_pass_on_a_locked_encoder_is_dead(rt: HostRuntime) {
+    assert!(rt; of_dead_pass(&rt, rt.alloc()) == (([KEPT; 4], Some(240)), true));
 }
 
-/// A command, and a pass after it that is open and then ended.
-fn open_and_end(rt: &impl Abort, recorder: &mut Recorder, buffer: Handle) -> Result<(), Fail> {
+/// A clear, and the begin of a pass.
+fn clear_and_begin(rt: &impl Abort, recorder: &mut Recorder, buffer: Handle) -> [Answer; 2] {
     let clear = Command::ClearBuffer {
         buffer,
         offset: 0,
         size: Some(8),
     };
-    note(rt, recorder, On::Encoder, clear)?;
-    note(rt, recorder, On::Encoder, Command::BeginComputePass)?;
-    let recording = recorder.take();
-    assert_eq!(rt; recording.done().len(), 0);
-    recorder.put_back(recording);
-    note(rt, recorder, On::Pass(0), Command::End)?;
-    let recording = recorder.take();
-    assert_eq!(rt; recording.done().len(), 1);
-    assert_eq!(rt; recording.scopes(), None);
-    Ok(())
+    let cleared = note(rt, recorder, On::Encoder, clear);
+    let begun = note(rt, recorder, On::Encoder, Command::BeginComputePass);
+    [cleared, begun]
+}
+
+type Told = (
+    (bool, bool, usize, usize),
+    Answer,
+    (Option<u16>, usize, usize, bool),
+);
+
+/// What is told while the pass is open, and then once it has ended.
+fn open_and_end(rt: &impl Abort, recorder: &mut Recorder) -> Told {
+    let open = put_back(recorder);
+    let ended = note(rt, recorder, On::Pass(0), Command::End);
+    (open, ended, taken(recorder))
+}
+
+/// Both, of one recorder, which is dropped here.
+fn of_open_pass(rt: &impl Abort, alloc: Global) -> Result<([Answer; 2], Told), NoMemory> {
+    let buffer = object(alloc, 1, BUFFER)?;
+    let mut recorder = opened(alloc);
+    let begun = clear_and_begin(rt, &mut recorder, buffer);
+    Ok((begun, open_and_end(rt, &mut recorder)))
 }
 
 #[test]
-fn an_open_pass_leaves_nothing_done(rt: HostRuntime) -> Result<(), Fail> {
-    let buffer = object(rt.alloc(), 1, BUFFER)?;
-    let mut recorder = opened(rt.alloc());
-    open_and_end(&rt, &mut recorder, buffer)
+fn an_open_pass_leaves_nothing_done(rt: HostRuntime) {
+    let told = ((true, false, 2, 0), KEPT, (None, 3, 1, true));
+    assert!(rt; of_open_pass(&rt, rt.alloc()) == Ok(([KEPT, KEPT], told)));
 }

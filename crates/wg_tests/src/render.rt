@@ -2,7 +2,6 @@
 //! tests/cases.
 use std::alloc::Global;
 use std::sync::Arc;
-use std::test::Fail;
 use wg_access::Done;
 use wg_render::{ColorTarget, DepthTarget, RenderBegin, RenderState, check_begin};
 use wg_types::NoMemory;
@@ -15,7 +14,7 @@ use wg_types::items::Items;
 use wg_types::parts::{Aspect, Cells, Kind, PartRun};
 use wg_types::render::{LoadOp, StoreOp};
 use wg_types::shared::Shared;
-use wg_types::steps::StepName;
+use wg_types::steps::{Deed, StepName};
 use wg_types::textures::{AspectWord, TextureDim, TextureInfo, ViewDim, ViewInfo};
 use wg_types::usages::Usages;
 
@@ -169,6 +168,17 @@ fn take(
     state.take(done, alloc, &command)
 }
 
+/// Whether a pass has begun, which then has ended.
+fn made(done: &mut Done, alloc: Global) -> Result<bool, NoMemory> {
+    match begun(alloc)? {
+        Some(mut state) => {
+            ended(&mut state, done, alloc)?;
+            Ok(true)
+        }
+        None => Ok(false),
+    }
+}
+
 /// Takes two settings and the end of the pass.
 fn ended(state: &mut RenderState, done: &mut Done, alloc: Global) -> Result<(), NoMemory> {
     take(state, done, alloc, vertex_buffer(alloc))?;
@@ -176,17 +186,8 @@ fn ended(state: &mut RenderState, done: &mut Done, alloc: Global) -> Result<(), 
     take(state, done, alloc, Ok(Command::End))
 }
 
-#[test]
-fn passes_make_a_step(rt: HostRuntime) -> Result<(), Fail> {
-    let alloc = rt.alloc();
-    let mut done = Done::new(alloc);
-    let Some(mut state) = begun(alloc)? else {
-        return Err(Fail::new("a begin that will do"));
-    };
-    ended(&mut state, &mut done, alloc)?;
-    let deeds = done.deeds.as_slice();
-    assert_eq!(rt; deeds.len(), 1);
-    assert_eq!(rt; deeds[0].name, StepName::RenderPass);
+/// Whether a deed is that of the pass.
+fn is_pass(deed: &Deed) -> [bool; 3] {
     let uses = [
         (part(5, Aspect::Color), Usages::ATTACHMENT),
         (part(6, Aspect::Depth), Usages::ATTACHMENT),
@@ -194,7 +195,6 @@ fn passes_make_a_step(rt: HostRuntime) -> Result<(), Fail> {
         (PartRun::Buffer { object: 7 }, Usages::INPUT),
         (PartRun::Buffer { object: 8 }, Usages::CONSTANT),
     ];
-    assert_eq!(rt; deeds[0].uses.as_slice(), uses.as_slice());
     let accesses = [
         (layer(5, Aspect::Color), Kind::Write),
         (layer(6, Aspect::Depth), Kind::Drop),
@@ -202,7 +202,25 @@ fn passes_make_a_step(rt: HostRuntime) -> Result<(), Fail> {
         (bytes(7, 4), Kind::Read),
         (bytes(8, 0), Kind::Read),
     ];
-    assert_eq!(rt; deeds[0].accesses.as_slice(), accesses.as_slice());
-    assert!(rt; done.clash.is_none());
-    Ok(())
+    [
+        deed.name == StepName::RenderPass,
+        deed.uses.as_slice() == uses.as_slice(),
+        deed.accesses.as_slice() == accesses.as_slice(),
+    ]
+}
+
+/// Whether the pass has begun, whether what was done is its one deed, and whether no usage scope has a clash.
+fn of_pass(alloc: Global) -> Result<(bool, [bool; 3], bool), NoMemory> {
+    let mut done = Done::new(alloc);
+    let started = made(&mut done, alloc)?;
+    let deed = match done.deeds.as_slice() {
+        [deed] => is_pass(deed),
+        _ => [false; 3],
+    };
+    Ok((started, deed, done.clash.is_none()))
+}
+
+#[test]
+fn passes_make_a_step(rt: HostRuntime) {
+    assert!(rt; of_pass(rt.alloc()) == Ok((true, [true; 3], true)));
 }

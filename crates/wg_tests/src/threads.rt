@@ -5,7 +5,6 @@ ghost use Rattle.wg_turn.specs.Closings.{passes_of};
 
 use std::alloc::Global;
 use std::sync::Wait;
-use std::test::Fail;
 use std::thread;
 use std::thread::Threads;
 use wg_device::{Device, DevicePass, Ended};
@@ -103,21 +102,37 @@ fn by_threads<R: Threads + Wait + Sync>(rt: &R, alloc: Global) -> Option<Ended>
     Some(device.close(passes))
 }
 
+/// How many entries and callers there were; and of each of two entries, who made it and whether it has a fault.
+type Told = (u64, u32, [(u32, bool); 2], [Answer; 2]);
+
+/// What the device tells that was left, where it has two entries.
+fn told_of(ended: &Ended) -> Option<Told> {
+    match ended.state().history() {
+        [a, b] => Some((
+            ended.entries(),
+            ended.callers(),
+            [
+                (a.who, a.reply.fault.is_some()),
+                (b.who, b.reply.fault.is_some()),
+            ],
+            [a.reply.answer, b.reply.answer],
+        )),
+        _ => None,
+    }
+}
+
+/// The same, of a device that is dropped here.
+fn told_by_threads<R: Threads + Wait + Sync>(rt: &R, alloc: Global) -> Option<Told> {
+    let ended = by_threads(rt, alloc)?;
+    told_of(&ended)
+}
+
 #[test]
-fn a_handle_goes_from_thread_to_thread(rt: HostRuntime) -> Result<(), Fail> {
-    let Some(ended) = by_threads(&rt, rt.alloc()) else {
-        panic!(rt; "memory");
+fn a_handle_goes_from_thread_to_thread(rt: HostRuntime) {
+    let made = Answer::Made {
+        number: 0,
+        valid: true,
     };
-    assert!(rt; ended.entries() == 2 && ended.callers() == 2);
-    let log = ended.state().history();
-    assert!(rt; log.len() == 2 && log[0].who == 0 && log[1].who == 1);
-    assert!(rt;
-        log[0].reply.answer
-            == Answer::Made {
-                number: 0,
-                valid: true
-            }
-    );
-    assert!(rt; log[1].reply.answer == Answer::Plain && log[1].reply.fault.is_none());
-    Ok(())
+    let wanted = (2, 2, [(0, false), (1, false)], [made, Answer::Plain]);
+    assert!(rt; told_by_threads(&rt, rt.alloc()) == Some(wanted));
 }

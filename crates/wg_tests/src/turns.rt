@@ -7,7 +7,6 @@ ghost use Rattle.wg_turn.specs.Closings.{passes_of};
 use crate::counter::Counter;
 use std::alloc::Global;
 use std::sync::Wait;
-use std::test::Fail;
 use std::thread;
 use std::thread::Threads;
 use wg_turn::{Closed, Entry, Pass, Refused, TurnLock};
@@ -24,32 +23,38 @@ fn counter(alloc: Global, limit: usize) -> Counter {
     }
 }
 
-#[test]
-fn two_callers_act_in_turn(rt: HostRuntime) -> Result<(), Fail> {
-    let Ok((lock, mut passes)) = TurnLock::open(rt.alloc(), counter(rt.alloc(), usize::MAX), 2)
-    else {
-        panic!(rt; "memory");
-    };
-    let a = lock.act(&rt, &mut passes[0], 10);
-    let b = lock.act(&rt, &mut passes[1], 20);
-    assert!(rt; matches!(a, Ok(15)) && matches!(b, Ok(35)));
-    assert!(rt; passes[0].number() == 0 && passes[0].calls() == 1);
-    assert!(rt; passes[1].number() == 1 && passes[1].calls() == 1);
-    Ok(())
+/// What a call answered, or the call that was refused.
+fn plain(answer: Result<u64, Refused<u64>>) -> Result<u64, u64> {
+    match answer {
+        Ok(reply) => Ok(reply),
+        Err(refused) => Err(refused.call),
+    }
+}
+
+type Acts = (Result<u64, u64>, Result<u64, u64>, Result<u64, u64>);
+
+/// The answers of a counter to a call of the first caller, to one more of it, and to one of the second; and then
+/// the number and the calls of both.
+fn acts<R: Wait>(rt: &R, alloc: Global, limit: usize) -> Option<(Acts, [(u32, u64); 2])> {
+    let (lock, mut passes) = TurnLock::open(alloc, counter(alloc, limit), 2).ok()?;
+    let a = lock.act(rt, &mut passes[0], 10);
+    let b = lock.act(rt, &mut passes[0], 20);
+    let c = lock.act(rt, &mut passes[1], 30);
+    let first = (passes[0].number(), passes[0].calls());
+    let second = (passes[1].number(), passes[1].calls());
+    Some(((plain(a), plain(b), plain(c)), [first, second]))
 }
 
 #[test]
-fn a_refused_call_passes_the_turn_on(rt: HostRuntime) -> Result<(), Fail> {
-    let Ok((lock, mut passes)) = TurnLock::open(rt.alloc(), counter(rt.alloc(), 1), 2) else {
-        panic!(rt; "memory");
-    };
-    let a = lock.act(&rt, &mut passes[0], 10);
-    let b = lock.act(&rt, &mut passes[0], 20);
-    let c = lock.act(&rt, &mut passes[1], 30);
-    assert!(rt; matches!(a, Ok(15)));
-    assert!(rt; matches!(b, Err(Refused { call: 20 })) && matches!(c, Err(Refused { call: 30 })));
-    assert!(rt; passes[0].calls() == 2 && passes[1].calls() == 1);
-    Ok(())
+fn two_callers_act_in_turn(rt: HostRuntime) {
+    let answers = (Ok(15), Ok(35), Ok(65));
+    assert!(rt; acts(&rt, rt.alloc(), usize::MAX) == Some((answers, [(0, 2), (1, 1)])));
+}
+
+#[test]
+fn a_refused_call_passes_the_turn_on(rt: HostRuntime) {
+    let answers = (Ok(15), Err(20), Err(30));
+    assert!(rt; acts(&rt, rt.alloc(), 1) == Some((answers, [(0, 2), (1, 1)])));
 }
 
 /// The first pass acts and tells the second, which acts then.
@@ -110,18 +115,33 @@ fn closed_after<R: Wait>(rt: &R, alloc: Global) -> Option<Closed<Counter>>
     Some(lock.close(passes))
 }
 
+type Line = (u32, u64, u64);
+
+/// How many entries and callers there were, the total, and of each of two entries who made it, its call and its
+/// reply.
+fn told_of(closed: &Closed<Counter>) -> Option<(u64, u32, u64, [Line; 2])> {
+    let state = closed.state();
+    match state.log.as_slice() {
+        [a, b] => Some((
+            closed.entries(),
+            closed.callers(),
+            state.total,
+            [(a.who, a.event, a.reply), (b.who, b.event, b.reply)],
+        )),
+        _ => None,
+    }
+}
+
+/// The same, of a counter that is dropped here.
+fn told_after<R: Wait>(rt: &R, alloc: Global) -> Option<(u64, u32, u64, [Line; 2])> {
+    let closed = closed_after(rt, alloc)?;
+    told_of(&closed)
+}
+
 #[test]
-fn two_callers_close_with_an_entry_each(rt: HostRuntime) -> Result<(), Fail> {
-    let Some(closed) = closed_after(&rt, rt.alloc()) else {
-        panic!(rt; "memory");
-    };
-    let log = closed.state().log.as_slice();
-    assert!(rt; closed.entries() == 2 && closed.callers() == 2 && closed.state().total == 35);
-    assert!(rt; log.len() == 2 && log[0].who == 0 && log[1].who == 1);
-    assert!(rt;
-        log[0].event == 10 && log[0].reply == 15 && log[1].event == 20 && log[1].reply == 35
-    );
-    Ok(())
+fn two_callers_close_with_an_entry_each(rt: HostRuntime) {
+    let lines = [(0, 10, 15), (1, 20, 35)];
+    assert!(rt; told_after(&rt, rt.alloc()) == Some((2, 2, 35, lines)));
 }
 
 /// How many entries one caller made.
@@ -169,14 +189,24 @@ fn by_threads<R: Threads + Wait + Sync>(rt: &R, alloc: Global) -> Option<Closed<
     Some(lock.close(passes))
 }
 
+/// How many entries and callers there were, the total, and how many entries each caller made.
+fn told_by_threads<R: Threads + Wait + Sync>(
+    rt: &R,
+    alloc: Global,
+) -> Option<(u64, u32, u64, [u64; 2])> {
+    let closed = by_threads(rt, alloc)?;
+    let state = closed.state();
+    let log = state.log.as_slice();
+    Some((
+        closed.entries(),
+        closed.callers(),
+        state.total,
+        [made_by(log, 0), made_by(log, 1)],
+    ))
+}
+
 #[test]
-fn two_threads_close_with_all_entries(rt: HostRuntime) -> Result<(), Fail> {
-    let Some(closed) = by_threads(&rt, rt.alloc()) else {
-        panic!(rt; "memory");
-    };
-    assert!(rt; closed.entries() == 2 * TIMES && closed.callers() == 2);
-    assert!(rt; closed.state().total == 5 + 3 * TIMES);
-    let log = closed.state().log.as_slice();
-    assert!(rt; made_by(log, 0) == TIMES && made_by(log, 1) == TIMES);
-    Ok(())
+fn two_threads_close_with_all_entries(rt: HostRuntime) {
+    let wanted = (2 * TIMES, 2, 5 + 3 * TIMES, [TIMES; 2]);
+    assert!(rt; told_by_threads(&rt, rt.alloc()) == Some(wanted));
 }
