@@ -41,10 +41,7 @@ class Explained:
         self.text = text
         self.program = program
         self.lines = []
-        self.status, out = program.ask(data)
-        if self.status in SILENT:
-            raise End(self.status, f"{text.name}: {SILENT[self.status]}")
-        said = out.decode("utf-8", "replace")
+        self.status, said = answer(text, data, program)
         self.say(f"{text.name}: the answer of {program.said}" if program.plays else f"{text.name}: {program.said}")
         if self.status == REFUSED:
             self.lines += refusal.explained(text, said)
@@ -135,19 +132,14 @@ class Explained:
         found = None
         if call is not None and calls.ends_encoder(call.word):
             found = culprit.find(self.beside, call, number, self.program) if self.program.plays else culprit.told(self.beside, number, told)
-        self.sentence(number, found.call.word if found and number not in culprit.OF_FINISH else entry.word, found is not None)
+        for rule in culprit.broken(number, entry.word, found):
+            self.say(f"    rule {number} asks of {rule.label}: {rule.asks}", f"    {rules.section(rule)}")
         if found:
             self.command(found, number)
             if number == culprit.DROPPED:
                 self.before(call, {name.what for _, name in found.call.names()}, ("drop",))
         elif call is not None:
             self.reasons(entry, call, number)
-
-    def sentence(self, number, word, is_of_command):
-        """A rule's sentence. A finish has rule 11 twice, of its encoder and then of what the commands name."""
-        asked = rules.of(number, word)
-        for rule in asked[-1:] if is_of_command and number == culprit.DROPPED else asked[:1]:
-            self.say(f"    rule {number} asks of {rule.label}: {rule.asks}", f"    {rules.section(rule)}")
 
     def command(self, found, number):
         script = self.beside.script
@@ -285,6 +277,14 @@ class Explained:
         call = self.beside.command_of.get(step.number)
         what = "clear of fresh memory" if step.name == "clear" else step.name
         return f"step {step.number:<3} {what}, {where}" + (f", of the call at {self.place(call).strip()}" if call else "")
+
+
+def answer(text, data, program):
+    """The status of a script, and what the program says of it. The tool ends where that is nothing."""
+    status, out = program.ask(data)
+    if status in SILENT:
+        raise End(status, f"{text.name}: {SILENT[status]}")
+    return status, out.decode("utf-8", "replace")
 
 
 def set_beside(text, said, say):

@@ -12,7 +12,7 @@ import pathlib
 import causes
 import explain
 import refusal
-from ends import REFUSED, SILENT, End
+from ends import REFUSED
 from faulted import faults
 from report import SORTS, Release, summary
 
@@ -267,10 +267,7 @@ def drawn(name, beside, head, notes, causes_of):
 
 def picture(text, data, program):
     """The page of a script's trace, or of its refusal, and the status of its report."""
-    status, out = program.ask(data)
-    if status in SILENT:
-        raise End(status, f"{text.name}: {SILENT[status]}")
-    said = out.decode("utf-8", "replace")
+    status, said = explain.answer(text, data, program)
     if status == REFUSED:
         lines = "\n".join(refusal.explained(text, said))
         return page(text.name, f"<pre class='fault'>{escape(lines)}</pre>"), status
