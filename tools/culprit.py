@@ -8,6 +8,7 @@ is that of the report, whatever another run would bring. Calls that make nothing
 """
 
 import calls
+import rules
 from report import NotReport, Report
 
 # The rules of a finish itself, in the order of its tests, that are about what is still open: a pass, a debug group.
@@ -152,9 +153,17 @@ def find(beside, finish, rule, program):
 
 def told(beside, rule, cause):
     """The command as the second reading of the rules finds it, where no program is to be asked; or None."""
-    if cause.command is None:
+    if cause.about is None:
         return None
-    return Found(cause.command, cause.number, cause.total, 0, said_of(rule, beside.script.begin_of(cause.command) is not None))
+    call, number, total = cause.about
+    return Found(call, number, total, 0, said_of(rule, beside.script.begin_of(call) is not None))
+
+
+def broken(rule, word, found):
+    """The rule that a call with a fault breaks, alone in a list, as it is of the command that the fault is about, if there is one. A finish has
+    rule 11 twice, of its encoder and then of what its commands name."""
+    asked = rules.of(rule, found.call.word if found and rule not in OF_FINISH else word)
+    return asked[-1:] if found and rule == DROPPED else asked[:1]
 
 
 def first(cuts, rule, closed):

@@ -1,5 +1,7 @@
 """`wgsim explain`: what the program says of a script, beside the script, and why each fault was made."""
 
+import functools
+
 import bits
 import calls
 import causes
@@ -39,10 +41,7 @@ class Explained:
         self.text = text
         self.program = program
         self.lines = []
-        self.status, out = program.ask(data)
-        if self.status in SILENT:
-            raise End(self.status, f"{text.name}: {SILENT[self.status]}")
-        said = out.decode("utf-8", "replace")
+        self.status, said = answer(text, data, program)
         self.say(f"{text.name}: the answer of {program.said}" if program.plays else f"{text.name}: {program.said}")
         if self.status == REFUSED:
             self.lines += refusal.explained(text, said)
@@ -50,7 +49,7 @@ class Explained:
         self.beside = set_beside(text, said, self.say)
         self.scopes = Scopes(self.beside)
         self.causes = causes.of_report(data, self.beside)
-        self.say(self.head(), *[self.causes.why_none] * (self.causes.why_none is not None))
+        self.say(self.head())
         self.faults()
         self.history()
         self.trace()
@@ -133,19 +132,14 @@ class Explained:
         found = None
         if call is not None and calls.ends_encoder(call.word):
             found = culprit.find(self.beside, call, number, self.program) if self.program.plays else culprit.told(self.beside, number, told)
-        self.sentence(number, found.call.word if found and number not in culprit.OF_FINISH else entry.word, found is not None)
+        for rule in culprit.broken(number, entry.word, found):
+            self.say(f"    rule {number} asks of {rule.label}: {rule.asks}", f"    {rules.section(rule)}")
         if found:
             self.command(found, number)
             if number == culprit.DROPPED:
                 self.before(call, {name.what for _, name in found.call.names()}, ("drop",))
         elif call is not None:
             self.reasons(entry, call, number)
-
-    def sentence(self, number, word, is_of_command):
-        """A rule's sentence. A finish has rule 11 twice, of its encoder and then of what the commands name."""
-        asked = rules.of(number, word)
-        for rule in asked[-1:] if is_of_command and number == culprit.DROPPED else asked[:1]:
-            self.say(f"    rule {number} asks of {rule.label}: {rule.asks}", f"    {rules.section(rule)}")
 
     def command(self, found, number):
         script = self.beside.script
@@ -227,14 +221,25 @@ class Explained:
         if place is not None and place.finish is not None:
             self.say(f"    {place.name} was finished at {self.beside.script.where(place.finish)}")
 
+    @functools.cached_property
+    def first_with(self):
+        """Of a word and a name the first call that has both, as the device took them, behind the number of its turn and the name's place in it."""
+        found = {}
+        for turn, call in enumerate(self.beside.turns):
+            for at, (_, name) in enumerate(call.names()):
+                found.setdefault((call.word, name.what), (turn, at, call))
+        return found
+
+    @functools.cached_property
+    def turn_of(self):
+        return {call: turn for turn, call in enumerate(self.beside.turns)}
+
     def before(self, call, names, words):
-        """The calls that the device took before one, that have one of some words and name one of some names."""
-        for other in self.beside.turns:
-            if other is call:
-                return
-            for _, name in other.names():
-                if other.word in words and name.what in names:
-                    self.say(f"    {name.what}: {other.word} at {self.beside.script.where(other)}")
+        """The first calls that the device took before one, that have one of some words and name one of some names."""
+        found = [(*self.first_with[word, name], name) for word in words for name in names if (word, name) in self.first_with]
+        for turn, _, other, name in sorted(found, key=lambda each: each[:2]):
+            if turn < self.turn_of[call]:
+                self.say(f"    {name}: {other.word} at {self.beside.script.where(other)}")
 
     def reached(self, call):
         """The names that a call uses, those that the commands of the command buffers among them use, and what is bound in bind groups and of what views are."""
@@ -272,6 +277,14 @@ class Explained:
         call = self.beside.command_of.get(step.number)
         what = "clear of fresh memory" if step.name == "clear" else step.name
         return f"step {step.number:<3} {what}, {where}" + (f", of the call at {self.place(call).strip()}" if call else "")
+
+
+def answer(text, data, program):
+    """The status of a script, and what the program says of it. The tool ends where that is nothing."""
+    status, out = program.ask(data)
+    if status in SILENT:
+        raise End(status, f"{text.name}: {SILENT[status]}")
+    return status, out.decode("utf-8", "replace")
 
 
 def set_beside(text, said, say):

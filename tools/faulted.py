@@ -33,11 +33,8 @@ def fault(beside, entry, told):
     caught = "uncaptured" if entry.fault[2] == "uncaptured" else f"caught by error {entry.fault[2]}"
     lines = [f"<p class='fault'><b>Fault at {where}: {escape(entry.word)} breaks rule {number}</b> <small>{entry.fault[0]} error, {caught}</small></p>"]
     found = culprit.told(beside, number, told)
-    word = found.call.word if found and number not in culprit.OF_FINISH else entry.word
     lines += [f"<p>{escape(why)}</p>" for why in (told.cause.text() if told.cause else told.why_none,) if why]
-    asked = rules.of(number, word)
-    # A finish has rule 11 twice: of its encoder, and then of what its commands name.
-    for rule in asked[-1:] if found and number == culprit.DROPPED else asked[:1]:
+    for rule in culprit.broken(number, entry.word, found):
         lines.append(f"<p>Rule {number} asks of {escape(rule.label)}: {escape(rule.asks)} <small>{escape(rules.section(rule))}</small></p>")
     if call is not None:
         lines.append(f"<code>{escape(beside.script.said(call))}</code>")

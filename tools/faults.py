@@ -6,10 +6,10 @@ The form is described in docs/tool.md, and is kept stable.
 import json
 
 import causes
+import culprit
 import explain
 import refusal
-import rules
-from ends import REFUSED, SILENT, End
+from ends import REFUSED
 from scopes import Scopes
 
 
@@ -23,10 +23,7 @@ def of_fault(text, beside, scopes, causes_of, entry):
     kind, number, _ = entry.fault
     told, call = causes_of.of(entry), beside.call_of.get(entry.number)
     cause = told.cause
-    word = told.command.word if told.command else entry.word
-    asked = rules.of(number, word)
-    is_of_commands = entry.word == "finish" and number == 11 and cause is not None and "command" in cause.values
-    rule = (asked[-1:] if is_of_commands else asked[:1])[0]
+    rule = culprit.broken(number, entry.word, culprit.told(beside, number, told))[0]
     return {
         "kind": "fault",
         "entry": entry.number,
@@ -95,10 +92,7 @@ def of_refusal(text, line):
 
 def listed(text, data, program):
     """The objects of a script, and the status of its report."""
-    status, out = program.ask(data)
-    if status in SILENT:
-        raise End(status, f"{text.name}: {SILENT[status]}")
-    said = out.decode("utf-8", "replace")
+    status, said = explain.answer(text, data, program)
     if status == REFUSED:
         return [of_refusal(text, said)], status
     beside = explain.set_beside(text, said, lambda *lines: None)

@@ -12,7 +12,7 @@ import pathlib
 import causes
 import explain
 import refusal
-from ends import REFUSED, SILENT, End
+from ends import REFUSED
 from faulted import faults
 from report import SORTS, Release, summary
 
@@ -267,10 +267,7 @@ def drawn(name, beside, head, notes, causes_of):
 
 def picture(text, data, program):
     """The page of a script's trace, or of its refusal, and the status of its report."""
-    status, out = program.ask(data)
-    if status in SILENT:
-        raise End(status, f"{text.name}: {SILENT[status]}")
-    said = out.decode("utf-8", "replace")
+    status, said = explain.answer(text, data, program)
     if status == REFUSED:
         lines = "\n".join(refusal.explained(text, said))
         return page(text.name, f"<pre class='fault'>{escape(lines)}</pre>"), status
@@ -278,4 +275,4 @@ def picture(text, data, program):
     beside = explain.set_beside(text, said, lambda *lines: notes.extend(lines))
     causes_of = causes.of_report(data, beside)
     head = f"The answer of {program.said}" if program.plays else f"Of {program.said}"
-    return drawn(text.name, beside, head, [*notes, causes_of.why_none], causes_of), status
+    return drawn(text.name, beside, head, notes, causes_of), status

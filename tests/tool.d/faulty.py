@@ -1,9 +1,11 @@
 """What explain says of each example and case: its faults, its settlements, and what of a recording is to blame."""
 
+import difflib
 import json
 import re
 
 import explain
+import given
 import places
 import report as reports
 
@@ -127,3 +129,12 @@ def test_command(where, script, call, beside, piece, number):
         check(rule == number, f"{where}: asked alone, the finish has rule {rule}")
     at = beside.script.where(beside.turns[expected]) if expected is not None else None
     check((named[1] if named else None) == at, f"{where}: the command to blame is at {at}, and named is {named[1] if named else None}")
+
+
+def test_given(path):
+    """Of a report that is there explain tells what it tells of the play that brought it: also the command of each finish, which it then has from the second reading."""
+    data, report = path.read_bytes(), answered(path)[1]
+    text = places.Text(data, "S")
+    told = [explain.explain(text, data, program)[0].split("\n", 1)[1] for program in (asked, given.Given(report, "R", text))]
+    played = re.sub(r"^    \(found by asking .*\n", "", told[0], flags=re.M)
+    check(played == told[1], f"{path.name}: explain tells another thing of the report alone:\n" + "\n".join(difflib.unified_diff(played.splitlines(), told[1].splitlines(), lineterm="", n=1)))

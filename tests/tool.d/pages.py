@@ -57,7 +57,7 @@ def test_picture_words():
     page = of("copy-within-one-buffer")
     for words in (
         "Fault at line 8: finish breaks rule 254",
-        '"b" (5:5) is both source and target',
+        'source and target are both "b" (4:5). Copy to another buffer',
         "source and target are two buffers",
         '{"do": "finish", "on": "e", "as": "c"}',
         "is number 1 of 1, at line 7",

@@ -38,7 +38,7 @@ def open_pass(case):
     found = case.second.passes.Walk(case.commands).open_pass
     if found is None:
         return None
-    return Cause(f"{case.named(found)} is still open", {"object": found.call["as"], "begun": case.place(found)}, "End it before the finish.")
+    return Cause(f"{case.named(found)} is still open", {"object": found.call["as"], "begun": case.place(found)}, "End it before the finish.", about=found)
 
 
 def open_groups(commands):
@@ -57,7 +57,7 @@ def left_open(case, place, opened):
         return None
     many = f"a debug group of {case.named(place)} is open, pushed" if len(opened) == 1 else f"{len(opened)} debug groups of {case.named(place)} are open, the first pushed"
     values = {"object": place.call["as"], "open": len(opened), "pushed": case.place(opened[0])}
-    return Cause(f"{many} at {case.place(opened[0])}", values, f"Pop {'it' if len(opened) == 1 else 'them'} before.")
+    return Cause(f"{many} at {case.place(opened[0])}", values, f"Pop {'it' if len(opened) == 1 else 'them'} before.", about=opened[0])
 
 
 @rule(183)

@@ -8,8 +8,6 @@ from .making import RULES, listed
 
 # How a thing stands in a call, by the key of a list.
 IN_LISTS = {"entries": "bound by entry {}", "colors": "among the colors", "depth": "the view of depth"}
-# The second reading is slow: of longer scripts no causes are told.
-MOST_CALLS = 100000
 
 
 class Case:
@@ -18,7 +16,7 @@ class Case:
     `played` is the call that the rule is of: the command, or the call of the entry. `earlier` has the commands before it on the same encoder
     or pass, `open_pass` the pass that is open where it comes, and `commands` all of the encoder that a finish ends."""
 
-    def __init__(self, play, entry, played=None, earlier=(), open_pass=None, commands=(), number=None):
+    def __init__(self, play, entry, played=None, earlier=(), open_pass=None, commands=()):
         self.play = play
         self.second = play.second
         self.history = play.turns.history
@@ -28,7 +26,6 @@ class Case:
         self.earlier = list(earlier)
         self.open_pass = open_pass
         self.commands = list(commands)
-        self.number = number
         self.call = self.played.call
         self.uses = self.played.uses
         self.do = self.played.do
@@ -40,7 +37,7 @@ class Case:
 
     def place(self, thing):
         """The line and column of a call that was played."""
-        return self.play.place(thing.call)
+        return self.play.place(thing)
 
     def name(self, thing):
         return f'"{thing.call["as"]}"'
@@ -95,23 +92,18 @@ class Play:
     def __init__(self, data, script):
         self.second = second
         self.script = script
-        budget, phases, refusal = second.answers.read(data)
-        self.is_refused = refusal is not None
-        self.calls = {}
+        self.read = second.Played(data, script.text.name)
         self.destroyed_by, self.submitted_by, self.mapped_by = {}, {}, {}
         self.live = []
-        if self.is_refused:
-            return
-        for place, call in (found for lanes in phases for lane in lanes for found in lane):
-            self.calls[id(call)] = script.lanes[place[:2]][place[2]]
-        self.turns = second.turns.Turns(budget, phases)
+        self.turns = None if self.read.refusal else self.read.begin()
 
-    def call_of(self, call):
-        """The call as the tool reads it."""
-        return self.calls[id(call)]
+    def call_of(self, played):
+        """A call as the tool reads it."""
+        phase, lane, number = self.read.place(played)
+        return self.script.lanes[phase, lane][number]
 
-    def place(self, call):
-        return "{}:{}".format(*self.script.text.place(self.call_of(call).value.start))
+    def place(self, played):
+        return "{}:{}".format(*self.script.text.place(self.call_of(played).value.start))
 
     def take(self, caller):
         """Plays the next event of a caller; None where it has none."""
@@ -149,11 +141,11 @@ class Play:
     def blamed(self, finish, commands):
         """The case of the command that invalidated an encoder, or None where none did."""
         walk = second.passes.Walk()
-        for number, command in enumerate(commands, 1):
+        for command in commands:
             place = command.uses["on"]
             if place.do == "createEncoder":
                 if second.rules.first_unmet(command.do, second.recording.command_rules(command, walk)) is not None:
-                    return Case(self, finish, command, walk.on[place], walk.open_pass, commands, number)
+                    return Case(self, finish, command, walk.on[place], walk.open_pass, commands)
             elif command.do == "end" and place is walk.open_pass:
                 found = self.blamed_in_pass(finish, place, walk.on[place] + [command], commands)
                 if found:
@@ -165,32 +157,31 @@ class Play:
         """The same of the commands of a pass, beside its begin."""
         passes, first_unmet = second.passes, second.rules.first_unmet
         if first_unmet(begin.do, passes.begin_rules(begin)) is not None:
-            return Case(self, finish, begin, [], None, commands, commands.index(begin) + 1)
+            return Case(self, finish, begin, [], None, commands)
         settings = passes.Settings()
         for number, command in enumerate(inside):
             if first_unmet(command.do, passes.command_rules(command, settings)) is not None:
-                return Case(self, finish, command, inside[:number], begin, commands, commands.index(command) + 1)
+                return Case(self, finish, command, inside[:number], begin, commands)
             settings.take(command)
         return None
 
 
 class Told:
-    """What is told of a fault: its cause, or None with the reason why there is none; and the command that brought it, if one did."""
+    """What is told of a fault: its cause, or None with the reason why there is none; the command that invalidated the encoder, if one did; and the
+    command that a fault of a finish is about, with its number among those of the encoder and how many these are, or None."""
 
-    def __init__(self, cause=None, why_none=None, command=None, number=None, total=None):
+    def __init__(self, cause=None, why_none=None, command=None, about=None):
         self.cause = cause
         self.why_none = why_none
         self.command = command
-        self.number = number
-        self.total = total
+        self.about = about
 
 
 class Causes:
-    """The causes of the faults of a report, by the numbers of their entries; or why there are none of any."""
+    """The causes of the faults of a report, by the numbers of their entries."""
 
-    def __init__(self, told, why_none=None):
+    def __init__(self, told):
         self.told = told
-        self.why_none = why_none
 
     def of(self, entry):
         return self.told.get(entry.number) or Told()
@@ -214,11 +205,9 @@ def of_report(data, beside):
     """The causes of the faults of a report that stands beside its script; none where it has no script, or no fault."""
     if beside.script is None or not any(entry.fault for entry in beside.report.entries):
         return Causes({})
-    if len(beside.script.calls) > MOST_CALLS:
-        return Causes({}, f"(no causes are told: the script has {len(beside.script.calls)} calls, and they are looked for in scripts of at most {MOST_CALLS})")
     play, told = Play(data, beside.script), {}
     last = max(entry.number for entry in beside.report.entries if entry.fault)
-    for entry in beside.report.entries[: last + 1] if not play.is_refused else []:
+    for entry in beside.report.entries[: last + 1] if play.turns else []:
         played = play.take(entry.lane)
         if played is None:
             break
@@ -234,6 +223,8 @@ def told_of(play, played, rule):
         return Told(why_none=f"no cause is told: the second reading of the rules finds {other} here")
     case = play.case(played)
     cause = RULES[rule](case) if rule in RULES else None
-    if not case.is_of_command:
+    about = case.played if case.is_of_command else cause.about if cause else None
+    if about is None:
         return Told(cause)
-    return Told(cause, None, play.call_of(case.call), case.number, len(case.commands))
+    call = play.call_of(about)
+    return Told(cause, None, call if case.is_of_command else None, (call, case.commands.index(about) + 1, len(case.commands)))

@@ -6,13 +6,15 @@ import bits
 class Cause:
     """Why a rule is unmet: the condition that failed, as a sentence; the values on both sides, by name; and what to do, as a sentence, or None.
 
-    `follows_from` is the entry whose fault brought this one, where it is nothing but a consequence."""
+    `follows_from` is the entry whose fault brought this one, where it is nothing but a consequence, and `about` the command that a rule of the
+    finish itself is about."""
 
-    def __init__(self, condition, values, remedy=None, follows_from=None):
+    def __init__(self, condition, values, remedy=None, follows_from=None, about=None):
         self.condition = condition
         self.values = values
         self.remedy = remedy
         self.follows_from = follows_from
+        self.about = about
 
     def text(self):
         return f"{self.condition}." + (f" {self.remedy}" if self.remedy else "")

@@ -32,7 +32,7 @@ def dropped_before(case, command):
             by = case.place(case.history.drop_of(thing))
             said = f"{case.named(thing)}, which is the {key} of the {command.do} at {case.place(command)}, was dropped at {by}, before {case.named(encoder)} was made"
             values = {"object": thing.call["as"], "key": key, "command": case.place(command), "by": by, "encoder": encoder.call["as"]}
-            return Cause(said, values, "Drop it after the encoder is made, or later.")
+            return Cause(said, values, "Drop it after the encoder is made, or later.", about=command)
     return None
 
 

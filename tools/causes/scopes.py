@@ -84,4 +84,4 @@ def clashing(case, command, part, one, other):
     said = f"{case.part(part)} is used as {one.usage} by {one.words}, and as {other.usage} by {other.words}, in the one scope of {what} at {case.place(command)}"
     values = {**case.part_values(part), "first": one.usage, "firstBy": one.at, "other": other.usage, "otherBy": other.at, "scope": case.place(command)}
     remedy = "Use them in two render passes." if command.do == "beginRenderPass" else "Use them in two dispatches, or bind both for reading alone."
-    return Cause(said, values, remedy)
+    return Cause(said, values, remedy, about=command)
