@@ -200,7 +200,7 @@ fn of_map<R: Wait>(rt: &R, device: &Device, pass: &mut DevicePass, buffer: &Hand
 
 /// After the encoder and its command buffer, which are objects 8 and 9, makes object 10, a buffer that is read by the host, which is dropped at last.
 fn of_buffer<R: Wait>(rt: &R, device: &Device, pass: &mut DevicePass) -> Option<([bool; 5], bool)>
-    requires { IsPassOf device.now.lock pass.old × (calls_of pass.old < 100) }
+    requires { IsPassOf device.now.lock pass.old × (calls_of pass.old < 90) }
     ensures { IsPassOf device.now.lock pass.new × (calls_of pass.new ≤ calls_of pass.old + 7) }
 {
     let info = BufferInfo {
@@ -238,7 +238,9 @@ type Queued = (Option<Answer>, Option<([bool; 5], bool)>, [bool; 3]);
 
 /// What makes objects, and then what is queued and settled, on one new device.
 fn answers<R: Wait>(rt: &R, alloc: Global) -> Option<((Pair, Pair), Queued)> {
-    let (device, mut passes) = Device::open(alloc, 1024, 7, 1).ok()?;
+    let Ok((device, mut passes)) = Device::open(alloc, 1024, 7, 1) else {
+        return None;
+    };
     let mut pass = passes.pop().unwrap();
     let texture = of_texture(rt, &device, &mut pass);
     let pipelines = of_pipelines(rt, alloc, &device, &mut pass);

@@ -17,14 +17,15 @@ fn count<T: Drop>(listed: Result<Vec<T>, NoMemory>) -> Option<usize> {
     }
 }
 
-/// Buffer 0 is mapped from the start, and a map of buffer 3 waits for operation 2.
-fn fill(maps: &mut Maps) -> Result<(), NoMemory> {
+/// Mappings in which buffer 0 is mapped from the start, and a map of buffer 3 waits for operation 2.
+fn filled(alloc: Global) -> Result<Maps, NoMemory> {
+    let mut maps = Maps::new(alloc);
     maps.reserve(2)?;
     maps.start_mapped(0, 32)?;
     if matches!(maps.state(3), MapState::Unmapped) {
         maps.map(3, 10, MapMode::Read, 0, 8, 2)?;
     }
-    Ok(())
+    Ok(maps)
 }
 
 /// Whether only that map is pending, as promise 10.
@@ -45,22 +46,21 @@ fn counts(maps: &Maps) -> [Option<usize>; 4] {
     ]
 }
 
-type Told = (Result<(), NoMemory>, bool, [Option<usize>; 4], Unmapped);
+type Told = (bool, [Option<usize>; 4], Unmapped);
 
 /// All of these, and what an unmap of buffer 0 tells, of mappings that are dropped here.
-fn of_maps(alloc: Global) -> Told {
-    let mut maps = Maps::new(alloc);
-    let filled = fill(&mut maps);
+fn of_maps(alloc: Global) -> Result<Told, NoMemory> {
+    let mut maps = filled(alloc)?;
     let pending = is_pending(&maps);
     let counts = counts(&maps);
-    (filled, pending, counts, maps.unmap(0))
+    Ok((pending, counts, maps.unmap(0)))
 }
 
 /// Each call on the mappings of buffers that takes memory, once.
 #[test]
 fn maps_wait_and_are_kept(rt: HostRuntime) {
     let counts = [Some(0), Some(1), Some(1), Some(0)];
-    assert!(rt; of_maps(rt.alloc()) == (Ok(()), true, counts, Unmapped::Written(0, 32)));
+    assert!(rt; of_maps(rt.alloc()) == Ok((true, counts, Unmapped::Written(0, 32))));
 }
 
 /// Whether a host step reads just these bytes.

@@ -36,12 +36,12 @@ type Acts = (Result<u64, u64>, Result<u64, u64>, Result<u64, u64>);
 /// The answers of a counter to a call of the first caller, to one more of it, and to one of the second; and then
 /// the number and the calls of both.
 fn acts<R: Wait>(rt: &R, alloc: Global, limit: usize) -> Option<(Acts, [(u32, u64); 2])> {
-    let (lock, mut passes) = TurnLock::open(alloc, counter(alloc, limit), 2).ok()?;
-    let a = lock.act(rt, &mut passes[0], 10);
-    let b = lock.act(rt, &mut passes[0], 20);
-    let c = lock.act(rt, &mut passes[1], 30);
-    let first = (passes[0].number(), passes[0].calls());
-    let second = (passes[1].number(), passes[1].calls());
+    let (lock, _, mut one, mut other) = opened(alloc, limit)?;
+    let a = lock.act(rt, &mut one, 10);
+    let b = lock.act(rt, &mut one, 20);
+    let c = lock.act(rt, &mut other, 30);
+    let first = (one.number(), one.calls());
+    let second = (other.number(), other.calls());
     Some(((plain(a), plain(b), plain(c)), [first, second]))
 }
 
@@ -81,6 +81,7 @@ fn told<R: Wait>(
 /// A lock with its two passes, and the list that had them.
 fn opened(
     alloc: Global,
+    limit: usize,
 ) -> Option<
     (
         TurnLock<Counter>,
@@ -96,7 +97,7 @@ fn opened(
     ensures second { IfSome result (λ t.
         IsPassOf t.0 t.3 × (number_of t.3 ≡ 1) × (calls_of t.3 ≡ 0)) }
 {
-    let (lock, mut passes) = TurnLock::open(alloc, counter(alloc, usize::MAX), 2).ok()?;
+    let (lock, mut passes) = TurnLock::open(alloc, counter(alloc, limit), 2).ok()?;
     let second = passes.pop().unwrap();
     let first = passes.pop().unwrap();
     Some((lock, passes, first, second))
@@ -106,7 +107,7 @@ fn opened(
 fn closed_after<R: Wait>(rt: &R, alloc: Global) -> Option<Closed<Counter>>
     ensures { IfSome result (λ c. passes_of c ≡ 2) }
 {
-    let (lock, mut passes, mut first, mut second) = opened(alloc)?;
+    let (lock, mut passes, mut first, mut second) = opened(alloc, usize::MAX)?;
     if !told(rt, &lock, &mut first, &mut second) {
         return None;
     }
@@ -171,7 +172,7 @@ fn lane<R: Wait>(
 fn by_threads<R: Threads + Wait + Sync>(rt: &R, alloc: Global) -> Option<Closed<Counter>>
     ensures { IfSome result (λ c. passes_of c ≡ 2) }
 {
-    let (lock, mut passes, first, second) = opened(alloc)?;
+    let (lock, mut passes, first, second) = opened(alloc, usize::MAX)?;
     let shared = &lock;
     let (first, second) = thread::join(
         rt,
