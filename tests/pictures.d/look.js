@@ -84,7 +84,7 @@ function columnsOf(piece) {
 function inPlace(window) {
   const found = [];
   for (const piece of shown(window, ".piece")) {
-    const rectangles = new Map([...piece.querySelectorAll(".bar, .box, .free")].map((mark) => [mark, mark.getBoundingClientRect()]).filter(([, at]) => at.width > 0));
+    const rectangles = new Map([...piece.querySelectorAll(".bar, .box, .free")].filter((mark) => !isFolded(mark)).map((mark) => [mark, mark.getBoundingClientRect()]).filter(([, at]) => at.width > 0));
     const labels = [...piece.querySelectorAll(".label")].map((label) => ({ name: label.querySelector("button").textContent, rectangle: label.getBoundingClientRect() }));
     for (const { head, left, right } of columnsOf(piece)) {
       for (const cell of head.parentElement.querySelectorAll(".cell")) {
