@@ -6,12 +6,13 @@ from .making import Cause, rule
 
 
 class Use:
-    """A use of a part in a scope: the usage, the words that tell of what it comes, and the place of the command."""
+    """A use of a part in a scope: the usage, the words that tell of what it comes, and the command with its place."""
 
-    def __init__(self, usage, words, at):
+    def __init__(self, case, usage, words, command):
         self.usage = usage
         self.words = words
-        self.at = at
+        self.command = command
+        self.at = case.place(command)
 
 
 def of_setting(case, setting):
@@ -20,14 +21,14 @@ def of_setting(case, setting):
     for asked, entry, thing, move in case.second.bound_groups.bindings(group, setting.call["offsets"]):
         words = f"binding {entry['binding']} of {case.named(group)}, set at {case.place(setting)}"
         touches = case.second.bound_groups.touches_of(asked, entry, thing, move)
-        found += [(cell, Use(usage, words, case.place(setting))) for cell, usage, _ in touches]
+        found += [(cell, Use(case, usage, words, setting)) for cell, usage, _ in touches]
     return found
 
 
 def of_command(case, command):
     """What a setVertexBuffer, a setIndexBuffer or an indirect command brings."""
     touches = case.second.draws.touches_of_range(command) + case.second.draws.touches_of_indirect(command)
-    return [(cell, Use(usage, f"the {command.do} at {case.place(command)}", case.place(command))) for cell, usage, _ in touches]
+    return [(cell, Use(case, usage, f"the {command.do} at {case.place(command)}", command)) for cell, usage, _ in touches]
 
 
 def of_attachments(case, begin):
@@ -38,10 +39,10 @@ def of_attachments(case, begin):
         for touch_view, words in ((view, "a color"), (resolve, "a resolve view")):
             if touch_view is not None:
                 touches = attachments.touches_of_view(touch_view, "attachment", None)
-                found += [(cell, Use(usage, f"{case.named(touch_view)}, attached as {words} at {at}", at)) for cell, usage, _ in touches]
+                found += [(cell, Use(case, usage, f"{case.named(touch_view)}, attached as {words} at {at}", begin)) for cell, usage, _ in touches]
     for view in attachments.depth_of(begin):
         touches = attachments.touches_of_depth(begin.call["depth"], view)
-        found += [(cell, Use(usage, f"{case.named(view)}, attached as depth at {at}", at)) for cell, usage, _ in touches]
+        found += [(cell, Use(case, usage, f"{case.named(view)}, attached as depth at {at}", begin)) for cell, usage, _ in touches]
     return found
 
 
@@ -66,6 +67,15 @@ def clash(case, uses):
     return next(((one, other) for other in uses if other.usage != one.usage and not {one.usage, other.usage} <= together), None)
 
 
+def brought_by(case, command, uses):
+    """The command with which a scope is no longer compatible: of a render pass that of the first use that clashes with one before it."""
+    first = {}
+    for cell, use in uses if command.do == "beginRenderPass" else []:
+        if clash(case, [first.setdefault(case.second.cells.part_of(cell), use), use]):
+            return use.command
+    return command
+
+
 @rule(184)
 def scope(case):
     for command, uses in scopes_of(case):
@@ -75,13 +85,13 @@ def scope(case):
         for part in sorted(parts):
             pair = clash(case, parts[part])
             if pair:
-                return clashing(case, command, part, *pair)
+                return clashing(case, command, part, *pair, brought_by(case, command, uses))
     return None
 
 
-def clashing(case, command, part, one, other):
+def clashing(case, command, part, one, other, about):
     what = "the render pass" if command.do == "beginRenderPass" else f"the {command.do}"
     said = f"{case.part(part)} is used as {one.usage} by {one.words}, and as {other.usage} by {other.words}, in the one scope of {what} at {case.place(command)}"
     values = {**case.part_values(part), "first": one.usage, "firstBy": one.at, "other": other.usage, "otherBy": other.at, "scope": case.place(command)}
     remedy = "Use them in two render passes." if command.do == "beginRenderPass" else "Use them in two dispatches, or bind both for reading alone."
-    return Cause(said, values, remedy, about=command)
+    return Cause(said, values, remedy, about=about)
