@@ -112,7 +112,7 @@ def build():
         raise ends.End(ends.NOT_BUILT, NEEDS_RT.format("prove and build the program"))
     sources, start, at_once = sum_of_sources(), time.monotonic(), jobs()
     why = "its sources have changed since it was built" if PROGRAM.exists() else "it is not built yet"
-    say(f"the program is proved and built, since {why}; {count(at_once, 'crate')} at a time")
+    say(f"proving and building the program, since {why}; {count(at_once, 'crate')} at a time")
     say(f"from nothing that takes {from_nothing()}, by a table; what was proved before is kept, and the estimate goes by this run")
     say("first the toolchain looks through all sources, which prints nothing")
     said = prove(at_once, start)
