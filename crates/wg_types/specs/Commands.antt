@@ -1,5 +1,6 @@
 -- Where commands may stand, which begin and end a pass, and the objects that they name.
-use Rattle.std.specs.Prelude.{Bool, true, false, List, [], ◌∷◌, map, Option, Some, None}
+use Rattle.std.specs.Prelude.{ℕ, Bool, true, false, List, [], ◌∷◌, map, Option, Some, None}
+use Rattle.std.specs.List.{list_any}
 use Rattle.wg_types.specs.Handles.{HandleValue}
 use Rattle.wg_types.specs.Render.{targets_named, map_begin}
 pub use Rattle.wg_types.specs.Refs.{first_of, all_wanted}
@@ -7,7 +8,8 @@ use Rattle.wg_types.specs.declared.wanted.Wanted.{Wanted}
 use Rattle.wg_types.specs.declared.wanted.Wanted.TheVariants as wanted
 use Rattle.wg_types.specs.declared.wanted.Kind.{Kind}
 use Rattle.wg_types.specs.declared.wanted.Kind.TheVariants as kind
-use Rattle.wg_types.specs.Wanted.{within}
+use Rattle.wg_types.specs.Wanted.{is_wanted, within}
+use Rattle.wg_types.specs.declared.vertex.IndexFormat.{IndexFormat}
 use Rattle.wg_types.specs.declared.render.RenderBeginOf.{RenderBeginOf}
 pub use Rattle.wg_types.specs.declared.commands.CommandOf.{CommandOf}
 use Rattle.wg_types.specs.declared.commands.CommandOf.TheVariants.{BeginComputePass, BeginRenderPass, CopyBufferToBuffer, CopyBufferToTexture, CopyTextureToBuffer, CopyTextureToTexture, ClearBuffer, PushDebugGroup, PopDebugGroup, End, SetPipeline, SetBindGroup, Dispatch, DispatchIndirect, SetVertexBuffer, SetIndexBuffer, Draw, DrawIndexed, DrawIndirect, DrawIndexedIndirect}
@@ -20,20 +22,17 @@ use Rattle.wg_types.specs.declared.commands.CommandPlace.TheVariants.{Encoder, C
 abbrev pub Command : Type 0
 Command = CommandOf HandleValue
 
--- whether what a command asks of what it stands on is met by a place of a kind: debug groups stand anywhere, an end on a pass,
--- what sets pipelines and groups on passes and bundle encoders, what draws on render passes and these
+-- what a place of a kind is to the commands that stand on it: debug groups stand anywhere, an end on a pass, what sets pipelines
+-- and groups on passes and bundle encoders, what draws on render passes and these
+abbrev pub serves_at : CommandPlace → List Wanted
+serves_at Encoder = wanted.Encoder ∷ wanted.Recording ∷ []
+serves_at ComputePass = wanted.ComputePass ∷ wanted.Pass ∷ wanted.Binding ∷ wanted.Recording ∷ []
+serves_at RenderPass = wanted.Pass ∷ wanted.Binding ∷ wanted.Drawing ∷ wanted.Recording ∷ []
+serves_at Bundle = wanted.Binding ∷ wanted.Drawing ∷ wanted.Recording ∷ []
+
+-- whether what a command asks of what it stands on is met by a place of a kind
 abbrev pub stands : Wanted → CommandPlace → Bool
-stands wanted.Encoder Encoder = true
-stands wanted.ComputePass ComputePass = true
-stands wanted.Pass ComputePass = true
-stands wanted.Pass RenderPass = true
-stands wanted.Binding ComputePass = true
-stands wanted.Binding RenderPass = true
-stands wanted.Binding Bundle = true
-stands wanted.Drawing RenderPass = true
-stands wanted.Drawing Bundle = true
-stands wanted.Recording _ = true
-stands _ _ = false
+stands asked place = list_any (is_wanted asked) (serves_at place)
 
 -- what a command asks of what it stands on, where that has a name
 abbrev pub place_wanted : {R : Type 0} → CommandOf R → Wanted
@@ -121,28 +120,61 @@ ends_pass_by brackets.Neither = false
 abbrev pub is_end : {R : Type 0} → CommandOf R → Bool
 is_end command = ends_pass_by (bracket command)
 
+-- What a command sets for those that come after it in the same pass.
+pub data Setting (R : Type 0) : Type 0 where
+  pipeline : (pipeline : R) → Setting R
+  group : (index : ℕ) (group : R) (offsets : List ℕ) → Setting R
+  vertex_buffer : (slot : ℕ) (buffer : R) (offset : ℕ) (size : Option ℕ) → Setting R
+  index_buffer : (buffer : R) (format : IndexFormat) (offset : ℕ) (size : Option ℕ) → Setting R
+
+-- What a command dispatches or draws.
+pub data Running (R : Type 0) : Type 0 where
+  dispatch : (x y z : ℕ) → Running R
+  dispatch_indirect : (buffer : R) (offset : ℕ) → Running R
+  draw : (vertices instances first_vertex first_instance : ℕ) → Running R
+  draw_indexed : (indices instances first_index first_instance : ℕ) → Running R
+  draw_indirect : (buffer : R) (offset : ℕ) → Running R
+  draw_indexed_indirect : (buffer : R) (offset : ℕ) → Running R
+
+-- What a command is to the pass that it begins or on which it stands: what the render pass begins with, something that is set,
+-- or something that is dispatched or drawn.
+pub data Act (R : Type 0) : Type 0 where
+  begins : (begin : RenderBeginOf R) → Act R
+  sets : (setting : Setting R) → Act R
+  runs : (running : Running R) → Act R
+  neither : Act R
+
+abbrev pub act : {R : Type 0} → CommandOf R → Act R
+act BeginComputePass = neither
+act (BeginRenderPass begin) = begins begin
+act (CopyBufferToBuffer source source_offset target target_offset size) = neither
+act (CopyBufferToTexture buffer layout texture spot size) = neither
+act (CopyTextureToBuffer buffer layout texture spot size) = neither
+act (CopyTextureToTexture source source_mip source_origin target target_mip target_origin size) = neither
+act (ClearBuffer buffer offset size) = neither
+act PushDebugGroup = neither
+act PopDebugGroup = neither
+act End = neither
+act (SetPipeline object) = sets (pipeline object)
+act (SetBindGroup index object offsets) = sets (group index object offsets)
+act (Dispatch x y z) = runs (dispatch x y z)
+act (DispatchIndirect buffer offset) = runs (dispatch_indirect buffer offset)
+act (SetVertexBuffer slot buffer offset size) = sets (vertex_buffer slot buffer offset size)
+act (SetIndexBuffer buffer format offset size) = sets (index_buffer buffer format offset size)
+act (Draw vertices instances first_vertex first_instance) = runs (draw vertices instances first_vertex first_instance)
+act (DrawIndexed indices instances first_index first_instance) = runs (draw_indexed indices instances first_index first_instance)
+act (DrawIndirect buffer offset) = runs (draw_indirect buffer offset)
+act (DrawIndexedIndirect buffer offset) = runs (draw_indexed_indirect buffer offset)
+
 -- what the render pass begins with that a command begins, if it begins one
+abbrev pub begun_by : {R : Type 0} → Act R → Option (RenderBeginOf R)
+begun_by (begins begin) = Some begin
+begun_by (sets setting) = None
+begun_by (runs running) = None
+begun_by neither = None
+
 abbrev pub render_begun : {R : Type 0} → CommandOf R → Option (RenderBeginOf R)
-render_begun BeginComputePass = None
-render_begun (BeginRenderPass begin) = Some begin
-render_begun (CopyBufferToBuffer source source_offset target target_offset size) = None
-render_begun (CopyBufferToTexture buffer layout texture spot size) = None
-render_begun (CopyTextureToBuffer buffer layout texture spot size) = None
-render_begun (CopyTextureToTexture source source_mip source_origin target target_mip target_origin size) = None
-render_begun (ClearBuffer buffer offset size) = None
-render_begun PushDebugGroup = None
-render_begun PopDebugGroup = None
-render_begun End = None
-render_begun (SetPipeline pipeline) = None
-render_begun (SetBindGroup index group offsets) = None
-render_begun (Dispatch x y z) = None
-render_begun (DispatchIndirect buffer offset) = None
-render_begun (SetVertexBuffer slot buffer offset size) = None
-render_begun (SetIndexBuffer buffer format offset size) = None
-render_begun (Draw vertices instances first_vertex first_instance) = None
-render_begun (DrawIndexed indices instances first_index first_instance) = None
-render_begun (DrawIndirect buffer offset) = None
-render_begun (DrawIndexedIndirect buffer offset) = None
+render_begun command = begun_by (act command)
 
 -- the objects that a command names, in the order of its keys, with what is wanted of each
 abbrev pub named : {R : Type 0} → CommandOf R → List (R × Wanted)

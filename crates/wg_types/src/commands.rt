@@ -273,25 +273,7 @@ impl<R> CommandOf<R> {
     {
         match self {
             CommandOf::BeginRenderPass { begin } => Some(begin),
-            CommandOf::BeginComputePass
-            | CommandOf::CopyBufferToBuffer { .. }
-            | CommandOf::CopyBufferToTexture { .. }
-            | CommandOf::CopyTextureToBuffer { .. }
-            | CommandOf::CopyTextureToTexture { .. }
-            | CommandOf::ClearBuffer { .. }
-            | CommandOf::PushDebugGroup
-            | CommandOf::PopDebugGroup
-            | CommandOf::End
-            | CommandOf::SetPipeline { .. }
-            | CommandOf::SetBindGroup { .. }
-            | CommandOf::Dispatch { .. }
-            | CommandOf::DispatchIndirect { .. }
-            | CommandOf::SetVertexBuffer { .. }
-            | CommandOf::SetIndexBuffer { .. }
-            | CommandOf::Draw { .. }
-            | CommandOf::DrawIndexed { .. }
-            | CommandOf::DrawIndirect { .. }
-            | CommandOf::DrawIndexedIndirect { .. } => None,
+            _ => None,
         }
     }
 
