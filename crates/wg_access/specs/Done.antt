@@ -1,7 +1,7 @@
 -- What the kept commands of a recorder have done: the finished steps, and the least clashing part of the first usage scope
 -- that has one.
 use Rattle.std.specs.Prelude.{[], ◌∷◌, ◌++◌, Option, Some, None}
-use Rattle.wg_model.specs.Rules.{or_else}
+use Rattle.std.specs.Option.{option_or}
 use Rattle.wg_model.specs.Touches.{Doing, uses_in, deed_of}
 use Rattle.wg_model.specs.Scopes.{clash, first_clash}
 use Rattle.wg_model.specs.Walk.{Kept, scopes_of, deeds}
@@ -15,7 +15,7 @@ done_by_encoder done (Some doing) = record done { deeds = done.deeds ++ deed_of 
 -- what a command of a pass does is a step, whose uses are a usage scope
 abbrev pub done_by_pass : Done → Option Doing → Done
 done_by_pass done None = done
-done_by_pass done (Some doing) = record { clash = or_else done.clash (clash (uses_in doing)); deeds = done.deeds ++ deed_of doing ∷ [] }
+done_by_pass done (Some doing) = record { clash = option_or done.clash (clash (uses_in doing)); deeds = done.deeds ++ deed_of doing ∷ [] }
 
 -- what the kept commands have done
 abbrev pub done_of : Kept → Done

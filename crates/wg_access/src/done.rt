@@ -1,6 +1,6 @@
 //! What the kept commands of a recorder have done.
 ghost use Rattle.std.specs.Prelude.{◌≡◌, Some, None, is_some, true, [], OnOk, OnErr};
-ghost use Rattle.wg_model.specs.Rules.{or_else};
+ghost use Rattle.std.specs.Option.{option_or};
 ghost use Rattle.wg_model.specs.Touches.{Doing, deed_of, encoder_does};
 ghost use Rattle.wg_access.specs.Done.{done_by_encoder, done_by_pass, done_of};
 
@@ -24,7 +24,7 @@ pub struct Done {
 
 /// The first of two parts.
 fn first_part(a: Option<Part>, b: Option<Part>) -> Option<Part>
-    ensures { result ≡ or_else a b }
+    ensures { result ≡ option_or a b }
 {
     if let Some(part) = a {
         return Some(part);

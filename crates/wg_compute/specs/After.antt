@@ -1,7 +1,7 @@
 -- What a command does to what is set in a pass.
 use Rattle.std.specs.Prelude.{ℕ, ◌+◌, List, [], ◌∷◌, Option}
+use Rattle.std.specs.Option.{option_or}
 use Rattle.wg_types.specs.Commands.{Command}
-use Rattle.wg_model.specs.Rules.{or_else}
 use Rattle.wg_model.specs.Settings.{Settings, pipeline_given, slot_after, group_given, depth_after}
 
 -- what stands in slots after one more command, which may put something into a slot; the first of them has this number
@@ -13,7 +13,7 @@ slots_after given at (slot ∷ slots) = slot_after given at slot ∷ slots_after
 abbrev pub settings_after : Settings → Command → Settings
 settings_after set command =
     record {
-      pipeline = or_else (pipeline_given command) set.pipeline;
+      pipeline = option_or (pipeline_given command) set.pipeline;
       groups = slots_after (group_given command) 0 set.groups;
       depth = depth_after set.depth command;
     }

@@ -1,6 +1,7 @@
 //! What is set in any pass.
 ghost use Rattle.std.specs.Prelude.{◌≡◌, option_copied, IfOk, OnOk, OnErr};
-ghost use Rattle.wg_model.specs.Rules.{first_unmet, or_else};
+ghost use Rattle.std.specs.Option.{option_or};
+ghost use Rattle.wg_model.specs.Rules.{first_unmet};
 ghost use Rattle.wg_model.specs.Settings.{layouts_set, ready_rules};
 ghost use Rattle.wg_compute.specs.After.{slots_after, settings_after};
 
@@ -91,7 +92,7 @@ impl Settings {
     }
 
     fn set_pipeline(&mut self, given: Option<Handle>)
-        ensures { self.new ≡ record self.old { pipeline = or_else given self.old.pipeline } }
+        ensures { self.new ≡ record self.old { pipeline = option_or given self.old.pipeline } }
     {
         if let Some(pipeline) = given {
             self.pipeline = Some(pipeline);

@@ -1,6 +1,7 @@
 //! Compute passes: the rules of their commands, and what these do.
 ghost use Rattle.std.specs.Prelude.{◌≡◌, ◌∷◌, ◌++◌, [], IfOk, OnOk, OnErr};
-ghost use Rattle.wg_model.specs.Rules.{first_unmet, or_else};
+ghost use Rattle.std.specs.Option.{option_or};
+ghost use Rattle.wg_model.specs.Rules.{first_unmet};
 ghost use Rattle.wg_model.specs.Settings.{ready_rules, indirect_touch};
 ghost use Rattle.wg_model.specs.Compute.{dispatch_rules, compute_rules, dispatch_touches, compute_does};
 ghost use Rattle.wg_access.specs.Done.{done_by_pass};
@@ -52,7 +53,7 @@ impl ComputeState {
 
     /// The first unmet rule of a dispatch, of which this is the rule of what it is given.
     fn ready_rule(&self, own: Option<u16>) -> Option<u16>
-        ensures { result ≡ or_else (first_unmet (ready_rules self.now)) own }
+        ensures { result ≡ option_or (first_unmet (ready_rules self.now)) own }
     {
         if let Some(rule) = self.set.ready_rule() {
             return Some(rule);

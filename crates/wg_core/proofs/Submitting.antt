@@ -1,8 +1,9 @@
 -- The first unmet rule of a submit, over the list of what its command buffers use.
 use Rattle.std.proofs.Common.{◌≡◌, ℕ, true, false, not, List, [], ◌∷◌, Option, None, sym, ap, ap₂, ◌∙◌}
 use Rattle.std.specs.List.{list_any}
+use Rattle.std.specs.Option.{option_or}
 use Rattle.wg_types.specs.declared.handles.ObjRef.{ObjRef}
-use Rattle.wg_model.specs.Rules.{first_unmet, or_else}
+use Rattle.wg_model.specs.Rules.{first_unmet}
 use Rattle.wg_model.specs.Recorded.{buffers_of, textures_of}
 use Rattle.wg_model.proofs.Unmet.{first_unmet_joined}
 use Rattle.wg_history.specs.declared.events.Setup.{Setup}
@@ -21,5 +22,5 @@ unfolding submit_rule
 submit_found setup past buffers uses rule listed consumed distinct uses_is rule_is =
     rule_is ∙ (ap (λ us. first_unmet (use_rules setup past us)) uses_is ∙ (uses_rules setup past buffers ∙ sym (
     first_unmet_joined (listed_rules setup past buffers) (together_rules setup past buffers)
-    ∙ (ap (λ o. or_else o (first_unmet (together_rules setup past buffers))) (sym listed)
+    ∙ (ap (λ o. option_or o (first_unmet (together_rules setup past buffers))) (sym listed)
     ∙ ap₂ (λ a b. first_unmet ((190, not a) ∷ ((191, b) ∷ ((192, not (any_used buffers_of (is_busy setup past) past buffers)) ∷ ((193, not (any_used textures_of (is_destroyed setup past) past buffers)) ∷ []))))) consumed distinct))))

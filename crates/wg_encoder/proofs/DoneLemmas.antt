@@ -1,25 +1,24 @@
 -- What is done after one more command.
 use Rattle.std.proofs.Common.{◌≡◌, List, [], ◌∷◌, ◌++◌, map, Option, Some, None, refl, ap, ap₂, sym, ◌∙◌, append-nil}
-use Rattle.std.specs.Option.{option_to_list}
+use Rattle.std.specs.Option.{option_to_list, option_or}
 use Rattle.wg_types.specs.declared.steps.Deed.{Deed}
 use Rattle.wg_types.specs.declared.parts.Part.{Part}
-use Rattle.wg_model.specs.Rules.{or_else}
 use Rattle.wg_model.specs.Touches.{Doing, uses_in, deed_of}
 use Rattle.wg_model.specs.Scopes.{Use, clash, first_clash}
 use Rattle.wg_access.specs.declared.done.Done.{Done}
 use Rattle.wg_access.specs.Done.{done_by_encoder, done_by_pass}
 
-or_assoc : {X : Type 0} (a b c : Option X) → or_else (or_else a b) c ≡ or_else a (or_else b c)
+or_assoc : {X : Type 0} (a b c : Option X) → option_or (option_or a b) c ≡ option_or a (option_or b c)
 or_assoc None b c = refl
 or_assoc (Some x) b c = refl
 
-pub or_none : {X : Type 0} (a : Option X) → or_else a None ≡ a
+pub or_none : {X : Type 0} (a : Option X) → option_or a None ≡ a
 or_none None = refl
 or_none (Some x) = refl
 
-first_clash-append : (xs ys : List (List Use)) → first_clash (xs ++ ys) ≡ or_else (first_clash xs) (first_clash ys)
+first_clash-append : (xs ys : List (List Use)) → first_clash (xs ++ ys) ≡ option_or (first_clash xs) (first_clash ys)
 first_clash-append [] ys = refl
-first_clash-append (x ∷ xs) ys = ap (λ r. or_else (clash x) r) (first_clash-append xs ys) ∙ sym (or_assoc (clash x) (first_clash xs) (first_clash ys))
+first_clash-append (x ∷ xs) ys = ap (λ r. option_or (clash x) r) (first_clash-append xs ys) ∙ sym (or_assoc (clash x) (first_clash xs) (first_clash ys))
 
 map-append : {X Y : Type 0} (f : X → Y) (xs ys : List X) → map f (xs ++ ys) ≡ map f xs ++ map f ys
 map-append f [] ys = refl
@@ -38,4 +37,4 @@ after_encoder scopes done (Some doing) = ap₂ done_with (ap first_clash (append
 
 pub after_pass : (scopes : List (List Use)) (done : List Doing) (doing : Option Doing) → done_with (first_clash (scopes ++ map uses_in (option_to_list doing))) (map deed_of (done ++ option_to_list doing)) ≡ done_by_pass (done_with (first_clash scopes) (map deed_of done)) doing
 after_pass scopes done None = after_nothing scopes done
-after_pass scopes done (Some doing) = ap₂ done_with (first_clash-append scopes (uses_in doing ∷ []) ∙ ap (or_else (first_clash scopes)) (or_none (clash (uses_in doing)))) (map-append deed_of done (doing ∷ []))
+after_pass scopes done (Some doing) = ap₂ done_with (first_clash-append scopes (uses_in doing ∷ []) ∙ ap (option_or (first_clash scopes)) (or_none (clash (uses_in doing)))) (map-append deed_of done (doing ∷ []))

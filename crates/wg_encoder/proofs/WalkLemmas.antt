@@ -12,10 +12,10 @@ use Rattle.wg_types.specs.declared.commands.On.TheVariants.{Encoder, Pass}
 use Rattle.wg_types.specs.declared.commands.CommandOf.TheVariants.{BeginComputePass, BeginRenderPass}
 use Rattle.wg_model.proofs.Walks.{ended_new, open_number_below}
 use Rattle.wg_types.specs.Commands.{is_begin, is_end}
-use Rattle.wg_model.specs.Rules.{or_else, first_unmet}
+use Rattle.wg_model.specs.Rules.{first_unmet}
 use Rattle.wg_model.specs.Commands.{command_rules}
 use Rattle.wg_model.specs.Settings.{depth_after}
-use Rattle.std.specs.Option.{option_to_list}
+use Rattle.std.specs.Option.{option_to_list, option_or}
 use Rattle.wg_model.specs.Touches.{uses_in, deed_of, encoder_does}
 use Rattle.wg_model.specs.Scopes.{first_clash}
 use Rattle.wg_model.specs.Walk.{Kept, PassSoFar, pass_rule, pass_does, begins, open_pass, is_open, has_ended, encoder_depth, verdict, doings, deeds, scopes_of}
@@ -27,11 +27,11 @@ use Rattle.wg_encoder.specs.declared.walk.Walk.{Walk}
 use Rattle.wg_encoder.specs.declared.walk.Opened.{Opened}
 
 -- of two that are none, both are
-or_first : {X : Type 0} (a b : Option X) → or_else a b ≡ None → a ≡ None
+or_first : {X : Type 0} (a b : Option X) → option_or a b ≡ None → a ≡ None
 or_first None b h = refl
 or_first (Some x) b h = h
 
-or_second : {X : Type 0} (a b : Option X) → or_else a b ≡ None → b ≡ None
+or_second : {X : Type 0} (a b : Option X) → option_or a b ≡ None → b ≡ None
 or_second None b h = h
 or_second (Some x) b h = absurd (cc)
 
@@ -62,31 +62,31 @@ none_is None h = refl
 none_is (Some q) h = absurd (cc)
 
 -- a command on a locked encoder that begins no pass
-locked : (device : ℕ) (kept : Kept) (opened : PassSoFar) (command : Command) (walk : Walk) → IsWalkOf device kept walk → open_pass kept ≡ Some opened → is_begin command ≡ false → IsWalkOf device ((Encoder, command) ∷ kept) (record walk { verdict = or_else walk.verdict (Some 240) })
+locked : (device : ℕ) (kept : Kept) (opened : PassSoFar) (command : Command) (walk : Walk) → IsWalkOf device kept walk → open_pass kept ≡ Some opened → is_begin command ≡ false → IsWalkOf device ((Encoder, command) ∷ kept) (record walk { verdict = option_or walk.verdict (Some 240) })
 locked device kept opened command walk m e b = record {
   count = rw b m.count;
   ended_is = λ n lt. m.ended_is n (rw b at lt);
-  verdict_is = rw e (ap (λ v. or_else v (Some 240)) m.verdict_is);
+  verdict_is = rw e (ap (λ v. option_or v (Some 240)) m.verdict_is);
   depth_is = rw e m.depth_is;
   open_is = let o = m.open_is in rw e (rw e at o);
   done_is = λ v r. let w = or_second (verdict device kept) _ v in absurd (let x = rw e at w in cc);
 }
 
 -- a dead pass: one that is begun on a locked encoder
-dead_begun : (device : ℕ) (kept : Kept) (opened : PassSoFar) (command : Command) (walk : Walk) → IsWalkOf device kept walk → open_pass kept ≡ Some opened → is_begin command ≡ true → IsWalkOf device ((Encoder, command) ∷ kept) (record walk { verdict = or_else walk.verdict (Some 240); ended = walk.ended ++ false ∷ [] })
+dead_begun : (device : ℕ) (kept : Kept) (opened : PassSoFar) (command : Command) (walk : Walk) → IsWalkOf device kept walk → open_pass kept ≡ Some opened → is_begin command ≡ true → IsWalkOf device ((Encoder, command) ∷ kept) (record walk { verdict = option_or walk.verdict (Some 240); ended = walk.ended ++ false ∷ [] })
 dead_begun device kept opened command walk m e b = record {
   count = rw b (length-append walk.ended (false ∷ []) ∙ omega (arith, m.count));
   ended_is = λ n lt. at_push walk.ended (begins kept) n (has_ended kept) m.count m.ended_is (ended_new kept) (rw b at lt);
-  verdict_is = rw e (ap (λ v. or_else v (Some 240)) m.verdict_is);
+  verdict_is = rw e (ap (λ v. option_or v (Some 240)) m.verdict_is);
   depth_is = rw e m.depth_is;
   open_is = let o = m.open_is in rw e (rw e at o);
   done_is = λ v r. let w = or_second (verdict device kept) _ v in absurd (let x = rw e at w in cc);
 }
 
-pub walk_locked : (device : ℕ) (kept : Kept) (command : Command) (walk : Walk) → IsWalkOf device kept walk → is_some (open_pass kept) ≡ true → is_begin command ≡ false → IsWalkOf device ((Encoder, command) ∷ kept) (record walk { verdict = or_else walk.verdict (Some 240) })
+pub walk_locked : (device : ℕ) (kept : Kept) (command : Command) (walk : Walk) → IsWalkOf device kept walk → is_some (open_pass kept) ≡ true → is_begin command ≡ false → IsWalkOf device ((Encoder, command) ∷ kept) (record walk { verdict = option_or walk.verdict (Some 240) })
 walk_locked device kept command walk m l b = let q = some_is (open_pass kept) l in locked device kept q.0 command walk m q.1 b
 
-pub walk_dead_begun : (device : ℕ) (kept : Kept) (command : Command) (walk : Walk) → IsWalkOf device kept walk → is_some (open_pass kept) ≡ true → is_begin command ≡ true → IsWalkOf device ((Encoder, command) ∷ kept) (record walk { verdict = or_else walk.verdict (Some 240); ended = walk.ended ++ false ∷ [] })
+pub walk_dead_begun : (device : ℕ) (kept : Kept) (command : Command) (walk : Walk) → IsWalkOf device kept walk → is_some (open_pass kept) ≡ true → is_begin command ≡ true → IsWalkOf device ((Encoder, command) ∷ kept) (record walk { verdict = option_or walk.verdict (Some 240); ended = walk.ended ++ false ∷ [] })
 walk_dead_begun device kept command walk m l b = let q = some_is (open_pass kept) l in dead_begun device kept q.0 command walk m q.1 b
 
 -- a begin has no rule of the encoder, and leaves its debug groups
@@ -114,7 +114,7 @@ begun device kept command walk opened m e b n s = record {
 
 -- a command on an unlocked encoder that begins no pass
 abbrev NextVerdict : ℕ → Walk → Command → Option ℕ
-NextVerdict device walk command = or_else walk.verdict (first_unmet (command_rules device walk.depth command))
+NextVerdict device walk command = option_or walk.verdict (first_unmet (command_rules device walk.depth command))
 
 command_free : (device : ℕ) (kept : Kept) (command : Command) (walk : Walk) (done : Done) → IsWalkOf device kept walk → open_pass kept ≡ None → is_begin command ≡ false → (NextVerdict device walk command ≡ None → done ≡ done_by_encoder walk.done (encoder_does command)) → IsWalkOf device ((Encoder, command) ∷ kept) (record walk { done = done; verdict = NextVerdict device walk command; depth = depth_after walk.depth command })
 command_free device kept command walk done m e b d = record {
@@ -132,7 +132,7 @@ command_free device kept command walk done m e b d = record {
 pub walk_begun : (device : ℕ) (kept : Kept) (command : Command) (walk : Walk) (opened : Opened) → IsWalkOf device kept walk → is_some (open_pass kept) ≡ false → is_begin command ≡ true → opened.number ≡ begins kept → IsStateOf device command [] opened.state → IsWalkOf device ((Encoder, command) ∷ kept) (record walk { ended = walk.ended ++ false ∷ []; opened = Some opened })
 walk_begun device kept command walk opened m f b n s = begun device kept command walk opened m (none_is (open_pass kept) f) b n s
 
-pub walk_command : (device : ℕ) (kept : Kept) (command : Command) (walk : Walk) (done : Done) → IsWalkOf device kept walk → is_some (open_pass kept) ≡ false → is_begin command ≡ false → (or_else walk.verdict (first_unmet (command_rules device walk.depth command)) ≡ None → done ≡ done_by_encoder walk.done (encoder_does command)) → IsWalkOf device ((Encoder, command) ∷ kept) (record walk { done = done; verdict = or_else walk.verdict (first_unmet (command_rules device walk.depth command)); depth = depth_after walk.depth command })
+pub walk_command : (device : ℕ) (kept : Kept) (command : Command) (walk : Walk) (done : Done) → IsWalkOf device kept walk → is_some (open_pass kept) ≡ false → is_begin command ≡ false → (option_or walk.verdict (first_unmet (command_rules device walk.depth command)) ≡ None → done ≡ done_by_encoder walk.done (encoder_does command)) → IsWalkOf device ((Encoder, command) ∷ kept) (record walk { done = done; verdict = option_or walk.verdict (first_unmet (command_rules device walk.depth command)); depth = depth_after walk.depth command })
 walk_command device kept command walk done m f b d = command_free device kept command walk done m (none_is (open_pass kept) f) b d
 
 open_some : (opened : Option PassSoFar) (pass : ℕ) → is_open opened pass ≡ true → (q : PassSoFar) × (opened ≡ Some q)
@@ -162,7 +162,7 @@ at_set_by false marks p n d e lt each = let other : n ≢ p = grind (arith, nat_
 at_set : (marks : List Bool) (p n c : ℕ) (d : ℕ → Bool) → length marks ≡ c → p < c → ((k : ℕ) → k < c → slice_index_or marks k false ≡ d k) → n < c → slice_index_or (slice_set marks p true) n false ≡ (p == n) || d n
 at_set marks p n c d len lt each below = at_set_by (p == n) marks p n (d n) refl (omega (arith, len, lt)) (each n below)
 
-ended : (device : ℕ) (kept : Kept) (pass : ℕ) (q : PassSoFar) (command : Command) (walk : Walk) (old new : Opened) (after : Done) (rule : Option ℕ) → IsWalkOf device kept walk → open_pass kept ≡ Some q → pass == q.number ≡ true → is_end command ≡ true → IsOpenOf device (Some q) (Some old) → IsNext device command old new walk.done after rule → pass < begins kept → IsWalkOf device ((Pass pass, command) ∷ kept) (record walk { opened = None; done = after; verdict = or_else walk.verdict rule; ended = slice_set walk.ended pass true })
+ended : (device : ℕ) (kept : Kept) (pass : ℕ) (q : PassSoFar) (command : Command) (walk : Walk) (old new : Opened) (after : Done) (rule : Option ℕ) → IsWalkOf device kept walk → open_pass kept ≡ Some q → pass == q.number ≡ true → is_end command ≡ true → IsOpenOf device (Some q) (Some old) → IsNext device command old new walk.done after rule → pass < begins kept → IsWalkOf device ((Pass pass, command) ∷ kept) (record walk { opened = None; done = after; verdict = option_or walk.verdict rule; ended = slice_set walk.ended pass true })
 ended device kept pass q command walk old new after rule m e h b o next lt = record {
   count = length-set walk.ended pass true ∙ m.count;
   ended_is = λ n below. at_set walk.ended pass n (begins kept) (has_ended kept) m.count lt m.ended_is below ∙ rw e (rw h (rw b refl));
@@ -182,7 +182,7 @@ walk_inside device kept pass command walk old new after rule m h i b next =
     inside device kept pass q.0 command walk old new after rule m q.1 (rw q.1 at i) b (opened_is device (open_pass kept) q.0 walk.opened old m.open_is q.1 h) next
 
 -- the end of the open pass
-pub walk_ended : (device : ℕ) (kept : Kept) (pass : ℕ) (command : Command) (walk : Walk) (old new : Opened) (after : Done) (rule : Option ℕ) → IsWalkOf device kept walk → walk.opened ≡ Some old → is_open (open_pass kept) pass ≡ true → is_end command ≡ true → IsNext device command old new walk.done after rule → IsWalkOf device ((Pass pass, command) ∷ kept) (record walk { opened = None; done = after; verdict = or_else walk.verdict rule; ended = slice_set walk.ended pass true })
+pub walk_ended : (device : ℕ) (kept : Kept) (pass : ℕ) (command : Command) (walk : Walk) (old new : Opened) (after : Done) (rule : Option ℕ) → IsWalkOf device kept walk → walk.opened ≡ Some old → is_open (open_pass kept) pass ≡ true → is_end command ≡ true → IsNext device command old new walk.done after rule → IsWalkOf device ((Pass pass, command) ∷ kept) (record walk { opened = None; done = after; verdict = option_or walk.verdict rule; ended = slice_set walk.ended pass true })
 walk_ended device kept pass command walk old new after rule m h i b next =
     let q = open_some (open_pass kept) pass i in
     ended device kept pass q.0 command walk old new after rule m q.1 (rw q.1 at i) b (opened_is device (open_pass kept) q.0 walk.opened old m.open_is q.1 h) next (open_number_below kept pass i)

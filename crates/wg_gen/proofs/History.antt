@@ -1,7 +1,7 @@
 -- What the calls of a generated script do on a calm device: each is done, and leaves the device calm.
 use Rattle.std.proofs.Common.{◌≡◌, ◌≤◌, ◌<◌, ◌⊎◌, ℕ, zero, suc, ◌+◌, ◌*◌, ◌%◌, ◌==◌, nat_lt, nat_le, max, Bool, true, false, not, cond, ◌&&◌, ◌||◌, if◌then◌else◌, Option, Some, None, is_some, is_none, unwrap_or, option_and_then, List, [], ◌∷◌, ◌++◌, length, map, flat_map, count_by, inl, inr, refl, ap, ap₂, sym, ◌∙◌, arith}
 use Rattle.std.specs.List.{list_any}
-use Rattle.std.specs.Option.{option_map, option_map_or, option_to_list}
+use Rattle.std.specs.Option.{option_map, option_map_or, option_to_list, option_or}
 use Rattle.std.proofs.lemmas.Bool.{le-leb, eq-eqb, ne_eqb, cases_lt}
 use Rattle.std.proofs.lemmas.List.Sums.{sum_by-append, sum_by-cons}
 use Rattle.wg_types.specs.declared.commands.On.{On}
@@ -17,7 +17,7 @@ use Rattle.wg_rows.specs.Runs.{Cell, PartRun, part_sort}
 use Rattle.wg_rows.specs.Uses.{Change, same_change}
 use Rattle.wg_orders.specs.Steps.{Step, StepPlace}
 use Rattle.wg_orders.specs.Trace.{Item, StepItem, change_of, parts_used, bar, bars, add_step, clear_of, add_clear, to_clear, add_cleared, add_all, add_group, add_groups, free}
-use Rattle.wg_model.specs.Rules.{Rule, first_unmet, or_else, AreMet}
+use Rattle.wg_model.specs.Rules.{Rule, first_unmet, AreMet}
 use Rattle.wg_model.specs.Buffers.{copy_dst, has_usage, create_buffer_rules}
 use Rattle.wg_model.specs.Equality.{same_bool}
 use Rattle.wg_model.specs.Commands.{command_rules, no_buffer}
@@ -32,7 +32,7 @@ use Rattle.wg_history.specs.Objects.{is_making, count, maker, info_at, is_buffer
 use Rattle.wg_history.specs.Infos.{same_kind, same_info}
 use Rattle.wg_history.specs.Operations.{issued, completed, submit_uses, use_by, last_use}
 use Rattle.wg_history.specs.Loss.{is_lost, Wait, unsettled, awaiting, is_map_of}
-use Rattle.wg_history.specs.Rules.{dropped_at, is_dropped, is_destroyed, mapped_now, or_before, mapped_at, is_busy, write_buffer_list, write_buffer_rule, is_genuine, may_name, encoder_rules, recording_rules, finish_rule, any_used, submit_list, submit_rule}
+use Rattle.wg_history.specs.Rules.{dropped_at, is_dropped, is_destroyed, mapped_now, mapped_at, is_busy, write_buffer_list, write_buffer_rule, is_genuine, may_name, encoder_rules, recording_rules, finish_rule, any_used, submit_list, submit_rule}
 use Rattle.wg_history.specs.Releases.{is_gone, is_due, was_released, freed_below, freed}
 use Rattle.wg_history.specs.Budget.{bytes_made, bytes_at, is_live, live_below, live_bytes}
 use Rattle.wg_history.specs.FirstRules.{budget_rules, create_buffer_rule, first_rule}
@@ -189,9 +189,9 @@ calm_same entry past calm more none = calm_more 8 8 entry past calm more (λ n l
 quiet_more : (k : ℕ) (past : Past) → Calm k past → unsettled [] (awaiting past ++ []) ≡ []
 quiet_more k past calm = ap (λ (waits : List Wait). unsettled [] (waits ++ [])) calm.quiet
 
-unmapped_more : (k : ℕ) (past : Past) (n : ℕ) → Calm k past → (b : Bool) → (if b then None else or_before (mapped_now [] (awaiting past ++ []) n) (mapped_at device past n)) ≡ None
+unmapped_more : (k : ℕ) (past : Past) (n : ℕ) → Calm k past → (b : Bool) → (if b then None else option_or (mapped_now [] (awaiting past ++ []) n) (mapped_at device past n)) ≡ None
 unmapped_more k past n calm true = refl
-unmapped_more k past n calm false = ap₂ or_before (ap (λ (waits : List Wait). mapped_now [] (waits ++ []) n) calm.quiet) (calm.unmapped n)
+unmapped_more k past n calm false = ap₂ option_or (ap (λ (waits : List Wait). mapped_now [] (waits ++ []) n) calm.quiet) (calm.unmapped n)
 
 if_most : (b : Bool) (m : ℕ) → (if b then m else 0) ≤ m
 if_most true m = omega arith
@@ -207,8 +207,8 @@ none_unmet : (rules : List Rule) → AreMet rules → first_unmet rules ≡ None
 none_unmet [] met = refl
 none_unmet (rule ∷ rules) met = ap (λ (b : Bool). if b then first_unmet rules else Some rule.0) met.0 ∙ none_unmet rules met.1
 
-none_of : (first second : Option ℕ) → first ≡ None → second ≡ None → or_else first second ≡ None
-none_of first second e f = ap₂ (λ (a b : Option ℕ). or_else a b) e f
+none_of : (first second : Option ℕ) → first ≡ None → second ≡ None → option_or first second ≡ None
+none_of first second e f = ap₂ (λ (a b : Option ℕ). option_or a b) e f
 
 own_known : (past : Past) (n : ℕ) (test : Info → Bool) (known : Info) → info_at past n ≡ Some known → test known ≡ true → is_own device past test (ref n) ≡ true
 own_known past n test known e passes = ap (λ (found : Option Info). option_map_or test found false) e ∙ passes

@@ -3,6 +3,7 @@
 use Rattle.std.proofs.Common.{◌≡◌, ℕ, ◌<◌, List, [], ◌∷◌, ◌++◌, length, filter, Bool, true, false, not, ◌&&◌, ◌||◌, ◌==◌, Option, Some, None, is_none, option_and_then, refl, ap, ap₂, sym, ◌∙◌, arith, append-nil, if◌then◌else◌, true≢false, subst, inl, inr}
 use Rattle.std.specs.List.{list_any, flat_map}
 use Rattle.std.proofs.lemmas.Bool.{and_parts, eq-eqb, eqb-true, or_cases, or_left, or_right}
+use Rattle.std.specs.Option.{option_or}
 use Rattle.wg_types.specs.declared.handles.ObjRef.{ObjRef}
 use Rattle.wg_types.specs.declared.mappings.Mapping.{Mapping}
 use Rattle.wg_types.specs.declared.mappings.MapMode.{MapMode}
@@ -24,7 +25,7 @@ use Rattle.wg_history.specs.Entries.{Setup, Event, MapAsync, Destroy, Unmap, For
 use Rattle.wg_history.specs.Objects.{is_making, count, is_own, is_buffer}
 use Rattle.wg_history.specs.Operations.{last_use}
 use Rattle.wg_history.specs.Loss.{is_lost, Awaited, mapping, work, Wait, asked_mapping, promised, settles, unsettled, awaiting, is_of, is_map_of, is_pending}
-use Rattle.wg_history.specs.Rules.{destroy_rule, destroys, is_destroyed, unmap_rule, unmaps, settles_mapped, mapped_in, mapped_now, or_before, mapped_made, waits_of, mapped_at, is_busy, is_dropped, map_async_list, map_async_rule}
+use Rattle.wg_history.specs.Rules.{destroy_rule, destroys, is_destroyed, unmap_rule, unmaps, settles_mapped, mapped_in, mapped_now, mapped_made, waits_of, mapped_at, is_busy, is_dropped, map_async_list, map_async_rule}
 use Rattle.wg_history.specs.Held.{is_held}
 use Rattle.wg_history.specs.Releases.{is_gone}
 use Rattle.wg_history.specs.Answers.{at_once, settle_all, ended_how, own_settled, reply_to, IsRun}
@@ -195,9 +196,9 @@ pub mapped_none : (n : ℕ) (settled : List Settlement) (ws : List Wait) → lis
 mapped_none n settled [] e = refl
 mapped_none n settled (w ∷ ws) e = by_parts (keeps_of n settled w) refl e (mapped_none n settled ws)
   where
-    by_parts : (b : Bool) → keeps_of n settled w ≡ b → (b || list_any (keeps_of n settled) ws) ≡ false → (list_any (keeps_of n settled) ws ≡ false → mapped_now settled ws n ≡ None) → or_before (mapped_now settled ws n) (mapped_in settled n w.promise w.awaited) ≡ None
+    by_parts : (b : Bool) → keeps_of n settled w ≡ b → (b || list_any (keeps_of n settled) ws) ≡ false → (list_any (keeps_of n settled) ws ≡ false → mapped_now settled ws n ≡ None) → option_or (mapped_now settled ws n) (mapped_in settled n w.promise w.awaited) ≡ None
     by_parts true e h rest = absurd (true≢false h)
-    by_parts false e h rest = ap₂ or_before (rest h) (mapped_if n settled w.promise w.awaited e)
+    by_parts false e h rest = ap₂ option_or (rest h) (mapped_if n settled w.promise w.awaited e)
 
 older_destroyed : (setup : Setup) (past : Past) (event : Event) (n : ℕ) → unmaps setup past event n ≡ false → (destroys setup past event n || is_destroyed setup past n) ≡ true → is_destroyed setup past n ≡ true
 older_destroyed setup past (Unmap buffer) n e h = h
@@ -207,18 +208,18 @@ pub never_mapped : (setup : Setup) (past : Past) (n : ℕ) → IsRun setup past 
 never_mapped setup [] n run h = refl
 never_mapped setup (entry ∷ older) n run h = by_making (is_making entry.event && count older == n) refl (λ before. never_mapped setup older n (others setup entry older run) before)
   where
-    by_unmaps : (b : Bool) → unmaps setup older entry.event n ≡ b → (is_destroyed setup older n ≡ true → mapped_at setup older n ≡ None) → (if b then None else or_before (mapped_now entry.reply.settled (waits_of entry older) n) (mapped_at setup older n)) ≡ None
+    by_unmaps : (b : Bool) → unmaps setup older entry.event n ≡ b → (is_destroyed setup older n ≡ true → mapped_at setup older n ≡ None) → (if b then None else option_or (mapped_now entry.reply.settled (waits_of entry older) n) (mapped_at setup older n)) ≡ None
     by_unmaps true e rest = refl
     by_unmaps false e rest =
         let before : is_destroyed setup older n ≡ true = older_destroyed setup older entry.event n e h in
-        ap₂ or_before (mapped_none n entry.reply.settled (waits_of entry older) (never_kept setup entry older n run before)) (rest before)
+        ap₂ option_or (mapped_none n entry.reply.settled (waits_of entry older) (never_kept setup entry older n run before)) (rest before)
 
     or_false : (b : Bool) → (b || false) ≡ true → b ≡ true
     or_false true h = refl
     or_false false h = h
 
     by_making : (b : Bool) → (is_making entry.event && count older == n) ≡ b → (is_destroyed setup older n ≡ true → mapped_at setup older n ≡ None)
-        → (if b then mapped_made entry else if unmaps setup older entry.event n then None else or_before (mapped_now entry.reply.settled (waits_of entry older) n) (mapped_at setup older n)) ≡ None
+        → (if b then mapped_made entry else if unmaps setup older entry.event n then None else option_or (mapped_now entry.reply.settled (waits_of entry older) n) (mapped_at setup older n)) ≡ None
     by_making true e rest = absurd (
         let same : count older ≡ n = eqb-true (count older) n (and_parts (is_making entry.event) (count older == n) e).1 in
         let new : is_destroyed setup older n ≡ false = destroyed_new setup older n (omega (arith, same)) in

@@ -2,6 +2,7 @@
 use Rattle.std.proofs.Common.{◌≡◌, ℕ, suc, ◌+◌, ◌<◌, ◌≤◌, List, [], ◌∷◌, ◌++◌, length, filter, Bool, true, false, ◌&&◌, ◌||◌, ◌==◌, nat_le, Option, Some, None, is_none, refl, ap, ap₂, sym, ◌∙◌, arith, if◌then◌else◌, true≢false}
 use Rattle.std.specs.List.{list_any}
 use Rattle.std.proofs.lemmas.Bool.{eq-eqb, ne_eqb, eqb-true}
+use Rattle.std.specs.Option.{option_or}
 use Rattle.wg_types.specs.declared.handles.ObjRef.{ObjRef}
 use Rattle.wg_types.specs.declared.mappings.Mapping.{Mapping}
 use Rattle.wg_types.specs.declared.replies.Reply.{Reply}
@@ -16,7 +17,7 @@ use Rattle.wg_history.specs.Entries.{Setup, Event, MapAsync, Promising, ForMap, 
 use Rattle.wg_history.specs.Objects.{is_making, count}
 use Rattle.wg_history.specs.Operations.{last_use}
 use Rattle.wg_history.specs.Loss.{is_lost, Ascends, Awaited, mapping, work, Wait, asked_mapping, promised, settles, unsettled, awaiting, is_map_of, is_pending}
-use Rattle.wg_history.specs.Rules.{unmaps, is_mapped_how, settles_mapped, mapped_in, mapped_now, or_before, mapped_made, waits_of, mapped_at, map_async_list, map_async_rule}
+use Rattle.wg_history.specs.Rules.{unmaps, is_mapped_how, settles_mapped, mapped_in, mapped_now, mapped_made, waits_of, mapped_at, map_async_list, map_async_rule}
 use Rattle.wg_history.specs.Answers.{at_once, settle_all, kept_how, ended_how, is_over, is_kept, own_settled, reply_to, IsRun}
 use Rattle.wg_history.proofs.Runs.{newest, others}
 use Rattle.wg_history.proofs.Makers.{own_below, older_le}
@@ -95,15 +96,15 @@ keeps_later n how lo hi (w ∷ ws) a =
     by_test true = refl
     by_test false = refl
 
-pub mapped_append : (settled : List Settlement) (n : ℕ) (xs ys : List Wait) → mapped_now settled (xs ++ ys) n ≡ or_before (mapped_now settled ys n) (mapped_now settled xs n)
+pub mapped_append : (settled : List Settlement) (n : ℕ) (xs ys : List Wait) → mapped_now settled (xs ++ ys) n ≡ option_or (mapped_now settled ys n) (mapped_now settled xs n)
 mapped_append settled n [] ys = sym (or_none (mapped_now settled ys n))
   where
-    or_none : (o : Option Mapping) → or_before o None ≡ o
+    or_none : (o : Option Mapping) → option_or o None ≡ o
     or_none None = refl
     or_none (Some m) = refl
-mapped_append settled n (x ∷ xs) ys = ap (λ o. or_before o (mapped_in settled n x.promise x.awaited)) (mapped_append settled n xs ys) ∙ or_assoc (mapped_now settled ys n) (mapped_now settled xs n) (mapped_in settled n x.promise x.awaited)
+mapped_append settled n (x ∷ xs) ys = ap (λ o. option_or o (mapped_in settled n x.promise x.awaited)) (mapped_append settled n xs ys) ∙ or_assoc (mapped_now settled ys n) (mapped_now settled xs n) (mapped_in settled n x.promise x.awaited)
   where
-    or_assoc : (a b c : Option Mapping) → or_before (or_before a b) c ≡ or_before a (or_before b c)
+    or_assoc : (a b c : Option Mapping) → option_or (option_or a b) c ≡ option_or a (option_or b c)
     or_assoc None b c = refl
     or_assoc (Some m) b c = refl
 
@@ -114,11 +115,11 @@ due_in op n (work ops) = None
 
 abbrev pub due_now : ℕ → List Wait → ℕ → Option Mapping
 due_now op [] n = None
-due_now op (w ∷ ws) n = or_before (due_now op ws n) (due_in op n w.awaited)
+due_now op (w ∷ ws) n = option_or (due_now op ws n) (due_in op n w.awaited)
 
 mapped_skip : (s : Settlement) (settled : List Settlement) (n lo hi : ℕ) (ws : List Wait) → s.promise < lo → Ascends lo hi ws → mapped_now (s ∷ settled) ws n ≡ mapped_now settled ws n
 mapped_skip s settled n lo hi [] lt a = refl
-mapped_skip s settled n lo hi (w ∷ ws) lt a = ap₂ or_before (mapped_skip s settled n (suc w.promise) hi ws (let g = a.0 in omega (arith, lt, g)) a.1) (one w.awaited)
+mapped_skip s settled n lo hi (w ∷ ws) lt a = ap₂ option_or (mapped_skip s settled n (suc w.promise) hi ws (let g = a.0 in omega (arith, lt, g)) a.1) (one w.awaited)
   where
     other : (s.promise == w.promise) ≡ false
     other = ne_eqb s.promise w.promise (λ same. let g = a.0 in absurd (omega (arith, lt, g, same)))
@@ -143,9 +144,9 @@ mapped_due op n lo hi (w ∷ ws) a = by_kept (is_kept op w) refl (mapped_due op 
     left_one (work ops) e = refl
 
     by_kept : (b : Bool) → is_kept op w ≡ b → mapped_now rest ws n ≡ due_now op ws n
-        → or_before (mapped_now (settle_all kept_how (if b then w ∷ filter (is_kept op) ws else filter (is_kept op) ws)) ws n) (mapped_in (settle_all kept_how (if b then w ∷ filter (is_kept op) ws else filter (is_kept op) ws)) n w.promise w.awaited) ≡ or_before (due_now op ws n) (due_in op n w.awaited)
-    by_kept true e same = ap₂ or_before (mapped_skip (record { promise = w.promise; how = kept_how w.awaited }) rest n (suc w.promise) hi ws (omega arith) a.1 ∙ same) (kept_one w.awaited e)
-    by_kept false e same = ap₂ or_before same (left_one w.awaited e)
+        → option_or (mapped_now (settle_all kept_how (if b then w ∷ filter (is_kept op) ws else filter (is_kept op) ws)) ws n) (mapped_in (settle_all kept_how (if b then w ∷ filter (is_kept op) ws else filter (is_kept op) ws)) n w.promise w.awaited) ≡ option_or (due_now op ws n) (due_in op n w.awaited)
+    by_kept true e same = ap₂ option_or (mapped_skip (record { promise = w.promise; how = kept_how w.awaited }) rest n (suc w.promise) hi ws (omega arith) a.1 ∙ same) (kept_one w.awaited e)
+    by_kept false e same = ap₂ option_or same (left_one w.awaited e)
 
 -- An object that is not yet made is neither pending nor mapped.
 
@@ -200,15 +201,15 @@ mapped_new setup (entry ∷ older) n run le = by_making (is_making entry.event) 
         (keeps_none n entry.reply.settled (awaiting older) (pending_new setup older n (others setup entry older run) before))
         (ap (λ (reply : Reply). list_any (keeps_of n reply.settled) (promised older (effects_of entry.event).form)) (newest setup entry older run) ∙ unborn_keeps setup older entry.event n before)
 
-    by_unmaps : (b : Bool) → count older ≤ n → mapped_at setup older n ≡ None → (if b then None else or_before (mapped_now entry.reply.settled (waits_of entry older) n) (mapped_at setup older n)) ≡ None
+    by_unmaps : (b : Bool) → count older ≤ n → mapped_at setup older n ≡ None → (if b then None else option_or (mapped_now entry.reply.settled (waits_of entry older) n) (mapped_at setup older n)) ≡ None
     by_unmaps true before rest = refl
-    by_unmaps false before rest = ap₂ or_before (mapped_none n entry.reply.settled (waits_of entry older) (keeps before)) rest
+    by_unmaps false before rest = ap₂ option_or (mapped_none n entry.reply.settled (waits_of entry older) (keeps before)) rest
 
     by_making : (b : Bool) → is_making entry.event ≡ b → (if b then count older + 1 else count older) ≤ n → (count older ≤ n → mapped_at setup older n ≡ None)
-        → (if is_making entry.event && count older == n then mapped_made entry else if unmaps setup older entry.event n then None else or_before (mapped_now entry.reply.settled (waits_of entry older) n) (mapped_at setup older n)) ≡ None
+        → (if is_making entry.event && count older == n then mapped_made entry else if unmaps setup older entry.event n then None else option_or (mapped_now entry.reply.settled (waits_of entry older) n) (mapped_at setup older n)) ≡ None
     by_making true e le rest =
-        ap₂ (λ a b. if a && b then mapped_made entry else if unmaps setup older entry.event n then None else or_before (mapped_now entry.reply.settled (waits_of entry older) n) (mapped_at setup older n)) e (ne_eqb (count older) n (λ same. absurd (omega (arith, le, same))))
+        ap₂ (λ a b. if a && b then mapped_made entry else if unmaps setup older entry.event n then None else option_or (mapped_now entry.reply.settled (waits_of entry older) n) (mapped_at setup older n)) e (ne_eqb (count older) n (λ same. absurd (omega (arith, le, same))))
         ∙ by_unmaps (unmaps setup older entry.event n) (omega (arith, le)) (rest (omega (arith, le)))
     by_making false e le rest =
-        ap (λ a. if a && count older == n then mapped_made entry else if unmaps setup older entry.event n then None else or_before (mapped_now entry.reply.settled (waits_of entry older) n) (mapped_at setup older n)) e
+        ap (λ a. if a && count older == n then mapped_made entry else if unmaps setup older entry.event n then None else option_or (mapped_now entry.reply.settled (waits_of entry older) n) (mapped_at setup older n)) e
         ∙ by_unmaps (unmaps setup older entry.event n) le (rest le)

@@ -2,7 +2,8 @@
 use Rattle.std.proofs.Common.{◌≡◌, ℕ, ◌<◌, ◌≤◌, List, [], ◌∷◌, ◌++◌, Bool, true, false, not, ◌||◌, Option, Some, None, is_none, refl, ap₂, sym, ◌∙◌, arith, true≢false, ◌⊎◌, inl, inr}
 use Rattle.std.specs.List.{list_any}
 use Rattle.std.proofs.lemmas.Bool.{or_cases, or_left, or_right}
-use Rattle.wg_model.specs.Rules.{Rule, or_else, AreMet}
+use Rattle.std.specs.Option.{option_or}
+use Rattle.wg_model.specs.Rules.{Rule, AreMet}
 use Rattle.wg_model.proofs.Sparing.{or_first}
 
 pub not_true : (b : Bool) → not b ≡ true → b ≡ false
@@ -36,7 +37,7 @@ pub met_before : (rules more : List Rule) → AreMet (rules ++ more) → AreMet 
 met_before [] more met = tt
 met_before (rule ∷ rules) more met = (met.0, met_before rules more met.1)
 
-pub neither : (first second : Option ℕ) → is_none (or_else first second) ≡ true → (is_none first ≡ true) × (is_none second ≡ true)
+pub neither : (first second : Option ℕ) → is_none (option_or first second) ≡ true → (is_none first ≡ true) × (is_none second ≡ true)
 neither None second h = (refl, h)
 neither (Some rule) second h = absurd (true≢false (sym h))
 

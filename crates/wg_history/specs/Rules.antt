@@ -1,14 +1,14 @@
 -- The first unmet rule of an event that names objects.
 use Rattle.std.specs.Prelude.{ℕ, Bool, true, false, not, ◌&&◌, ◌||◌, ◌==◌, nat_lt, List, [], ◌∷◌, ◌++◌, reverse, Option, Some, None, is_none, is_some, unwrap_or, if◌then◌else◌}
 use Rattle.std.specs.List.{list_any}
-use Rattle.std.specs.Option.{option_map_or}
+use Rattle.std.specs.Option.{option_map_or, option_or}
 use Rattle.wg_types.specs.Handles.{HandleValue}
 use Rattle.wg_types.specs.declared.textures.ViewDesc.{ViewDesc}
 use Rattle.wg_types.specs.declared.textures.TextureSpot.{TextureSpot}
 use Rattle.wg_types.specs.declared.textures.DataLayout.{DataLayout}
 use Rattle.wg_types.specs.declared.commands.On.{On}
 use Rattle.wg_types.specs.Commands.{Command}
-use Rattle.wg_model.specs.Rules.{Rule, first_unmet, or_else}
+use Rattle.wg_model.specs.Rules.{Rule, first_unmet}
 use Rattle.wg_model.specs.Buffers.{write_buffer_rules, map_rules}
 use Rattle.wg_model.specs.Textures.{create_view_rules}
 use Rattle.wg_model.specs.TexelCopies.{write_texture_rules}
@@ -110,14 +110,10 @@ abbrev pub mapped_in : List Settlement → ℕ → ℕ → Awaited → Option Ma
 mapped_in settled n promise (mapping buffer last m) = if buffer == n && settles_mapped settled promise then Some m else None
 mapped_in settled n promise (work ops) = None
 
-abbrev pub or_before : Option Mapping → Option Mapping → Option Mapping
-or_before (Some m) before = Some m
-or_before None before = before
-
 -- the mapping of buffer n that settlements of these promises make: that of the last
 abbrev pub mapped_now : List Settlement → List Wait → ℕ → Option Mapping
 mapped_now settled [] n = None
-mapped_now settled (wait ∷ waits) n = or_before (mapped_now settled waits n) (mapped_in settled n wait.promise wait.awaited)
+mapped_now settled (wait ∷ waits) n = option_or (mapped_now settled waits n) (mapped_in settled n wait.promise wait.awaited)
 
 -- what waits before an entry or is promised by it
 abbrev pub waits_of : Entry → Past → List Wait
@@ -129,7 +125,7 @@ mapped_at setup [] n = None
 mapped_at setup (entry ∷ older) n =
     if is_making entry.event && count older == n then mapped_made entry
     else if unmaps setup older entry.event n then None
-    else or_before (mapped_now entry.reply.settled (waits_of entry older) n) (mapped_at setup older n)
+    else option_or (mapped_now entry.reply.settled (waits_of entry older) n) (mapped_at setup older n)
 
 -- whether buffer n is destroyed, or mapped, or a map of it is pending
 abbrev pub is_busy : Setup → Past → ℕ → Bool
@@ -223,7 +219,7 @@ recording_rules setup past encoder recording =
 -- finish: the rules of the encoder, then the rule that invalidated it first, then those of the recording
 unfoldable pub finish_rule : Setup → Past → ObjRef → RecordingValue → Option ℕ
 finish_rule setup past encoder recording =
-    or_else (first_unmet (encoder_rules setup past encoder)) (or_else (Verdict recording.device recording.commands) (first_unmet (recording_rules setup past encoder.number recording)))
+    option_or (first_unmet (encoder_rules setup past encoder)) (option_or (Verdict recording.device recording.commands) (first_unmet (recording_rules setup past encoder.number recording)))
 
 -- whether an event that comes after a past consumes the command buffer n: a submit that lists it does, whether or not it is
 -- accepted

@@ -2,7 +2,7 @@
 -- whole pass touches. The commands of a pass so far stand newest first.
 use Rattle.std.specs.Prelude.{ℕ, ◌+◌, ◌*◌, ◌%◌, ◌==◌, nat_le, nat_lt, Bool, true, false, not, ◌&&◌, ◌||◌, List, [], ◌∷◌, ◌++◌, Option, Some, None, is_some, is_none, unwrap_or, option_and_then, slice_index_or, if◌then◌else◌}
 use Rattle.std.specs.List.{list_all, flat_map}
-use Rattle.std.specs.Option.{option_map_or, option_map}
+use Rattle.std.specs.Option.{option_map_or, option_map, option_or}
 use Rattle.wg_types.specs.Handles.{HandleValue}
 use Rattle.wg_types.specs.Formats.{same_format}
 use Rattle.wg_types.specs.Vertex.{index_bytes}
@@ -21,7 +21,7 @@ use Rattle.wg_types.specs.declared.commands.Bracket.TheVariants as brackets
 use Rattle.wg_types.specs.declared.commands.CommandOf.TheVariants.{BeginComputePass, BeginRenderPass, CopyBufferToBuffer, CopyBufferToTexture, CopyTextureToBuffer, CopyTextureToTexture, ClearBuffer, PushDebugGroup, PopDebugGroup, End, SetPipeline, SetBindGroup, Dispatch, DispatchIndirect, SetVertexBuffer, SetIndexBuffer, Draw, DrawIndexed, DrawIndirect, DrawIndexedIndirect}
 use Rattle.wg_types.specs.declared.steps.StepName.TheVariants as name
 use Rattle.wg_rows.specs.Uses.{Read}
-use Rattle.wg_model.specs.Rules.{Rule, or_else}
+use Rattle.wg_model.specs.Rules.{Rule}
 use Rattle.wg_model.specs.Equality.{same_option}
 use Rattle.wg_model.specs.Buffers.{has_usage}
 use Rattle.wg_model.specs.Commands.{group_rules, buffer_of, size_or_rest}
@@ -114,7 +114,7 @@ index_given (DrawIndexedIndirect buffer offset) = None
 -- the index buffer that is set: the last
 abbrev pub index_set : List Command → Option (IndexFormat × ℕ)
 index_set [] = None
-index_set (command ∷ earlier) = or_else (index_given command) (index_set earlier)
+index_set (command ∷ earlier) = option_or (index_given command) (index_set earlier)
 
 -- What a command touches: all that is set counts, drawn or not, and what an indirect draw reads.
 

@@ -1,6 +1,7 @@
 -- What is set in passes (WebGPU, "Programmable Passes"): the pipeline and the bind groups, with the rules that go by them, and
 -- how many debug groups are open. The commands of a pass so far stand newest first.
 use Rattle.std.specs.Prelude.{ℕ, ◌+◌, ◌-◌, ◌%◌, ◌==◌, nat_le, List, [], ◌∷◌, Option, Some, None, is_some, if◌then◌else◌}
+use Rattle.std.specs.Option.{option_or}
 use Rattle.wg_types.specs.Handles.{HandleValue}
 use Rattle.wg_types.specs.Commands.{Command, bracket}
 use Rattle.wg_types.specs.declared.commands.BoundGroup.{BoundGroup}
@@ -8,7 +9,7 @@ use Rattle.wg_types.specs.declared.commands.CommandOf.TheVariants.{BeginComputeP
 use Rattle.wg_types.specs.declared.groups.GroupLayoutInfo.{GroupLayoutInfo}
 use Rattle.wg_types.specs.declared.commands.Bracket.{Bracket}
 use Rattle.wg_types.specs.declared.commands.Bracket.TheVariants as brackets
-use Rattle.wg_model.specs.Rules.{Rule, or_else}
+use Rattle.wg_model.specs.Rules.{Rule}
 use Rattle.wg_rows.specs.Uses.{Read}
 use Rattle.wg_model.specs.Buffers.{has_usage}
 use Rattle.wg_model.specs.Commands.{buffer_of}
@@ -58,7 +59,7 @@ pipeline_given (DrawIndexedIndirect buffer offset) = None
 -- the pipeline that is set: the last
 abbrev pub pipeline_set : List Command → Option HandleValue
 pipeline_set [] = None
-pipeline_set (command ∷ earlier) = or_else (pipeline_given command) (pipeline_set earlier)
+pipeline_set (command ∷ earlier) = option_or (pipeline_given command) (pipeline_set earlier)
 
 -- what stands in a slot after one more command, which may put something into a slot
 abbrev pub slot_after : {X : Type 0} → Option (ℕ × X) → ℕ → Option X → Option X

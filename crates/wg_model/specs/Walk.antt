@@ -1,6 +1,7 @@
 -- The walk over the kept commands of a recorder: its passes, the encoder's state, and the rule that invalidated it first
 -- (WebGPU, "Command Encoding", "encoder state"). An encoder is unlocked, or locked by the one pass that is open on it.
 use Rattle.std.specs.Prelude.{ℕ, ◌+◌, ◌==◌, ◌&&◌, ◌||◌, Bool, false, List, [], ◌∷◌, ◌++◌, map, Option, Some, None, is_none, option_to_list, reverse, if◌then◌else◌}
+use Rattle.std.specs.Option.{option_or}
 use Rattle.wg_types.specs.declared.commands.On.{On}
 use Rattle.wg_types.specs.declared.commands.On.TheVariants.{Encoder, Pass}
 use Rattle.wg_types.specs.Commands.{Command}
@@ -8,7 +9,7 @@ use Rattle.wg_types.specs.declared.commands.Bracket.{Bracket}
 use Rattle.wg_types.specs.declared.commands.Bracket.TheVariants as brackets
 use Rattle.wg_types.specs.Commands.{bracket, is_begin, is_end, named_on}
 use Rattle.wg_types.specs.declared.wanted.Kind.TheVariants as kind
-use Rattle.wg_model.specs.Rules.{first_unmet, or_else}
+use Rattle.wg_model.specs.Rules.{first_unmet}
 use Rattle.wg_model.specs.Commands.{named, common_rules, command_rules}
 use Rattle.wg_model.specs.Touches.{Doing, uses_in, deed_of, encoder_does}
 use Rattle.wg_model.specs.Settings.{depth_after, settings}
@@ -32,12 +33,12 @@ pub record PassSoFar : Type 0 where
 
 -- the first unmet rule of the begin of a pass: of the objects that it names, and then of a render pass its own
 abbrev pub begun_rule : ℕ → Command → Option ℕ
-begun_rule device begin = or_else (first_unmet (common_rules device (named begin))) (first_unmet (begun_rules begin))
+begun_rule device begin = option_or (first_unmet (common_rules device (named begin))) (first_unmet (begun_rules begin))
 
 -- the first unmet rule of a command of a pass, after the earlier ones; only a begin begins a pass
 abbrev pub rule_by : ℕ → RenderBegin → Bracket → List Command → Command → Option ℕ
-rule_by device begin brackets.BeginComputePass earlier command = or_else (first_unmet (common_rules device (named_on kind.ComputePass command))) (first_unmet (compute_rules (settings earlier) command))
-rule_by device begin brackets.BeginRenderPass earlier command = or_else (first_unmet (common_rules device (named_on kind.RenderPass command))) (first_unmet (render_rules (render_set begin earlier) command))
+rule_by device begin brackets.BeginComputePass earlier command = option_or (first_unmet (common_rules device (named_on kind.ComputePass command))) (first_unmet (compute_rules (settings earlier) command))
+rule_by device begin brackets.BeginRenderPass earlier command = option_or (first_unmet (common_rules device (named_on kind.RenderPass command))) (first_unmet (render_rules (render_set begin earlier) command))
 rule_by device begin brackets.EndPass earlier command = None
 rule_by device begin brackets.PushGroup earlier command = None
 rule_by device begin brackets.PopGroup earlier command = None
@@ -49,7 +50,7 @@ rule_in device begin earlier command = rule_by device (begin_of begin) (bracket 
 -- a pass's own first unmet rule
 abbrev pub pass_rule : ℕ → Command → List Command → Option ℕ
 pass_rule device begin [] = begun_rule device begin
-pass_rule device begin (command ∷ earlier) = or_else (pass_rule device begin earlier) (rule_in device begin earlier command)
+pass_rule device begin (command ∷ earlier) = option_or (pass_rule device begin earlier) (rule_in device begin earlier command)
 
 -- what a command of a pass completes, if it does: a step, whose uses are a usage scope
 abbrev pub does_by : RenderBegin → Bracket → List Command → Command → Option Doing
@@ -140,7 +141,7 @@ given device opened depth (Pass pass) command = if is_open opened pass then hand
 -- the rule that invalidated the encoder first
 abbrev pub verdict : ℕ → Kept → Option ℕ
 verdict device [] = None
-verdict device (kept ∷ older) = or_else (verdict device older) (given device (open_pass older) (encoder_depth older) kept.0 kept.1)
+verdict device (kept ∷ older) = option_or (verdict device older) (given device (open_pass older) (encoder_depth older) kept.0 kept.1)
 
 abbrev pub Verdict : ℕ → List (On × Command) → Option ℕ
 Verdict device commands = verdict device (reverse commands)

@@ -1,7 +1,7 @@
 -- What a command does to what is set in a render pass.
 use Rattle.std.specs.Prelude.{◌++◌}
+use Rattle.std.specs.Option.{option_or}
 use Rattle.wg_types.specs.Commands.{Command}
-use Rattle.wg_model.specs.Rules.{or_else}
 use Rattle.wg_model.specs.Render.{RenderSet, vertex_given, index_given, command_touches}
 use Rattle.wg_compute.specs.After.{slots_after, settings_after}
 
@@ -11,7 +11,7 @@ render_after render command =
     record {
       set = settings_after render.set command;
       ranges = slots_after (vertex_given command) 0 render.ranges;
-      index = or_else (index_given command) render.index;
+      index = option_or (index_given command) render.index;
       targets = render.targets;
       touches = render.touches ++ command_touches command;
     }

@@ -1,7 +1,8 @@
 //! Render passes: what is set in one, the rules of their commands, and the step of a whole pass.
 ghost use Rattle.std.specs.Prelude.{◌≡◌, IfOk, OnOk, OnErr};
+ghost use Rattle.std.specs.Option.{option_or};
 ghost use Rattle.wg_types.specs.declared.commands.CommandOf.TheVariants.{Draw, DrawIndexed, DrawIndirect, DrawIndexedIndirect};
-ghost use Rattle.wg_model.specs.Rules.{first_unmet, or_else};
+ghost use Rattle.wg_model.specs.Rules.{first_unmet};
 ghost use Rattle.wg_model.specs.Vertex.{draw_fits};
 ghost use Rattle.wg_model.specs.Render.{buffers_wanted, are_set, drawing_rules, render_rules, render_does};
 ghost use Rattle.wg_access.specs.Done.{done_by_pass};
@@ -258,7 +259,7 @@ impl RenderState {
     }
 
     fn set_index(&mut self, given: Option<(IndexFormat, u64)>)
-        ensures { self.new ≡ record self.old { index = or_else given self.old.index } }
+        ensures { self.new ≡ record self.old { index = option_or given self.old.index } }
     {
         if given.is_some() {
             self.index = given;
