@@ -122,10 +122,10 @@ is_end command = ends_pass_by (bracket command)
 
 -- What a command sets for those that come after it in the same pass.
 pub data Setting (R : Type 0) : Type 0 where
-  pipeline : (pipeline : R) → Setting R
-  group : (index : ℕ) (group : R) (offsets : List ℕ) → Setting R
-  vertex_buffer : (slot : ℕ) (buffer : R) (offset : ℕ) (size : Option ℕ) → Setting R
-  index_buffer : (buffer : R) (format : IndexFormat) (offset : ℕ) (size : Option ℕ) → Setting R
+  set_pipeline : (pipeline : R) → Setting R
+  set_group : (index : ℕ) (group : R) (offsets : List ℕ) → Setting R
+  set_vertex_buffer : (slot : ℕ) (buffer : R) (offset : ℕ) (size : Option ℕ) → Setting R
+  set_index_buffer : (buffer : R) (format : IndexFormat) (offset : ℕ) (size : Option ℕ) → Setting R
 
 -- What a command dispatches or draws.
 pub data Running (R : Type 0) : Type 0 where
@@ -155,12 +155,12 @@ act (ClearBuffer buffer offset size) = neither
 act PushDebugGroup = neither
 act PopDebugGroup = neither
 act End = neither
-act (SetPipeline object) = sets (pipeline object)
-act (SetBindGroup index object offsets) = sets (group index object offsets)
+act (SetPipeline pipeline) = sets (set_pipeline pipeline)
+act (SetBindGroup index group offsets) = sets (set_group index group offsets)
 act (Dispatch x y z) = runs (dispatch x y z)
 act (DispatchIndirect buffer offset) = runs (dispatch_indirect buffer offset)
-act (SetVertexBuffer slot buffer offset size) = sets (vertex_buffer slot buffer offset size)
-act (SetIndexBuffer buffer format offset size) = sets (index_buffer buffer format offset size)
+act (SetVertexBuffer slot buffer offset size) = sets (set_vertex_buffer slot buffer offset size)
+act (SetIndexBuffer buffer format offset size) = sets (set_index_buffer buffer format offset size)
 act (Draw vertices instances first_vertex first_instance) = runs (draw vertices instances first_vertex first_instance)
 act (DrawIndexed indices instances first_index first_instance) = runs (draw_indexed indices instances first_index first_instance)
 act (DrawIndirect buffer offset) = runs (draw_indirect buffer offset)
