@@ -7,7 +7,6 @@ use Rattle.wg_types.specs.Handles.{HandleValue}
 use Rattle.wg_types.specs.Commands.{Command, render_begun}
 use Rattle.wg_types.specs.Formats.{row, same_format}
 use Rattle.wg_types.specs.Textures.{width, height}
-use Rattle.wg_types.specs.declared.formats.Format.{Format}
 use Rattle.wg_types.specs.declared.handles.Info.{Info}
 use Rattle.wg_types.specs.declared.handles.Info.TheVariants as info
 use Rattle.wg_types.specs.declared.parts.Aspect.{Aspect}
@@ -46,8 +45,17 @@ DepthTarget = DepthTargetOf HandleValue
 
 -- what is known of a view, if it is one
 abbrev pub view_in : Info → Option ViewInfo
-view_in (info.View view) = Some view
-view_in _ = None
+view_in (info.Buffer known) = None
+view_in (info.Texture known) = None
+view_in (info.View known) = Some known
+view_in (info.Sampler known) = None
+view_in (info.GroupLayout known) = None
+view_in (info.PipelineLayout known) = None
+view_in (info.Group known) = None
+view_in (info.Compute known) = None
+view_in (info.Render known) = None
+view_in info.Encoder = None
+view_in info.CommandBuffer = None
 
 -- what a handle knows of a view, which of an invalid one is nothing
 abbrev pub attached_view : HandleValue → Option ViewInfo
@@ -99,7 +107,8 @@ color_fits view = is_renderable view && is_color view.texture_info.format
 
 -- whether a view has all aspects of its texture's format
 abbrev pub has_all_aspects : ViewInfo → Bool
-has_all_aspects view = length (named_aspects view.aspect (row view.texture_info.format).aspects) == length (named_aspects All (row view.texture_info.format).aspects)
+has_all_aspects view =
+    length (named_aspects view.aspect (row view.texture_info.format).aspects) == length (named_aspects All (row view.texture_info.format).aspects)
 
 abbrev pub depth_fits : ViewInfo → Bool
 depth_fits view = is_renderable view && (not (is_color view.texture_info.format) && has_all_aspects view)

@@ -12,10 +12,10 @@ use Rattle.wg_types.specs.declared.wanted.Kind.TheVariants as kind
 use Rattle.wg_model.specs.Rules.{first_unmet}
 use Rattle.wg_model.specs.Commands.{named, common_rules, command_rules}
 use Rattle.wg_model.specs.Touches.{Doing, uses_in, deed_of, encoder_does}
-use Rattle.wg_model.specs.Settings.{depth_after, settings}
+use Rattle.wg_model.specs.Settings.{Settings, depth_after, settings}
 use Rattle.wg_model.specs.Compute.{compute_rules, compute_does}
 use Rattle.wg_model.specs.Attachments.{RenderBegin, begin_of, begun_rules}
-use Rattle.wg_model.specs.Render.{render_set, render_rules, render_does}
+use Rattle.wg_model.specs.Render.{RenderSet, render_set, render_rules, render_does}
 use Rattle.wg_model.specs.Scopes.{Use}
 use Rattle.wg_types.specs.declared.steps.Deed.{Deed}
 
@@ -35,10 +35,20 @@ pub record PassSoFar : Type 0 where
 abbrev pub begun_rule : ℕ → Command → Option ℕ
 begun_rule device begin = option_or (first_unmet (common_rules device (named begin))) (first_unmet (begun_rules begin))
 
--- the first unmet rule of a command of a pass, after the earlier ones; only a begin begins a pass
+-- the first unmet rule of a command of a compute pass, over what is set
+abbrev pub compute_rule : ℕ → Settings → Command → Option ℕ
+compute_rule device set command =
+    option_or (first_unmet (common_rules device (named_on kind.ComputePass command))) (first_unmet (compute_rules set command))
+
+-- and of a command of a render pass
+abbrev pub render_rule : ℕ → RenderSet → Command → Option ℕ
+render_rule device set command =
+    option_or (first_unmet (common_rules device (named_on kind.RenderPass command))) (first_unmet (render_rules set command))
+
+-- the same after the earlier commands; only a begin begins a pass
 abbrev pub rule_by : ℕ → RenderBegin → Bracket → List Command → Command → Option ℕ
-rule_by device begin brackets.BeginComputePass earlier command = option_or (first_unmet (common_rules device (named_on kind.ComputePass command))) (first_unmet (compute_rules (settings earlier) command))
-rule_by device begin brackets.BeginRenderPass earlier command = option_or (first_unmet (common_rules device (named_on kind.RenderPass command))) (first_unmet (render_rules (render_set begin earlier) command))
+rule_by device begin brackets.BeginComputePass earlier command = compute_rule device (settings earlier) command
+rule_by device begin brackets.BeginRenderPass earlier command = render_rule device (render_set begin earlier) command
 rule_by device begin brackets.EndPass earlier command = None
 rule_by device begin brackets.PushGroup earlier command = None
 rule_by device begin brackets.PopGroup earlier command = None
