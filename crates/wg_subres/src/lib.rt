@@ -114,7 +114,7 @@ pub fn of_view(alloc: Global, view: &ViewInfo) -> Result<PartRuns, NoMemory>
     )
 }
 
-/// The cells of a run of parts: all that its subresources have.
+/// The cells of a run of subresources; of a buffer and of a query set there are none.
 pub fn run_cells(run: PartRun) -> Cells
     ensures { result ≡ run_cells run }
 {
