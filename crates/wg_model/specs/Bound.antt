@@ -89,13 +89,13 @@ abbrev pub places_in : GroupInfo → List ℕ → List Place
 places_in group offsets = flat_map (entry_places group.layout_info.entries offsets) group.entries
 
 -- whether the bound range, moved, fits its buffer
-abbrev pub range_fits : ℕ → BoundResource → Bool
-range_fits moved (BoundBuffer buffer known offset size) = nat_le (offset + moved + size) known.size
-range_fits moved (BoundView view known) = true
-range_fits moved (BoundSampler sampler known) = true
+abbrev pub moved_range_fits : ℕ → BoundResource → Bool
+moved_range_fits moved (BoundBuffer buffer known offset size) = nat_le (offset + moved + size) known.size
+moved_range_fits moved (BoundView view known) = true
+moved_range_fits moved (BoundSampler sampler known) = true
 
 abbrev pub place_fits : Place → Bool
-place_fits place = range_fits place.moved place.resource
+place_fits place = moved_range_fits place.moved place.resource
 
 -- how many bind groups may be set
 abbrev pub most_groups : ℕ

@@ -44,9 +44,9 @@ rest_of buffer offset = if buffer.valid then (buffer_of buffer).size - offset el
 abbrev pub size_or_rest : HandleValue → ℕ → Option ℕ → ℕ
 size_or_rest buffer offset size = unwrap_or size (rest_of buffer offset)
 
-abbrev pub is_texture : Info → Bool
-is_texture (Texture info) = true
-is_texture _ = false
+abbrev pub is_texture_info : Info → Bool
+is_texture_info (Texture info) = true
+is_texture_info _ = false
 
 -- likewise for what is known of a texture
 abbrev pub no_texture : TextureInfo
@@ -117,17 +117,17 @@ own_rules (DrawIndirect buffer offset) = []
 own_rules (DrawIndexedIndirect buffer offset) = []
 
 -- popDebugGroup (WebGPU, "Debug Markers"), by how many groups of its place are open: 285 one is.
-abbrev pub group_rules_by : ℕ → Bracket → List Rule
-group_rules_by depth brackets.BeginComputePass = []
-group_rules_by depth brackets.BeginRenderPass = []
-group_rules_by depth brackets.EndPass = []
-group_rules_by depth brackets.PushGroup = []
-group_rules_by depth brackets.PopGroup = (285, nat_lt 0 depth) ∷ []
-group_rules_by depth brackets.Neither = []
+abbrev pub debug_rules_by : ℕ → Bracket → List Rule
+debug_rules_by depth brackets.BeginComputePass = []
+debug_rules_by depth brackets.BeginRenderPass = []
+debug_rules_by depth brackets.EndPass = []
+debug_rules_by depth brackets.PushGroup = []
+debug_rules_by depth brackets.PopGroup = (285, nat_lt 0 depth) ∷ []
+debug_rules_by depth brackets.Neither = []
 
-abbrev pub group_rules : ℕ → Command → List Rule
-group_rules depth command = group_rules_by depth (bracket command)
+abbrev pub debug_rules : ℕ → Command → List Rule
+debug_rules depth command = debug_rules_by depth (bracket command)
 
 -- The rules of a command on an encoder that is not locked, where this many debug groups of the encoder are open.
 abbrev pub command_rules : ℕ → ℕ → Command → List Rule
-command_rules device depth command = common_rules device (named command) ++ (own_rules command ++ group_rules depth command)
+command_rules device depth command = common_rules device (named command) ++ (own_rules command ++ debug_rules depth command)

@@ -5,7 +5,7 @@ use Rattle.wg_types.specs.Commands.{Running, dispatch, dispatch_indirect, draw, 
 use Rattle.wg_types.specs.Handles.{HandleValue}
 use Rattle.wg_types.specs.declared.steps.StepName.TheVariants as name
 use Rattle.wg_model.specs.Rules.{Rule}
-use Rattle.wg_model.specs.Commands.{group_rules}
+use Rattle.wg_model.specs.Commands.{debug_rules}
 use Rattle.wg_model.specs.Touches.{Touch, Doing}
 use Rattle.wg_model.specs.Bound.{bound_touches}
 use Rattle.wg_model.specs.Settings.{Settings, group_given, given_rules, layouts_set, end_rules, ready_rules, indirect_rules, indirect_touch}
@@ -38,7 +38,7 @@ dispatch_rules set command = dispatch_rules_by set (act command)
 
 -- the rules of a command of the pass, over what is set, but for those on the objects that it names
 abbrev pub compute_rules : Settings → Command → List Rule
-compute_rules set command = group_rules set.depth command ++ (end_rules set.depth command ++ (given_rules (group_given command) ++ dispatch_rules set command))
+compute_rules set command = debug_rules set.depth command ++ (end_rules set.depth command ++ (given_rules (group_given command) ++ dispatch_rules set command))
 
 -- a dispatch touches what the groups bind at the indexes where its pipeline's layout has an entry
 abbrev pub dispatch_touches : Settings → List Touch

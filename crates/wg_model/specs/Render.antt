@@ -25,7 +25,7 @@ use Rattle.wg_rows.specs.Uses.{Read}
 use Rattle.wg_model.specs.Rules.{Rule}
 use Rattle.wg_model.specs.Equality.{same_option}
 use Rattle.wg_model.specs.Buffers.{has_usage}
-use Rattle.wg_model.specs.Commands.{group_rules, buffer_of, size_or_rest}
+use Rattle.wg_model.specs.Commands.{debug_rules, buffer_of, size_or_rest}
 use Rattle.wg_model.specs.Touches.{Touch, Doing, bytes_at, input_usage}
 use Rattle.wg_model.specs.Bound.{set_places, place_touches}
 use Rattle.wg_model.specs.Vertex.{draw_fits}
@@ -297,7 +297,7 @@ drawing_rules render command = drawing_rules_by render (act command)
 -- the rules of a command of the pass, over what is set, but for those on the objects that it names
 abbrev pub render_rules : RenderSet → Command → List Rule
 render_rules render command =
-    group_rules render.set.depth command
+    debug_rules render.set.depth command
     ++ (end_rules render.set.depth command
     ++ (pipeline_given_rules render.targets (pipeline_given command)
     ++ (given_rules (group_given command) ++ drawing_rules render command)))

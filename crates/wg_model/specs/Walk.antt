@@ -181,13 +181,13 @@ abbrev pub scopes_at : Option PassSoFar → On → Command → List (List Use)
 scopes_at opened Encoder command = []
 scopes_at opened (Pass pass) command = map uses_in (option_to_list (does_in_pass opened pass command))
 
-abbrev pub scopes_of : Kept → List (List Use)
-scopes_of [] = []
-scopes_of (kept ∷ older) = scopes_of older ++ scopes_at (open_pass older) kept.0 kept.1
+abbrev pub usage_scopes : Kept → List (List Use)
+usage_scopes [] = []
+usage_scopes (kept ∷ older) = usage_scopes older ++ scopes_at (open_pass older) kept.0 kept.1
 
 -- the scopes of a recording that has no verdict and no open pass
 abbrev pub ScopesOf : ℕ → List (On × Command) → List (List Use)
-ScopesOf device commands = if is_none (verdict device (reverse commands)) && is_none (open_pass (reverse commands)) then scopes_of (reverse commands) else []
+ScopesOf device commands = if is_none (verdict device (reverse commands)) && is_none (open_pass (reverse commands)) then usage_scopes (reverse commands) else []
 
 -- what a recording does that has no verdict and no open pass; another does nothing
 abbrev pub DeedsOf : ℕ → List (On × Command) → List Deed

@@ -7,7 +7,7 @@ ghost use Rattle.wg_types.specs.declared.formats.Format.{Format};
 ghost use Rattle.wg_types.specs.declared.render.DepthState.{DepthState};
 ghost use Rattle.wg_model.specs.Rules.{first_unmet};
 ghost use Rattle.wg_model.specs.Formats.{is_color, has_depth, has_stencil};
-ghost use Rattle.wg_model.specs.RenderPipelines.{passes, depth_fits, is_multisampled, samples_fit, target_rules};
+ghost use Rattle.wg_model.specs.RenderPipelines.{passes, depth_state_fits, is_multisampled, samples_fit, target_rules};
 
 use wg_formats::{has_depth, has_stencil, is_color};
 use wg_types::formats::Format;
@@ -46,7 +46,7 @@ fn are_multisampled(targets: &[Option<Format>]) -> bool
 
 /// Whether the format is one of depth or stencil, and has what is written.
 fn depth_fits(depth: DepthState) -> bool
-    ensures { result ≡ depth_fits depth }
+    ensures { result ≡ depth_state_fits depth }
 {
     let aspects = depth.format.row().aspects;
     !is_color(depth.format)

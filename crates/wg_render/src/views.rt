@@ -1,6 +1,6 @@
 //! The views that are attached to a render pass, as their handles know them.
 ghost use Rattle.std.specs.Prelude.{◌≡◌, option_copied};
-ghost use Rattle.wg_model.specs.Attachments.{view_in, attached_view, view_of};
+ghost use Rattle.wg_model.specs.Attachments.{view_in, attached_view, attachment_of};
 
 use wg_formats::no_view;
 use wg_types::handles::{Handle, Info};
@@ -38,7 +38,7 @@ pub fn attached_view(handle: &Handle) -> Option<&ViewInfo>
 
 /// What a handle of a view knows of it, where it is valid.
 pub fn view_of(handle: &Handle) -> ViewInfo
-    ensures { result ≡ view_of handle.now }
+    ensures { result ≡ attachment_of handle.now }
 {
     match attached_view(handle) {
         Some(view) => *view,
