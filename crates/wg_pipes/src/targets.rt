@@ -9,39 +9,10 @@ ghost use Rattle.wg_model.specs.Rules.{first_unmet};
 ghost use Rattle.wg_model.specs.Formats.{is_color, has_depth, has_stencil};
 ghost use Rattle.wg_model.specs.RenderPipelines.{passes, depth_fits, is_multisampled, samples_fit, target_rules};
 
-use wg_types::formats::{Format, FormatAspects};
+use wg_formats::{has_depth, has_stencil, is_color};
+use wg_types::formats::Format;
 use wg_types::limits::Limits;
 use wg_types::render::{DepthState, RenderDesc};
-
-/// Whether the format has a color aspect.
-fn is_color(format: Format) -> bool
-    ensures { result ≡ is_color format }
-{
-    match format.row().aspects {
-        FormatAspects::Color => true,
-        _ => false,
-    }
-}
-
-/// Whether there is a depth aspect.
-fn has_depth(aspects: FormatAspects) -> bool
-    ensures { result ≡ has_depth aspects }
-{
-    match aspects {
-        FormatAspects::Depth | FormatAspects::DepthStencil => true,
-        _ => false,
-    }
-}
-
-/// Whether there is a stencil aspect.
-fn has_stencil(aspects: FormatAspects) -> bool
-    ensures { result ≡ has_stencil aspects }
-{
-    match aspects {
-        FormatAspects::Stencil | FormatAspects::DepthStencil => true,
-        _ => false,
-    }
-}
 
 /// Whether textures of the format may have four samples.
 fn is_multisampled(format: Format) -> bool
