@@ -102,7 +102,7 @@ fn all_fit(layouts: &[Shared<GroupLayoutInfo>], which: Counted, sort: Sort, most
 
 /// Whether entries have no more than `most` that are counted.
 fn fits(entries: LayoutEntries, which: Counted, sort: Sort, most: u32) -> bool
-    ensures { result ≡ nat_le (counted which sort (layout_entries entries)) most }
+    ensures { result ≡ nat_le (counted which sort (layout_entries entries.entry)) most }
 {
     match entries {
         LayoutEntries::One(entries) => count(entries, which, sort) as u64 <= u64::from(most),
@@ -125,7 +125,7 @@ fn most_seen(limits: &Limits, sort: Sort) -> u32
 
 /// Whether a stage sees no more entries of a sort than it may.
 fn sees_few(limits: &Limits, entries: LayoutEntries, stage: u32, sort: Sort) -> bool
-    ensures { result ≡ nat_le (counted (SeenBy stage) sort (layout_entries entries)) (most_seen limits.now sort) }
+    ensures { result ≡ nat_le (counted (SeenBy stage) sort (layout_entries entries.entry)) (most_seen limits.now sort) }
 {
     fits(
         entries,
@@ -137,7 +137,7 @@ fn sees_few(limits: &Limits, entries: LayoutEntries, stage: u32, sort: Sort) -> 
 
 /// Whether a stage sees no more than it may.
 fn stage_fits(limits: &Limits, entries: LayoutEntries, stage: u32) -> bool
-    ensures { result ≡ stage_fits limits.now (layout_entries entries) stage }
+    ensures { result ≡ stage_fits limits.now (layout_entries entries.entry) stage }
 {
     sees_few(limits, entries, stage, Sort::SampledTexture)
         && sees_few(limits, entries, stage, Sort::Sampler)
@@ -148,7 +148,7 @@ fn stage_fits(limits: &Limits, entries: LayoutEntries, stage: u32) -> bool
 
 /// Whether each stage sees no more than it may.
 pub fn stages_fit(limits: &Limits, entries: LayoutEntries) -> bool
-    ensures { result ≡ stages_fit limits.now (layout_entries entries) }
+    ensures { result ≡ stages_fit limits.now (layout_entries entries.entry) }
 {
     stage_fits(limits, entries, 1)
         && stage_fits(limits, entries, 2)
@@ -157,7 +157,7 @@ pub fn stages_fit(limits: &Limits, entries: LayoutEntries) -> bool
 
 /// Whether no more buffers are dynamic than may be.
 pub fn dynamic_fits(limits: &Limits, entries: LayoutEntries) -> bool
-    ensures { result ≡ dynamic_fits limits.now (layout_entries entries) }
+    ensures { result ≡ dynamic_fits limits.now (layout_entries entries.entry) }
 {
     fits(
         entries,
