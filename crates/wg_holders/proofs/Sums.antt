@@ -3,7 +3,9 @@ use Rattle.std.proofs.Common.{◌≡◌, ◌≢◌, ℕ, zero, suc, ◌+◌, ◌
 use Rattle.std.proofs.lemmas.Bool.{cases_eq, cases_lt, eq-eqb, ne_eqb, lt-ltb}
 use Rattle.std.proofs.lemmas.List.{take_more, drop_more}
 use Rattle.wg_model.specs.Holding.{is_among, any_below}
-use Rattle.wg_holders.specs.Tokens.{times, sum_below}
+use Rattle.wg_counts.specs.Counts.{times}
+use Rattle.wg_counts.proofs.Sums.{times_append}
+use Rattle.wg_holders.specs.Tokens.{sum_below}
 
 -- one where a test holds
 abbrev pub one_if : Bool → ℕ
@@ -28,10 +30,6 @@ pub at_other : (k n : ℕ) → k ≢ n → one_if (k == n) ≡ 0
 at_other k n e = one_false (k == n) (ne_eqb k n e)
 
 -- how often a list has a number
-
-pub times_append : (n : ℕ) (xs ys : List ℕ) → times n (xs ++ ys) ≡ times n xs + times n ys
-times_append n [] ys = omega arith
-times_append n (x ∷ xs) ys = let e = times_append n xs ys in omega (arith, e)
 
 pub times_take_more : (n : ℕ) (xs : List ℕ) (i d : ℕ) → i < length xs → times n (take (i + 1) xs) ≡ times n (take i xs) + (if get_or xs i d == n then 1 else 0)
 times_take_more n xs i d lt =
