@@ -6,7 +6,7 @@ use Rattle.std.proofs.lemmas.List.Folds.{list_any-append}
 use Rattle.wg_model.specs.Holding.{is_among}
 use Rattle.wg_counts.specs.Counts.{times}
 use Rattle.wg_counts.specs.Kept.{count_at, is_alive, sum_alive, references, living, AreHolders, pending, IsEnding}
-use Rattle.wg_counts.proofs.Sums.{sum_same, sum_less, held_inside, living_some, alive_set, times_here, times_other, times_push, pending_push}
+use Rattle.wg_counts.proofs.Sums.{sum_same, sum_less, held_inside, living_some, alive_set, times_here, times_at, times_other, times_push, pending_push, one_if, one_true, one_false, at_same, at_other}
 
 holders_as : (own other : ℕ → ℕ) (refers : ℕ → List ℕ) (counts : List ℕ) → ((n : ℕ) → own n ≡ other n) → AreHolders own refers counts → AreHolders other refers counts
 holders_as own other refers counts same are = record { each = λ n. are.each n ∙ ap (λ k. k + references counts refers n) (same n) }
@@ -65,7 +65,7 @@ lowered_some own refers first before counts fallen place k rest ending above = r
         elim (cases_eq n k) [
           | inl same ↦ (let here_now : count_at (set counts k (count_at counts k - 1)) n ≡ count_at counts k - 1 = rw same here in
               let old : count_at counts n ≡ count_at counts k = ap (count_at counts) same in
-              let one : times n (k ∷ rest) ≡ 1 + times n rest = rw same (times_here rest k) in
+              let one : times n (k ∷ rest) ≡ 1 + times n rest = times_at rest k n same in
               omega (arith, was, now, here_now, old, one, above))
           | inr other ↦ (let there : count_at (set counts k (count_at counts k - 1)) n ≡ count_at counts n = get_or-set_other counts k n (count_at counts k - 1) 0 other in
               let none = times_other rest k n other in
@@ -113,12 +113,12 @@ lowered_last own refers first before counts fallen place k rest ending one_left 
         let was = ending.falls.once n in
         let more = times_push n k fallen in
         elim (cases_eq n k) [
-          | inl same ↦ (let one : (if k == n then 1 else 0) ≡ 1 = ap (λ b. if b then 1 else 0) (eq-eqb k n (sym same)) in
-              let some : (if is_alive counts n then 1 else 0) ≡ 1 = ap (λ b. if b then 1 else 0) (rw same alive) in
-              let none : (if is_alive (set counts k 0) n then 1 else 0) ≡ 0 = ap (λ b. if b then 1 else 0) (rw same dead) in
+          | inl same ↦ (let one = at_same k n (sym same) in
+              let some = one_true (is_alive counts n) (ap (is_alive counts) same ∙ alive) in
+              let none = one_false (is_alive (set counts k 0) n) (ap (is_alive (set counts k 0)) same ∙ dead) in
               omega (arith, was, more, one, some, none))
-          | inr other ↦ (let one : (if k == n then 1 else 0) ≡ 0 = ap (λ b. if b then 1 else 0) (ne_eqb k n (λ e. other (sym e))) in
-              let there : (if is_alive (set counts k 0) n then 1 else 0) ≡ (if is_alive counts n then 1 else 0) = ap (λ b. if b then 1 else 0) (sym (alive_set counts k 0 n other)) in
+          | inr other ↦ (let one = at_other k n (λ e. other (sym e)) in
+              let there = ap one_if (sym (alive_set counts k 0 n other)) in
               omega (arith, was, more, one, there))
         ];
     room = (let was = ending.falls.room in let now = sums (λ m. 1) in let more = length_push fallen k in omega (arith, was, now, more));
@@ -131,7 +131,7 @@ lowered_last own refers first before counts fallen place k rest ending one_left 
         elim (cases_eq n k) [
           | inl same ↦ (let here_now : count_at (set counts k 0) n ≡ 0 = rw same here in
               let old : count_at counts n ≡ count_at counts k = ap (count_at counts) same in
-              let one : times n (k ∷ rest) ≡ 1 + times n rest = rw same (times_here rest k) in
+              let one : times n (k ∷ rest) ≡ 1 + times n rest = times_at rest k n same in
               omega (arith, was, now, more, here_now, old, one, one_left))
           | inr other ↦ (let there : count_at (set counts k 0) n ≡ count_at counts n = get_or-set_other counts k n 0 0 other in
               let none = times_other rest k n other in

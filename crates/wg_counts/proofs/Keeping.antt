@@ -6,7 +6,7 @@ use Rattle.wg_model.specs.Holding.{Node, nobody, is_among, is_held_among}
 use Rattle.wg_counts.specs.Counts.{own_at, refers_in, node_at, counted_below, is_counted, Owns, times}
 use Rattle.wg_counts.specs.Kept.{count_at, is_alive, sum_alive, references, living, AreHolders, GoBack, AreWithin, IsKept, HaveFallen}
 use Rattle.wg_model.proofs.Holding.{held_inside, among_cases, among_own, among_other}
-use Rattle.wg_counts.proofs.Sums.{sum_same, sum_weights, sum_some, alive_set, times_here, times_other, times_le, among_times, times_among}
+use Rattle.wg_counts.proofs.Sums.{sum_same, sum_weights, sum_some, alive_set, times_here, times_at, times_other, times_le, among_times, times_among}
 
 pub length-counted_below : (own : List ℕ) (refers : List (List ℕ)) (m : ℕ) → length (counted_below own refers m) ≡ m
 length-counted_below own refers zero = refl
@@ -325,7 +325,7 @@ owns_lowered own refers counts k o some lt is are = record {
       elim (cases_eq n k) [
         | inl same ↦ (let now : own_at (set own k (o - 1)) n ≡ o - 1 = rw same (get_or-set_same own k (o - 1) 0 lt) in
             let old : own_at own n ≡ own_at own k = ap (own_at own) same in
-            let one : times n (k ∷ []) ≡ 1 + times n [] = rw same (times_here [] k) in
+            let one : times n (k ∷ []) ≡ 1 + times n [] = times_at [] k n same in
             omega (arith, was, now, old, one, is, some))
         | inr other ↦ (let now = get_or-set_other own k n (o - 1) 0 other in
             let none = times_other [] k n other in

@@ -50,8 +50,29 @@ living_some counts n h = sum_some (is_alive counts) (λ m. 1) n (length counts) 
 pub alive_set : (counts : List ℕ) (k c i : ℕ) → i ≢ k → is_alive counts i ≡ is_alive (set counts k c) i
 alive_set counts k c i other = sym (ap (nat_lt 0) (get_or-set_other counts k i c 0 other))
 
+-- one where a test holds
+abbrev pub one_if : Bool → ℕ
+one_if b = if b then 1 else 0
+
+pub one_true : (b : Bool) → b ≡ true → one_if b ≡ 1
+one_true true e = refl
+one_true false e = absurd (true≢false (sym e))
+
+pub one_false : (b : Bool) → b ≡ false → one_if b ≡ 0
+one_false true e = absurd (true≢false e)
+one_false false e = refl
+
+pub at_same : (k n : ℕ) → k ≡ n → one_if (k == n) ≡ 1
+at_same k n e = one_true (k == n) (eq-eqb k n e)
+
+pub at_other : (k n : ℕ) → k ≢ n → one_if (k == n) ≡ 0
+at_other k n e = one_false (k == n) (ne_eqb k n e)
+
 pub times_here : (rest : List ℕ) (r : ℕ) → times r (r ∷ rest) ≡ 1 + times r rest
 times_here rest r = ap (λ b. (if b then 1 else 0) + times r rest) (eq-eqb r r refl)
+
+pub times_at : (rest : List ℕ) (r n : ℕ) → n ≡ r → times n (r ∷ rest) ≡ 1 + times n rest
+times_at rest r n same = ap (λ b. (if b then 1 else 0) + times n rest) (eq-eqb r n (sym same))
 
 pub times_other : (rest : List ℕ) (r n : ℕ) → n ≢ r → times n (r ∷ rest) ≡ 0 + times n rest
 times_other rest r n other = ap (λ b. (if b then 1 else 0) + times n rest) (ne_eqb r n (λ e. other (sym e)))
