@@ -161,6 +161,8 @@ class Progress:
 
     def __init__(self, start, at_once):
         self.start = start
+        # Since when proofs run: before, the toolchain looks through all sources, which tells nothing of their pace.
+        self.proving = None
         self.total = len(listed())
         self.done = 0
         self.crate = None
@@ -169,6 +171,7 @@ class Progress:
 
     def take(self, line):
         begins = re.match(r"== (\w+)$", line)
+        self.proving = self.proving or (begins and time.monotonic())
         if begins or line.startswith("logic=proved"):
             if self.crate:
                 # A crate of which an earlier run kept the proofs, here or in another copy, has no line of its own.
@@ -181,5 +184,5 @@ class Progress:
     def tell(self, how):
         self.done += 1
         self.estimate.take(self.crate, how == "proved")
-        left = costs.told(self.estimate.seconds(time.monotonic() - self.start)) if self.estimate.left else "only the build"
+        left = costs.told(self.estimate.seconds(time.monotonic() - self.proving)) if self.estimate.left else "only the build"
         say(f"{self.done:3} of {self.total}  {self.crate} {how} ({clock(self.start)}; about {left} left)".replace("about only", "only"))

@@ -4,8 +4,9 @@ import json
 import pathlib
 
 TABLE = json.loads((pathlib.Path(__file__).resolve().parent / "costs.json").read_text(encoding="utf-8"))
-# So many seconds count as passed at the pace of the table, so that the first small crates do not say too much.
-TRUST = 60
+# So many seconds count as passed at the pace of the table, so that the first crates, which are small and end beside large ones that
+# go on, do not say too much.
+TRUST = 900
 
 
 def seconds_of(crate):

@@ -4,7 +4,7 @@ use Rattle.std.specs.Prelude.{[], ◌∷◌, ◌++◌, Option, Some, None}
 use Rattle.std.specs.Option.{option_or}
 use Rattle.wg_model.specs.Touches.{Doing, uses_in, deed_of}
 use Rattle.wg_model.specs.Scopes.{clash, first_clash}
-use Rattle.wg_model.specs.Walk.{Kept, scopes_of, deeds}
+use Rattle.wg_model.specs.Walk.{Kept, usage_scopes, deeds}
 use Rattle.wg_access.specs.declared.done.Done.{Done}
 
 -- what a command on the encoder does is a step
@@ -19,4 +19,4 @@ done_by_pass done (Some doing) = record { clash = option_or done.clash (clash (u
 
 -- what the kept commands have done
 abbrev pub done_of : Kept → Done
-done_of kept = record { clash = first_clash (scopes_of kept); deeds = deeds kept }
+done_of kept = record { clash = first_clash (usage_scopes kept); deeds = deeds kept }

@@ -185,20 +185,6 @@ pub fn encoder_deed(alloc: Global, command: &Command) -> Result<Option<Deed>, No
             offset,
             size,
         } => return clear_buffer(alloc, buffer, *offset, *size),
-        Command::BeginComputePass
-        | Command::BeginRenderPass { .. }
-        | Command::PushDebugGroup
-        | Command::PopDebugGroup
-        | Command::End
-        | Command::SetPipeline { .. }
-        | Command::SetBindGroup { .. }
-        | Command::Dispatch { .. }
-        | Command::DispatchIndirect { .. }
-        | Command::SetVertexBuffer { .. }
-        | Command::SetIndexBuffer { .. }
-        | Command::Draw { .. }
-        | Command::DrawIndexed { .. }
-        | Command::DrawIndirect { .. }
-        | Command::DrawIndexedIndirect { .. } => return Ok(None),
+        _ => return Ok(None),
     }
 }

@@ -1,5 +1,5 @@
 use std::alloc::Global;
-use wg_subres::{cells_of_copy, of_copy, of_view, views_meet};
+use wg_subres::{cells_of_copy, of_view, views_meet};
 use wg_types::NoMemory;
 use wg_types::formats::Format;
 use wg_types::handles::ObjRef;
@@ -77,7 +77,7 @@ fn copies(alloc: Global, spot: &TextureSpot, cells: Cells) -> Result<bool, NoMem
 }
 
 #[test]
-fn runs_of_a_view_and_a_copy(rt: HostRuntime) {
+fn runs_of_a_view_and_cells_of_a_copy(rt: HostRuntime) {
     // Also where a view goes past the end of its texture.
     let view = view_from(AspectWord::All, 1, 1);
     let spot = TextureSpot {
@@ -94,7 +94,6 @@ fn runs_of_a_view_and_a_copy(rt: HostRuntime) {
     };
     let stencil = run(Aspect::Stencil);
     let of_view = are(of_view(rt.alloc(), &view), &[run(Aspect::Depth), stencil]);
-    let copied = of_copy(rt.alloc(), 7, &TEXTURE, &spot, [2, 2, 1]);
-    assert!(rt; (of_view, are(copied, &[stencil])) == (true, true));
+    assert!(rt; of_view);
     assert!(rt; copies(rt.alloc(), &spot, layer) == Ok(true));
 }

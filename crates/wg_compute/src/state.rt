@@ -71,24 +71,7 @@ impl ComputeState {
             Command::DispatchIndirect { buffer, offset } => {
                 return self.ready_rule(check_indirect(buffer, *offset, INDIRECT_BYTES));
             }
-            Command::BeginComputePass
-            | Command::BeginRenderPass { .. }
-            | Command::CopyBufferToBuffer { .. }
-            | Command::CopyBufferToTexture { .. }
-            | Command::CopyTextureToBuffer { .. }
-            | Command::CopyTextureToTexture { .. }
-            | Command::ClearBuffer { .. }
-            | Command::PushDebugGroup
-            | Command::PopDebugGroup
-            | Command::End
-            | Command::SetPipeline { .. }
-            | Command::SetBindGroup { .. }
-            | Command::SetVertexBuffer { .. }
-            | Command::SetIndexBuffer { .. }
-            | Command::Draw { .. }
-            | Command::DrawIndexed { .. }
-            | Command::DrawIndirect { .. }
-            | Command::DrawIndexedIndirect { .. } => return None,
+            _ => return None,
         }
     }
 
@@ -131,9 +114,8 @@ impl ComputeState {
         Ok(touches)
     }
 
-    /// Takes a command no rule of which is unmet, and adds the step that it completes to what is done. A
-    /// setBindGroup of an index that no device has, and ranges that end past every number, which such
-    /// commands don't have, are answered as want of memory.
+    /// Takes a command no rule of which is unmet, and adds the step that it completes to what is done.
+    /// Ranges that end past every number, which such commands don't have, are answered as want of memory.
     #[tactic(auto, unfolding(wg_model::specs::Compute::compute_does), using(crate::proofs::Slots::slots_unset))]
     pub fn take(
         &mut self,
@@ -155,24 +137,7 @@ impl ComputeState {
                 let touches = self.indirect_touches(alloc, buffer, *offset)?;
                 return done.add(alloc, StepName::Dispatch, touches.as_slice());
             }
-            Command::BeginComputePass
-            | Command::BeginRenderPass { .. }
-            | Command::CopyBufferToBuffer { .. }
-            | Command::CopyBufferToTexture { .. }
-            | Command::CopyTextureToBuffer { .. }
-            | Command::CopyTextureToTexture { .. }
-            | Command::ClearBuffer { .. }
-            | Command::PushDebugGroup
-            | Command::PopDebugGroup
-            | Command::End
-            | Command::SetPipeline { .. }
-            | Command::SetBindGroup { .. }
-            | Command::SetVertexBuffer { .. }
-            | Command::SetIndexBuffer { .. }
-            | Command::Draw { .. }
-            | Command::DrawIndexed { .. }
-            | Command::DrawIndirect { .. }
-            | Command::DrawIndexedIndirect { .. } => return self.set.take(command),
+            _ => return self.set.take(command),
         }
     }
 }

@@ -6,12 +6,13 @@ mod texels;
 
 ghost use Rattle.std.specs.Prelude.{◌≡◌};
 ghost use Rattle.wg_model.specs.Rules.{first_unmet};
-ghost use Rattle.wg_model.specs.Commands.{own_rules, buffer_of, texture_of, same_object};
+ghost use Rattle.wg_model.specs.Commands.{own_rules, buffer_of, texture_of};
+ghost use Rattle.wg_model.specs.Equality.{same_reference};
 ghost use Rattle.wg_model.specs.TexelCopies.{buffer_to_texture_rules, texture_to_buffer_rules, texture_to_texture_rules, whole_spot};
 
 pub use buffers::check_write_buffer;
 pub use texels::check_write_texture;
-use wg_formats::{buffer_of, same_object, size_or_rest, texture_of, whole_spot};
+use wg_formats::{buffer_of, same_reference, size_or_rest, texture_of, whole_spot};
 use wg_types::commands::Command;
 
 /// The first unmet rule of a command (WebGPU, "Copy Commands" and "Clear Commands"), but for those on
@@ -59,7 +60,7 @@ pub fn check(command: &Command) -> Option<u16>
             target_origin,
             size,
         } => {
-            let same = same_object(source.reference(), target.reference());
+            let same = same_reference(source.reference(), target.reference());
             let from = whole_spot(*source_mip, *source_origin);
             let to = whole_spot(*target_mip, *target_origin);
             return texels::check_between(

@@ -2,7 +2,7 @@
 ghost use Rattle.std.specs.Prelude.{◌≡◌, ◌+◌, ◌^◌, ◌<◌, reverse, length, IfOk};
 ghost use Rattle.wg_history.specs.Entries.{effects_of};
 ghost use Rattle.wg_history.specs.Loss.{is_lost};
-ghost use Rattle.wg_history.specs.Answers.{kind_of, fault_by, is_taken, answer_by, at_once, own_settled, loss_settled, unmap_settled, settled_by, reply_by};
+ghost use Rattle.wg_history.specs.Answers.{fault_kind, fault_by, is_taken, answer_by, at_once, own_settled, loss_settled, unmap_settled, settled_by, reply_by};
 
 use std::alloc::Global;
 use wg_history::NoMemory;
@@ -14,7 +14,7 @@ use wg_types::replies::{Answer, Fault, FaultKind, How, Reply, Settlement, Settle
 
 /// The kind of a rule's fault: want of memory is told by rule 13 alone.
 fn kind_of(rule: u16) -> FaultKind
-    ensures { result ≡ kind_of rule }
+    ensures { result ≡ fault_kind rule }
 {
     if rule == 13 {
         FaultKind::OutOfMemory

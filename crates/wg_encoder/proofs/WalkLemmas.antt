@@ -18,7 +18,7 @@ use Rattle.wg_model.specs.Settings.{depth_after}
 use Rattle.std.specs.Option.{option_to_list, option_or}
 use Rattle.wg_model.specs.Touches.{uses_in, deed_of, encoder_does}
 use Rattle.wg_model.specs.Scopes.{first_clash}
-use Rattle.wg_model.specs.Walk.{Kept, PassSoFar, pass_rule, pass_does, begins, open_pass, is_open, has_ended, encoder_depth, verdict, doings, deeds, scopes_of}
+use Rattle.wg_model.specs.Walk.{Kept, PassSoFar, pass_rule, pass_does, begins, open_pass, is_open, has_ended, encoder_depth, verdict, doings, deeds, usage_scopes}
 use Rattle.wg_access.specs.Done.{done_by_encoder, done_by_pass, done_of}
 use Rattle.wg_encoder.specs.Walked.{IsStateOf, IsOpenOf, IsWalkOf, IsNext}
 use Rattle.wg_encoder.proofs.DoneLemmas.{or_none, after_nothing, after_encoder, after_pass}
@@ -50,7 +50,7 @@ walk_dead device kept pass command walk m h = record {
   verdict_is = m.verdict_is ∙ rw h (sym (or_none _));
   depth_is = m.depth_is;
   open_is = rw h m.open_is;
-  done_is = λ v r. m.done_is (or_first _ _ v) (rw h at r) ∙ rw h (sym (after_nothing (scopes_of kept) (doings kept)));
+  done_is = λ v r. m.done_is (or_first _ _ v) (rw h at r) ∙ rw h (sym (after_nothing (usage_scopes kept) (doings kept)));
 }
 
 some_is : (opened : Option PassSoFar) → is_some opened ≡ true → (q : PassSoFar) × (opened ≡ Some q)
@@ -109,7 +109,7 @@ begun device kept command walk opened m e b n s = record {
   verdict_is = rw e (rw b (m.verdict_is ∙ sym (or_none _)));
   depth_is = rw e (m.depth_is ∙ sym (begin_depth (encoder_depth kept) command b));
   open_is = rw e (rw b (n, s));
-  done_is = λ v r. m.done_is (or_first _ _ v) (rw e refl) ∙ sym (after_encoder (scopes_of kept) (doings kept) (encoder_does command) ∙ ap (done_by_encoder (done_of kept)) (begin_does command b));
+  done_is = λ v r. m.done_is (or_first _ _ v) (rw e refl) ∙ sym (after_encoder (usage_scopes kept) (doings kept) (encoder_does command) ∙ ap (done_by_encoder (done_of kept)) (begin_does command b));
 }
 
 -- a command on an unlocked encoder that begins no pass
@@ -123,7 +123,7 @@ command_free device kept command walk done m e b d = record {
   verdict_is = next;
   depth_is = rw e (ap (λ d. depth_after d command) m.depth_is);
   open_is = let o = m.open_is in rw e (rw b (rw e at o));
-  done_is = λ v r. d (next ∙ v) ∙ (ap (λ done. done_by_encoder done (encoder_does command)) (m.done_is (or_first _ _ v) (rw e refl)) ∙ sym (after_encoder (scopes_of kept) (doings kept) (encoder_does command)));
+  done_is = λ v r. d (next ∙ v) ∙ (ap (λ done. done_by_encoder done (encoder_does command)) (m.done_is (or_first _ _ v) (rw e refl)) ∙ sym (after_encoder (usage_scopes kept) (doings kept) (encoder_does command)));
 }
   where
     next : NextVerdict device walk command ≡ verdict device ((Encoder, command) ∷ kept)
@@ -139,11 +139,11 @@ open_some : (opened : Option PassSoFar) (pass : ℕ) → is_open opened pass ≡
 open_some None pass h = absurd (cc)
 open_some (Some q) pass h = (q, refl)
 
-done_after : (device : ℕ) (kept : Kept) (q : PassSoFar) (command : Command) (walk : Walk) (old new : Opened) (after : Done) (rule : Option ℕ) → IsWalkOf device kept walk → open_pass kept ≡ Some q → IsOpenOf device (Some q) (Some old) → IsNext device command old new walk.done after rule → verdict device kept ≡ None → pass_rule device q.begin (command ∷ q.earlier) ≡ None → after ≡ record { clash = first_clash (scopes_of kept ++ map uses_in (option_to_list (pass_does q.begin q.earlier command))); deeds = map deed_of (doings kept ++ option_to_list (pass_does q.begin q.earlier command)) }
+done_after : (device : ℕ) (kept : Kept) (q : PassSoFar) (command : Command) (walk : Walk) (old new : Opened) (after : Done) (rule : Option ℕ) → IsWalkOf device kept walk → open_pass kept ≡ Some q → IsOpenOf device (Some q) (Some old) → IsNext device command old new walk.done after rule → verdict device kept ≡ None → pass_rule device q.begin (command ∷ q.earlier) ≡ None → after ≡ record { clash = first_clash (usage_scopes kept ++ map uses_in (option_to_list (pass_does q.begin q.earlier command))); deeds = map deed_of (doings kept ++ option_to_list (pass_does q.begin q.earlier command)) }
 done_after device kept q command walk old new after rule m e o next v r =
     (next.taken q.begin q.earlier o.1).done_is r
     ∙ (ap (λ done. done_by_pass done (pass_does q.begin q.earlier command)) (m.done_is v (rw e (or_first _ _ r)))
-    ∙ sym (after_pass (scopes_of kept) (doings kept) (pass_does q.begin q.earlier command)))
+    ∙ sym (after_pass (usage_scopes kept) (doings kept) (pass_does q.begin q.earlier command)))
 
 inside : (device : ℕ) (kept : Kept) (pass : ℕ) (q : PassSoFar) (command : Command) (walk : Walk) (old new : Opened) (after : Done) (rule : Option ℕ) → IsWalkOf device kept walk → open_pass kept ≡ Some q → pass == q.number ≡ true → is_end command ≡ false → IsOpenOf device (Some q) (Some old) → IsNext device command old new walk.done after rule → IsWalkOf device ((Pass pass, command) ∷ kept) (record walk { opened = Some new; done = after })
 inside device kept pass q command walk old new after rule m e h b o next = record {

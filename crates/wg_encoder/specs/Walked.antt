@@ -1,17 +1,11 @@
 -- What a recorder keeps in place of a walk over its commands, and that it is what the walk finds.
 use Rattle.std.specs.Prelude.{◌≡◌, ℕ, ◌<◌, false, List, ◌∷◌, Option, Some, None, length, slice_index_or}
-use Rattle.std.specs.Option.{option_or}
 use Rattle.wg_types.specs.Commands.{Command, bracket}
 use Rattle.wg_types.specs.declared.commands.Bracket.{Bracket}
 use Rattle.wg_types.specs.declared.commands.Bracket.TheVariants as brackets
-use Rattle.wg_model.specs.Rules.{first_unmet}
-use Rattle.wg_types.specs.Commands.{named_on}
-use Rattle.wg_types.specs.declared.wanted.Kind.TheVariants as kind
-use Rattle.wg_model.specs.Commands.{common_rules}
 use Rattle.wg_model.specs.Settings.{Settings, settings}
-use Rattle.wg_model.specs.Compute.{compute_rules}
 use Rattle.wg_model.specs.Attachments.{RenderBegin, begin_of}
-use Rattle.wg_model.specs.Render.{RenderSet, render_set, render_rules}
+use Rattle.wg_model.specs.Render.{RenderSet, render_set}
 use Rattle.wg_model.specs.Walk.{Kept, PassSoFar, pass_rule, pass_does, begins, open_pass, has_ended, encoder_depth, verdict}
 use Rattle.wg_access.specs.Done.{done_by_pass, done_of}
 use Rattle.wg_access.specs.declared.done.Done.{Done}
@@ -19,14 +13,6 @@ use Rattle.wg_encoder.specs.declared.pass.PassState.{PassState}
 use Rattle.wg_encoder.specs.declared.pass.PassState.TheVariants.{Refused, Compute, Render}
 use Rattle.wg_encoder.specs.declared.walk.Opened.{Opened}
 use Rattle.wg_encoder.specs.declared.walk.Walk.{Walk}
-
--- the first unmet rule of a command of a compute pass, over what is set
-abbrev pub compute_rule : ℕ → Settings → Command → Option ℕ
-compute_rule device set command = option_or (first_unmet (common_rules device (named_on kind.ComputePass command))) (first_unmet (compute_rules set command))
-
--- and of a command of a render pass
-abbrev pub render_rule : ℕ → RenderSet → Command → Option ℕ
-render_rule device set command = option_or (first_unmet (common_rules device (named_on kind.RenderPass command))) (first_unmet (render_rules set command))
 
 abbrev pub IsComputeBy : Bracket → List Command → Settings → Type 0
 IsComputeBy brackets.BeginComputePass earlier set = set ≡ settings earlier

@@ -1,7 +1,8 @@
 //! One pass: its state, in place of a walk over its commands.
 ghost use Rattle.std.specs.Prelude.{◌≡◌, ◌∷◌, [], ℕ, List, true, IfOk, OnErr};
 ghost use Rattle.wg_types.specs.Commands.{Command, is_begin};
-ghost use Rattle.wg_encoder.specs.Walked.{IsStateOf, IsTaken, compute_rule, render_rule};
+ghost use Rattle.wg_model.specs.Walk.{compute_rule, render_rule};
+ghost use Rattle.wg_encoder.specs.Walked.{IsStateOf, IsTaken};
 
 use crate::named::{check_named, check_named_on};
 use std::alloc::Global;

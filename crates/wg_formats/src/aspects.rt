@@ -3,7 +3,7 @@ ghost use Rattle.std.specs.Prelude.{◌≡◌, ◌≤◌, ◌==◌, IfSome};
 ghost use Rattle.std.specs.List.{list_any};
 ghost use Rattle.wg_rows.specs.Runs.{aspect_number};
 ghost use Rattle.wg_types.specs.Formats.{row, format_number};
-ghost use Rattle.wg_model.specs.Subresources.{aspects_meet};
+ghost use Rattle.wg_model.specs.Subresources.{is_aspect_of, aspects_meet};
 ghost use Rattle.wg_model.specs.Formats.{has_depth, has_stencil, is_color, has_named, all_aspects, named_aspects, copied_aspect, bytes_to, bytes_from, texel_to, texel_from, linear, copy_compatible};
 
 use wg_types::formats::{Format, FormatAspects};
@@ -21,7 +21,7 @@ pub fn is_color(format: Format) -> bool
 }
 
 /// Whether there is a depth aspect.
-fn has_depth(aspects: FormatAspects) -> bool
+pub fn has_depth(aspects: FormatAspects) -> bool
     ensures { result ≡ has_depth aspects }
 {
     match aspects {
@@ -31,7 +31,7 @@ fn has_depth(aspects: FormatAspects) -> bool
 }
 
 /// Whether there is a stencil aspect.
-fn has_stencil(aspects: FormatAspects) -> bool
+pub fn has_stencil(aspects: FormatAspects) -> bool
     ensures { result ≡ has_stencil aspects }
 {
     match aspects {
@@ -87,11 +87,11 @@ pub fn named_aspects(word: AspectWord, format: Format) -> &'static [Aspect]
 }
 
 /// Whether an aspect is one of these.
-fn has_aspect(aspects: &[Aspect], aspect: Aspect) -> bool
-    ensures { result ≡ list_any (λ other. aspect_number aspect == aspect_number other) aspects.now }
+fn is_aspect_of(aspect: Aspect, aspects: &[Aspect]) -> bool
+    ensures { result ≡ is_aspect_of aspect aspects.now }
 {
     for other in aspects {
-        if (aspect as u8) == (*other as u8) {
+        if (*other as u8) == (aspect as u8) {
             return true;
         }
     }
@@ -103,7 +103,7 @@ pub fn aspects_meet(aspects: &[Aspect], others: &[Aspect]) -> bool
     ensures { result ≡ aspects_meet aspects.now others.now }
 {
     for aspect in aspects {
-        if has_aspect(others, *aspect) {
+        if is_aspect_of(*aspect, others) {
             return true;
         }
     }

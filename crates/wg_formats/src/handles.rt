@@ -1,12 +1,27 @@
 //! What handles know of their objects, what is known of a view, and where copies of whole textures begin.
 ghost use Rattle.std.specs.Prelude.{◌≡◌};
 ghost use Rattle.wg_model.specs.TexelCopies.{whole_spot};
-ghost use Rattle.wg_model.specs.Commands.{buffer_of, buffer_or_none, no_buffer, texture_of, texture_or_none, no_texture, same_object, rest_of, size_or_rest};
+ghost use Rattle.wg_model.specs.Commands.{buffer_of, buffer_or_none, no_buffer, texture_of, texture_or_none, no_texture, rest_of, size_or_rest};
+ghost use Rattle.wg_model.specs.Equality.{same_reference};
+ghost use Rattle.wg_model.specs.Making.{no_view};
 ghost use Rattle.wg_model.specs.Views.{view_info};
 
 use wg_types::formats::Format;
 use wg_types::handles::{BufferInfo, Handle, Info, ObjRef};
-use wg_types::textures::{AspectWord, TextureDim, TextureInfo, TextureSpot, ViewDesc, ViewInfo};
+use wg_types::textures::{
+    AspectWord, TextureDim, TextureInfo, TextureSpot, ViewDesc, ViewDim, ViewInfo,
+};
+
+/// Stands for what is known of a buffer where an object is none.
+pub fn no_buffer() -> BufferInfo
+    ensures { result ≡ no_buffer }
+{
+    BufferInfo {
+        size: 0,
+        usage: 0,
+        mapped: false,
+    }
+}
 
 /// What a handle of a buffer knows of it; nothing has usage or bytes where it is of another kind.
 pub fn buffer_of(buffer: &Handle) -> BufferInfo
@@ -14,11 +29,7 @@ pub fn buffer_of(buffer: &Handle) -> BufferInfo
 {
     match buffer.info() {
         Info::Buffer(info) => *info,
-        _ => BufferInfo {
-            size: 0,
-            usage: 0,
-            mapped: false,
-        },
+        _ => no_buffer(),
     }
 }
 
@@ -46,6 +57,25 @@ pub fn texture_of(texture: &Handle) -> TextureInfo
     }
 }
 
+/// Stands for what is known of a view where an object is none.
+pub fn no_view() -> ViewInfo
+    ensures { result ≡ no_view }
+{
+    ViewInfo {
+        texture: ObjRef {
+            device: 0,
+            number: 0,
+        },
+        texture_info: no_texture(),
+        dim: ViewDim::Two,
+        aspect: AspectWord::All,
+        base_mip: 0,
+        mips: 0,
+        base_layer: 0,
+        layers: 0,
+    }
+}
+
 /// What is known of a view of a texture.
 pub fn view_info(info: TextureInfo, texture: ObjRef, desc: &ViewDesc) -> ViewInfo
     ensures { result ≡ view_info info texture desc.now }
@@ -63,8 +93,8 @@ pub fn view_info(info: TextureInfo, texture: ObjRef, desc: &ViewDesc) -> ViewInf
 }
 
 /// Whether two references are of one object.
-pub fn same_object(a: ObjRef, b: ObjRef) -> bool
-    ensures { result ≡ same_object a b }
+pub fn same_reference(a: ObjRef, b: ObjRef) -> bool
+    ensures { result ≡ same_reference a b }
 {
     a.device == b.device && a.number == b.number
 }

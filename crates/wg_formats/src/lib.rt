@@ -1,21 +1,25 @@
 //! Texture formats, extents of mip levels, the layout of texels in bytes, what handles know of buffers and textures,
-//! what is known of a view, and what resources take of a budget of bytes.
+//! what is known of a view, when bindings are of one kind, and what resources take of a budget of bytes.
 #![tactic(auto)]
 
 mod aspects;
+mod bindings;
 mod extents;
 mod handles;
 mod layout;
 mod memory;
 
 pub use aspects::{
-    aspects_meet, copy_compatible, has_named, is_color, named_aspects, texel_from, texel_to,
+    aspects_meet, copy_compatible, has_depth, has_named, has_stencil, is_color, named_aspects,
+    texel_from, texel_to,
 };
+pub use bindings::same_binding_kind;
 pub use extents::{
     covers_all, end_layer, extent, first_layer, has_no_texel, layer_count, spot_fits,
 };
 pub use handles::{
-    buffer_of, no_texture, same_object, size_or_rest, texture_of, view_info, whole_spot,
+    buffer_of, no_buffer, no_texture, no_view, same_reference, size_or_rest, texture_of, view_info,
+    whole_spot,
 };
 pub use layout::{bytes_fit, required};
 pub use memory::{bytes_of, texture_bytes};

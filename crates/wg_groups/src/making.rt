@@ -4,7 +4,7 @@ ghost use Rattle.wg_types.specs.declared.handles.Info.{Info as InfoOf};
 ghost use Rattle.wg_model.specs.Making.{known_buffer, known_texture, known_view, known_sampler, known_group_layout, known_pipeline_layout, bound_resource, bound_entry, view_made, pipeline_layout_made, group_made, compute_made, render_made};
 
 use std::alloc::Global;
-use wg_formats::{no_texture, view_info};
+use wg_formats::{no_buffer, no_texture, no_view, view_info};
 use wg_types::NoMemory;
 use wg_types::bindings::{BoundEntry, BoundResource, GroupEntryOf, ResourceOf, SamplerKind};
 use wg_types::groups::{
@@ -15,7 +15,7 @@ use wg_types::items::Items;
 use wg_types::refs::{Find, map_items};
 use wg_types::render::RenderDesc;
 use wg_types::shared::Shared;
-use wg_types::textures::{AspectWord, TextureInfo, ViewDesc, ViewDim, ViewInfo};
+use wg_types::textures::{TextureInfo, ViewDesc, ViewInfo};
 
 /// What is known of each object that a call names.
 pub trait Known<R> {
@@ -32,11 +32,7 @@ fn known_buffer(known: Option<&Info>) -> BufferInfo
 {
     match known {
         Some(Info::Buffer(info)) => *info,
-        _ => BufferInfo {
-            size: 0,
-            usage: 0,
-            mapped: false,
-        },
+        _ => no_buffer(),
     }
 }
 
@@ -56,19 +52,7 @@ fn known_view(known: Option<&Info>) -> ViewInfo
 {
     match known {
         Some(Info::View(info)) => *info,
-        _ => ViewInfo {
-            texture: ObjRef {
-                device: 0,
-                number: 0,
-            },
-            texture_info: no_texture(),
-            dim: ViewDim::Two,
-            aspect: AspectWord::All,
-            base_mip: 0,
-            mips: 0,
-            base_layer: 0,
-            layers: 0,
-        },
+        _ => no_view(),
     }
 }
 

@@ -41,9 +41,9 @@ abbrev pub stacked : Bool → Effects → List Scope → List Scope
 stacked lost effects scopes = pushed_on effects.pushed (popped_off effects.form lost scopes)
 
 -- the stack of error scopes, outermost first
-abbrev pub scopes_of : Past → List Scope
-scopes_of [] = []
-scopes_of (entry ∷ older) = caught entry.reply.fault (stacked (is_lost older) (effects_of entry.event) (scopes_of older))
+abbrev pub error_scopes : Past → List Scope
+error_scopes [] = []
+error_scopes (entry ∷ older) = caught entry.reply.fault (stacked (is_lost older) (effects_of entry.event) (error_scopes older))
 
 -- What a promise waits for: that a range of a buffer is mapped, which is once the operations up to the last that uses the
 -- buffer are complete (no further one may use it while it waits); or that the operations up to this one are.

@@ -3,7 +3,7 @@ ghost use Rattle.std.specs.Prelude.{◌≡◌};
 ghost use Rattle.wg_model.specs.Rules.{first_unmet};
 ghost use Rattle.wg_model.specs.Layouts.{group_layout_rules, pipeline_layout_rules};
 
-use crate::counts::{all_dynamic_fit, all_stages_fit, dynamic_fits, stages_fit};
+use crate::counts::{LayoutEntries, dynamic_fits, stages_fit};
 use crate::distinct::are_distinct;
 use crate::entries::{
     all_multi_fit, all_storage_fit, are_below, are_of_stages, are_read_by_vertices,
@@ -36,10 +36,10 @@ pub fn check_group_layout(entries: &[LayoutEntry], limits: &Limits) -> Option<u1
     if !all_storage_fit(entries) {
         return Some(135);
     }
-    if !stages_fit(limits, entries) {
+    if !stages_fit(limits, LayoutEntries::One(entries)) {
         return Some(136);
     }
-    if !dynamic_fits(limits, entries) {
+    if !dynamic_fits(limits, LayoutEntries::One(entries)) {
         return Some(137);
     }
     None
@@ -53,10 +53,10 @@ pub fn check_pipeline_layout(layouts: &[Shared<GroupLayoutInfo>], limits: &Limit
     if layouts.len() as u64 > u64::from(limits.max_bind_groups) {
         return Some(140);
     }
-    if !all_stages_fit(limits, layouts) {
+    if !stages_fit(limits, LayoutEntries::All(layouts)) {
         return Some(141);
     }
-    if !all_dynamic_fit(limits, layouts) {
+    if !dynamic_fits(limits, LayoutEntries::All(layouts)) {
         return Some(142);
     }
     None

@@ -1,7 +1,8 @@
 //! How many entries of a sort there may be, in a bind group layout and in those of a pipeline layout.
 ghost use Rattle.std.specs.Prelude.{◌≡◌, nat_le, count_by};
 ghost use Rattle.wg_model.specs.Layouts.{is_storage_buffer, is_dynamic, stage_fits, stages_fit, dynamic_fits, all_entries};
-ghost use Rattle.wg_layouts.specs.Counted.{is_of, is_counted, counted};
+ghost use Rattle.wg_layouts.specs.declared.counts.Counted.TheVariants.{SeenBy};
+ghost use Rattle.wg_layouts.specs.Counted.{is_of, is_counted, counted, layout_entries, most_seen};
 
 use crate::entries::is_seen_by;
 use wg_types::bindings::{BindingKind, BufferBinding, LayoutEntry};
@@ -76,11 +77,11 @@ fn count(entries: &[LayoutEntry], which: Counted, sort: Sort) -> usize
         .count()
 }
 
-/// Whether entries have no more than `most` that are counted.
-fn fits(entries: &[LayoutEntry], which: Counted, sort: Sort, most: u32) -> bool
-    ensures { result ≡ nat_le (counted which sort entries.now) most }
-{
-    count(entries, which, sort) as u64 <= u64::from(most)
+/// The entries of one layout, or of all layouts of a pipeline.
+#[derive(Clone, Copy)]
+pub enum LayoutEntries<'a> {
+    One(&'a [LayoutEntry]),
+    All(&'a [Shared<GroupLayoutInfo>]),
 }
 
 /// Whether the entries of all layouts have no more than `most` that are counted.
@@ -99,54 +100,55 @@ fn all_fit(layouts: &[Shared<GroupLayoutInfo>], which: Counted, sort: Sort, most
     true
 }
 
-/// Whether a stage sees no more than it may.
-fn stage_fits(limits: &Limits, entries: &[LayoutEntry], stage: u32) -> bool
-    ensures { result ≡ stage_fits limits.now entries.now stage }
+/// Whether entries have no more than `most` that are counted.
+fn fits(entries: LayoutEntries, which: Counted, sort: Sort, most: u32) -> bool
+    ensures { result ≡ nat_le (counted which sort (layout_entries entries)) most }
 {
-    let seen = Counted::SeenBy(stage);
-    if !fits(
-        entries,
-        seen,
-        Sort::SampledTexture,
-        limits.max_sampled_textures_per_shader_stage,
-    ) {
-        return false;
+    match entries {
+        LayoutEntries::One(entries) => count(entries, which, sort) as u64 <= u64::from(most),
+        LayoutEntries::All(layouts) => all_fit(layouts, which, sort, most),
     }
-    if !fits(
-        entries,
-        seen,
-        Sort::Sampler,
-        limits.max_samplers_per_shader_stage,
-    ) {
-        return false;
+}
+
+/// How many entries of a sort a stage may see.
+fn most_seen(limits: &Limits, sort: Sort) -> u32
+    ensures { result ≡ most_seen limits.now sort }
+{
+    match sort {
+        Sort::SampledTexture => limits.max_sampled_textures_per_shader_stage,
+        Sort::Sampler => limits.max_samplers_per_shader_stage,
+        Sort::StorageBuffer => limits.max_storage_buffers_per_shader_stage,
+        Sort::StorageTexture => limits.max_storage_textures_per_shader_stage,
+        Sort::UniformBuffer => limits.max_uniform_buffers_per_shader_stage,
     }
-    if !fits(
-        entries,
-        seen,
-        Sort::StorageBuffer,
-        limits.max_storage_buffers_per_shader_stage,
-    ) {
-        return false;
-    }
-    if !fits(
-        entries,
-        seen,
-        Sort::StorageTexture,
-        limits.max_storage_textures_per_shader_stage,
-    ) {
-        return false;
-    }
+}
+
+/// Whether a stage sees no more entries of a sort than it may.
+fn sees_few(limits: &Limits, entries: LayoutEntries, stage: u32, sort: Sort) -> bool
+    ensures { result ≡ nat_le (counted (SeenBy stage) sort (layout_entries entries)) (most_seen limits.now sort) }
+{
     fits(
         entries,
-        seen,
-        Sort::UniformBuffer,
-        limits.max_uniform_buffers_per_shader_stage,
+        Counted::SeenBy(stage),
+        sort,
+        most_seen(limits, sort),
     )
 }
 
+/// Whether a stage sees no more than it may.
+fn stage_fits(limits: &Limits, entries: LayoutEntries, stage: u32) -> bool
+    ensures { result ≡ stage_fits limits.now (layout_entries entries) stage }
+{
+    sees_few(limits, entries, stage, Sort::SampledTexture)
+        && sees_few(limits, entries, stage, Sort::Sampler)
+        && sees_few(limits, entries, stage, Sort::StorageBuffer)
+        && sees_few(limits, entries, stage, Sort::StorageTexture)
+        && sees_few(limits, entries, stage, Sort::UniformBuffer)
+}
+
 /// Whether each stage sees no more than it may.
-pub fn stages_fit(limits: &Limits, entries: &[LayoutEntry]) -> bool
-    ensures { result ≡ stages_fit limits.now entries.now }
+pub fn stages_fit(limits: &Limits, entries: LayoutEntries) -> bool
+    ensures { result ≡ stages_fit limits.now (layout_entries entries) }
 {
     stage_fits(limits, entries, 1)
         && stage_fits(limits, entries, 2)
@@ -154,8 +156,8 @@ pub fn stages_fit(limits: &Limits, entries: &[LayoutEntry]) -> bool
 }
 
 /// Whether no more buffers are dynamic than may be.
-pub fn dynamic_fits(limits: &Limits, entries: &[LayoutEntry]) -> bool
-    ensures { result ≡ dynamic_fits limits.now entries.now }
+pub fn dynamic_fits(limits: &Limits, entries: LayoutEntries) -> bool
+    ensures { result ≡ dynamic_fits limits.now (layout_entries entries) }
 {
     fits(
         entries,
@@ -164,77 +166,6 @@ pub fn dynamic_fits(limits: &Limits, entries: &[LayoutEntry]) -> bool
         limits.max_dynamic_uniform_buffers_per_pipeline_layout,
     ) && fits(
         entries,
-        Counted::Dynamic,
-        Sort::StorageBuffer,
-        limits.max_dynamic_storage_buffers_per_pipeline_layout,
-    )
-}
-
-/// Whether a stage sees no more than it may in all layouts.
-fn all_stage_fit(limits: &Limits, layouts: &[Shared<GroupLayoutInfo>], stage: u32) -> bool
-    ensures { result ≡ stage_fits limits.now (all_entries layouts.now) stage }
-{
-    let seen = Counted::SeenBy(stage);
-    if !all_fit(
-        layouts,
-        seen,
-        Sort::SampledTexture,
-        limits.max_sampled_textures_per_shader_stage,
-    ) {
-        return false;
-    }
-    if !all_fit(
-        layouts,
-        seen,
-        Sort::Sampler,
-        limits.max_samplers_per_shader_stage,
-    ) {
-        return false;
-    }
-    if !all_fit(
-        layouts,
-        seen,
-        Sort::StorageBuffer,
-        limits.max_storage_buffers_per_shader_stage,
-    ) {
-        return false;
-    }
-    if !all_fit(
-        layouts,
-        seen,
-        Sort::StorageTexture,
-        limits.max_storage_textures_per_shader_stage,
-    ) {
-        return false;
-    }
-    all_fit(
-        layouts,
-        seen,
-        Sort::UniformBuffer,
-        limits.max_uniform_buffers_per_shader_stage,
-    )
-}
-
-/// Whether each stage sees no more than it may in all layouts.
-pub fn all_stages_fit(limits: &Limits, layouts: &[Shared<GroupLayoutInfo>]) -> bool
-    ensures { result ≡ stages_fit limits.now (all_entries layouts.now) }
-{
-    all_stage_fit(limits, layouts, 1)
-        && all_stage_fit(limits, layouts, 2)
-        && all_stage_fit(limits, layouts, 4)
-}
-
-/// Whether no more buffers are dynamic in all layouts than may be.
-pub fn all_dynamic_fit(limits: &Limits, layouts: &[Shared<GroupLayoutInfo>]) -> bool
-    ensures { result ≡ dynamic_fits limits.now (all_entries layouts.now) }
-{
-    all_fit(
-        layouts,
-        Counted::Dynamic,
-        Sort::UniformBuffer,
-        limits.max_dynamic_uniform_buffers_per_pipeline_layout,
-    ) && all_fit(
-        layouts,
         Counted::Dynamic,
         Sort::StorageBuffer,
         limits.max_dynamic_storage_buffers_per_pipeline_layout,

@@ -2,7 +2,7 @@
 ghost use Rattle.std.specs.Prelude.{◌≡◌, ◌==◌};
 ghost use Rattle.std.specs.List.{list_any};
 ghost use Rattle.wg_types.specs.declared.bindings.LayoutEntry.{LayoutEntry};
-ghost use Rattle.wg_model.specs.Layouts.{are_apart};
+ghost use Rattle.wg_model.specs.Layouts.{bindings_are_distinct};
 ghost use Rattle.wg_layouts.specs.Ascending.{ascends_from};
 
 use wg_types::bindings::LayoutEntry;
@@ -16,7 +16,7 @@ fn has(entries: &[LayoutEntry], binding: u32) -> bool
 
 /// Whether no two entries are of one binding, by comparing each two.
 fn are_apart(entries: &[LayoutEntry]) -> bool
-    ensures { result ≡ are_apart entries.now }
+    ensures { result ≡ bindings_are_distinct entries.now }
 {
     for (i, entry) in entries.iter().enumerate() {
         if has(&entries[i + 1..], entry.binding) {
@@ -43,7 +43,7 @@ pub fn are_ascending(entries: &[LayoutEntry]) -> bool
 /// Whether no two entries are of one binding, as those that ascend are.
 #[tactic(auto, using(crate::proofs::Apart::ascending_apart))]
 pub fn are_distinct(entries: &[LayoutEntry]) -> bool
-    ensures { result ≡ are_apart entries.now }
+    ensures { result ≡ bindings_are_distinct entries.now }
 {
     are_ascending(entries) || are_apart(entries)
 }

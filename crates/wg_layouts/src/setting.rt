@@ -3,7 +3,7 @@
 ghost use Rattle.std.specs.Prelude.{◌≡◌, ◌%◌, ◌==◌, Some, option_copied};
 ghost use Rattle.std.specs.List.{list_all};
 ghost use Rattle.wg_model.specs.Rules.{first_unmet};
-ghost use Rattle.wg_model.specs.Bound.{group_in, known_group, layouts_in, dynamics, dynamics_before, moved_by, entry_places, range_fits, place_fits, places_in, offset_rules, set_rules};
+ghost use Rattle.wg_model.specs.Bound.{group_in, known_group, layouts_in, dynamics, dynamics_before, moved_by, entry_places, moved_range_fits, place_fits, places_in, offset_rules, set_rules};
 ghost use Rattle.wg_layouts.specs.Places.{entries_places};
 
 use crate::bindings::Bindings;
@@ -81,7 +81,7 @@ pub fn moved_by(layout: &[LayoutEntry], offsets: &[u32], asked: &LayoutEntry) ->
 
 /// Whether a bound range, moved, fits its buffer.
 fn range_fits(moved: u32, resource: &BoundResource) -> bool
-    ensures { result ≡ range_fits moved resource.now }
+    ensures { result ≡ moved_range_fits moved resource.now }
 {
     match resource {
         BoundResource::Buffer {

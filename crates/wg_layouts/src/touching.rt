@@ -8,7 +8,7 @@ ghost use Rattle.wg_layouts.specs.Places.{set_places_from};
 
 use crate::places::{Place, SetGroup, group_at, has_entries, place_of, set_group};
 use std::alloc::Global;
-use wg_subres::of_view;
+use wg_subres::{of_view, run_cells};
 use wg_types::NoMemory;
 use wg_types::bindings::{BindingKind, BoundEntry, BoundResource, BufferBinding, StorageAccess};
 use wg_types::commands::BoundGroup;
@@ -44,37 +44,6 @@ fn sum(a: u64, b: u64) -> Result<u64, NoMemory>
     match a.checked_add(b) {
         Some(sum) => return Ok(sum),
         None => return Err(NoMemory),
-    }
-}
-
-/// The cells of a run of parts.
-fn run_cells(run: PartRun) -> Cells
-    ensures { result ≡ run_cells run }
-{
-    match run {
-        PartRun::Buffer { object } => Cells::Bytes {
-            object,
-            lo: 0,
-            hi: 0,
-        },
-        PartRun::Queries { object } => Cells::Queries {
-            object,
-            lo: 0,
-            hi: 0,
-        },
-        PartRun::Texture {
-            object,
-            aspect,
-            mip,
-            lo,
-            hi,
-        } => Cells::Layers {
-            object,
-            aspect,
-            mip,
-            lo,
-            hi,
-        },
     }
 }
 

@@ -9,7 +9,7 @@ use Rattle.wg_holders.specs.Holders.{Holdings, HoldersValue, no_holdings, is_hel
 use Rattle.wg_life.specs.declared.rows.Resource.{Resource}
 use Rattle.wg_life.specs.declared.rows.Row.{Row}
 use Rattle.wg_life.specs.Lives.{LifeValue, no_row, new_row, row_at, with_destroyed, with_use, sort_of, released_at, releases, Notes}
-use Rattle.wg_life.specs.Waits.{gone_at, with_due, freed_at, freed, Losses, IsGone}
+use Rattle.wg_life.specs.Waits.{gone_at, with_due, freed_row, freed, Losses, IsGone}
 use Rattle.wg_life.proofs.Picked.{below_same}
 
 -- marks of a list, one after another
@@ -113,5 +113,5 @@ gone_none = record { made = refl; each = λ n lt. absurd (omega (arith, lt)) }
 -- what is due, by marks and by what is held
 
 pub freed_releases : (v : LifeValue) (gone : List Bool) (done : ℕ) → IsGone v.rows v.holdings gone → freed v.rows gone done ≡ releases v done
-freed_releases v gone done marks = below_same (freed_at v.rows gone done) (released_at v done) (length v.rows)
+freed_releases v gone done marks = below_same (freed_row v.rows gone done) (released_at v done) (length v.rows)
     (λ n lt. ap (λ b. if (is_some (row_at v.rows n).resource && b && nat_le (row_at v.rows n).last done) && not (row_at v.rows n).released then option_to_list (option_map (λ (sort : Sort). (n, sort)) (sort_of (row_at v.rows n))) else []) (marks.each n lt))

@@ -13,7 +13,7 @@ use Rattle.wg_counts.proofs.Sums.{times_push}
 use Rattle.wg_life.specs.declared.rows.Row.{Row}
 use Rattle.wg_life.specs.declared.waiting.Wait.{Wait}
 use Rattle.wg_life.specs.Lives.{no_row, row_at, sort_of, with_release, Notes}
-use Rattle.wg_life.specs.Waits.{gone_at, waits, is_waiting, is_due_where, with_due, freed_at, freed, picked, with_number, is_early, early, starts_late, stands_for, IsInserted, IsTidy, is_taken, IsReleasing, sort_at}
+use Rattle.wg_life.specs.Waits.{gone_at, waits, is_waiting, is_due_where, with_due, freed_row, freed, picked, with_number, is_early, early, starts_late, stands_for, IsInserted, IsTidy, is_taken_out, IsReleasing, sort_at}
 use Rattle.wg_life.proofs.Picked.{picked_nothing, picked_with, picked_rises, flat_picked, length_picked, length_with, length_picked_lt, times_with, times_permuted, rising_same}
 use Rattle.wg_life.proofs.Tidy.{or_left, or_right, stands_on}
 
@@ -145,8 +145,8 @@ step_released done first rows new gone wait listed due waiting complete notes be
           | inr other ↦ others n less other ∙ (before.notes.each n lt ∙ ap (λ (row : Row). with_due done (gone_at gone n) row.released (row_at first n)) (sym (others n less other)))
         ];
   };
-  due_len = let e = length_push due wait.number in let f = ap length taken in let g = length_with wait.number (picked (is_taken first rows gone) (length first)) in let h = before.due_len in omega (arith, e, f, g, h);
-  due_are = λ n. let e = times_push n wait.number due in let f = ap (times n) taken in let g = times_with n wait.number (picked (is_taken first rows gone) (length first)) in let h = before.due_are n in omega (arith, e, f, g, h);
+  due_len = let e = length_push due wait.number in let f = ap length taken in let g = length_with wait.number (picked (is_taken_out first rows gone) (length first)) in let h = before.due_len in omega (arith, e, f, g, h);
+  due_are = λ n. let e = times_push n wait.number due in let f = ap (times n) taken in let g = times_with n wait.number (picked (is_taken_out first rows gone) (length first)) in let h = before.due_are n in omega (arith, e, f, g, h);
 }
   where
     and_no : (b : Bool) → (b && false) ≡ false
@@ -181,8 +181,8 @@ step_released done first rows new gone wait listed due waiting complete notes be
     waited : is_waiting first gone wait.number ≡ true
     waited = ap (λ (row : Row). waits row (gone_at gone wait.number)) (sym same) ∙ waiting
 
-    taken : picked (is_taken first new gone) (length first) ≡ with_number wait.number (picked (is_taken first rows gone) (length first))
-    taken = picked_with (is_taken first rows gone) (is_taken first new gone) (length first) wait.number made_first
+    taken : picked (is_taken_out first new gone) (length first) ≡ with_number wait.number (picked (is_taken_out first rows gone) (length first))
+    taken = picked_with (is_taken_out first rows gone) (is_taken_out first new gone) (length first) wait.number made_first
         (ap (λ b. is_waiting first gone wait.number && not b) waiting ∙ and_no (is_waiting first gone wait.number))
         (ap₂ (λ a b. a && not b) waited out)
         (λ n lt other. ap (λ (b : Bool). is_waiting first gone n && not b) (others_wait n (subst (λ m. n < m) (sym before.notes.len) lt) other))
@@ -211,18 +211,18 @@ releasing_none done rows gone listed due none tidy = record {
     never true = refl
     never false = refl
 
-    start : due ≡ picked (is_taken rows rows gone) (length rows)
-    start = none ∙ sym (picked_nothing (is_taken rows rows gone) (length rows) (λ n lt. never (is_waiting rows gone n)))
+    start : due ≡ picked (is_taken_out rows rows gone) (length rows)
+    start = none ∙ sym (picked_nothing (is_taken_out rows rows gone) (length rows) (λ n lt. never (is_waiting rows gone n)))
 
 -- room
 
 pub due_le : (done : ℕ) (first rows : List Row) (gone : List Bool) (listed : List Wait) (due : List ℕ) → IsReleasing done first rows gone listed due → length due ≤ length first
-due_le done first rows gone listed due now = let e = now.due_len in let le = length_picked (is_taken first rows gone) (length first) in omega (arith, e, le)
+due_le done first rows gone listed due now = let e = now.due_len in let le = length_picked (is_taken_out first rows gone) (length first) in omega (arith, e, le)
 
 pub due_lt : (done : ℕ) (first rows : List Row) (gone : List Bool) (listed : List Wait) (due : List ℕ) (n : ℕ) → IsReleasing done first rows gone listed due → is_waiting rows gone n ≡ true → length due < length first
 due_lt done first rows gone listed due n now waiting =
     let e = now.due_len in
-    let lt = length_picked_lt (is_taken first rows gone) (length first) n (subst (λ m. n < m) now.notes.len (waits_made rows gone n waiting)) (ap (λ b. is_waiting first gone n && not b) waiting ∙ and_no (is_waiting first gone n)) in
+    let lt = length_picked_lt (is_taken_out first rows gone) (length first) n (subst (λ m. n < m) now.notes.len (waits_made rows gone n waiting)) (ap (λ b. is_waiting first gone n && not b) waiting ∙ and_no (is_waiting first gone n)) in
     omega (arith, e, lt)
   where
     and_no : (b : Bool) → (b && false) ≡ false
@@ -287,10 +287,10 @@ marked_due done first rows gone listed due late now = record {
 
 pub pushed_due : (done : ℕ) (first rows : List Row) (gone : List Bool) (listed : List Wait) (due sorted : List ℕ) → IsPermutation due sorted → IsSorted nat_cmp sorted → starts_late done listed ≡ true → IsReleasing done first rows gone listed due → flat_map (sort_at rows) sorted ≡ freed first gone done
 pushed_due done first rows gone listed due sorted permuted rises late now =
-    ap (flat_map (sort_at rows)) (rising_same sorted (picked (is_taken first rows gone) (length first)) (IsNonDecreasingBy-from_sort (λ n. n) sorted rises) (picked_rises (is_taken first rows gone) (length first)) (λ n. times_permuted n due sorted permuted ∙ now.due_are n))
-    ∙ flat_picked (sort_at rows) (freed_at first gone done) (is_taken first rows gone) (length first) each
+    ap (flat_map (sort_at rows)) (rising_same sorted (picked (is_taken_out first rows gone) (length first)) (IsNonDecreasingBy-from_sort (λ n. n) sorted rises) (picked_rises (is_taken_out first rows gone) (length first)) (λ n. times_permuted n due sorted permuted ∙ now.due_are n))
+    ∙ flat_picked (sort_at rows) (freed_row first gone done) (is_taken_out first rows gone) (length first) each
   where
-    each : (n : ℕ) → n < length first → (if is_taken first rows gone n then sort_at rows n else []) ≡ freed_at first gone done n
+    each : (n : ℕ) → n < length first → (if is_taken_out first rows gone n then sort_at rows n else []) ≡ freed_row first gone done n
     each n lt =
         let e = now.notes.each n lt in
         ap₂ (λ (b : Bool) (x : List (ℕ × Sort)). if is_waiting first gone n && not b then x else [])

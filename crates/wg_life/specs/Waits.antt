@@ -43,12 +43,12 @@ abbrev pub with_due : ℕ → Bool → Bool → Row → Row
 with_due done gone b row = with_release (b && is_due_where done gone row) row
 
 -- what is released of object n now, where it was not released before
-abbrev pub freed_at : List Row → List Bool → ℕ → ℕ → List (ℕ × Sort)
-freed_at rows gone done n = if is_due_where done (gone_at gone n) (row_at rows n) && not (row_at rows n).released then option_to_list (option_map (λ sort. (n, sort)) (sort_of (row_at rows n))) else []
+abbrev pub freed_row : List Row → List Bool → ℕ → ℕ → List (ℕ × Sort)
+freed_row rows gone done n = if is_due_where done (gone_at gone n) (row_at rows n) && not (row_at rows n).released then option_to_list (option_map (λ sort. (n, sort)) (sort_of (row_at rows n))) else []
 
 -- all that is released now, least numbers first
 abbrev pub freed : List Row → List Bool → ℕ → List (ℕ × Sort)
-freed rows gone done = below (freed_at rows gone done) (length rows)
+freed rows gone done = below (freed_row rows gone done) (length rows)
 
 -- the numbers below m that pass a test, least first
 abbrev pub picked : (ℕ → Bool) → ℕ → List ℕ
@@ -90,15 +90,15 @@ pub record IsTidy (rows : List Row) (gone : List Bool) (listed : List Wait) : Ty
   pub fits : length listed ≤ length (picked (is_waiting rows gone) (length rows))
 
 -- what waited and does no more
-abbrev pub is_taken : List Row → List Row → List Bool → ℕ → Bool
-is_taken first rows gone n = is_waiting first gone n && not (is_waiting rows gone n)
+abbrev pub is_taken_out : List Row → List Row → List Bool → ℕ → Bool
+is_taken_out first rows gone n = is_waiting first gone n && not (is_waiting rows gone n)
 
 -- The first rows of a release, and what it made of them so far: some are released, and their numbers are listed in some order.
 pub record IsReleasing (done : ℕ) (first rows : List Row) (gone : List Bool) (listed : List Wait) (due : List ℕ) : Type 0 where
   pub tidy : IsTidy rows gone listed
   pub notes : Notes (λ n. with_due done (gone_at gone n) (row_at rows n).released) first rows
-  pub due_len : length due ≡ length (picked (is_taken first rows gone) (length first))
-  pub due_are : (n : ℕ) → times n due ≡ times n (picked (is_taken first rows gone) (length first))
+  pub due_len : length due ≡ length (picked (is_taken_out first rows gone) (length first))
+  pub due_are : (n : ℕ) → times n due ≡ times n (picked (is_taken_out first rows gone) (length first))
 
 abbrev pub sort_at : List Row → ℕ → List (ℕ × Sort)
 sort_at rows n = option_to_list (option_map (λ (sort : Sort). (n, sort)) (sort_of (row_at rows n)))

@@ -5,7 +5,7 @@ use Rattle.std.proofs.lemmas.Bool.{eqb-true}
 use Rattle.wg_types.specs.declared.mappings.MapState.TheVariants.{Unmapped, Pending, Mapped}
 use Rattle.wg_types.specs.declared.mappings.Mapping.{Mapping}
 use Rattle.wg_types.specs.declared.mappings.PendingMap.{PendingMap}
-use Rattle.wg_maps.specs.Mappings.{Mappings, pending_of, is_pending, IsApart, state_with, without, with_map, is_due, with_due, is_buffer_due}
+use Rattle.wg_maps.specs.Mappings.{Mappings, pending_of, has_pending, IsApart, state_with, without, with_map, is_due, with_due, is_buffer_due}
 use Rattle.wg_maps.proofs.PendingLemmas.{found_with, found_without}
 use Rattle.wg_maps.proofs.TableLemmas.{get_inserted, get_removed}
 
@@ -137,7 +137,7 @@ apart_settled completed pending still mapped found apart n is = by_test (is_buff
 
 -- maps that are aborted
 pub state_aborted : (pending : List PendingMap) (mapped : Mappings) → IsApart pending mapped → (n : ℕ)
-    → state_with None (table.get mapped n) ≡ (if is_pending pending n then Unmapped else state_with (pending_of pending n) (table.get mapped n))
+    → state_with None (table.get mapped n) ≡ (if has_pending pending n then Unmapped else state_with (pending_of pending n) (table.get mapped n))
 state_aborted pending mapped apart n = by_option (pending_of pending n) (apart n)
   where
     by_option : (o : Option PendingMap) → (is_some o ≡ true → table.get mapped n ≡ None) → state_with None (table.get mapped n) ≡ (if is_some o then Unmapped else state_with o (table.get mapped n))

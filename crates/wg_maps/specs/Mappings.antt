@@ -48,12 +48,12 @@ maps_code wait mapping =
 abbrev pub pending_of : List PendingMap → ℕ → Option PendingMap
 pending_of pending buffer = find (λ wait. wait.buffer == buffer) pending
 
-abbrev pub is_pending : List PendingMap → ℕ → Bool
-is_pending pending buffer = is_some (pending_of pending buffer)
+abbrev pub has_pending : List PendingMap → ℕ → Bool
+has_pending pending buffer = is_some (pending_of pending buffer)
 
 -- no buffer is both pending and mapped
 abbrev pub IsApart : List PendingMap → Mappings → Type 0
-IsApart pending mapped = (buffer : ℕ) → is_pending pending buffer ≡ true → table.get mapped buffer ≡ None
+IsApart pending mapped = (buffer : ℕ) → has_pending pending buffer ≡ true → table.get mapped buffer ≡ None
 
 -- how a buffer stands that has this pending map and this mapping
 abbrev pub state_with : Option PendingMap → Option Mapping → MapState
@@ -65,13 +65,13 @@ abbrev pub state_of : MapsValue → ℕ → MapState
 state_of maps buffer = state_with (pending_of maps.pending buffer) (table.get maps.mapped buffer)
 
 -- what a mapping leaves: what was written in it, if it is for writing
-abbrev pub left_by : MapMode → ℕ → ℕ → Unmapped
-left_by ReadMode lo hi = Read
-left_by WriteMode lo hi = Written lo hi
+abbrev pub left_of_mapping : MapMode → ℕ → ℕ → Unmapped
+left_of_mapping ReadMode lo hi = Read
+left_of_mapping WriteMode lo hi = Written lo hi
 
 abbrev pub left_with : Option PendingMap → Option Mapping → Unmapped
 left_with (Some wait) mapping = Aborted wait.promise
-left_with None (Some mapping) = left_by mapping.mode mapping.lo mapping.hi
+left_with None (Some mapping) = left_of_mapping mapping.mode mapping.lo mapping.hi
 left_with None None = Nothing
 
 -- what an unmap of a buffer says that it was

@@ -3,7 +3,7 @@ ghost use Rattle.std.specs.Prelude.{◌≡◌, ℕ, ◌+◌, ◌<◌, ◌≤◌,
 ghost use Rattle.std.specs.FinMap as table;
 ghost use Rattle.std.specs.List.Sorted.{IsNonDecreasing, IsNonDecreasingBy};
 ghost use Rattle.wg_types.specs.declared.mappings.MapDone.{MapDone};
-ghost use Rattle.wg_maps.specs.Mappings.{MapsValue, is_pending, is_latest, maps_of, is_buffer_due, state_of, left_of, without, with_map, map_done, due_maps, settled_up_to, IsApart, promises};
+ghost use Rattle.wg_maps.specs.Mappings.{MapsValue, has_pending, is_latest, maps_of, is_buffer_due, state_of, left_of, without, with_map, map_done, due_maps, settled_up_to, IsApart, promises};
 
 use crate::mapped::MappedBuffers;
 use crate::waits::Waits;
@@ -282,7 +282,7 @@ impl Maps {
     #[tactic(auto, using(crate::proofs::StateLemmas::state_aborted))]
     pub fn abort_all(&mut self)
         ensures after { self.new ≡ record self.old { pending = [] } }
-        ensures states { (n : ℕ) → state_of self.new n ≡ (if is_pending self.old.pending n then MapState.Unmapped else state_of self.old n) }
+        ensures states { (n : ℕ) → state_of self.new n ≡ (if has_pending self.old.pending n then MapState.Unmapped else state_of self.old n) }
         ensures apart { IsApart self.new.pending self.new.mapped }
     {
         self.waits.clear();

@@ -38,7 +38,6 @@ use Rattle.wg_model.specs.Settings.{Settings, settings, layouts_set, indirect_to
 use Rattle.wg_model.specs.Compute.{compute_does, dispatch_touches}
 use Rattle.wg_model.specs.Attachments.{RenderBegin, ColorTarget, DepthTarget, view_parts, attach_kind, attached, attachment_usage, resolve_touches, color_touches, aspect_how, depth_how, run_aspect, depth_touch, depth_touches, targets_touches}
 use Rattle.wg_model.specs.Render.{RenderSet, render_set, render_touches, command_touches, bound_group_touches, render_does, render_does_by}
-use Rattle.wg_types.specs.declared.handles.Info.{Info}
 use Rattle.wg_types.specs.Handles.{HandleValue}
 use Rattle.wg_types.specs.declared.parts.Aspect.{Aspect}
 use Rattle.wg_types.specs.declared.parts.Aspect.TheVariants as aspect
@@ -49,7 +48,6 @@ use Rattle.wg_types.specs.declared.render.LoadOp.{LoadOp}
 use Rattle.wg_types.specs.declared.render.StoreOp.{StoreOp}
 use Rattle.wg_rows.specs.Runs.{PartRun}
 use Rattle.wg_rows.specs.Uses.{Usages, kind_writes, only_reads}
-use Rattle.wg_model.specs.Subresources.{run_cells}
 use Rattle.wg_model.specs.Recorded.{write_buffer_step, write_texture_step, host_name, host_touches, host_step}
 use Rattle.wg_model.specs.StepLaws.{IsOwnStep, WritesAreDeclared, RecordedAreDeclared}
 use Rattle.wg_model.proofs.Touching.{IsProper, AreProper, touching_own, read_proper, written_proper, joined_proper}

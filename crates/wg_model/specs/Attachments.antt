@@ -7,7 +7,6 @@ use Rattle.wg_types.specs.Handles.{HandleValue}
 use Rattle.wg_types.specs.Commands.{Command, render_begun}
 use Rattle.wg_types.specs.Formats.{row, same_format}
 use Rattle.wg_types.specs.Textures.{width, height}
-use Rattle.wg_types.specs.declared.formats.Format.{Format}
 use Rattle.wg_types.specs.declared.handles.Info.{Info}
 use Rattle.wg_types.specs.declared.handles.Info.TheVariants as info
 use Rattle.wg_types.specs.declared.parts.Aspect.{Aspect}
@@ -46,16 +45,25 @@ DepthTarget = DepthTargetOf HandleValue
 
 -- what is known of a view, if it is one
 abbrev pub view_in : Info → Option ViewInfo
-view_in (info.View view) = Some view
-view_in _ = None
+view_in (info.Buffer known) = None
+view_in (info.Texture known) = None
+view_in (info.View known) = Some known
+view_in (info.Sampler known) = None
+view_in (info.GroupLayout known) = None
+view_in (info.PipelineLayout known) = None
+view_in (info.Group known) = None
+view_in (info.Compute known) = None
+view_in (info.Render known) = None
+view_in info.Encoder = None
+view_in info.CommandBuffer = None
 
 -- what a handle knows of a view, which of an invalid one is nothing
 abbrev pub attached_view : HandleValue → Option ViewInfo
 attached_view handle = if handle.valid then view_in handle.info else None
 
 -- the same where rules 10 and 12 have found a valid view
-abbrev pub view_of : HandleValue → ViewInfo
-view_of handle = unwrap_or (attached_view handle) no_view
+abbrev pub attachment_of : HandleValue → ViewInfo
+attachment_of handle = unwrap_or (attached_view handle) no_view
 
 -- Lists of attachments: those that are not left out, and the views of all.
 
@@ -63,10 +71,10 @@ abbrev pub colors_given : RenderBegin → List ColorTarget
 colors_given begin = flat_map (λ (color : Option ColorTarget). option_to_list color) begin.colors
 
 abbrev pub depth_view : DepthTarget → ViewInfo
-depth_view target = view_of target.view
+depth_view target = attachment_of target.view
 
 abbrev pub color_view : ColorTarget → ViewInfo
-color_view target = view_of target.view
+color_view target = attachment_of target.view
 
 -- the views to which a pass draws
 abbrev pub drawn_views : RenderBegin → List ViewInfo
@@ -74,7 +82,7 @@ drawn_views begin = map color_view (colors_given begin) ++ option_to_list (optio
 
 -- the views of a color attachment: its own, and that to which it is resolved
 abbrev pub target_views : ColorTarget → List ViewInfo
-target_views target = color_view target ∷ option_to_list (option_map view_of target.resolve)
+target_views target = color_view target ∷ option_to_list (option_map attachment_of target.resolve)
 
 -- all views that are attached
 abbrev pub attached_views : RenderBegin → List ViewInfo
@@ -99,10 +107,11 @@ color_fits view = is_renderable view && is_color view.texture_info.format
 
 -- whether a view has all aspects of its texture's format
 abbrev pub has_all_aspects : ViewInfo → Bool
-has_all_aspects view = length (named_aspects view.aspect (row view.texture_info.format).aspects) == length (named_aspects All (row view.texture_info.format).aspects)
+has_all_aspects view =
+    length (named_aspects view.aspect (row view.texture_info.format).aspects) == length (named_aspects All (row view.texture_info.format).aspects)
 
-abbrev pub depth_fits : ViewInfo → Bool
-depth_fits view = is_renderable view && (not (is_color view.texture_info.format) && has_all_aspects view)
+abbrev pub depth_attachment_fits : ViewInfo → Bool
+depth_attachment_fits view = is_renderable view && (not (is_color view.texture_info.format) && has_all_aspects view)
 
 -- whether load and store of an aspect are given exactly where they are wanted
 abbrev pub ops_fit : Bool → Option LoadOp → Option StoreOp → Bool
@@ -133,9 +142,9 @@ all_alike [] = true
 all_alike (view ∷ views) = list_all (are_alike view) views
 
 -- whether no subresource is in two of the views
-abbrev pub are_apart : List ViewInfo → Bool
-are_apart [] = true
-are_apart (view ∷ views) = not (list_any (views_meet view) views) && are_apart views
+abbrev pub views_are_apart : List ViewInfo → Bool
+views_are_apart [] = true
+views_are_apart (view ∷ views) = not (list_any (views_meet view) views) && views_are_apart views
 
 -- whether a view of 4 samples may be resolved to another: to one of 1 sample that can be drawn to, of the same format and extent
 abbrev pub resolves_to : ViewInfo → ViewInfo → Bool
@@ -146,7 +155,7 @@ resolves_to view target =
     && (same_format view.texture_info.format target.texture_info.format && same_extent view target)))
 
 abbrev pub resolve_fits : ColorTarget → Bool
-resolve_fits target = option_map_or (λ (resolve : HandleValue). resolves_to (color_view target) (view_of resolve)) target.resolve true
+resolve_fits target = option_map_or (λ (resolve : HandleValue). resolves_to (color_view target) (attachment_of resolve)) target.resolve true
 
 -- how many color attachments there may be
 abbrev pub most_colors : ℕ
@@ -162,10 +171,10 @@ begin_rules begin =
     (300, nat_le (length begin.colors) most_colors)
     ∷ ((301, list_any (λ (color : Option ColorTarget). is_some color) begin.colors || is_some begin.depth)
     ∷ ((302, list_all (λ (target : ColorTarget). color_fits (color_view target)) (colors_given begin))
-    ∷ ((303, option_map_or (λ (target : DepthTarget). depth_fits (depth_view target)) begin.depth true)
+    ∷ ((303, option_map_or (λ (target : DepthTarget). depth_attachment_fits (depth_view target)) begin.depth true)
     ∷ ((304, option_map_or depth_ops_fit begin.depth true)
     ∷ ((305, all_alike (drawn_views begin))
-    ∷ ((306, are_apart (attached_views begin))
+    ∷ ((306, views_are_apart (attached_views begin))
     ∷ ((307, list_all resolve_fits (colors_given begin))
     ∷ [])))))))
 

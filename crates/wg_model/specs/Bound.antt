@@ -30,18 +30,35 @@ use Rattle.wg_model.specs.Touches.{Touch, constant_usage, storage_usage, storage
 
 -- what is known of a group, if it is one
 abbrev pub group_in : Info → Option GroupInfo
-group_in (info.Group group) = Some group
-group_in _ = None
+group_in (info.Buffer known) = None
+group_in (info.Texture known) = None
+group_in (info.View known) = None
+group_in (info.Sampler known) = None
+group_in (info.GroupLayout known) = None
+group_in (info.PipelineLayout known) = None
+group_in (info.Group known) = Some known
+group_in (info.Compute known) = None
+group_in (info.Render known) = None
+group_in info.Encoder = None
+group_in info.CommandBuffer = None
 
 -- what a handle knows of a group, which of an invalid one is nothing
 abbrev pub known_group : HandleValue → Option GroupInfo
 known_group handle = if handle.valid then group_in handle.info else None
 
--- the layouts of the groups of a pipeline
+-- the layouts of the groups of a pipeline, if it is one
 abbrev pub layouts_in : Info → List GroupLayoutInfo
-layouts_in (info.Compute pipeline) = pipeline.layout_info.layouts_info
-layouts_in (info.Render pipeline) = pipeline.layout_info.layouts_info
-layouts_in _ = []
+layouts_in (info.Buffer known) = []
+layouts_in (info.Texture known) = []
+layouts_in (info.View known) = []
+layouts_in (info.Sampler known) = []
+layouts_in (info.GroupLayout known) = []
+layouts_in (info.PipelineLayout known) = []
+layouts_in (info.Group known) = []
+layouts_in (info.Compute known) = known.layout_info.layouts_info
+layouts_in (info.Render known) = known.layout_info.layouts_info
+layouts_in info.Encoder = []
+layouts_in info.CommandBuffer = []
 
 -- how many of a layout's bindings take a dynamic offset
 abbrev pub dynamics : List LayoutEntry → ℕ
@@ -65,19 +82,20 @@ abbrev pub place_of : List LayoutEntry → List ℕ → LayoutEntry → BoundRes
 place_of layout offsets asked resource = record { asked = asked; moved = moved_by layout offsets asked; resource = resource }
 
 abbrev pub entry_places : List LayoutEntry → List ℕ → BoundEntry → List Place
-entry_places layout offsets bound = option_map_or (λ (asked : LayoutEntry). place_of layout offsets asked bound.resource ∷ []) (entry_of layout bound.binding) []
+entry_places layout offsets bound =
+    option_map_or (λ (asked : LayoutEntry). place_of layout offsets asked bound.resource ∷ []) (entry_of layout bound.binding) []
 
 abbrev pub places_in : GroupInfo → List ℕ → List Place
 places_in group offsets = flat_map (entry_places group.layout_info.entries offsets) group.entries
 
 -- whether the bound range, moved, fits its buffer
-abbrev pub range_fits : ℕ → BoundResource → Bool
-range_fits moved (BoundBuffer buffer known offset size) = nat_le (offset + moved + size) known.size
-range_fits moved (BoundView view known) = true
-range_fits moved (BoundSampler sampler known) = true
+abbrev pub moved_range_fits : ℕ → BoundResource → Bool
+moved_range_fits moved (BoundBuffer buffer known offset size) = nat_le (offset + moved + size) known.size
+moved_range_fits moved (BoundView view known) = true
+moved_range_fits moved (BoundSampler sampler known) = true
 
 abbrev pub place_fits : Place → Bool
-place_fits place = range_fits place.moved place.resource
+place_fits place = moved_range_fits place.moved place.resource
 
 -- how many bind groups may be set
 abbrev pub most_groups : ℕ
@@ -107,7 +125,9 @@ info_set (Some bound) = known_group bound.group
 
 -- whether a group is set with an equivalent layout, or the layout has no entry
 abbrev pub layout_fits : GroupLayoutInfo → Option BoundGroup → Bool
-layout_fits layout group = not (has_entries layout) || option_map_or (λ (known : GroupInfo). equivalent layout.entries known.layout_info.entries) (info_set group) false
+layout_fits layout group =
+    not (has_entries layout)
+    || option_map_or (λ (known : GroupInfo). equivalent layout.entries known.layout_info.entries) (info_set group) false
 
 -- the same of each layout, the first of which has this index
 abbrev pub layouts_fit : List GroupLayoutInfo → List (Option BoundGroup) → ℕ → Bool

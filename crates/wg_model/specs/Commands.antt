@@ -1,7 +1,6 @@
 -- The objects that commands name, and the rules of each command (WebGPU, "Command Encoding").
 use Rattle.std.specs.Prelude.{ℕ, ◌+◌, ◌%◌, Bool, true, false, not, ◌&&◌, ◌==◌, nat_lt, nat_le, List, [], ◌∷◌, ◌++◌, ◌-◌, Option, unwrap_or, if◌then◌else◌}
 use Rattle.wg_types.specs.Handles.{HandleValue}
-use Rattle.wg_types.specs.declared.handles.ObjRef.{ObjRef}
 use Rattle.wg_types.specs.declared.handles.BufferInfo.{BufferInfo}
 use Rattle.wg_types.specs.declared.handles.Info.{Info}
 use Rattle.wg_types.specs.declared.handles.Info.TheVariants.{Buffer, Texture}
@@ -17,6 +16,7 @@ use Rattle.wg_types.specs.declared.commands.Bracket.{Bracket}
 use Rattle.wg_types.specs.declared.commands.Bracket.TheVariants as brackets
 use Rattle.wg_types.specs.declared.commands.CommandOf.TheVariants.{BeginComputePass, BeginRenderPass, CopyBufferToBuffer, CopyBufferToTexture, CopyTextureToBuffer, CopyTextureToTexture, ClearBuffer, PushDebugGroup, PopDebugGroup, End, SetPipeline, SetBindGroup, Dispatch, DispatchIndirect, SetVertexBuffer, SetIndexBuffer, Draw, DrawIndexed, DrawIndirect, DrawIndexedIndirect}
 use Rattle.wg_model.specs.Rules.{Rule}
+use Rattle.wg_model.specs.Equality.{same_reference}
 use Rattle.wg_model.specs.Buffers.{copy_src, copy_dst, has_usage}
 use Rattle.wg_model.specs.TexelCopies.{buffer_to_texture_rules, texture_to_buffer_rules, texture_to_texture_rules, whole_spot}
 
@@ -44,9 +44,9 @@ rest_of buffer offset = if buffer.valid then (buffer_of buffer).size - offset el
 abbrev pub size_or_rest : HandleValue → ℕ → Option ℕ → ℕ
 size_or_rest buffer offset size = unwrap_or size (rest_of buffer offset)
 
-abbrev pub is_texture : Info → Bool
-is_texture (Texture info) = true
-is_texture _ = false
+abbrev pub is_texture_info : Info → Bool
+is_texture_info (Texture info) = true
+is_texture_info _ = false
 
 -- likewise for what is known of a texture
 abbrev pub no_texture : TextureInfo
@@ -73,9 +73,6 @@ abbrev pub common_rules : ℕ → List (HandleValue × Wanted) → List Rule
 common_rules device [] = []
 common_rules device (object ∷ objects) = object_rules device object ++ common_rules device objects
 
-abbrev pub same_object : ObjRef → ObjRef → Bool
-same_object a b = a.device == b.device && a.number == b.number
-
 -- copyBufferToBuffer (WebGPU, "copyBufferToBuffer"): 250 the source has COPY_SRC; 251 the target has COPY_DST; 252 the
 -- offsets and the size are multiples of 4; 253 both ranges fit their buffers; 254 source and target differ.
 abbrev pub copy_buffer_rules : HandleValue → ℕ → HandleValue → ℕ → ℕ → List Rule
@@ -84,7 +81,7 @@ copy_buffer_rules source source_offset target target_offset size =
     ∷ ((251, has_usage (buffer_of target).usage copy_dst)
     ∷ ((252, source_offset % 4 == 0 && target_offset % 4 == 0 && size % 4 == 0)
     ∷ ((253, nat_le (source_offset + size) (buffer_of source).size && nat_le (target_offset + size) (buffer_of target).size)
-    ∷ ((254, not (same_object source.reference target.reference))
+    ∷ ((254, not (same_reference source.reference target.reference))
     ∷ []))))
 
 -- clearBuffer (WebGPU, "clearBuffer"): 275 the buffer has COPY_DST; 276 offset and size are multiples of 4; 277 they fit
@@ -103,7 +100,7 @@ own_rules (BeginRenderPass begin) = []
 own_rules (CopyBufferToBuffer source source_offset target target_offset size) = copy_buffer_rules source source_offset target target_offset size
 own_rules (CopyBufferToTexture buffer layout texture spot size) = buffer_to_texture_rules (buffer_of buffer) layout (texture_of texture) spot size
 own_rules (CopyTextureToBuffer buffer layout texture spot size) = texture_to_buffer_rules (buffer_of buffer) layout (texture_of texture) spot size
-own_rules (CopyTextureToTexture source source_mip source_origin target target_mip target_origin size) = texture_to_texture_rules (same_object source.reference target.reference) (texture_of source) (whole_spot source_mip source_origin) (texture_of target) (whole_spot target_mip target_origin) size
+own_rules (CopyTextureToTexture source source_mip source_origin target target_mip target_origin size) = texture_to_texture_rules (same_reference source.reference target.reference) (texture_of source) (whole_spot source_mip source_origin) (texture_of target) (whole_spot target_mip target_origin) size
 own_rules (ClearBuffer buffer offset size) = clear_buffer_rules buffer offset (size_or_rest buffer offset size)
 own_rules PushDebugGroup = []
 own_rules PopDebugGroup = []
@@ -120,17 +117,17 @@ own_rules (DrawIndirect buffer offset) = []
 own_rules (DrawIndexedIndirect buffer offset) = []
 
 -- popDebugGroup (WebGPU, "Debug Markers"), by how many groups of its place are open: 285 one is.
-abbrev pub group_rules_by : ℕ → Bracket → List Rule
-group_rules_by depth brackets.BeginComputePass = []
-group_rules_by depth brackets.BeginRenderPass = []
-group_rules_by depth brackets.EndPass = []
-group_rules_by depth brackets.PushGroup = []
-group_rules_by depth brackets.PopGroup = (285, nat_lt 0 depth) ∷ []
-group_rules_by depth brackets.Neither = []
+abbrev pub debug_rules_by : ℕ → Bracket → List Rule
+debug_rules_by depth brackets.BeginComputePass = []
+debug_rules_by depth brackets.BeginRenderPass = []
+debug_rules_by depth brackets.EndPass = []
+debug_rules_by depth brackets.PushGroup = []
+debug_rules_by depth brackets.PopGroup = (285, nat_lt 0 depth) ∷ []
+debug_rules_by depth brackets.Neither = []
 
-abbrev pub group_rules : ℕ → Command → List Rule
-group_rules depth command = group_rules_by depth (bracket command)
+abbrev pub debug_rules : ℕ → Command → List Rule
+debug_rules depth command = debug_rules_by depth (bracket command)
 
 -- The rules of a command on an encoder that is not locked, where this many debug groups of the encoder are open.
 abbrev pub command_rules : ℕ → ℕ → Command → List Rule
-command_rules device depth command = common_rules device (named command) ++ (own_rules command ++ group_rules depth command)
+command_rules device depth command = common_rules device (named command) ++ (own_rules command ++ debug_rules depth command)

@@ -47,6 +47,7 @@ same_list same [] (y ∷ ys) = false
 same_list same (x ∷ xs) [] = false
 same_list same (x ∷ xs) (y ∷ ys) = same x y && same_list same xs ys
 
+-- whether two references are of one object
 abbrev pub same_reference : ObjRef → ObjRef → Bool
 same_reference a b = a.device == b.device && a.number == b.number
 

@@ -37,9 +37,9 @@ abbrev pub is_seen_by : ℕ → LayoutEntry → Bool
 is_seen_by stage entry = has_usage entry.visibility stage
 
 -- whether no two entries are of one binding
-abbrev pub are_apart : List LayoutEntry → Bool
-are_apart [] = true
-are_apart (entry ∷ entries) = not (list_any (λ (other : LayoutEntry). other.binding == entry.binding) entries) && are_apart entries
+abbrev pub bindings_are_distinct : List LayoutEntry → Bool
+bindings_are_distinct [] = true
+bindings_are_distinct (entry ∷ entries) = not (list_any (λ (other : LayoutEntry). other.binding == entry.binding) entries) && bindings_are_distinct entries
 
 abbrev pub is_written : StorageAccess → Bool
 is_written ReadOnly = false
@@ -139,7 +139,7 @@ dynamic_fits limits entries =
 -- buffers are dynamic than may be.
 abbrev pub group_layout_rules : Limits → List LayoutEntry → List Rule
 group_layout_rules limits entries =
-    (130, are_apart entries)
+    (130, bindings_are_distinct entries)
     ∷ ((131, list_all (λ (entry : LayoutEntry). nat_lt entry.binding limits.max_bindings_per_bind_group) entries)
     ∷ ((132, list_all (λ (entry : LayoutEntry). nat_le entry.visibility stages) entries)
     ∷ ((133, list_all (λ (entry : LayoutEntry). not (is_seen_by vertex_stage entry && may_write entry.kind)) entries)

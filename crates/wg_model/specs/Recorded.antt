@@ -25,10 +25,10 @@ use Rattle.wg_rows.specs.Runs.{Bytes}
 use Rattle.wg_rows.specs.Uses.{Usages, Kind, Read, Both}
 use Rattle.wg_orders.specs.Steps.{Step, StepPlace}
 use Rattle.wg_model.specs.Subresources.{has_no_texel}
-use Rattle.wg_model.specs.Touches.{Touch, range_touches, copied_to, touching, step_of, placed}
+use Rattle.wg_model.specs.Touches.{Touch, range_touches, copied_to, touching, placed}
 use Rattle.wg_model.specs.Bound.{known_group}
 use Rattle.wg_model.specs.Attachments.{attached_view}
-use Rattle.wg_model.specs.Walk.{Kept, doings, DeedsOf}
+use Rattle.wg_model.specs.Walk.{DeedsOf}
 
 abbrev pub write_buffer_step : StepPlace → ℕ → ℕ → ℕ → Step
 write_buffer_step place object offset size = touching place name.WriteBuffer (range_touches object offset size)
@@ -39,7 +39,8 @@ write_texture_step place object info spot size = touching place name.WriteTextur
 -- the step of a queue write; one of size 0 is no step
 abbrev pub write_step : StepPlace → QueueWrite → Option Step
 write_step place (BufferWrite buffer offset size) = if size == 0 then None else Some (write_buffer_step place buffer.number offset size)
-write_step place (TextureWrite texture info spot layout size) = if has_no_texel size then None else Some (write_texture_step place texture.number info spot size)
+write_step place (TextureWrite texture info spot layout size) =
+    if has_no_texel size then None else Some (write_texture_step place texture.number info spot size)
 
 -- Host accesses (WebGPU, "Buffer Mapping"): what a map for reading gives the caller is read; what is mapped for writing goes
 -- back whole, with what the caller left as it was.
@@ -63,10 +64,6 @@ host_touches buffer m = (Bytes buffer m.lo m.hi, (host_usage m.mode, host_kind m
 abbrev pub host_step : StepPlace → ℕ → Mapping → Option Step
 host_step place buffer m = if m.lo == m.hi then None else Some (touching place (host_name m.mode) (host_touches buffer m))
 
--- the steps of kept commands, in order
-abbrev pub recorded_steps : StepPlace → Kept → List Step
-recorded_steps place kept = map (step_of place) (doings kept)
-
 -- the steps of a recording, which are none where it has a verdict or an open pass
 abbrev pub StepsOf : StepPlace → ℕ → List (On × Command) → List Step
 StepsOf place device commands = map (placed place) (DeedsOf device commands)
@@ -88,23 +85,63 @@ abbrev pub in_group : (BoundResource → List ℕ) → Option GroupInfo → List
 in_group which None = []
 in_group which (Some group) = flat_map (λ (entry : BoundEntry). which entry.resource) group.entries
 
--- the numbers of the buffers that an object is or binds, by what is wanted of it
-abbrev pub buffers_as : Wanted → HandleValue → List ℕ
-buffers_as wanted.Buffer object = object.reference.number ∷ []
-buffers_as wanted.Group object = in_group bound_buffer (known_group object)
-buffers_as _ object = []
-
 -- the number of the texture of a view, if it is known
 abbrev pub in_view : Option ViewInfo → List ℕ
 in_view None = []
 in_view (Some view) = view.texture.number ∷ []
 
--- likewise of the textures that it is, of which it is a view, or of which it binds a view
+-- What resources are reached through an object that a command names: the buffer or the texture that it is, the texture of which
+-- it is a view, the buffers that it binds and the textures whose views it binds, or none.
+pub data Reaching : Type 0 where
+  own_buffer : Reaching
+  own_texture : Reaching
+  viewed_texture : Reaching
+  bound_resources : Reaching
+  no_resource : Reaching
+
+-- the same by what is wanted of the object
+abbrev pub reaching : Wanted → Reaching
+reaching wanted.Buffer = own_buffer
+reaching wanted.Texture = own_texture
+reaching wanted.View = viewed_texture
+reaching wanted.Sampler = no_resource
+reaching wanted.GroupLayout = no_resource
+reaching wanted.PipelineLayout = no_resource
+reaching wanted.Group = bound_resources
+reaching wanted.Pipeline = no_resource
+reaching wanted.ComputePipeline = no_resource
+reaching wanted.RenderPipeline = no_resource
+reaching wanted.Destroyable = no_resource
+reaching wanted.Encoder = no_resource
+reaching wanted.CommandBuffer = no_resource
+reaching wanted.ComputePass = no_resource
+reaching wanted.Pass = no_resource
+reaching wanted.Binding = no_resource
+reaching wanted.Drawing = no_resource
+reaching wanted.Recording = no_resource
+reaching wanted.Object = no_resource
+
+-- the numbers of the buffers that are reached
+abbrev pub buffers_by : Reaching → HandleValue → List ℕ
+buffers_by own_buffer object = object.reference.number ∷ []
+buffers_by own_texture object = []
+buffers_by viewed_texture object = []
+buffers_by bound_resources object = in_group bound_buffer (known_group object)
+buffers_by no_resource object = []
+
+abbrev pub buffers_as : Wanted → HandleValue → List ℕ
+buffers_as asked object = buffers_by (reaching asked) object
+
+-- likewise of the textures
+abbrev pub textures_by : Reaching → HandleValue → List ℕ
+textures_by own_buffer object = []
+textures_by own_texture object = object.reference.number ∷ []
+textures_by viewed_texture object = in_view (attached_view object)
+textures_by bound_resources object = in_group bound_texture (known_group object)
+textures_by no_resource object = []
+
 abbrev pub textures_as : Wanted → HandleValue → List ℕ
-textures_as wanted.Texture object = object.reference.number ∷ []
-textures_as wanted.View object = in_view (attached_view object)
-textures_as wanted.Group object = in_group bound_texture (known_group object)
-textures_as _ object = []
+textures_as asked object = textures_by (reaching asked) object
 
 abbrev pub numbers_by : (Wanted → HandleValue → List ℕ) → List (HandleValue × Wanted) → List ℕ
 numbers_by which [] = []

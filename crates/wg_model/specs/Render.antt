@@ -1,12 +1,14 @@
 -- Render passes (WebGPU, "Render Passes" and "GPURenderCommandsMixin"): what is set, the rules of the commands, and what the
 -- whole pass touches. The commands of a pass so far stand newest first.
-use Rattle.std.specs.Prelude.{ℕ, ◌+◌, ◌*◌, ◌%◌, ◌==◌, nat_le, nat_lt, Bool, true, false, not, ◌&&◌, ◌||◌, List, [], ◌∷◌, ◌++◌, Option, Some, None, is_some, is_none, unwrap_or, option_and_then, slice_index_or, if◌then◌else◌}
+use Rattle.std.specs.Prelude.{ℕ, ◌+◌, ◌*◌, ◌%◌, ◌==◌, nat_le, nat_lt, Bool, true, false, not, ◌&&◌, List, [], ◌∷◌, ◌++◌, Option, Some, None, is_some, is_none, option_and_then, slice_index_or, if◌then◌else◌}
 use Rattle.std.specs.List.{list_all, flat_map}
 use Rattle.std.specs.Option.{option_map_or, option_map, option_or}
 use Rattle.wg_types.specs.Handles.{HandleValue}
 use Rattle.wg_types.specs.Formats.{same_format}
 use Rattle.wg_types.specs.Vertex.{index_bytes}
-use Rattle.wg_types.specs.Commands.{Command, bracket}
+use Rattle.wg_types.specs.Commands.{Command, bracket, Act, begins, sets, runs, neither, act}
+use Rattle.wg_types.specs.Commands.{Setting, set_pipeline, set_group, set_vertex_buffer, set_index_buffer}
+use Rattle.wg_types.specs.Commands.{Running, dispatch, dispatch_indirect, draw, draw_indexed, draw_indirect, draw_indexed_indirect}
 use Rattle.wg_types.specs.declared.formats.Format.{Format}
 use Rattle.wg_types.specs.declared.handles.Info.{Info}
 use Rattle.wg_types.specs.declared.handles.Info.TheVariants as info
@@ -18,13 +20,12 @@ use Rattle.wg_types.specs.declared.render.TargetInfo.{TargetInfo}
 use Rattle.wg_types.specs.declared.commands.BoundGroup.{BoundGroup}
 use Rattle.wg_types.specs.declared.commands.Bracket.{Bracket}
 use Rattle.wg_types.specs.declared.commands.Bracket.TheVariants as brackets
-use Rattle.wg_types.specs.declared.commands.CommandOf.TheVariants.{BeginComputePass, BeginRenderPass, CopyBufferToBuffer, CopyBufferToTexture, CopyTextureToBuffer, CopyTextureToTexture, ClearBuffer, PushDebugGroup, PopDebugGroup, End, SetPipeline, SetBindGroup, Dispatch, DispatchIndirect, SetVertexBuffer, SetIndexBuffer, Draw, DrawIndexed, DrawIndirect, DrawIndexedIndirect}
 use Rattle.wg_types.specs.declared.steps.StepName.TheVariants as name
 use Rattle.wg_rows.specs.Uses.{Read}
 use Rattle.wg_model.specs.Rules.{Rule}
 use Rattle.wg_model.specs.Equality.{same_option}
 use Rattle.wg_model.specs.Buffers.{has_usage}
-use Rattle.wg_model.specs.Commands.{group_rules, buffer_of, size_or_rest}
+use Rattle.wg_model.specs.Commands.{debug_rules, buffer_of, size_or_rest}
 use Rattle.wg_model.specs.Touches.{Touch, Doing, bytes_at, input_usage}
 use Rattle.wg_model.specs.Bound.{set_places, place_touches}
 use Rattle.wg_model.specs.Vertex.{draw_fits}
@@ -33,8 +34,17 @@ use Rattle.wg_model.specs.Settings.{Settings, settings, slot_after, group_given,
 
 -- what a handle knows of a render pipeline, which of an invalid one is nothing
 abbrev pub desc_in : Info → Option RenderDesc
-desc_in (info.Render pipeline) = Some pipeline.desc
-desc_in _ = None
+desc_in (info.Buffer known) = None
+desc_in (info.Texture known) = None
+desc_in (info.View known) = None
+desc_in (info.Sampler known) = None
+desc_in (info.GroupLayout known) = None
+desc_in (info.PipelineLayout known) = None
+desc_in (info.Group known) = None
+desc_in (info.Compute known) = None
+desc_in (info.Render known) = Some known.desc
+desc_in info.Encoder = None
+desc_in info.CommandBuffer = None
 
 abbrev pub known_pipeline : HandleValue → Option RenderDesc
 known_pipeline handle = if handle.valid then desc_in handle.info else None
@@ -47,28 +57,22 @@ buffers_in (Some desc) = desc.buffers
 abbrev pub buffers_wanted : Settings → List VertexBuffer
 buffers_wanted set = buffers_in (option_and_then known_pipeline set.pipeline)
 
--- the range that a command sets as a vertex buffer, by its slot and its size, if it sets one
+-- the range that a setting sets as a vertex buffer, by its slot and its size, if it sets one
+abbrev pub setting_vertex : Setting HandleValue → Option (ℕ × ℕ)
+setting_vertex (set_pipeline pipeline) = None
+setting_vertex (set_group index group offsets) = None
+setting_vertex (set_vertex_buffer slot buffer offset size) = Some (slot, size_or_rest buffer offset size)
+setting_vertex (set_index_buffer buffer format offset size) = None
+
+abbrev pub vertex_given_by : Act HandleValue → Option (ℕ × ℕ)
+vertex_given_by (begins begin) = None
+vertex_given_by (sets setting) = setting_vertex setting
+vertex_given_by (runs running) = None
+vertex_given_by neither = None
+
+-- the range that a command sets as a vertex buffer, if it sets one
 abbrev pub vertex_given : Command → Option (ℕ × ℕ)
-vertex_given BeginComputePass = None
-vertex_given (BeginRenderPass begin) = None
-vertex_given (CopyBufferToBuffer source source_offset target target_offset size) = None
-vertex_given (CopyBufferToTexture buffer layout texture spot size) = None
-vertex_given (CopyTextureToBuffer buffer layout texture spot size) = None
-vertex_given (CopyTextureToTexture source source_mip source_origin target target_mip target_origin size) = None
-vertex_given (ClearBuffer buffer offset size) = None
-vertex_given PushDebugGroup = None
-vertex_given PopDebugGroup = None
-vertex_given End = None
-vertex_given (SetPipeline pipeline) = None
-vertex_given (SetBindGroup index group offsets) = None
-vertex_given (Dispatch x y z) = None
-vertex_given (DispatchIndirect buffer offset) = None
-vertex_given (SetVertexBuffer slot buffer offset size) = Some (slot, size_or_rest buffer offset size)
-vertex_given (SetIndexBuffer buffer format offset size) = None
-vertex_given (Draw vertices instances first_vertex first_instance) = None
-vertex_given (DrawIndexed indices instances first_index first_instance) = None
-vertex_given (DrawIndirect buffer offset) = None
-vertex_given (DrawIndexedIndirect buffer offset) = None
+vertex_given command = vertex_given_by (act command)
 
 -- the size of the range that is set as the vertex buffer of a slot: of the last
 abbrev pub vertex_set : List Command → ℕ → Option ℕ
@@ -88,28 +92,22 @@ ranges_set earlier =
     ∷ (vertex_set earlier 7
     ∷ [])))))))
 
--- the range that a command sets as the index buffer, by its format and its size, if it sets one
+-- the range that a setting sets as the index buffer, by its format and its size, if it sets one
+abbrev pub setting_index : Setting HandleValue → Option (IndexFormat × ℕ)
+setting_index (set_pipeline pipeline) = None
+setting_index (set_group index group offsets) = None
+setting_index (set_vertex_buffer slot buffer offset size) = None
+setting_index (set_index_buffer buffer format offset size) = Some (format, size_or_rest buffer offset size)
+
+abbrev pub index_given_by : Act HandleValue → Option (IndexFormat × ℕ)
+index_given_by (begins begin) = None
+index_given_by (sets setting) = setting_index setting
+index_given_by (runs running) = None
+index_given_by neither = None
+
+-- the range that a command sets as the index buffer, if it sets one
 abbrev pub index_given : Command → Option (IndexFormat × ℕ)
-index_given BeginComputePass = None
-index_given (BeginRenderPass begin) = None
-index_given (CopyBufferToBuffer source source_offset target target_offset size) = None
-index_given (CopyBufferToTexture buffer layout texture spot size) = None
-index_given (CopyTextureToBuffer buffer layout texture spot size) = None
-index_given (CopyTextureToTexture source source_mip source_origin target target_mip target_origin size) = None
-index_given (ClearBuffer buffer offset size) = None
-index_given PushDebugGroup = None
-index_given PopDebugGroup = None
-index_given End = None
-index_given (SetPipeline pipeline) = None
-index_given (SetBindGroup index group offsets) = None
-index_given (Dispatch x y z) = None
-index_given (DispatchIndirect buffer offset) = None
-index_given (SetVertexBuffer slot buffer offset size) = None
-index_given (SetIndexBuffer buffer format offset size) = Some (format, size_or_rest buffer offset size)
-index_given (Draw vertices instances first_vertex first_instance) = None
-index_given (DrawIndexed indices instances first_index first_instance) = None
-index_given (DrawIndirect buffer offset) = None
-index_given (DrawIndexedIndirect buffer offset) = None
+index_given command = index_given_by (act command)
 
 -- the index buffer that is set: the last
 abbrev pub index_set : List Command → Option (IndexFormat × ℕ)
@@ -126,27 +124,30 @@ bound_group_touches (Some given) = flat_map place_touches (set_places (Some give
 abbrev pub input_touch : HandleValue → ℕ → ℕ → Touch
 input_touch buffer offset size = (bytes_at buffer.reference.number offset size, (input_usage, Read))
 
+-- what is set as an input is read
+abbrev pub setting_touches : Setting HandleValue → List Touch
+setting_touches (set_pipeline pipeline) = []
+setting_touches (set_group index group offsets) = []
+setting_touches (set_vertex_buffer slot buffer offset size) = input_touch buffer offset (size_or_rest buffer offset size) ∷ []
+setting_touches (set_index_buffer buffer format offset size) = input_touch buffer offset (size_or_rest buffer offset size) ∷ []
+
+-- and so is the buffer of an indirect draw
+abbrev pub running_touches : Running HandleValue → List Touch
+running_touches (dispatch x y z) = []
+running_touches (dispatch_indirect buffer offset) = []
+running_touches (draw vertices instances first_vertex first_instance) = []
+running_touches (draw_indexed indices instances first_index first_instance) = []
+running_touches (draw_indirect buffer offset) = indirect_touch buffer offset 16 ∷ []
+running_touches (draw_indexed_indirect buffer offset) = indirect_touch buffer offset 20 ∷ []
+
+abbrev pub input_touches_by : Act HandleValue → List Touch
+input_touches_by (begins begin) = []
+input_touches_by (sets setting) = setting_touches setting
+input_touches_by (runs running) = running_touches running
+input_touches_by neither = []
+
 abbrev pub input_touches : Command → List Touch
-input_touches BeginComputePass = []
-input_touches (BeginRenderPass begin) = []
-input_touches (CopyBufferToBuffer source source_offset target target_offset size) = []
-input_touches (CopyBufferToTexture buffer layout texture spot size) = []
-input_touches (CopyTextureToBuffer buffer layout texture spot size) = []
-input_touches (CopyTextureToTexture source source_mip source_origin target target_mip target_origin size) = []
-input_touches (ClearBuffer buffer offset size) = []
-input_touches PushDebugGroup = []
-input_touches PopDebugGroup = []
-input_touches End = []
-input_touches (SetPipeline pipeline) = []
-input_touches (SetBindGroup index group offsets) = []
-input_touches (Dispatch x y z) = []
-input_touches (DispatchIndirect buffer offset) = []
-input_touches (SetVertexBuffer slot buffer offset size) = input_touch buffer offset (size_or_rest buffer offset size) ∷ []
-input_touches (SetIndexBuffer buffer format offset size) = input_touch buffer offset (size_or_rest buffer offset size) ∷ []
-input_touches (Draw vertices instances first_vertex first_instance) = []
-input_touches (DrawIndexed indices instances first_index first_instance) = []
-input_touches (DrawIndirect buffer offset) = indirect_touch buffer offset 16 ∷ []
-input_touches (DrawIndexedIndirect buffer offset) = indirect_touch buffer offset 20 ∷ []
+input_touches command = input_touches_by (act command)
 
 abbrev pub command_touches : Command → List Touch
 command_touches command = bound_group_touches (group_given command) ++ input_touches command
@@ -246,32 +247,57 @@ draw_rule render vertices instances = (351, draw_fits (buffers_wanted render.set
 abbrev pub index_buffer_rule : RenderSet → Rule
 index_buffer_rule render = (352, is_some render.index)
 
+abbrev pub draw_rules : RenderSet → ℕ → ℕ → List Rule
+draw_rules render vertices instances = ready_rules render.set ++ vertex_buffers_rule render ∷ (draw_rule render (Some vertices) instances ∷ [])
+
+abbrev pub indices_rule : RenderSet → ℕ → ℕ → Rule
+indices_rule render first indices = (353, indices_fit first indices render.index)
+
+abbrev pub draw_indexed_rules : RenderSet → ℕ → ℕ → ℕ → List Rule
+draw_indexed_rules render first indices instances =
+    ready_rules render.set
+    ++ vertex_buffers_rule render
+    ∷ (index_buffer_rule render
+    ∷ (indices_rule render first indices
+    ∷ (draw_rule render None instances
+    ∷ [])))
+
+abbrev pub draw_indirect_rules : RenderSet → HandleValue → ℕ → List Rule
+draw_indirect_rules render buffer offset = ready_rules render.set ++ (indirect_rules buffer offset 16 ++ vertex_buffers_rule render ∷ [])
+
+abbrev pub draw_indexed_indirect_rules : RenderSet → HandleValue → ℕ → List Rule
+draw_indexed_indirect_rules render buffer offset =
+    ready_rules render.set ++ (indirect_rules buffer offset 20 ++ vertex_buffers_rule render ∷ (index_buffer_rule render ∷ []))
+
+-- the rules of what is set in render passes alone
+abbrev pub setting_rules : Setting HandleValue → List Rule
+setting_rules (set_pipeline pipeline) = []
+setting_rules (set_group index group offsets) = []
+setting_rules (set_vertex_buffer slot buffer offset size) = vertex_rules slot buffer offset (size_or_rest buffer offset size)
+setting_rules (set_index_buffer buffer format offset size) = index_rules buffer format offset (size_or_rest buffer offset size)
+
+-- and of what draws
+abbrev pub running_rules : RenderSet → Running HandleValue → List Rule
+running_rules render (dispatch x y z) = []
+running_rules render (dispatch_indirect buffer offset) = []
+running_rules render (draw vertices instances first_vertex first_instance) = draw_rules render (first_vertex + vertices) (first_instance + instances)
+running_rules render (draw_indexed indices instances first_index first_instance) = draw_indexed_rules render first_index indices (first_instance + instances)
+running_rules render (draw_indirect buffer offset) = draw_indirect_rules render buffer offset
+running_rules render (draw_indexed_indirect buffer offset) = draw_indexed_indirect_rules render buffer offset
+
+abbrev pub drawing_rules_by : RenderSet → Act HandleValue → List Rule
+drawing_rules_by render (begins begin) = []
+drawing_rules_by render (sets setting) = setting_rules setting
+drawing_rules_by render (runs running) = running_rules render running
+drawing_rules_by render neither = []
+
 abbrev pub drawing_rules : RenderSet → Command → List Rule
-drawing_rules render BeginComputePass = []
-drawing_rules render (BeginRenderPass begin) = []
-drawing_rules render (CopyBufferToBuffer source source_offset target target_offset size) = []
-drawing_rules render (CopyBufferToTexture buffer layout texture spot size) = []
-drawing_rules render (CopyTextureToBuffer buffer layout texture spot size) = []
-drawing_rules render (CopyTextureToTexture source source_mip source_origin target target_mip target_origin size) = []
-drawing_rules render (ClearBuffer buffer offset size) = []
-drawing_rules render PushDebugGroup = []
-drawing_rules render PopDebugGroup = []
-drawing_rules render End = []
-drawing_rules render (SetPipeline pipeline) = []
-drawing_rules render (SetBindGroup index group offsets) = []
-drawing_rules render (Dispatch x y z) = []
-drawing_rules render (DispatchIndirect buffer offset) = []
-drawing_rules render (SetVertexBuffer slot buffer offset size) = vertex_rules slot buffer offset (size_or_rest buffer offset size)
-drawing_rules render (SetIndexBuffer buffer format offset size) = index_rules buffer format offset (size_or_rest buffer offset size)
-drawing_rules render (Draw vertices instances first_vertex first_instance) = ready_rules render.set ++ vertex_buffers_rule render ∷ (draw_rule render (Some (first_vertex + vertices)) (first_instance + instances) ∷ [])
-drawing_rules render (DrawIndexed indices instances first_index first_instance) = ready_rules render.set ++ vertex_buffers_rule render ∷ (index_buffer_rule render ∷ ((353, indices_fit first_index indices render.index) ∷ (draw_rule render None (first_instance + instances) ∷ [])))
-drawing_rules render (DrawIndirect buffer offset) = ready_rules render.set ++ (indirect_rules buffer offset 16 ++ vertex_buffers_rule render ∷ [])
-drawing_rules render (DrawIndexedIndirect buffer offset) = ready_rules render.set ++ (indirect_rules buffer offset 20 ++ vertex_buffers_rule render ∷ (index_buffer_rule render ∷ []))
+drawing_rules render command = drawing_rules_by render (act command)
 
 -- the rules of a command of the pass, over what is set, but for those on the objects that it names
 abbrev pub render_rules : RenderSet → Command → List Rule
 render_rules render command =
-    group_rules render.set.depth command
+    debug_rules render.set.depth command
     ++ (end_rules render.set.depth command
     ++ (pipeline_given_rules render.targets (pipeline_given command)
     ++ (given_rules (group_given command) ++ drawing_rules render command)))

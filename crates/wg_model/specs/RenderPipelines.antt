@@ -18,8 +18,8 @@ abbrev pub passes : (Format → Bool) → Option Format → Bool
 passes test format = option_map_or test format true
 
 -- whether a format has depth or stencil, and writes to what it has alone
-abbrev pub depth_fits : DepthState → Bool
-depth_fits depth =
+abbrev pub depth_state_fits : DepthState → Bool
+depth_state_fits depth =
     not (is_color depth.format)
     && ((not depth.depth_write || has_depth (row depth.format).aspects)
     && (not depth.stencil_write || has_stencil (row depth.format).aspects))
@@ -37,7 +37,7 @@ samples_fit samples targets depth_allows = samples == 1 || (samples == 4 && (lis
 abbrev pub target_rules : Limits → RenderDesc → List Rule
 target_rules limits desc =
     (163, nat_le (length desc.targets) limits.max_color_attachments && list_all (passes is_color) desc.targets)
-    ∷ ((164, option_map_or depth_fits desc.depth true)
+    ∷ ((164, option_map_or depth_state_fits desc.depth true)
     ∷ ((165, list_any (λ (target : Option Format). is_some target) desc.targets || is_some desc.depth)
     ∷ ((166, samples_fit desc.samples desc.targets (option_map_or (λ (depth : DepthState). is_multisampled depth.format) desc.depth true))
     ∷ [])))

@@ -3,9 +3,9 @@
 use Rattle.std.specs.Prelude.{ℕ, ◌+◌, ◌-◌, ◌%◌, ◌==◌, nat_le, List, [], ◌∷◌, Option, Some, None, is_some, if◌then◌else◌}
 use Rattle.std.specs.Option.{option_or}
 use Rattle.wg_types.specs.Handles.{HandleValue}
-use Rattle.wg_types.specs.Commands.{Command, bracket}
+use Rattle.wg_types.specs.Commands.{Command, bracket, Act, begins, sets, runs, neither, act}
+use Rattle.wg_types.specs.Commands.{Setting, set_pipeline, set_group, set_vertex_buffer, set_index_buffer}
 use Rattle.wg_types.specs.declared.commands.BoundGroup.{BoundGroup}
-use Rattle.wg_types.specs.declared.commands.CommandOf.TheVariants.{BeginComputePass, BeginRenderPass, CopyBufferToBuffer, CopyBufferToTexture, CopyTextureToBuffer, CopyTextureToTexture, ClearBuffer, PushDebugGroup, PopDebugGroup, End, SetPipeline, SetBindGroup, Dispatch, DispatchIndirect, SetVertexBuffer, SetIndexBuffer, Draw, DrawIndexed, DrawIndirect, DrawIndexedIndirect}
 use Rattle.wg_types.specs.declared.groups.GroupLayoutInfo.{GroupLayoutInfo}
 use Rattle.wg_types.specs.declared.commands.Bracket.{Bracket}
 use Rattle.wg_types.specs.declared.commands.Bracket.TheVariants as brackets
@@ -33,28 +33,22 @@ abbrev pub debug_depth : List Command → ℕ
 debug_depth [] = 0
 debug_depth (command ∷ earlier) = depth_after (debug_depth earlier) command
 
+-- the pipeline that a setting sets, if it sets one
+abbrev pub setting_pipeline : Setting HandleValue → Option HandleValue
+setting_pipeline (set_pipeline pipeline) = Some pipeline
+setting_pipeline (set_group index group offsets) = None
+setting_pipeline (set_vertex_buffer slot buffer offset size) = None
+setting_pipeline (set_index_buffer buffer format offset size) = None
+
+abbrev pub pipeline_given_by : Act HandleValue → Option HandleValue
+pipeline_given_by (begins begin) = None
+pipeline_given_by (sets setting) = setting_pipeline setting
+pipeline_given_by (runs running) = None
+pipeline_given_by neither = None
+
 -- the pipeline that a command sets, if it sets one
 abbrev pub pipeline_given : Command → Option HandleValue
-pipeline_given BeginComputePass = None
-pipeline_given (BeginRenderPass begin) = None
-pipeline_given (CopyBufferToBuffer source source_offset target target_offset size) = None
-pipeline_given (CopyBufferToTexture buffer layout texture spot size) = None
-pipeline_given (CopyTextureToBuffer buffer layout texture spot size) = None
-pipeline_given (CopyTextureToTexture source source_mip source_origin target target_mip target_origin size) = None
-pipeline_given (ClearBuffer buffer offset size) = None
-pipeline_given PushDebugGroup = None
-pipeline_given PopDebugGroup = None
-pipeline_given End = None
-pipeline_given (SetPipeline pipeline) = Some pipeline
-pipeline_given (SetBindGroup index group offsets) = None
-pipeline_given (Dispatch x y z) = None
-pipeline_given (DispatchIndirect buffer offset) = None
-pipeline_given (SetVertexBuffer slot buffer offset size) = None
-pipeline_given (SetIndexBuffer buffer format offset size) = None
-pipeline_given (Draw vertices instances first_vertex first_instance) = None
-pipeline_given (DrawIndexed indices instances first_index first_instance) = None
-pipeline_given (DrawIndirect buffer offset) = None
-pipeline_given (DrawIndexedIndirect buffer offset) = None
+pipeline_given command = pipeline_given_by (act command)
 
 -- the pipeline that is set: the last
 abbrev pub pipeline_set : List Command → Option HandleValue
@@ -66,28 +60,22 @@ abbrev pub slot_after : {X : Type 0} → Option (ℕ × X) → ℕ → Option X 
 slot_after None at before = before
 slot_after (Some given) at before = if given.0 == at then Some given.1 else before
 
+-- the bind group that a setting sets, with its index, if it sets one
+abbrev pub setting_group : Setting HandleValue → Option (ℕ × BoundGroup)
+setting_group (set_pipeline pipeline) = None
+setting_group (set_group index group offsets) = Some (index, record { group = group; offsets = offsets })
+setting_group (set_vertex_buffer slot buffer offset size) = None
+setting_group (set_index_buffer buffer format offset size) = None
+
+abbrev pub group_given_by : Act HandleValue → Option (ℕ × BoundGroup)
+group_given_by (begins begin) = None
+group_given_by (sets setting) = setting_group setting
+group_given_by (runs running) = None
+group_given_by neither = None
+
 -- the bind group that a command sets, with its index, if it sets one
 abbrev pub group_given : Command → Option (ℕ × BoundGroup)
-group_given BeginComputePass = None
-group_given (BeginRenderPass begin) = None
-group_given (CopyBufferToBuffer source source_offset target target_offset size) = None
-group_given (CopyBufferToTexture buffer layout texture spot size) = None
-group_given (CopyTextureToBuffer buffer layout texture spot size) = None
-group_given (CopyTextureToTexture source source_mip source_origin target target_mip target_origin size) = None
-group_given (ClearBuffer buffer offset size) = None
-group_given PushDebugGroup = None
-group_given PopDebugGroup = None
-group_given End = None
-group_given (SetPipeline pipeline) = None
-group_given (SetBindGroup index group offsets) = Some (index, record { group = group; offsets = offsets })
-group_given (Dispatch x y z) = None
-group_given (DispatchIndirect buffer offset) = None
-group_given (SetVertexBuffer slot buffer offset size) = None
-group_given (SetIndexBuffer buffer format offset size) = None
-group_given (Draw vertices instances first_vertex first_instance) = None
-group_given (DrawIndexed indices instances first_index first_instance) = None
-group_given (DrawIndirect buffer offset) = None
-group_given (DrawIndexedIndirect buffer offset) = None
+group_given command = group_given_by (act command)
 
 -- the group that is set at an index: the last
 abbrev pub group_set : List Command → ℕ → Option BoundGroup

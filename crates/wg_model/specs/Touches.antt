@@ -4,6 +4,7 @@ use Rattle.std.specs.List.{filter}
 use Rattle.wg_types.specs.declared.steps.StepName.{StepName}
 use Rattle.wg_types.specs.declared.steps.StepName.TheVariants as name
 use Rattle.wg_types.specs.declared.steps.Deed.{Deed}
+use Rattle.wg_types.specs.Handles.{HandleValue}
 use Rattle.wg_types.specs.Commands.{Command}
 use Rattle.wg_types.specs.declared.commands.CommandOf.TheVariants.{BeginComputePass, BeginRenderPass, CopyBufferToBuffer, CopyBufferToTexture, CopyTextureToBuffer, CopyTextureToTexture, ClearBuffer, PushDebugGroup, PopDebugGroup, End, SetPipeline, SetBindGroup, Dispatch, DispatchIndirect, SetVertexBuffer, SetIndexBuffer, Draw, DrawIndexed, DrawIndirect, DrawIndexedIndirect}
 use Rattle.wg_types.specs.declared.textures.TextureInfo.{TextureInfo}
@@ -116,7 +117,8 @@ range_touches object offset size = written_cells Write (bytes_at object offset s
 
 -- What copyBufferToBuffer touches: the range of the source is read, that of the target is written.
 abbrev pub buffer_to_buffer_touches : ℕ → ℕ → ℕ → ℕ → ℕ → List Touch
-buffer_to_buffer_touches source source_offset target target_offset size = read_cells (bytes_at source source_offset size) ∷ range_touches target target_offset size
+buffer_to_buffer_touches source source_offset target target_offset size =
+    read_cells (bytes_at source source_offset size) ∷ range_touches target target_offset size
 
 -- What copyBufferToTexture touches: the range is read, and the subresources are copied to.
 abbrev pub buffer_to_texture_touches : ℕ → DataLayout → ℕ → TextureInfo → TextureSpot → List ℕ → List Touch
@@ -124,11 +126,15 @@ buffer_to_texture_touches buffer layout texture info spot size =
     read_cells (bytes_at buffer layout.offset (layout_bytes layout (texel_to spot.aspect info.format) size)) ∷ copied_to texture info spot size
 
 -- What copyTextureToBuffer touches: the range is copied to, and the subresources are read.
+abbrev pub range_written : ℕ → ℕ → ℕ → ℕ → List ℕ → Touch
+range_written buffer offset taken bytes size = written_cells (range_kind taken bytes size) (bytes_at buffer offset taken)
+
 abbrev pub range_copied_to : ℕ → DataLayout → Option ℕ → List ℕ → Touch
-range_copied_to buffer layout bytes size = written_cells (range_kind (layout_bytes layout bytes size) (bytes_in bytes) size) (bytes_at buffer layout.offset (layout_bytes layout bytes size))
+range_copied_to buffer layout bytes size = range_written buffer layout.offset (layout_bytes layout bytes size) (bytes_in bytes) size
 
 abbrev pub texture_to_buffer_touches : ℕ → DataLayout → ℕ → TextureInfo → TextureSpot → List ℕ → List Touch
-texture_to_buffer_touches buffer layout texture info spot size = range_copied_to buffer layout (texel_from spot.aspect info.format) size ∷ copied_from texture info spot size
+texture_to_buffer_touches buffer layout texture info spot size =
+    range_copied_to buffer layout (texel_from spot.aspect info.format) size ∷ copied_from texture info spot size
 
 -- What copyTextureToTexture touches: the subresources of the source are read, those of the target are copied to.
 abbrev pub texture_to_texture_touches : ℕ → TextureInfo → TextureSpot → ℕ → TextureInfo → TextureSpot → List ℕ → List Touch
@@ -137,15 +143,39 @@ texture_to_texture_touches source from_info from target to_info to size = copied
 abbrev pub unless : Bool → Doing → Option Doing
 unless nothing doing = if nothing then None else Some doing
 
--- what a command on an encoder does, if it makes a step; a copy or clear of size 0 makes none
+-- what copies and clears do; one of size 0 makes no step
+abbrev pub buffer_to_buffer_does : HandleValue → ℕ → HandleValue → ℕ → ℕ → Option Doing
+buffer_to_buffer_does source source_offset target target_offset size =
+    unless (size == 0) (name.CopyBufferToBuffer, buffer_to_buffer_touches source.reference.number source_offset target.reference.number target_offset size)
+
+abbrev pub buffer_to_texture_does : HandleValue → DataLayout → HandleValue → TextureSpot → List ℕ → Option Doing
+buffer_to_texture_does buffer layout texture spot size =
+    unless (has_no_texel size)
+    (name.CopyBufferToTexture, buffer_to_texture_touches buffer.reference.number layout texture.reference.number (texture_of texture) spot size)
+
+abbrev pub texture_to_buffer_does : HandleValue → DataLayout → HandleValue → TextureSpot → List ℕ → Option Doing
+texture_to_buffer_does buffer layout texture spot size =
+    unless (has_no_texel size)
+    (name.CopyTextureToBuffer, texture_to_buffer_touches buffer.reference.number layout texture.reference.number (texture_of texture) spot size)
+
+abbrev pub texture_to_texture_does : HandleValue → TextureSpot → HandleValue → TextureSpot → List ℕ → Option Doing
+texture_to_texture_does source from target to size =
+    unless (has_no_texel size)
+    (name.CopyTextureToTexture, texture_to_texture_touches source.reference.number (texture_of source) from target.reference.number (texture_of target) to size)
+
+abbrev pub clear_does : HandleValue → ℕ → ℕ → Option Doing
+clear_does buffer offset size = unless (size == 0) (name.ClearBuffer, range_touches buffer.reference.number offset size)
+
+-- what a command on an encoder does, if it makes a step
 unfoldable pub encoder_does : Command → Option Doing
 encoder_does BeginComputePass = None
 encoder_does (BeginRenderPass begin) = None
-encoder_does (CopyBufferToBuffer source source_offset target target_offset size) = unless (size == 0) (name.CopyBufferToBuffer, buffer_to_buffer_touches source.reference.number source_offset target.reference.number target_offset size)
-encoder_does (CopyBufferToTexture buffer layout texture spot size) = unless (has_no_texel size) (name.CopyBufferToTexture, buffer_to_texture_touches buffer.reference.number layout texture.reference.number (texture_of texture) spot size)
-encoder_does (CopyTextureToBuffer buffer layout texture spot size) = unless (has_no_texel size) (name.CopyTextureToBuffer, texture_to_buffer_touches buffer.reference.number layout texture.reference.number (texture_of texture) spot size)
-encoder_does (CopyTextureToTexture source source_mip source_origin target target_mip target_origin size) = unless (has_no_texel size) (name.CopyTextureToTexture, texture_to_texture_touches source.reference.number (texture_of source) (whole_spot source_mip source_origin) target.reference.number (texture_of target) (whole_spot target_mip target_origin) size)
-encoder_does (ClearBuffer buffer offset size) = unless (size_or_rest buffer offset size == 0) (name.ClearBuffer, range_touches buffer.reference.number offset (size_or_rest buffer offset size))
+encoder_does (CopyBufferToBuffer source source_offset target target_offset size) = buffer_to_buffer_does source source_offset target target_offset size
+encoder_does (CopyBufferToTexture buffer layout texture spot size) = buffer_to_texture_does buffer layout texture spot size
+encoder_does (CopyTextureToBuffer buffer layout texture spot size) = texture_to_buffer_does buffer layout texture spot size
+encoder_does (CopyTextureToTexture source source_mip source_origin target target_mip target_origin size) =
+    texture_to_texture_does source (whole_spot source_mip source_origin) target (whole_spot target_mip target_origin) size
+encoder_does (ClearBuffer buffer offset size) = clear_does buffer offset (size_or_rest buffer offset size)
 encoder_does PushDebugGroup = None
 encoder_does PopDebugGroup = None
 encoder_does End = None

@@ -19,9 +19,9 @@ abbrev pub stride_fits : Limits → VertexBuffer → Bool
 stride_fits limits buffer = buffer.stride % 4 == 0 && nat_le buffer.stride limits.max_vertex_buffer_array_stride
 
 -- whether locations are distinct
-abbrev pub are_apart : List VertexAttribute → Bool
-are_apart [] = true
-are_apart (attribute ∷ attributes) = not (list_any (λ (other : VertexAttribute). other.location == attribute.location) attributes) && are_apart attributes
+abbrev pub locations_are_distinct : List VertexAttribute → Bool
+locations_are_distinct [] = true
+locations_are_distinct (attribute ∷ attributes) = not (list_any (λ (other : VertexAttribute). other.location == attribute.location) attributes) && locations_are_distinct attributes
 
 -- where an attribute ends
 abbrev pub attribute_end : VertexAttribute → ℕ
@@ -44,7 +44,7 @@ attributes_fit limits buffer = list_all (attribute_fits (attribute_room limits b
 unfoldable pub layout_rules : Limits → List VertexBuffer → List Rule
 layout_rules limits buffers =
     (161, nat_le (length buffers) limits.max_vertex_buffers && (nat_le (length (all_attributes buffers)) limits.max_vertex_attributes && list_all (stride_fits limits) buffers))
-    ∷ ((162, list_all (λ (attribute : VertexAttribute). nat_lt attribute.location limits.max_vertex_attributes) (all_attributes buffers) && (are_apart (all_attributes buffers) && list_all (attributes_fit limits) buffers))
+    ∷ ((162, list_all (λ (attribute : VertexAttribute). nat_lt attribute.location limits.max_vertex_attributes) (all_attributes buffers) && (locations_are_distinct (all_attributes buffers) && list_all (attributes_fit limits) buffers))
     ∷ [])
 
 -- the greatest end of an attribute, or 0 where there is none
@@ -54,9 +54,9 @@ last_end (attribute ∷ attributes) = max (attribute_end attribute) (last_end at
 
 -- over how many vertices or instances a draw goes in a buffer: up to and with the last, counted from the first of the buffer;
 -- none where it is not told, as of the vertices of an indexed draw
-abbrev pub count_by : VertexStep → Option ℕ → ℕ → Option ℕ
-count_by Vertex vertices instances = vertices
-count_by Instance vertices instances = Some instances
+abbrev pub counted_by_step : VertexStep → Option ℕ → ℕ → Option ℕ
+counted_by_step Vertex vertices instances = vertices
+counted_by_step Instance vertices instances = Some instances
 
 -- whether so many bytes will do: each but the last takes the stride, and the last what its attributes take
 abbrev pub bytes_serve : VertexBuffer → ℕ → Option ℕ → Bool
@@ -66,7 +66,7 @@ bytes_serve buffer bytes (Some count) = (count == 0) || nat_le ((count - 1) * bu
 -- the same of each buffer, the first of which has this slot; where no range is set there are no bytes
 abbrev pub ranges_serve : List VertexBuffer → List (Option ℕ) → ℕ → Option ℕ → ℕ → Bool
 ranges_serve [] ranges slot vertices instances = true
-ranges_serve (buffer ∷ buffers) ranges slot vertices instances = bytes_serve buffer (unwrap_or (slice_index_or ranges slot None) 0) (count_by buffer.step vertices instances) && ranges_serve buffers ranges (slot + 1) vertices instances
+ranges_serve (buffer ∷ buffers) ranges slot vertices instances = bytes_serve buffer (unwrap_or (slice_index_or ranges slot None) 0) (counted_by_step buffer.step vertices instances) && ranges_serve buffers ranges (slot + 1) vertices instances
 
 unfoldable pub draw_fits : List VertexBuffer → List (Option ℕ) → Option ℕ → ℕ → Bool
 draw_fits buffers ranges vertices instances = ranges_serve buffers ranges 0 vertices instances

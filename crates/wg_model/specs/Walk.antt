@@ -12,10 +12,10 @@ use Rattle.wg_types.specs.declared.wanted.Kind.TheVariants as kind
 use Rattle.wg_model.specs.Rules.{first_unmet}
 use Rattle.wg_model.specs.Commands.{named, common_rules, command_rules}
 use Rattle.wg_model.specs.Touches.{Doing, uses_in, deed_of, encoder_does}
-use Rattle.wg_model.specs.Settings.{depth_after, settings}
+use Rattle.wg_model.specs.Settings.{Settings, depth_after, settings}
 use Rattle.wg_model.specs.Compute.{compute_rules, compute_does}
 use Rattle.wg_model.specs.Attachments.{RenderBegin, begin_of, begun_rules}
-use Rattle.wg_model.specs.Render.{render_set, render_rules, render_does}
+use Rattle.wg_model.specs.Render.{RenderSet, render_set, render_rules, render_does}
 use Rattle.wg_model.specs.Scopes.{Use}
 use Rattle.wg_types.specs.declared.steps.Deed.{Deed}
 
@@ -35,10 +35,20 @@ pub record PassSoFar : Type 0 where
 abbrev pub begun_rule : ℕ → Command → Option ℕ
 begun_rule device begin = option_or (first_unmet (common_rules device (named begin))) (first_unmet (begun_rules begin))
 
--- the first unmet rule of a command of a pass, after the earlier ones; only a begin begins a pass
+-- the first unmet rule of a command of a compute pass, over what is set
+abbrev pub compute_rule : ℕ → Settings → Command → Option ℕ
+compute_rule device set command =
+    option_or (first_unmet (common_rules device (named_on kind.ComputePass command))) (first_unmet (compute_rules set command))
+
+-- and of a command of a render pass
+abbrev pub render_rule : ℕ → RenderSet → Command → Option ℕ
+render_rule device set command =
+    option_or (first_unmet (common_rules device (named_on kind.RenderPass command))) (first_unmet (render_rules set command))
+
+-- the same after the earlier commands; only a begin begins a pass
 abbrev pub rule_by : ℕ → RenderBegin → Bracket → List Command → Command → Option ℕ
-rule_by device begin brackets.BeginComputePass earlier command = option_or (first_unmet (common_rules device (named_on kind.ComputePass command))) (first_unmet (compute_rules (settings earlier) command))
-rule_by device begin brackets.BeginRenderPass earlier command = option_or (first_unmet (common_rules device (named_on kind.RenderPass command))) (first_unmet (render_rules (render_set begin earlier) command))
+rule_by device begin brackets.BeginComputePass earlier command = compute_rule device (settings earlier) command
+rule_by device begin brackets.BeginRenderPass earlier command = render_rule device (render_set begin earlier) command
 rule_by device begin brackets.EndPass earlier command = None
 rule_by device begin brackets.PushGroup earlier command = None
 rule_by device begin brackets.PopGroup earlier command = None
@@ -171,13 +181,13 @@ abbrev pub scopes_at : Option PassSoFar → On → Command → List (List Use)
 scopes_at opened Encoder command = []
 scopes_at opened (Pass pass) command = map uses_in (option_to_list (does_in_pass opened pass command))
 
-abbrev pub scopes_of : Kept → List (List Use)
-scopes_of [] = []
-scopes_of (kept ∷ older) = scopes_of older ++ scopes_at (open_pass older) kept.0 kept.1
+abbrev pub usage_scopes : Kept → List (List Use)
+usage_scopes [] = []
+usage_scopes (kept ∷ older) = usage_scopes older ++ scopes_at (open_pass older) kept.0 kept.1
 
 -- the scopes of a recording that has no verdict and no open pass
 abbrev pub ScopesOf : ℕ → List (On × Command) → List (List Use)
-ScopesOf device commands = if is_none (verdict device (reverse commands)) && is_none (open_pass (reverse commands)) then scopes_of (reverse commands) else []
+ScopesOf device commands = if is_none (verdict device (reverse commands)) && is_none (open_pass (reverse commands)) then usage_scopes (reverse commands) else []
 
 -- what a recording does that has no verdict and no open pass; another does nothing
 abbrev pub DeedsOf : ℕ → List (On × Command) → List Deed

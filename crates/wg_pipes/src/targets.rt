@@ -7,41 +7,12 @@ ghost use Rattle.wg_types.specs.declared.formats.Format.{Format};
 ghost use Rattle.wg_types.specs.declared.render.DepthState.{DepthState};
 ghost use Rattle.wg_model.specs.Rules.{first_unmet};
 ghost use Rattle.wg_model.specs.Formats.{is_color, has_depth, has_stencil};
-ghost use Rattle.wg_model.specs.RenderPipelines.{passes, depth_fits, is_multisampled, samples_fit, target_rules};
+ghost use Rattle.wg_model.specs.RenderPipelines.{passes, depth_state_fits, is_multisampled, samples_fit, target_rules};
 
-use wg_types::formats::{Format, FormatAspects};
+use wg_formats::{has_depth, has_stencil, is_color};
+use wg_types::formats::Format;
 use wg_types::limits::Limits;
 use wg_types::render::{DepthState, RenderDesc};
-
-/// Whether the format has a color aspect.
-fn is_color(format: Format) -> bool
-    ensures { result ≡ is_color format }
-{
-    match format.row().aspects {
-        FormatAspects::Color => true,
-        _ => false,
-    }
-}
-
-/// Whether there is a depth aspect.
-fn has_depth(aspects: FormatAspects) -> bool
-    ensures { result ≡ has_depth aspects }
-{
-    match aspects {
-        FormatAspects::Depth | FormatAspects::DepthStencil => true,
-        _ => false,
-    }
-}
-
-/// Whether there is a stencil aspect.
-fn has_stencil(aspects: FormatAspects) -> bool
-    ensures { result ≡ has_stencil aspects }
-{
-    match aspects {
-        FormatAspects::Stencil | FormatAspects::DepthStencil => true,
-        _ => false,
-    }
-}
 
 /// Whether textures of the format may have four samples.
 fn is_multisampled(format: Format) -> bool
@@ -75,7 +46,7 @@ fn are_multisampled(targets: &[Option<Format>]) -> bool
 
 /// Whether the format is one of depth or stencil, and has what is written.
 fn depth_fits(depth: DepthState) -> bool
-    ensures { result ≡ depth_fits depth }
+    ensures { result ≡ depth_state_fits depth }
 {
     let aspects = depth.format.row().aspects;
     !is_color(depth.format)

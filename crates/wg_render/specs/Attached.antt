@@ -3,7 +3,7 @@ use Rattle.std.specs.Prelude.{◌≡◌, Bool, ◌&&◌, List, Option, ◌++◌,
 use Rattle.std.specs.List.{flat_map}
 use Rattle.std.specs.Option.{option_to_list}
 use Rattle.wg_types.specs.declared.textures.ViewInfo.{ViewInfo}
-use Rattle.wg_model.specs.Attachments.{ColorTarget, DepthTarget, color_view, depth_view, target_views, are_apart}
+use Rattle.wg_model.specs.Attachments.{ColorTarget, DepthTarget, color_view, depth_view, target_views, views_are_apart}
 
 -- the color attachments that are not left out
 abbrev pub given_of : List (Option ColorTarget) → List ColorTarget
@@ -24,4 +24,4 @@ attached_in colors depth = flat_map target_views (given_of colors) ++ depth_view
 -- The answer to whether views share no subresource among themselves and with those that come after them. These are not looked
 -- at among themselves.
 abbrev pub AreApartBefore : List ViewInfo → List ViewInfo → Bool → Type 0
-AreApartBefore views later answer = are_apart (views ++ later) ≡ (answer && are_apart later)
+AreApartBefore views later answer = views_are_apart (views ++ later) ≡ (answer && views_are_apart later)

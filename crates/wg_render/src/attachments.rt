@@ -4,7 +4,7 @@ ghost use Rattle.std.specs.List.{list_all, list_any};
 ghost use Rattle.std.specs.Option.{option_map_or};
 ghost use Rattle.wg_model.specs.Rules.{first_unmet};
 ghost use Rattle.wg_model.specs.Subresources.{views_meet};
-ghost use Rattle.wg_model.specs.Attachments.{color_view, depth_view, target_views, is_flat, is_renderable, color_fits, has_all_aspects, depth_fits, ops_fit, depth_ops_fit, same_extent, are_alike, all_alike, are_apart, resolves_to, resolve_fits, begin_rules};
+ghost use Rattle.wg_model.specs.Attachments.{color_view, depth_view, target_views, is_flat, is_renderable, color_fits, has_all_aspects, depth_attachment_fits, ops_fit, depth_ops_fit, same_extent, are_alike, all_alike, views_are_apart, resolves_to, resolve_fits, begin_rules};
 ghost use Rattle.wg_render.specs.Attached.{given_of, drawn_in, attached_in, AreApartBefore};
 
 use crate::views::{ColorTarget, DepthTarget, RenderBegin, view_of};
@@ -56,7 +56,7 @@ fn has_all_aspects(view: &ViewInfo) -> bool
 
 /// Whether a view may be a depth attachment.
 fn depth_fits(view: &ViewInfo) -> bool
-    ensures { result ≡ depth_fits view.now }
+    ensures { result ≡ depth_attachment_fits view.now }
 {
     is_renderable(view) && !is_color(view.texture_info.format) && has_all_aspects(view)
 }
@@ -230,7 +230,7 @@ fn is_apart(
 /// Whether no subresource is attached twice.
 #[tactic(auto, using(crate::proofs::Alike::attached_cons))]
 fn are_apart(colors: &[Option<ColorTarget>], depth: &Option<DepthTarget>) -> bool
-    ensures { result ≡ are_apart (attached_in colors.now depth.now) }
+    ensures { result ≡ views_are_apart (attached_in colors.now depth.now) }
 {
     for (i, color) in colors.iter().enumerate() {
         let Some(target) = color else { continue };
@@ -243,7 +243,7 @@ fn are_apart(colors: &[Option<ColorTarget>], depth: &Option<DepthTarget>) -> boo
 
 /// Whether a depth attachment will do, if there is one.
 fn depth_view_fits(depth: &Option<DepthTarget>) -> bool
-    ensures { result ≡ option_map_or (λ target. depth_fits (depth_view target)) depth.now true }
+    ensures { result ≡ option_map_or (λ target. depth_attachment_fits (depth_view target)) depth.now true }
 {
     match depth {
         Some(target) => depth_fits(&view_of(&target.view)),

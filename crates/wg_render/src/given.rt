@@ -17,25 +17,7 @@ pub fn vertex_given(command: &Command) -> Option<(u32, u64)>
             offset,
             size,
         } => Some((*slot, size_or_rest(buffer, *offset, *size))),
-        Command::BeginComputePass
-        | Command::BeginRenderPass { .. }
-        | Command::CopyBufferToBuffer { .. }
-        | Command::CopyBufferToTexture { .. }
-        | Command::CopyTextureToBuffer { .. }
-        | Command::CopyTextureToTexture { .. }
-        | Command::ClearBuffer { .. }
-        | Command::PushDebugGroup
-        | Command::PopDebugGroup
-        | Command::End
-        | Command::SetPipeline { .. }
-        | Command::SetBindGroup { .. }
-        | Command::Dispatch { .. }
-        | Command::DispatchIndirect { .. }
-        | Command::SetIndexBuffer { .. }
-        | Command::Draw { .. }
-        | Command::DrawIndexed { .. }
-        | Command::DrawIndirect { .. }
-        | Command::DrawIndexedIndirect { .. } => None,
+        _ => None,
     }
 }
 
@@ -50,24 +32,6 @@ pub fn index_given(command: &Command) -> Option<(IndexFormat, u64)>
             offset,
             size,
         } => Some((*format, size_or_rest(buffer, *offset, *size))),
-        Command::BeginComputePass
-        | Command::BeginRenderPass { .. }
-        | Command::CopyBufferToBuffer { .. }
-        | Command::CopyBufferToTexture { .. }
-        | Command::CopyTextureToBuffer { .. }
-        | Command::CopyTextureToTexture { .. }
-        | Command::ClearBuffer { .. }
-        | Command::PushDebugGroup
-        | Command::PopDebugGroup
-        | Command::End
-        | Command::SetPipeline { .. }
-        | Command::SetBindGroup { .. }
-        | Command::Dispatch { .. }
-        | Command::DispatchIndirect { .. }
-        | Command::SetVertexBuffer { .. }
-        | Command::Draw { .. }
-        | Command::DrawIndexed { .. }
-        | Command::DrawIndirect { .. }
-        | Command::DrawIndexedIndirect { .. } => None,
+        _ => None,
     }
 }

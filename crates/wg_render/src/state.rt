@@ -1,10 +1,9 @@
 //! Render passes: what is set in one, the rules of their commands, and the step of a whole pass.
-ghost use Rattle.std.specs.Prelude.{◌≡◌, IfOk, OnOk, OnErr};
+ghost use Rattle.std.specs.Prelude.{◌≡◌, ◌+◌, IfOk, OnOk, OnErr};
 ghost use Rattle.std.specs.Option.{option_or};
-ghost use Rattle.wg_types.specs.declared.commands.CommandOf.TheVariants.{Draw, DrawIndexed, DrawIndirect, DrawIndexedIndirect};
 ghost use Rattle.wg_model.specs.Rules.{first_unmet};
 ghost use Rattle.wg_model.specs.Vertex.{draw_fits};
-ghost use Rattle.wg_model.specs.Render.{buffers_wanted, are_set, drawing_rules, render_rules, render_does};
+ghost use Rattle.wg_model.specs.Render.{buffers_wanted, are_set, draw_rules, draw_indexed_rules, draw_indirect_rules, draw_indexed_indirect_rules, drawing_rules, render_rules, render_does};
 ghost use Rattle.wg_access.specs.Done.{done_by_pass};
 ghost use Rattle.wg_compute.specs.After.{slots_after};
 ghost use Rattle.wg_render.specs.After.{render_after};
@@ -90,7 +89,7 @@ impl RenderState {
         first_vertex: u32,
         first_instance: u32,
     ) -> Option<u16>
-        ensures { result ≡ first_unmet (drawing_rules self.now (Draw vertices instances first_vertex first_instance)) }
+        ensures { result ≡ first_unmet (draw_rules self.now (first_vertex + vertices) (first_instance + instances)) }
     {
         if let Some(rule) = self.set.ready_rule() {
             return Some(rule);
@@ -114,7 +113,7 @@ impl RenderState {
         first_index: u32,
         first_instance: u32,
     ) -> Option<u16>
-        ensures { result ≡ first_unmet (drawing_rules self.now (DrawIndexed indices instances first_index first_instance)) }
+        ensures { result ≡ first_unmet (draw_indexed_rules self.now first_index indices (first_instance + instances)) }
     {
         if let Some(rule) = self.set.ready_rule() {
             return Some(rule);
@@ -137,7 +136,7 @@ impl RenderState {
 
     #[tactic(auto, using(wg_model::proofs::Unmet::first_unmet_joined))]
     fn check_draw_indirect(&self, buffer: &Handle, offset: u64) -> Option<u16>
-        ensures { result ≡ first_unmet (drawing_rules self.now (DrawIndirect buffer.now offset)) }
+        ensures { result ≡ first_unmet (draw_indirect_rules self.now buffer.now offset) }
     {
         if let Some(rule) = self.set.ready_rule() {
             return Some(rule);
@@ -153,7 +152,7 @@ impl RenderState {
 
     #[tactic(auto, using(wg_model::proofs::Unmet::first_unmet_joined))]
     fn check_draw_indexed_indirect(&self, buffer: &Handle, offset: u64) -> Option<u16>
-        ensures { result ≡ first_unmet (drawing_rules self.now (DrawIndexedIndirect buffer.now offset)) }
+        ensures { result ≡ first_unmet (draw_indexed_indirect_rules self.now buffer.now offset) }
     {
         if let Some(rule) = self.set.ready_rule() {
             return Some(rule);
@@ -208,20 +207,7 @@ impl RenderState {
             Command::DrawIndexedIndirect { buffer, offset } => {
                 self.check_draw_indexed_indirect(buffer, *offset)
             }
-            Command::BeginComputePass
-            | Command::BeginRenderPass { .. }
-            | Command::CopyBufferToBuffer { .. }
-            | Command::CopyBufferToTexture { .. }
-            | Command::CopyTextureToBuffer { .. }
-            | Command::CopyTextureToTexture { .. }
-            | Command::ClearBuffer { .. }
-            | Command::PushDebugGroup
-            | Command::PopDebugGroup
-            | Command::End
-            | Command::SetPipeline { .. }
-            | Command::SetBindGroup { .. }
-            | Command::Dispatch { .. }
-            | Command::DispatchIndirect { .. } => None,
+            _ => None,
         }
     }
 
@@ -283,8 +269,8 @@ impl RenderState {
     }
 
     /// Takes a command no rule of which is unmet, and adds the step of the whole pass to what is done
-    /// where the command ends it. A setBindGroup of an index that no device has, and ranges that end past
-    /// every number, which such commands don't have, are answered as want of memory.
+    /// where the command ends it. Ranges that end past every number, which such commands don't have, are
+    /// answered as want of memory.
     #[tactic(auto, unfolding(wg_model::specs::Render::render_does), using(crate::proofs::Grown::after_end))]
     pub fn take(
         &mut self,
@@ -301,25 +287,7 @@ impl RenderState {
             Command::End => {
                 return done.add(alloc, StepName::RenderPass, self.touches.as_slice());
             }
-            Command::BeginComputePass
-            | Command::BeginRenderPass { .. }
-            | Command::CopyBufferToBuffer { .. }
-            | Command::CopyBufferToTexture { .. }
-            | Command::CopyTextureToBuffer { .. }
-            | Command::CopyTextureToTexture { .. }
-            | Command::ClearBuffer { .. }
-            | Command::PushDebugGroup
-            | Command::PopDebugGroup
-            | Command::SetPipeline { .. }
-            | Command::SetBindGroup { .. }
-            | Command::Dispatch { .. }
-            | Command::DispatchIndirect { .. }
-            | Command::SetVertexBuffer { .. }
-            | Command::SetIndexBuffer { .. }
-            | Command::Draw { .. }
-            | Command::DrawIndexed { .. }
-            | Command::DrawIndirect { .. }
-            | Command::DrawIndexedIndirect { .. } => return self.add(alloc, command),
+            _ => return self.add(alloc, command),
         }
     }
 }

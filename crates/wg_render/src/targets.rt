@@ -2,18 +2,17 @@
 ghost use Rattle.std.specs.Prelude.{◌≡◌, ◌++◌, false, map, option_map, IfOk, OnOk};
 ghost use Rattle.std.specs.List.{flat_map};
 ghost use Rattle.std.specs.Option.{option_map_or};
-ghost use Rattle.wg_model.specs.Subresources.{run_cells};
 ghost use Rattle.wg_model.specs.Attachments.{color_view, depth_view, samples_of, targets_of, view_parts, attach_kind, attached, resolve_touches, color_touches, aspect_how, depth_how, run_aspect, depth_touch, depth_touches, targets_touches};
 ghost use Rattle.wg_render.specs.Attached.{drawn_in};
 
 use crate::views::{ColorTarget, DepthTarget, RenderBegin, attached_view, view_of};
 use std::alloc::Global;
-use wg_subres::{PartRuns, of_view};
+use wg_subres::{PartRuns, of_view, run_cells};
 use wg_types::NoMemory;
 use wg_types::formats::Format;
 use wg_types::handles::Handle;
 use wg_types::items::Items;
-use wg_types::parts::{Aspect, Cells, Kind, PartRun};
+use wg_types::parts::{Aspect, Kind, PartRun};
 use wg_types::render::{LoadOp, StoreOp, TargetInfo};
 use wg_types::steps::{Touch, Touches};
 use wg_types::usages::Usages;
@@ -111,37 +110,6 @@ fn view_parts(alloc: Global, handle: &Handle) -> Result<PartRuns, NoMemory>
             return Ok(parts);
         }
         None => return Ok(Items::new(alloc)),
-    }
-}
-
-/// The cells of a run of parts.
-fn run_cells(run: PartRun) -> Cells
-    ensures { result ≡ run_cells run }
-{
-    match run {
-        PartRun::Buffer { object } => Cells::Bytes {
-            object,
-            lo: 0,
-            hi: 0,
-        },
-        PartRun::Queries { object } => Cells::Queries {
-            object,
-            lo: 0,
-            hi: 0,
-        },
-        PartRun::Texture {
-            object,
-            aspect,
-            mip,
-            lo,
-            hi,
-        } => Cells::Layers {
-            object,
-            aspect,
-            mip,
-            lo,
-            hi,
-        },
     }
 }
 

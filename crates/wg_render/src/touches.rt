@@ -63,22 +63,7 @@ fn push_inputs(touches: &mut Touches, command: &Command) -> Result<(), NoMemory>
         Command::DrawIndexedIndirect { buffer, offset } => {
             indirect_touch(buffer, *offset, DRAW_INDEXED_BYTES)?
         }
-        Command::BeginComputePass
-        | Command::BeginRenderPass { .. }
-        | Command::CopyBufferToBuffer { .. }
-        | Command::CopyBufferToTexture { .. }
-        | Command::CopyTextureToBuffer { .. }
-        | Command::CopyTextureToTexture { .. }
-        | Command::ClearBuffer { .. }
-        | Command::PushDebugGroup
-        | Command::PopDebugGroup
-        | Command::End
-        | Command::SetPipeline { .. }
-        | Command::SetBindGroup { .. }
-        | Command::Dispatch { .. }
-        | Command::DispatchIndirect { .. }
-        | Command::Draw { .. }
-        | Command::DrawIndexed { .. } => return Ok(()),
+        _ => return Ok(()),
     };
     touches.push(touch)?;
     Ok(())

@@ -1,12 +1,11 @@
 //! The views that are attached to a render pass, as their handles know them.
 ghost use Rattle.std.specs.Prelude.{◌≡◌, option_copied};
-ghost use Rattle.wg_model.specs.Making.{no_view};
-ghost use Rattle.wg_model.specs.Attachments.{view_in, attached_view, view_of};
+ghost use Rattle.wg_model.specs.Attachments.{view_in, attached_view, attachment_of};
 
-use wg_formats::no_texture;
-use wg_types::handles::{Handle, Info, ObjRef};
+use wg_formats::no_view;
+use wg_types::handles::{Handle, Info};
 use wg_types::render::{ColorTargetOf, DepthTargetOf, RenderBeginOf};
-use wg_types::textures::{AspectWord, ViewDim, ViewInfo};
+use wg_types::textures::ViewInfo;
 
 /// What a render pass begins with, as its caller holds the views.
 pub type RenderBegin = RenderBeginOf<Handle>;
@@ -37,28 +36,9 @@ pub fn attached_view(handle: &Handle) -> Option<&ViewInfo>
     view_in(handle.info())
 }
 
-/// Stands for what is known of a view where an object is none.
-fn no_view() -> ViewInfo
-    ensures { result ≡ no_view }
-{
-    ViewInfo {
-        texture: ObjRef {
-            device: 0,
-            number: 0,
-        },
-        texture_info: no_texture(),
-        dim: ViewDim::Two,
-        aspect: AspectWord::All,
-        base_mip: 0,
-        mips: 0,
-        base_layer: 0,
-        layers: 0,
-    }
-}
-
 /// What a handle of a view knows of it, where it is valid.
 pub fn view_of(handle: &Handle) -> ViewInfo
-    ensures { result ≡ view_of handle.now }
+    ensures { result ≡ attachment_of handle.now }
 {
     match attached_view(handle) {
         Some(view) => *view,

@@ -9,7 +9,7 @@ ghost use Rattle.wg_history.specs.Rules.{mapped_with, is_mapped_how};
 ghost use Rattle.wg_life.specs.Lives.{row_at};
 ghost use Rattle.wg_maps.specs.Mappings.{state_of};
 ghost use Rattle.wg_state.specs.Rows.{AreDropsOf};
-ghost use Rattle.wg_state.specs.Mapped.{is_mapping, made_in, keeps_map, mapped_in, settled_in, unmapped_by, unmapped_in, lost_in, maps_after, FitsIn, IsFree};
+ghost use Rattle.wg_state.specs.Mapped.{is_mapping, made_in, keeps_map, with_asked_map, with_completed_maps, unmapped_by, unmapped_in, lost_in, maps_after, FitsIn, IsFree};
 
 use crate::book::Book;
 use crate::infos::as_buffer;
@@ -116,7 +116,7 @@ fn map(
 )
     requires place { 0 < maps.old.spare }
     requires free { settled.now ≡ [] → IsFree promise buffer maps.old }
-    ensures after { maps.new ≡ record (mapped_in promise buffer last mapping settled.now maps.old) { spare = maps.new.spare } }
+    ensures after { maps.new ≡ record (with_asked_map promise buffer last mapping settled.now maps.old) { spare = maps.new.spare } }
     ensures room { maps.old.spare ≤ maps.new.spare + 1 }
 {
     let Some(settlement) = settled.first() else {
@@ -130,7 +130,7 @@ fn map(
 
 /// Notes that operations are complete, if the answer says that this was taken.
 fn settle(op: u64, answer: Answer, maps: &mut Maps)
-    ensures after { maps.new ≡ record (settled_in op answer maps.old) { spare = maps.new.spare } }
+    ensures after { maps.new ≡ record (with_completed_maps op answer maps.old) { spare = maps.new.spare } }
     ensures room { maps.old.spare ≤ maps.new.spare }
 {
     match answer {

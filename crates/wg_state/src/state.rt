@@ -3,7 +3,7 @@ ghost use Rattle.std.specs.Prelude.{◌≡◌, true, ◌+◌, ◌-◌, ◌^◌, 
 ghost use Rattle.wg_orders.specs.Trace.{free};
 ghost use Rattle.wg_history.specs.Operations.{issued, completed, last_use};
 ghost use Rattle.wg_model.specs.ErrorScopes.{deliver, pop_how};
-ghost use Rattle.wg_history.specs.Loss.{is_lost, scopes_of, awaiting, is_map_of, is_pending};
+ghost use Rattle.wg_history.specs.Loss.{is_lost, error_scopes, awaiting, is_map_of, is_pending};
 ghost use Rattle.wg_history.specs.Budget.{live_bytes, bytes_made};
 ghost use Rattle.wg_history.specs.Objects.{is_made_valid, made_info};
 ghost use Rattle.wg_history.specs.Rules.{has_finished, is_consumed, is_destroyed, is_dropped, may_name, is_busy, mapped_at};
@@ -182,14 +182,14 @@ impl State {
 
     /// Where a fault of a kind goes, or nothing where the device is lost (WebGPU, "Error Scopes").
     pub fn catches(&self, kind: FaultKind) -> Option<Caught>
-        ensures { result ≡ (if is_lost (reverse self.now.history) then None else Some (deliver (scopes_of (reverse self.now.history)) kind)) }
+        ensures { result ≡ (if is_lost (reverse self.now.history) then None else Some (deliver (error_scopes (reverse self.now.history)) kind)) }
     {
         self.kept.errors.catches(kind)
     }
 
     /// How a pop of the innermost scope settles (WebGPU, "popErrorScope").
     pub fn top(&self) -> How
-        ensures { result ≡ pop_how (is_lost (reverse self.now.history)) (scopes_of (reverse self.now.history)) }
+        ensures { result ≡ pop_how (is_lost (reverse self.now.history)) (error_scopes (reverse self.now.history)) }
     {
         self.kept.errors.top()
     }

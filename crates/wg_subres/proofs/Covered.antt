@@ -1,16 +1,18 @@
 -- The runs of views and of copies cover what these have.
-use Rattle.std.proofs.Common.{◌≡◌, ℕ, zero, suc, ◌+◌, ◌-◌, ◌==◌, min, nat_lt, Bool, true, false, ◌&&◌, ◌||◌, List, [], ◌∷◌, map, refl, sym, ap, ap₂, ◌∙◌, if◌then◌else◌, arith}
+use Rattle.std.proofs.Common.{◌≡◌, ℕ, zero, suc, ◌+◌, ◌-◌, ◌==◌, min, nat_lt, Bool, true, false, ◌&&◌, ◌||◌, List, [], ◌∷◌, map, refl, sym, ap, ap₂, ◌∙◌, ◌⊎◌, inl, inr, if◌then◌else◌, arith}
 use Rattle.std.specs.List.{list_any}
+use Rattle.std.proofs.lemmas.Bool.{or_cases, or_right}
 use Rattle.std.proofs.lemmas.Bool.Decides.{nat_tests}
 use Rattle.std.proofs.lemmas.List.Folds.{list_any-append}
 use Rattle.std.proofs.lemmas.List.Concat.{flat_map-cons}
 use Rattle.wg_rows.specs.Rows.{in_range, count_up, numbers}
 use Rattle.wg_types.specs.Formats.{row}
-use Rattle.wg_rows.specs.Runs.{Aspect, aspect_number, Buffer, Subresource, QuerySet, PartRun, LayerParts, covers_part}
+use Rattle.wg_rows.specs.Runs.{Aspect, aspect_number, Buffer, Subresource, QuerySet, PartRun, LayerParts, covers_part, Cells, Layers, Cell, part_of, covers, run_part}
+use Rattle.wg_rows.proofs.Lying.{cells_lie}
 use Rattle.wg_model.specs.Formats.{named_aspects}
 use Rattle.wg_model.specs.Textures.{layer_count}
-use Rattle.wg_model.specs.Subresources.{level_runs, aspect_runs, view_runs, first_layer, end_layer, copy_runs}
-use Rattle.wg_subres.specs.Has.{is_among, ViewsCover, CopiesCover}
+use Rattle.wg_model.specs.Subresources.{level_runs, aspect_runs, view_runs, first_layer, end_layer, copied_cells, copy_runs, is_aspect_of}
+use Rattle.wg_subres.specs.Has.{is_covered, is_accessed, ViewsCover, CopiesCover, CopiedCellsLie}
 
 -- Ranges.
 pub range_none : (first m : ℕ) → in_range first (first + 0) m ≡ false
@@ -64,13 +66,13 @@ levels_cover object lo hi first (suc n) aspect o a m l =
     ∙ ap (λ b. (object == o) && ((aspect_number aspect == aspect_number a) && (b && in_range lo hi l))) (sym (range_first first n m)))
 
 -- The levels of all aspects.
-pub aspects_cover : (object lo hi first n : ℕ) (aspects : List Aspect) (o : ℕ) (a : Aspect) (m l : ℕ) → list_any (λ run. covers_part run (Subresource o a m l)) (aspect_runs object lo hi (count_up first n) aspects) ≡ (object == o) && (is_among a aspects && (in_range first (first + n) m && in_range lo hi l))
+pub aspects_cover : (object lo hi first n : ℕ) (aspects : List Aspect) (o : ℕ) (a : Aspect) (m l : ℕ) → list_any (λ run. covers_part run (Subresource o a m l)) (aspect_runs object lo hi (count_up first n) aspects) ≡ (object == o) && (is_aspect_of a aspects && (in_range first (first + n) m && in_range lo hi l))
 aspects_cover object lo hi first n [] o a m l = none_second (object == o) (in_range first (first + n) m && in_range lo hi l)
 aspects_cover object lo hi first n (aspect ∷ aspects) o a m l =
     ap (list_any (λ run. covers_part run (Subresource o a m l))) (flat_map-cons (level_runs object lo hi (count_up first n)) aspect aspects)
     ∙ (list_any-append (λ run. covers_part run (Subresource o a m l)) (level_runs object lo hi (count_up first n) aspect) (aspect_runs object lo hi (count_up first n) aspects)
     ∙ (ap₂ (λ b c. b || c) (levels_cover object lo hi first n aspect o a m l) (aspects_cover object lo hi first n aspects o a m l)
-    ∙ or_second (object == o) (aspect_number aspect == aspect_number a) (is_among a aspects) (in_range first (first + n) m && in_range lo hi l)))
+    ∙ or_second (object == o) (aspect_number aspect == aspect_number a) (is_aspect_of a aspects) (in_range first (first + n) m && in_range lo hi l)))
 
 -- Parts that are no subresources.
 no_line : (x z : Bool) → (x && false) && z ≡ false
@@ -101,15 +103,15 @@ none_fourth true false w = refl
 none_fourth true true false = refl
 none_fourth true true true = refl
 
-has_layers : (b : Bool) (object base_layer layers total base_mip mips levels : ℕ) (aspects : List Aspect) → nat_lt base_layer (min (base_layer + layers) total) ≡ b → (o : ℕ) (a : Aspect) (m l : ℕ) → list_any (λ run. covers_part run (Subresource o a m l)) (if b then aspect_runs object base_layer (min (base_layer + layers) total) (numbers base_mip (min (base_mip + mips) levels)) aspects else []) ≡ (object == o) && (is_among a aspects && ((in_range base_mip (base_mip + mips) m && nat_lt m levels) && (in_range base_layer (base_layer + layers) l && nat_lt l total)))
+has_layers : (b : Bool) (object base_layer layers total base_mip mips levels : ℕ) (aspects : List Aspect) → nat_lt base_layer (min (base_layer + layers) total) ≡ b → (o : ℕ) (a : Aspect) (m l : ℕ) → list_any (λ run. covers_part run (Subresource o a m l)) (if b then aspect_runs object base_layer (min (base_layer + layers) total) (numbers base_mip (min (base_mip + mips) levels)) aspects else []) ≡ (object == o) && (is_aspect_of a aspects && ((in_range base_mip (base_mip + mips) m && nat_lt m levels) && (in_range base_layer (base_layer + layers) l && nat_lt l total)))
 has_layers true object base_layer layers total base_mip mips levels aspects e o a m l =
     aspects_cover object base_layer (min (base_layer + layers) total) base_mip (min (base_mip + mips) levels - base_mip) aspects o a m l
-    ∙ ap₂ (λ b c. (object == o) && (is_among a aspects && (b && c)))
+    ∙ ap₂ (λ b c. (object == o) && (is_aspect_of a aspects && (b && c)))
     (range_counted base_mip (min (base_mip + mips) levels) m ∙ range_clipped base_mip (base_mip + mips) levels m)
     (range_clipped base_layer (base_layer + layers) total l)
 has_layers false object base_layer layers total base_mip mips levels aspects e o a m l =
-    none_fourth (object == o) (is_among a aspects) (in_range base_mip (base_mip + mips) m && nat_lt m levels)
-    ∙ ap (λ c. (object == o) && (is_among a aspects && ((in_range base_mip (base_mip + mips) m && nat_lt m levels) && c)))
+    none_fourth (object == o) (is_aspect_of a aspects) (in_range base_mip (base_mip + mips) m && nat_lt m levels)
+    ∙ ap (λ c. (object == o) && (is_aspect_of a aspects && ((in_range base_mip (base_mip + mips) m && nat_lt m levels) && c)))
     (sym (sym (range_clipped base_layer (base_layer + layers) total l) ∙ range_empty base_layer (min (base_layer + layers) total) l e))
 
 if_none : (test : PartRun → Bool) (b : Bool) (runs : List PartRun) → list_any test runs ≡ false → list_any test (if b then runs else []) ≡ false
@@ -136,36 +138,55 @@ one_layer true false e z = refl
 one_layer true true false z = refl
 one_layer true true true z = refl
 
-copy_covers : (object mip lo hi : ℕ) (aspects : List Aspect) (o : ℕ) (a : Aspect) (m l : ℕ) → list_any (λ run. covers_part run (Subresource o a m l)) (map (λ aspect. LayerParts object aspect mip lo hi) aspects) ≡ (object == o) && (is_among a aspects && ((mip == m) && in_range lo hi l))
+copy_covers : (object mip lo hi : ℕ) (aspects : List Aspect) (o : ℕ) (a : Aspect) (m l : ℕ) → list_any (λ run. covers_part run (Subresource o a m l)) (map run_part (map (λ aspect. Layers object aspect mip lo hi) aspects)) ≡ (object == o) && (is_aspect_of a aspects && ((mip == m) && in_range lo hi l))
 unfolding covers_part
 copy_covers object mip lo hi [] o a m l = none_second (object == o) ((mip == m) && in_range lo hi l)
 copy_covers object mip lo hi (aspect ∷ aspects) o a m l =
     ap₂ (λ b c. b || c) (one_layer (object == o) (aspect_number aspect == aspect_number a) (mip == m) (in_range lo hi l)) (copy_covers object mip lo hi aspects o a m l)
-    ∙ or_second (object == o) (aspect_number aspect == aspect_number a) (is_among a aspects) ((mip == m) && in_range lo hi l)
+    ∙ or_second (object == o) (aspect_number aspect == aspect_number a) (is_aspect_of a aspects) ((mip == m) && in_range lo hi l)
 
-copy_no_buffer : (object mip lo hi : ℕ) (aspects : List Aspect) (o : ℕ) → list_any (λ run. covers_part run (Buffer o)) (map (λ aspect. LayerParts object aspect mip lo hi) aspects) ≡ false
+copy_no_buffer : (object mip lo hi : ℕ) (aspects : List Aspect) (o : ℕ) → list_any (λ run. covers_part run (Buffer o)) (map run_part (map (λ aspect. Layers object aspect mip lo hi) aspects)) ≡ false
 unfolding covers_part
 copy_no_buffer object mip lo hi [] o = refl
 copy_no_buffer object mip lo hi (aspect ∷ aspects) o = ap₂ (λ b c. b || c) (no_line (object == o) (in_range lo hi 0)) (copy_no_buffer object mip lo hi aspects o)
 
-copy_no_queries : (object mip lo hi : ℕ) (aspects : List Aspect) (o : ℕ) → list_any (λ run. covers_part run (QuerySet o)) (map (λ aspect. LayerParts object aspect mip lo hi) aspects) ≡ false
+copy_no_queries : (object mip lo hi : ℕ) (aspects : List Aspect) (o : ℕ) → list_any (λ run. covers_part run (QuerySet o)) (map run_part (map (λ aspect. Layers object aspect mip lo hi) aspects)) ≡ false
 unfolding covers_part
 copy_no_queries object mip lo hi [] o = refl
 copy_no_queries object mip lo hi (aspect ∷ aspects) o = ap₂ (λ b c. b || c) (no_line (object == o) (in_range lo hi 0)) (copy_no_queries object mip lo hi aspects o)
 
-layers_cover : (b : Bool) (object mip lo hi : ℕ) (aspects : List Aspect) → nat_lt lo hi ≡ b → (o : ℕ) (a : Aspect) (m l : ℕ) → list_any (λ run. covers_part run (Subresource o a m l)) (if b then map (λ aspect. LayerParts object aspect mip lo hi) aspects else []) ≡ (object == o) && (is_among a aspects && ((mip == m) && in_range lo hi l))
+layers_cover : (b : Bool) (object mip lo hi : ℕ) (aspects : List Aspect) → nat_lt lo hi ≡ b → (o : ℕ) (a : Aspect) (m l : ℕ) → list_any (λ run. covers_part run (Subresource o a m l)) (map run_part (if b then map (λ aspect. Layers object aspect mip lo hi) aspects else [])) ≡ (object == o) && (is_aspect_of a aspects && ((mip == m) && in_range lo hi l))
 layers_cover true object mip lo hi aspects e o a m l = copy_covers object mip lo hi aspects o a m l
 layers_cover false object mip lo hi aspects e o a m l =
-    none_fourth (object == o) (is_among a aspects) (mip == m)
-    ∙ ap (λ c. (object == o) && (is_among a aspects && ((mip == m) && c))) (sym (range_empty lo hi l e))
+    none_fourth (object == o) (is_aspect_of a aspects) (mip == m)
+    ∙ ap (λ c. (object == o) && (is_aspect_of a aspects && ((mip == m) && c))) (sym (range_empty lo hi l e))
+
+if_no_cells : (test : PartRun → Bool) (b : Bool) (cells : List Cells) → list_any test (map run_part cells) ≡ false → list_any test (map run_part (if b then cells else [])) ≡ false
+if_no_cells test true cells none = none
+if_no_cells test false cells none = refl
 
 pub copies_cover : CopiesCover
-unfolding copy_runs
+unfolding copied_cells copy_runs
 copies_cover texture info spot size (Buffer o) =
-    if_none (λ run. covers_part run (Buffer o)) (nat_lt (first_layer info.dim spot.origin) (end_layer info.dim spot.origin size)) (map (λ aspect. LayerParts texture aspect spot.mip (first_layer info.dim spot.origin) (end_layer info.dim spot.origin size)) (named_aspects spot.aspect (row info.format).aspects))
+    if_no_cells (λ run. covers_part run (Buffer o)) (nat_lt (first_layer info.dim spot.origin) (end_layer info.dim spot.origin size)) (map (λ aspect. Layers texture aspect spot.mip (first_layer info.dim spot.origin) (end_layer info.dim spot.origin size)) (named_aspects spot.aspect (row info.format).aspects))
     (copy_no_buffer texture spot.mip (first_layer info.dim spot.origin) (end_layer info.dim spot.origin size) (named_aspects spot.aspect (row info.format).aspects) o)
 copies_cover texture info spot size (QuerySet o) =
-    if_none (λ run. covers_part run (QuerySet o)) (nat_lt (first_layer info.dim spot.origin) (end_layer info.dim spot.origin size)) (map (λ aspect. LayerParts texture aspect spot.mip (first_layer info.dim spot.origin) (end_layer info.dim spot.origin size)) (named_aspects spot.aspect (row info.format).aspects))
+    if_no_cells (λ run. covers_part run (QuerySet o)) (nat_lt (first_layer info.dim spot.origin) (end_layer info.dim spot.origin size)) (map (λ aspect. Layers texture aspect spot.mip (first_layer info.dim spot.origin) (end_layer info.dim spot.origin size)) (named_aspects spot.aspect (row info.format).aspects))
     (copy_no_queries texture spot.mip (first_layer info.dim spot.origin) (end_layer info.dim spot.origin size) (named_aspects spot.aspect (row info.format).aspects) o)
 copies_cover texture info spot size (Subresource o a m l) =
     layers_cover (nat_lt (first_layer info.dim spot.origin) (end_layer info.dim spot.origin size)) texture spot.mip (first_layer info.dim spot.origin) (end_layer info.dim spot.origin size) (named_aspects spot.aspect (row info.format).aspects) refl o a m l
+
+-- Where a run of cells has a cell, the part in which these lie has the cell's.
+lie_in : (cells : List Cells) (cell : Cell) → is_accessed cells cell ≡ true → is_covered (map run_part cells) (part_of cell) ≡ true
+lie_in [] cell e = absurd (cc)
+lie_in (run ∷ cells) cell e = by_cases (or_cases (covers run cell) (is_accessed cells cell) e) (lie_in cells cell)
+  where
+    by_cases : (covers run cell ≡ true) ⊎ (is_accessed cells cell ≡ true)
+        → (is_accessed cells cell ≡ true → is_covered (map run_part cells) (part_of cell) ≡ true)
+        → covers_part (run_part run) (part_of cell) || is_covered (map run_part cells) (part_of cell) ≡ true
+    by_cases (inl here) rest = ap (λ b. b || is_covered (map run_part cells) (part_of cell)) (cells_lie run cell here)
+    by_cases (inr later) rest = or_right (covers_part (run_part run) (part_of cell)) (is_covered (map run_part cells) (part_of cell)) (rest later)
+
+pub copied_cells_lie : CopiedCellsLie
+unfolding copy_runs
+copied_cells_lie texture info spot size cell e = sym (copies_cover texture info spot size (part_of cell)) ∙ lie_in (copied_cells texture info spot size) cell e

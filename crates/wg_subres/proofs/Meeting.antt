@@ -1,81 +1,53 @@
--- The cells of a copy lie in its parts, and two copies meet exactly where some part is in both.
-use Rattle.std.proofs.Common.{◌≡◌, ℕ, ◌==◌, max, nat_lt, Bool, true, false, ◌&&◌, ◌||◌, List, [], ◌∷◌, map, refl, sym, ap, ◌∙◌, ◌⊎◌, inl, inr, if◌then◌else◌, arith, eqb-true, eq-eqb}
+-- Two copies meet exactly where some part is in both.
+use Rattle.std.proofs.Common.{◌≡◌, ℕ, ◌==◌, max, nat_lt, Bool, true, false, ◌&&◌, ◌||◌, List, [], ◌∷◌, refl, sym, ◌∙◌, ◌⊎◌, inl, inr, arith, eqb-true, eq-eqb}
 use Rattle.std.specs.List.{list_any}
-use Rattle.std.proofs.lemmas.Bool.{and_parts, and_from, or_cases}
+use Rattle.std.proofs.lemmas.Bool.{and_parts, and_from, or_cases, or_left, or_right}
 use Rattle.std.proofs.lemmas.Bool.Decides.{nat_tests}
 use Rattle.wg_types.specs.declared.textures.TextureInfo.{TextureInfo}
 use Rattle.wg_types.specs.declared.textures.TextureSpot.{TextureSpot}
 use Rattle.wg_types.specs.Formats.{row}
 use Rattle.wg_rows.specs.Rows.{in_range}
-use Rattle.wg_rows.specs.Runs.{Aspect, aspect_number, Part, Buffer, Subresource, QuerySet, LayerParts, Layers, run_part}
+use Rattle.wg_rows.specs.Runs.{Aspect, aspect_number, Part, Buffer, Subresource, QuerySet}
 use Rattle.wg_model.specs.Formats.{named_aspects}
-use Rattle.wg_model.specs.Subresources.{first_layer, end_layer, copied_cells, copy_runs, aspects_meet, ranges_meet, copies_meet}
-use Rattle.wg_subres.specs.Has.{is_among, copy_has, CopiedCellsLie, CopiesMeet}
-
--- Cells of layers lie in these layers.
-layers_lie : (object mip lo hi : ℕ) (aspects : List Aspect) → map run_part (map (λ aspect. Layers object aspect mip lo hi) aspects) ≡ map (λ aspect. LayerParts object aspect mip lo hi) aspects
-layers_lie object mip lo hi [] = refl
-layers_lie object mip lo hi (aspect ∷ aspects) = ap (λ runs. LayerParts object aspect mip lo hi ∷ runs) (layers_lie object mip lo hi aspects)
-
-if_lie : (b : Bool) (object mip lo hi : ℕ) (aspects : List Aspect) → map run_part (if b then map (λ aspect. Layers object aspect mip lo hi) aspects else []) ≡ (if b then map (λ aspect. LayerParts object aspect mip lo hi) aspects else [])
-if_lie true object mip lo hi aspects = layers_lie object mip lo hi aspects
-if_lie false object mip lo hi aspects = refl
-
-pub cells_lie : CopiedCellsLie
-unfolding copied_cells copy_runs
-cells_lie texture info spot size = if_lie (nat_lt (first_layer info.dim spot.origin) (end_layer info.dim spot.origin size)) texture spot.mip (first_layer info.dim spot.origin) (end_layer info.dim spot.origin size) (named_aspects spot.aspect (row info.format).aspects)
+use Rattle.wg_model.specs.Subresources.{first_layer, end_layer, is_aspect_of, aspects_meet, ranges_meet, copies_meet}
+use Rattle.wg_subres.specs.Has.{copy_has, CopiesMeet}
 
 -- Aspects.
-pub or_left : (a b : Bool) → a ≡ true → a || b ≡ true
-or_left a b e = rw e refl
-
-pub or_right : (a b : Bool) → b ≡ true → a || b ≡ true
-or_right true b e = refl
-or_right false b e = e
-
 pub same_number : (x y a : ℕ) → x == a ≡ true → y == a ≡ true → x == y ≡ true
 same_number x y a e f = eq-eqb x y (eqb-true x a e ∙ sym (eqb-true y a f))
 
-meets_one : (x a : Aspect) (ys : List Aspect) → aspect_number x == aspect_number a ≡ true → is_among a ys ≡ true → list_any (λ y. aspect_number x == aspect_number y) ys ≡ true
+meets_one : (x a : Aspect) (ys : List Aspect) → aspect_number x == aspect_number a ≡ true → is_aspect_of a ys ≡ true → is_aspect_of x ys ≡ true
 meets_one x a [] e f = absurd (cc)
-meets_one x a (y ∷ ys) e f = by_cases (or_cases (aspect_number y == aspect_number a) (is_among a ys) f) (meets_one x a ys e)
+meets_one x a (y ∷ ys) e f = by_cases (or_cases (aspect_number y == aspect_number a) (is_aspect_of a ys) f) (meets_one x a ys e)
   where
-    by_cases : (aspect_number y == aspect_number a ≡ true) ⊎ (is_among a ys ≡ true) → (is_among a ys ≡ true → list_any (λ y. aspect_number x == aspect_number y) ys ≡ true) → (aspect_number x == aspect_number y) || list_any (λ y. aspect_number x == aspect_number y) ys ≡ true
-    by_cases (inl g) rest = or_left (aspect_number x == aspect_number y) (list_any (λ y. aspect_number x == aspect_number y) ys) (same_number (aspect_number x) (aspect_number y) (aspect_number a) e g)
-    by_cases (inr g) rest = or_right (aspect_number x == aspect_number y) (list_any (λ y. aspect_number x == aspect_number y) ys) (rest g)
+    by_cases : (aspect_number y == aspect_number a ≡ true) ⊎ (is_aspect_of a ys ≡ true) → (is_aspect_of a ys ≡ true → is_aspect_of x ys ≡ true) → (aspect_number y == aspect_number x) || is_aspect_of x ys ≡ true
+    by_cases (inl g) rest = or_left (aspect_number y == aspect_number x) (is_aspect_of x ys) (same_number (aspect_number y) (aspect_number x) (aspect_number a) g e)
+    by_cases (inr g) rest = or_right (aspect_number y == aspect_number x) (is_aspect_of x ys) (rest g)
 
-pub meets : (a : Aspect) (xs ys : List Aspect) → is_among a xs ≡ true → is_among a ys ≡ true → aspects_meet xs ys ≡ true
+pub meets : (a : Aspect) (xs ys : List Aspect) → is_aspect_of a xs ≡ true → is_aspect_of a ys ≡ true → aspects_meet xs ys ≡ true
 meets a [] ys e f = absurd (cc)
-meets a (x ∷ xs) ys e f = by_cases (or_cases (aspect_number x == aspect_number a) (is_among a xs) e) (λ g. meets a xs ys g f)
+meets a (x ∷ xs) ys e f = by_cases (or_cases (aspect_number x == aspect_number a) (is_aspect_of a xs) e) (λ g. meets a xs ys g f)
   where
-    by_cases : (aspect_number x == aspect_number a ≡ true) ⊎ (is_among a xs ≡ true) → (is_among a xs ≡ true → aspects_meet xs ys ≡ true) → list_any (λ y. aspect_number x == aspect_number y) ys || aspects_meet xs ys ≡ true
-    by_cases (inl g) rest = or_left (list_any (λ y. aspect_number x == aspect_number y) ys) (aspects_meet xs ys) (meets_one x a ys g f)
-    by_cases (inr g) rest = or_right (list_any (λ y. aspect_number x == aspect_number y) ys) (aspects_meet xs ys) (rest g)
+    by_cases : (aspect_number x == aspect_number a ≡ true) ⊎ (is_aspect_of a xs ≡ true) → (is_aspect_of a xs ≡ true → aspects_meet xs ys ≡ true) → is_aspect_of x ys || aspects_meet xs ys ≡ true
+    by_cases (inl g) rest = or_left (is_aspect_of x ys) (aspects_meet xs ys) (meets_one x a ys g f)
+    by_cases (inr g) rest = or_right (is_aspect_of x ys) (aspects_meet xs ys) (rest g)
 
 -- An aspect in both.
 pub turned : (x y : ℕ) → x == y ≡ true → y == x ≡ true
 turned x y e = eq-eqb y x (sym (eqb-true x y e))
 
-among_turned : (x : Aspect) (ys : List Aspect) → list_any (λ y. aspect_number x == aspect_number y) ys ≡ true → is_among x ys ≡ true
-among_turned x [] e = absurd (cc)
-among_turned x (y ∷ ys) e = by_cases (or_cases (aspect_number x == aspect_number y) (list_any (λ y. aspect_number x == aspect_number y) ys) e) (among_turned x ys)
-  where
-    by_cases : (aspect_number x == aspect_number y ≡ true) ⊎ (list_any (λ y. aspect_number x == aspect_number y) ys ≡ true) → (list_any (λ y. aspect_number x == aspect_number y) ys ≡ true → is_among x ys ≡ true) → (aspect_number y == aspect_number x) || is_among x ys ≡ true
-    by_cases (inl g) rest = or_left (aspect_number y == aspect_number x) (is_among x ys) (turned (aspect_number x) (aspect_number y) g)
-    by_cases (inr g) rest = or_right (aspect_number y == aspect_number x) (is_among x ys) (rest g)
-
 abbrev pub InBoth : List Aspect → List Aspect → Type 0
-InBoth xs ys = (a : Aspect) × ((is_among a xs ≡ true) × (is_among a ys ≡ true))
+InBoth xs ys = (a : Aspect) × ((is_aspect_of a xs ≡ true) × (is_aspect_of a ys ≡ true))
 
 pub in_both : (xs ys : List Aspect) → aspects_meet xs ys ≡ true → InBoth xs ys
 in_both [] ys e = absurd (cc)
-in_both (x ∷ xs) ys e = by_cases (or_cases (list_any (λ y. aspect_number x == aspect_number y) ys) (aspects_meet xs ys) e) (in_both xs ys)
+in_both (x ∷ xs) ys e = by_cases (or_cases (is_aspect_of x ys) (aspects_meet xs ys) e) (in_both xs ys)
   where
     more : InBoth xs ys → InBoth (x ∷ xs) ys
-    more found = (found.0, (or_right (aspect_number x == aspect_number found.0) (is_among found.0 xs) found.1.0, found.1.1))
+    more found = (found.0, (or_right (aspect_number x == aspect_number found.0) (is_aspect_of found.0 xs) found.1.0, found.1.1))
 
-    by_cases : (list_any (λ y. aspect_number x == aspect_number y) ys ≡ true) ⊎ (aspects_meet xs ys ≡ true) → (aspects_meet xs ys ≡ true → InBoth xs ys) → InBoth (x ∷ xs) ys
-    by_cases (inl g) rest = (x, (or_left (aspect_number x == aspect_number x) (is_among x xs) (eq-eqb (aspect_number x) (aspect_number x) refl), among_turned x ys g))
+    by_cases : (is_aspect_of x ys ≡ true) ⊎ (aspects_meet xs ys ≡ true) → (aspects_meet xs ys ≡ true → InBoth xs ys) → InBoth (x ∷ xs) ys
+    by_cases (inl g) rest = (x, (or_left (aspect_number x == aspect_number x) (is_aspect_of x xs) (eq-eqb (aspect_number x) (aspect_number x) refl), g))
     by_cases (inr g) rest = more (rest g)
 
 -- Layers.
@@ -89,22 +61,22 @@ pub ranges_share : (lo hi lo2 hi2 x : ℕ) → in_range lo hi x ≡ true → in_
 ranges_share lo hi lo2 hi2 x e f = grind (arith, nat_tests, e, f)
 
 -- A part in both.
-has_from : (texture object : ℕ) (info : TextureInfo) (spot : TextureSpot) (size : List ℕ) (aspect : Aspect) (mip layer : ℕ) → texture == object ≡ true → is_among aspect (named_aspects spot.aspect (row info.format).aspects) ≡ true → spot.mip == mip ≡ true → in_range (first_layer info.dim spot.origin) (end_layer info.dim spot.origin size) layer ≡ true → copy_has texture info spot size (Subresource object aspect mip layer) ≡ true
+has_from : (texture object : ℕ) (info : TextureInfo) (spot : TextureSpot) (size : List ℕ) (aspect : Aspect) (mip layer : ℕ) → texture == object ≡ true → is_aspect_of aspect (named_aspects spot.aspect (row info.format).aspects) ≡ true → spot.mip == mip ≡ true → in_range (first_layer info.dim spot.origin) (end_layer info.dim spot.origin size) layer ≡ true → copy_has texture info spot size (Subresource object aspect mip layer) ≡ true
 has_from texture object info spot size aspect mip layer o a m l =
-    and_from (texture == object) (is_among aspect (named_aspects spot.aspect (row info.format).aspects) && (spot.mip == mip && in_range (first_layer info.dim spot.origin) (end_layer info.dim spot.origin size) layer)) o
-    (and_from (is_among aspect (named_aspects spot.aspect (row info.format).aspects)) (spot.mip == mip && in_range (first_layer info.dim spot.origin) (end_layer info.dim spot.origin size) layer) a
+    and_from (texture == object) (is_aspect_of aspect (named_aspects spot.aspect (row info.format).aspects) && (spot.mip == mip && in_range (first_layer info.dim spot.origin) (end_layer info.dim spot.origin size) layer)) o
+    (and_from (is_aspect_of aspect (named_aspects spot.aspect (row info.format).aspects)) (spot.mip == mip && in_range (first_layer info.dim spot.origin) (end_layer info.dim spot.origin size) layer) a
     (and_from (spot.mip == mip) (in_range (first_layer info.dim spot.origin) (end_layer info.dim spot.origin size) layer) m l))
 
 -- What a part of a copy is.
 record Has (texture object : ℕ) (info : TextureInfo) (spot : TextureSpot) (size : List ℕ) (aspect : Aspect) (mip layer : ℕ) : Type 0 where
-  among : is_among aspect (named_aspects spot.aspect (row info.format).aspects) ≡ true
+  among : is_aspect_of aspect (named_aspects spot.aspect (row info.format).aspects) ≡ true
   level : spot.mip == mip ≡ true
   in_layers : in_range (first_layer info.dim spot.origin) (end_layer info.dim spot.origin size) layer ≡ true
 
 has_parts : (texture object : ℕ) (info : TextureInfo) (spot : TextureSpot) (size : List ℕ) (aspect : Aspect) (mip layer : ℕ) → copy_has texture info spot size (Subresource object aspect mip layer) ≡ true → Has texture object info spot size aspect mip layer
 has_parts texture object info spot size aspect mip layer e =
-    let first : (texture == object ≡ true) × (is_among aspect (named_aspects spot.aspect (row info.format).aspects) && (spot.mip == mip && in_range (first_layer info.dim spot.origin) (end_layer info.dim spot.origin size) layer) ≡ true) = and_parts (texture == object) (is_among aspect (named_aspects spot.aspect (row info.format).aspects) && (spot.mip == mip && in_range (first_layer info.dim spot.origin) (end_layer info.dim spot.origin size) layer)) e in
-    let second : (is_among aspect (named_aspects spot.aspect (row info.format).aspects) ≡ true) × (spot.mip == mip && in_range (first_layer info.dim spot.origin) (end_layer info.dim spot.origin size) layer ≡ true) = and_parts (is_among aspect (named_aspects spot.aspect (row info.format).aspects)) (spot.mip == mip && in_range (first_layer info.dim spot.origin) (end_layer info.dim spot.origin size) layer) first.1 in
+    let first : (texture == object ≡ true) × (is_aspect_of aspect (named_aspects spot.aspect (row info.format).aspects) && (spot.mip == mip && in_range (first_layer info.dim spot.origin) (end_layer info.dim spot.origin size) layer) ≡ true) = and_parts (texture == object) (is_aspect_of aspect (named_aspects spot.aspect (row info.format).aspects) && (spot.mip == mip && in_range (first_layer info.dim spot.origin) (end_layer info.dim spot.origin size) layer)) e in
+    let second : (is_aspect_of aspect (named_aspects spot.aspect (row info.format).aspects) ≡ true) × (spot.mip == mip && in_range (first_layer info.dim spot.origin) (end_layer info.dim spot.origin size) layer ≡ true) = and_parts (is_aspect_of aspect (named_aspects spot.aspect (row info.format).aspects)) (spot.mip == mip && in_range (first_layer info.dim spot.origin) (end_layer info.dim spot.origin size) layer) first.1 in
     let third : (spot.mip == mip ≡ true) × (in_range (first_layer info.dim spot.origin) (end_layer info.dim spot.origin size) layer ≡ true) = and_parts (spot.mip == mip) (in_range (first_layer info.dim spot.origin) (end_layer info.dim spot.origin size) layer) second.1 in
     record { among = second.0; level = third.0; in_layers = third.1 }
 

@@ -13,7 +13,7 @@ use Rattle.wg_types.specs.declared.textures.TextureSpot.{TextureSpot}
 use Rattle.wg_types.specs.declared.textures.ViewInfo.{ViewInfo}
 use Rattle.wg_types.specs.Formats.{row}
 use Rattle.wg_rows.specs.Rows.{list_before, count_up, numbers, EachRow, After, Apart}
-use Rattle.wg_rows.specs.Runs.{Aspect, aspect_number, PartRun, LayerParts, part_sort, Cells, Layers, cell_sort}
+use Rattle.wg_rows.specs.Runs.{Aspect, aspect_number, PartRun, LayerParts, part_sort, Cells, Layers, cell_sort, run_part}
 use Rattle.wg_rows.specs.Uses.{Usages, same_set, printed_uses, Kind, same_kind, printed_accesses}
 use Rattle.wg_rows.proofs.Cut.{each_append, apart_append}
 use Rattle.wg_rows.proofs.Told.{uses_tell, accesses_tell, as_printed}
@@ -138,11 +138,11 @@ cells_apart : (kind : Kind) (object mip lo hi : ℕ) (aspects : List Aspect) →
 cells_apart kind object mip lo hi [] lt rising = tt
 cells_apart kind object mip lo hi (aspect ∷ later) lt rising = (lt, after_cells kind object mip lo hi aspect later rising.0, cells_apart kind object mip lo hi later lt rising.1)
 
-after_parts : (usage : Usages) (object mip lo hi : ℕ) (aspect : Aspect) (later : List Aspect) → EachRow (λ other. aspect_number aspect < aspect_number other) later → EachRow (After part_sort (LayerParts object aspect mip lo hi, usage)) (all_used usage (map (λ aspect. LayerParts object aspect mip lo hi) later))
+after_parts : (usage : Usages) (object mip lo hi : ℕ) (aspect : Aspect) (later : List Aspect) → EachRow (λ other. aspect_number aspect < aspect_number other) later → EachRow (After part_sort (LayerParts object aspect mip lo hi, usage)) (all_used usage (map run_part (map (λ aspect. Layers object aspect mip lo hi) later)))
 after_parts usage object mip lo hi aspect [] lt = tt
 after_parts usage object mip lo hi aspect (other ∷ later) lt = (inl (later_aspect object (aspect_number aspect) (aspect_number other) mip mip lt.0), after_parts usage object mip lo hi aspect later lt.1)
 
-parts_apart : (usage : Usages) (object mip lo hi : ℕ) (aspects : List Aspect) → lo < hi → Rising aspects → Apart part_sort (all_used usage (map (λ aspect. LayerParts object aspect mip lo hi) aspects))
+parts_apart : (usage : Usages) (object mip lo hi : ℕ) (aspects : List Aspect) → lo < hi → Rising aspects → Apart part_sort (all_used usage (map run_part (map (λ aspect. Layers object aspect mip lo hi) aspects)))
 parts_apart usage object mip lo hi [] lt rising = tt
 parts_apart usage object mip lo hi (aspect ∷ later) lt rising = (lt, after_parts usage object mip lo hi aspect later rising.0, parts_apart usage object mip lo hi later lt rising.1)
 
@@ -150,7 +150,7 @@ if_cells_apart : (b : Bool) (kind : Kind) (object mip lo hi : ℕ) (aspects : Li
 if_cells_apart true kind object mip lo hi aspects e rising = cells_apart kind object mip lo hi aspects (ltb-true lo hi e) rising
 if_cells_apart false kind object mip lo hi aspects e rising = tt
 
-if_parts_apart : (b : Bool) (usage : Usages) (object mip lo hi : ℕ) (aspects : List Aspect) → nat_lt lo hi ≡ b → Rising aspects → Apart part_sort (all_used usage (if b then map (λ aspect. LayerParts object aspect mip lo hi) aspects else []))
+if_parts_apart : (b : Bool) (usage : Usages) (object mip lo hi : ℕ) (aspects : List Aspect) → nat_lt lo hi ≡ b → Rising aspects → Apart part_sort (all_used usage (map run_part (if b then map (λ aspect. Layers object aspect mip lo hi) aspects else [])))
 if_parts_apart true usage object mip lo hi aspects e rising = parts_apart usage object mip lo hi aspects (ltb-true lo hi e) rising
 if_parts_apart false usage object mip lo hi aspects e rising = tt
 
@@ -160,7 +160,7 @@ copy_cells_apart texture info spot size kind =
     if_cells_apart (nat_lt (first_layer info.dim spot.origin) (end_layer info.dim spot.origin size)) kind texture spot.mip (first_layer info.dim spot.origin) (end_layer info.dim spot.origin size) (named_aspects spot.aspect (row info.format).aspects) refl (named_rising spot.aspect (row info.format).aspects)
 
 copy_parts_apart : (texture : ℕ) (info : TextureInfo) (spot : TextureSpot) (size : List ℕ) (usage : Usages) → Apart part_sort (all_used usage (copy_runs texture info spot size))
-unfolding copy_runs
+unfolding copied_cells copy_runs
 copy_parts_apart texture info spot size usage =
     if_parts_apart (nat_lt (first_layer info.dim spot.origin) (end_layer info.dim spot.origin size)) usage texture spot.mip (first_layer info.dim spot.origin) (end_layer info.dim spot.origin size) (named_aspects spot.aspect (row info.format).aspects) refl (named_rising spot.aspect (row info.format).aspects)
 

@@ -7,8 +7,8 @@ use Rattle.wg_rows.specs.Rows.{in_range}
 use Rattle.wg_rows.specs.Runs.{Aspect, Part, Buffer, Subresource, QuerySet}
 use Rattle.wg_model.specs.Formats.{named_aspects}
 use Rattle.wg_model.specs.Textures.{layer_count}
-use Rattle.wg_model.specs.Subresources.{aspects_meet, ranges_meet, view_layers_end, view_mips_end, views_meet}
-use Rattle.wg_subres.specs.Has.{is_among, view_has, ViewsMeet}
+use Rattle.wg_model.specs.Subresources.{is_aspect_of, aspects_meet, ranges_meet, view_layers_end, view_mips_end, views_meet}
+use Rattle.wg_subres.specs.Has.{view_has, ViewsMeet}
 use Rattle.wg_subres.proofs.Covered.{range_clipped}
 use Rattle.wg_subres.proofs.Meeting.{same_number, meets, turned, InBoth, in_both, in_lower, in_upper, ranges_share}
 
@@ -37,21 +37,21 @@ has_layer view layer = is_in view.base_layer (view.base_layer + view.layers) (la
 
 record Has (view : ViewInfo) (object : ℕ) (aspect : Aspect) (mip layer : ℕ) : Type 0 where
   texture : view.texture.number == object ≡ true
-  among : is_among aspect (aspects_of view) ≡ true
+  among : is_aspect_of aspect (aspects_of view) ≡ true
   level : has_mip view mip ≡ true
   in_layers : has_layer view layer ≡ true
 
 has_parts : (view : ViewInfo) (object : ℕ) (aspect : Aspect) (mip layer : ℕ) → view_has view (Subresource object aspect mip layer) ≡ true → Has view object aspect mip layer
 has_parts view object aspect mip layer e =
-    let first : (view.texture.number == object ≡ true) × (is_among aspect (aspects_of view) && (has_mip view mip && has_layer view layer) ≡ true) = and_parts (view.texture.number == object) (is_among aspect (aspects_of view) && (has_mip view mip && has_layer view layer)) e in
-    let second : (is_among aspect (aspects_of view) ≡ true) × (has_mip view mip && has_layer view layer ≡ true) = and_parts (is_among aspect (aspects_of view)) (has_mip view mip && has_layer view layer) first.1 in
+    let first : (view.texture.number == object ≡ true) × (is_aspect_of aspect (aspects_of view) && (has_mip view mip && has_layer view layer) ≡ true) = and_parts (view.texture.number == object) (is_aspect_of aspect (aspects_of view) && (has_mip view mip && has_layer view layer)) e in
+    let second : (is_aspect_of aspect (aspects_of view) ≡ true) × (has_mip view mip && has_layer view layer ≡ true) = and_parts (is_aspect_of aspect (aspects_of view)) (has_mip view mip && has_layer view layer) first.1 in
     let third : (has_mip view mip ≡ true) × (has_layer view layer ≡ true) = and_parts (has_mip view mip) (has_layer view layer) second.1 in
     record { texture = first.0; among = second.0; level = third.0; in_layers = third.1 }
 
 has_from : (view : ViewInfo) (object : ℕ) (aspect : Aspect) (mip layer : ℕ) → Has view object aspect mip layer → view_has view (Subresource object aspect mip layer) ≡ true
 has_from view object aspect mip layer has =
-    and_from (view.texture.number == object) (is_among aspect (aspects_of view) && (has_mip view mip && has_layer view layer)) has.texture
-    (and_from (is_among aspect (aspects_of view)) (has_mip view mip && has_layer view layer) has.among
+    and_from (view.texture.number == object) (is_aspect_of aspect (aspects_of view) && (has_mip view mip && has_layer view layer)) has.texture
+    (and_from (is_aspect_of aspect (aspects_of view)) (has_mip view mip && has_layer view layer) has.among
     (and_from (has_mip view mip) (has_layer view layer) has.level has.in_layers))
 
 -- What two views that meet share.

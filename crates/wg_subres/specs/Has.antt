@@ -6,22 +6,18 @@ use Rattle.wg_types.specs.declared.textures.TextureSpot.{TextureSpot}
 use Rattle.wg_types.specs.declared.textures.ViewInfo.{ViewInfo}
 use Rattle.wg_types.specs.Formats.{row}
 use Rattle.wg_rows.specs.Rows.{in_range, Apart}
-use Rattle.wg_rows.specs.Runs.{Aspect, aspect_number, Part, Buffer, Subresource, QuerySet, PartRun, covers_part, part_sort, Cells, cell_sort, run_part}
+use Rattle.wg_rows.specs.Runs.{Part, Buffer, Subresource, QuerySet, PartRun, covers_part, part_sort, Cells, Cell, covers, cell_sort, part_of}
 use Rattle.wg_rows.specs.Uses.{Usages, printed_uses, Kind, printed_accesses}
 use Rattle.wg_model.specs.Formats.{named_aspects}
 use Rattle.wg_model.specs.Textures.{layer_count}
-use Rattle.wg_model.specs.Subresources.{view_runs, first_layer, end_layer, copied_cells, copy_runs, copies_meet, views_meet}
-
--- whether an aspect is one of these
-abbrev pub is_among : Aspect → List Aspect → Bool
-is_among aspect aspects = list_any (λ other. aspect_number other == aspect_number aspect) aspects
+use Rattle.wg_model.specs.Subresources.{view_runs, first_layer, end_layer, copied_cells, copy_runs, is_aspect_of, copies_meet, views_meet}
 
 -- Whether a view has a part: a subresource of its texture, of an aspect that it names, with mip level and layer in its
 -- ranges and in the texture.
 abbrev pub view_has : ViewInfo → Part → Bool
 view_has view (Subresource object aspect mip layer) =
     view.texture.number == object
-    && (is_among aspect (named_aspects view.aspect (row view.texture_info.format).aspects)
+    && (is_aspect_of aspect (named_aspects view.aspect (row view.texture_info.format).aspects)
     && ((in_range view.base_mip (view.base_mip + view.mips) mip && nat_lt mip view.texture_info.mips)
     && (in_range view.base_layer (view.base_layer + view.layers) layer && nat_lt layer (layer_count view.texture_info))))
 view_has view (Buffer object) = false
@@ -32,28 +28,45 @@ view_has view (QuerySet object) = false
 abbrev pub copy_has : ℕ → TextureInfo → TextureSpot → List ℕ → Part → Bool
 copy_has texture info spot size (Subresource object aspect mip layer) =
     texture == object
-    && (is_among aspect (named_aspects spot.aspect (row info.format).aspects)
+    && (is_aspect_of aspect (named_aspects spot.aspect (row info.format).aspects)
     && (spot.mip == mip
     && in_range (first_layer info.dim spot.origin) (end_layer info.dim spot.origin size) layer))
 copy_has texture info spot size (Buffer object) = false
 copy_has texture info spot size (QuerySet object) = false
 
+-- whether one of these runs has a part
+abbrev pub is_covered : List PartRun → Part → Bool
+is_covered runs part = list_any (λ run. covers_part run part) runs
+
+-- whether one of these runs has a cell
+abbrev pub is_accessed : List Cells → Cell → Bool
+is_accessed cells cell = list_any (λ run. covers run cell) cells
+
 -- The runs of a view cover what it has,
 abbrev pub ViewsCover : Type 0
-ViewsCover = (view : ViewInfo) (part : Part) → list_any (λ run. covers_part run part) (view_runs view) ≡ view_has view part
+ViewsCover = (view : ViewInfo) (part : Part) → is_covered (view_runs view) part ≡ view_has view part
 
 -- and so do those of a copy.
 abbrev pub CopiesCover : Type 0
-CopiesCover = (texture : ℕ) (info : TextureInfo) (spot : TextureSpot) (size : List ℕ) (part : Part) → list_any (λ run. covers_part run part) (copy_runs texture info spot size) ≡ copy_has texture info spot size part
+CopiesCover =
+    (texture : ℕ) (info : TextureInfo) (spot : TextureSpot) (size : List ℕ) (part : Part)
+    → is_covered (copy_runs texture info spot size) part ≡ copy_has texture info spot size part
 
--- The cells that a copy accesses lie in the parts that it has.
+-- Each cell that a copy accesses lies in a part that it has.
 abbrev pub CopiedCellsLie : Type 0
-CopiedCellsLie = (texture : ℕ) (info : TextureInfo) (spot : TextureSpot) (size : List ℕ) → map run_part (copied_cells texture info spot size) ≡ copy_runs texture info spot size
+CopiedCellsLie =
+    (texture : ℕ) (info : TextureInfo) (spot : TextureSpot) (size : List ℕ) (cell : Cell)
+    → is_accessed (copied_cells texture info spot size) cell ≡ true
+    → copy_has texture info spot size (part_of cell) ≡ true
 
 -- Two copies within one texture meet exactly where some part is in both.
 pub record CopiesMeet : Type 0 where
-  pub shared : (texture : ℕ) (source : TextureInfo) (from : TextureSpot) (target : TextureInfo) (to : TextureSpot) (size : List ℕ) → copies_meet source from target to size ≡ true → (part : Part) × ((copy_has texture source from size part ≡ true) × (copy_has texture target to size part ≡ true))
-  pub only : (texture : ℕ) (source : TextureInfo) (from : TextureSpot) (target : TextureInfo) (to : TextureSpot) (size : List ℕ) (part : Part) → copy_has texture source from size part ≡ true → copy_has texture target to size part ≡ true → copies_meet source from target to size ≡ true
+  pub shared : (texture : ℕ) (source : TextureInfo) (from : TextureSpot) (target : TextureInfo) (to : TextureSpot) (size : List ℕ)
+      → copies_meet source from target to size ≡ true
+      → (part : Part) × ((copy_has texture source from size part ≡ true) × (copy_has texture target to size part ≡ true))
+  pub only : (texture : ℕ) (source : TextureInfo) (from : TextureSpot) (target : TextureInfo) (to : TextureSpot) (size : List ℕ) (part : Part)
+      → copy_has texture source from size part ≡ true → copy_has texture target to size part ≡ true
+      → copies_meet source from target to size ≡ true
 
 -- Two views meet exactly where some part is in both.
 pub record ViewsMeet : Type 0 where
@@ -71,8 +84,10 @@ pub record ViewsPrinted : Type 0 where
 
 -- and so are those of a copy.
 pub record CopiesPrinted : Type 0 where
-  pub apart : (texture : ℕ) (info : TextureInfo) (spot : TextureSpot) (size : List ℕ) (usage : Usages) → Apart part_sort (all_used usage (copy_runs texture info spot size))
-  pub printed : (texture : ℕ) (info : TextureInfo) (spot : TextureSpot) (size : List ℕ) (usage : Usages) → printed_uses (all_used usage (copy_runs texture info spot size)) ≡ all_used usage (copy_runs texture info spot size)
+  pub apart : (texture : ℕ) (info : TextureInfo) (spot : TextureSpot) (size : List ℕ) (usage : Usages)
+      → Apart part_sort (all_used usage (copy_runs texture info spot size))
+  pub printed : (texture : ℕ) (info : TextureInfo) (spot : TextureSpot) (size : List ℕ) (usage : Usages)
+      → printed_uses (all_used usage (copy_runs texture info spot size)) ≡ all_used usage (copy_runs texture info spot size)
 
 -- the cells, each accessed in this way
 abbrev pub all_accessed : Kind → List Cells → List (Cells × Kind)
@@ -80,5 +95,7 @@ all_accessed kind cells = map (λ (run : Cells). (run, kind)) cells
 
 -- Accessed in one way the cells of a copy are in printed form too.
 pub record CellsPrinted : Type 0 where
-  pub apart : (texture : ℕ) (info : TextureInfo) (spot : TextureSpot) (size : List ℕ) (kind : Kind) → Apart cell_sort (all_accessed kind (copied_cells texture info spot size))
-  pub printed : (texture : ℕ) (info : TextureInfo) (spot : TextureSpot) (size : List ℕ) (kind : Kind) → printed_accesses (all_accessed kind (copied_cells texture info spot size)) ≡ all_accessed kind (copied_cells texture info spot size)
+  pub apart : (texture : ℕ) (info : TextureInfo) (spot : TextureSpot) (size : List ℕ) (kind : Kind)
+      → Apart cell_sort (all_accessed kind (copied_cells texture info spot size))
+  pub printed : (texture : ℕ) (info : TextureInfo) (spot : TextureSpot) (size : List ℕ) (kind : Kind)
+      → printed_accesses (all_accessed kind (copied_cells texture info spot size)) ≡ all_accessed kind (copied_cells texture info spot size)

@@ -5,7 +5,7 @@ ghost use Rattle.std.specs.Prelude.{◌≡◌, ◌++◌, ◌+◌, min, [], IfOk,
 ghost use Rattle.wg_types.specs.Formats.{row};
 ghost use Rattle.wg_rows.specs.Rows.{numbers};
 ghost use Rattle.wg_model.specs.Formats.{named_aspects};
-ghost use Rattle.wg_model.specs.Subresources.{level_runs, aspect_runs, view_runs, end_layer, layer_cells, layer_runs, copied_cells, copy_runs, ranges_meet, view_layers_end, view_mips_end, views_meet};
+ghost use Rattle.wg_model.specs.Subresources.{level_runs, aspect_runs, view_runs, end_layer, run_cells, layer_cells, copied_cells, ranges_meet, view_layers_end, view_mips_end, views_meet};
 ghost use Rattle.wg_subres.specs.Has.{ViewsCover, CopiesCover, CopiedCellsLie, CopiesMeet, ViewsMeet, ViewsPrinted, CopiesPrinted, CellsPrinted};
 
 use std::alloc::Global;
@@ -114,6 +114,37 @@ pub fn of_view(alloc: Global, view: &ViewInfo) -> Result<PartRuns, NoMemory>
     )
 }
 
+/// The cells of a run of subresources; of a buffer and of a query set there are none.
+pub fn run_cells(run: PartRun) -> Cells
+    ensures { result ≡ run_cells run }
+{
+    match run {
+        PartRun::Buffer { object } => Cells::Bytes {
+            object,
+            lo: 0,
+            hi: 0,
+        },
+        PartRun::Queries { object } => Cells::Queries {
+            object,
+            lo: 0,
+            hi: 0,
+        },
+        PartRun::Texture {
+            object,
+            aspect,
+            mip,
+            lo,
+            hi,
+        } => Cells::Layers {
+            object,
+            aspect,
+            mip,
+            lo,
+            hi,
+        },
+    }
+}
+
 /// Whether two ranges have a number in common.
 fn ranges_meet(a: (u32, u32), b: (u32, u32)) -> bool
     ensures { result ≡ ranges_meet a.0 a.1 b.0 b.1 }
@@ -172,32 +203,6 @@ fn layer_cells(
     Ok(cells)
 }
 
-/// The parts of a range of layers of each aspect.
-fn layer_parts(
-    alloc: Global,
-    object: u64,
-    mip: u32,
-    layers: (u32, u32),
-    aspects: &[Aspect],
-) -> Result<PartRuns, NoMemory>
-    ensures { IfOk result (λ runs. runs ≡ layer_runs object mip layers.0 layers.1 aspects.now) }
-{
-    let mut runs = Items::new(alloc);
-    if layers.0 >= layers.1 {
-        return Ok(runs);
-    }
-    for aspect in aspects {
-        runs.push(PartRun::Texture {
-            object,
-            aspect: *aspect,
-            mip,
-            lo: layers.0,
-            hi: layers.1,
-        })?;
-    }
-    Ok(runs)
-}
-
 /// The cells that a copy accesses in a texture, a run of layers for each aspect that it names: a 3D
 /// texture has layer 0 alone (WebGPU, "Texel Copies"). A copy whose layers pass every number is answered
 /// as want of memory; its place is in no texture.
@@ -214,29 +219,6 @@ pub fn cells_of_copy(
     let end = last_layer(info.dim, spot.origin, size)?;
     let layers = (first_layer(info.dim, spot.origin), end);
     layer_cells(
-        alloc,
-        texture,
-        spot.mip,
-        layers,
-        named_aspects(spot.aspect, info.format),
-    )
-}
-
-/// The subresources of a copy, a run of layers for each aspect that it names (WebGPU, "Texel Copies"). A
-/// copy whose layers pass every number is answered as want of memory; its place is in no texture.
-#[tactic(auto, unfolding(wg_model::specs::Subresources::copy_runs))]
-pub fn of_copy(
-    alloc: Global,
-    texture: u64,
-    info: &TextureInfo,
-    spot: &TextureSpot,
-    size: [u32; 3],
-) -> Result<PartRuns, NoMemory>
-    ensures { IfOk result (λ runs. runs ≡ copy_runs texture info.now spot.now size) }
-{
-    let end = last_layer(info.dim, spot.origin, size)?;
-    let layers = (first_layer(info.dim, spot.origin), end);
-    layer_parts(
         alloc,
         texture,
         spot.mip,

@@ -1,7 +1,7 @@
 //! What a view is of which parts are left out.
 ghost use Rattle.std.specs.Prelude.{◌≡◌, ◌-◌};
 ghost use Rattle.wg_model.specs.Textures.{layer_count};
-ghost use Rattle.wg_model.specs.Views.{dim_by, layers_by, view_of};
+ghost use Rattle.wg_model.specs.Views.{dim_by, layers_by, completed_view};
 
 use wg_formats::layer_count;
 use wg_types::textures::{AspectWord, TextureDim, TextureInfo, ViewDesc, ViewDim};
@@ -49,7 +49,7 @@ pub struct Asked {
 /// The description of a view of which parts may be left out (WebGPU, "resolving
 /// GPUTextureViewDescriptor defaults").
 pub fn view_of(info: &TextureInfo, asked: Asked) -> ViewDesc
-    ensures { result ≡ view_of info.now asked.dim asked.aspect asked.base_mip asked.mips asked.base_layer asked.layers }
+    ensures { result ≡ completed_view info.now asked.dim asked.aspect asked.base_mip asked.mips asked.base_layer asked.layers }
 {
     let all = layer_count(info);
     let dim = asked.dim.unwrap_or(dim_by(info.dim, all));

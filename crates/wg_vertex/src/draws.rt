@@ -1,13 +1,13 @@
 //! Whether what is set for vertex buffers serves a draw.
 ghost use Rattle.std.specs.Prelude.{◌≡◌, None, slice_index_or, unwrap_or};
-ghost use Rattle.wg_model.specs.Vertex.{count_by, bytes_serve, draw_fits};
+ghost use Rattle.wg_model.specs.Vertex.{counted_by_step, bytes_serve, draw_fits};
 
 use crate::attributes::last_end;
 use wg_types::vertex::{VertexBuffer, VertexStep};
 
 /// Over how many vertices or instances a draw goes in a buffer, if that is told.
 fn count_by(step: VertexStep, vertices: Option<u64>, instances: u64) -> Option<u64>
-    ensures { result ≡ count_by step vertices instances }
+    ensures { result ≡ counted_by_step step vertices instances }
 {
     match step {
         VertexStep::Vertex => vertices,

@@ -2,7 +2,7 @@
 ghost use Rattle.std.specs.Prelude.{◌≡◌, ◌==◌, nat_lt, nat_le, length};
 ghost use Rattle.std.specs.List.{list_all, list_any};
 ghost use Rattle.wg_types.specs.declared.vertex.VertexAttribute.{VertexAttribute};
-ghost use Rattle.wg_model.specs.Vertex.{all_attributes, are_apart};
+ghost use Rattle.wg_model.specs.Vertex.{all_attributes, locations_are_distinct};
 ghost use Rattle.wg_vertex.specs.Apart.{apart_from};
 
 use wg_types::vertex::{VertexAttribute, VertexBuffer};
@@ -78,7 +78,7 @@ fn are_apart_from(attributes: &[VertexAttribute], further: &[VertexBuffer]) -> b
 
 /// Whether no two attributes in the buffers have one location.
 pub fn are_apart(buffers: &[VertexBuffer]) -> bool
-    ensures { result ≡ are_apart (all_attributes buffers.now) }
+    ensures { result ≡ locations_are_distinct (all_attributes buffers.now) }
 {
     for (i, buffer) in buffers.iter().enumerate() {
         if !are_apart_from(buffer.attributes.as_slice(), &buffers[i + 1..]) {

@@ -1,5 +1,5 @@
-use Rattle.wg_subres.proofs.Covered.{views_cover, copies_cover}
-use Rattle.wg_subres.proofs.Meeting.{cells_lie, copies_meet_where}
+use Rattle.wg_subres.proofs.Covered.{views_cover, copies_cover, copied_cells_lie}
+use Rattle.wg_subres.proofs.Meeting.{copies_meet_where}
 use Rattle.wg_subres.proofs.ViewsMeeting.{views_meet_where}
 use Rattle.wg_subres.proofs.runs_cover.Goals as goal
 
@@ -10,7 +10,7 @@ pub returns-clause-copies : goal.returns-clause-copies
 returns-clause-copies c = copies_cover
 
 pub returns-clause-cells : goal.returns-clause-cells
-returns-clause-cells c = cells_lie
+returns-clause-cells c = copied_cells_lie
 
 pub returns-clause-meet : goal.returns-clause-meet
 returns-clause-meet c = copies_meet_where

@@ -1,6 +1,6 @@
 use Rattle.std.proofs.Common.{◌≡◌, drop}
-use Rattle.wg_model.specs.Layouts.{are_apart}
+use Rattle.wg_model.specs.Layouts.{bindings_are_distinct}
 use Rattle.wg_layouts.proofs.distinct.are_apart.Given as goal
 
 abbrev pub invariant-loop-i : goal.invariant-loop-i
-invariant-loop-i l = are_apart (drop l.i l.entries) ≡ are_apart l.entries
+invariant-loop-i l = bindings_are_distinct (drop l.i l.entries) ≡ bindings_are_distinct l.entries
