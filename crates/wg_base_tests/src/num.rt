@@ -1,5 +1,4 @@
 use std::alloc::Global;
-use wg_num::runs::{covers_run, missing_runs};
 use wg_num::{NoMemory, RunSet};
 
 /// Whether a set was made that has these runs.
@@ -8,19 +7,6 @@ fn has(made: Result<RunSet, NoMemory>, runs: &[(u64, u64)]) -> bool {
         Ok(set) => set.runs() == runs,
         Err(NoMemory) => false,
     }
-}
-
-/// Whether these runs are missing in a set from one number up to another.
-fn lacks(alloc: Global, set: &RunSet, (lo, hi): (u64, u64), runs: &[(u64, u64)]) -> bool {
-    match missing_runs(alloc, set.runs(), lo, hi) {
-        Ok(missing) => missing.as_slice() == runs,
-        Err(NoMemory) => false,
-    }
-}
-
-/// Whether a set covers the numbers from one up to another.
-fn covers(set: &RunSet, lo: u64, hi: u64) -> bool {
-    covers_run(set.runs(), lo, hi)
 }
 
 /// Two runs with a gap between them.
@@ -36,7 +22,7 @@ fn four(alloc: Global) -> Result<RunSet, NoMemory> {
 /// The set with no numbers.
 fn of_none(alloc: Global) -> [bool; 3] {
     let set = RunSet::new(alloc);
-    [has(set.copy(), &[]), covers(&set, 3, 3), covers(&set, 3, 4)]
+    [has(set.copy(), &[]), set.covers(3, 3), set.covers(3, 4)]
 }
 
 /// Two runs that are joined by a third, which fills the gap.
@@ -45,9 +31,9 @@ fn of_one(alloc: Global) -> Result<[bool; 5], NoMemory> {
     Ok([
         has(set.copy(), &[(0, 12)]),
         has(set.without(2, 3), &[(0, 2), (3, 12)]),
-        lacks(alloc, &set, (0, 16), &[(12, 16)]),
-        covers(&set, 0, 12),
-        covers(&set, 0, 13),
+        has(set.missing(0, 16), &[(12, 16)]),
+        set.covers(0, 12),
+        set.covers(0, 13),
     ])
 }
 
@@ -56,8 +42,8 @@ fn of_two(alloc: Global) -> Result<[bool; 3], NoMemory> {
     let set = two(alloc)?;
     Ok([
         has(set.copy(), &[(0, 4), (8, 12)]),
-        lacks(alloc, &set, (1, 20), &[(4, 8), (12, 20)]),
-        covers(&set, 1, 9),
+        has(set.missing(1, 20), &[(4, 8), (12, 20)]),
+        set.covers(1, 9),
     ])
 }
 
@@ -81,12 +67,12 @@ fn changed(alloc: Global) -> Result<[bool; 2], NoMemory> {
 fn of_four(alloc: Global) -> Result<[bool; 6], NoMemory> {
     let set = four(alloc)?;
     Ok([
-        lacks(alloc, &set, (9, 24), &[(12, 16), (20, 24)]),
-        lacks(alloc, &set, (9, 11), &[]),
-        covers(&set, 9, 12),
-        covers(&set, 9, 13),
-        covers(&set, 7, 12),
-        covers(&set, 26, 29),
+        has(set.missing(9, 24), &[(12, 16), (20, 24)]),
+        has(set.missing(9, 11), &[]),
+        set.covers(9, 12),
+        set.covers(9, 13),
+        set.covers(7, 12),
+        set.covers(26, 29),
     ])
 }
 

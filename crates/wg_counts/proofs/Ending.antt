@@ -4,8 +4,9 @@ use Rattle.std.proofs.lemmas.Bool.{cases_eq, cases_lt, eq-eqb, ne_eqb, eqb-true,
 use Rattle.std.proofs.lemmas.List.{get_or-set_same, get_or-set_other, drop_more, drop_all, drop-append-le, length_push, append-nil}
 use Rattle.std.proofs.lemmas.List.Folds.{list_any-append}
 use Rattle.wg_model.specs.Holding.{is_among}
-use Rattle.wg_counts.specs.Kept.{count_at, is_alive, times, sum_alive, references, living, AreHolders, pending, IsEnding}
-use Rattle.wg_counts.proofs.Sums.{sum_same, sum_less, held_inside, living_some, alive_set, times_here, times_other, pending_push}
+use Rattle.wg_counts.specs.Counts.{times}
+use Rattle.wg_counts.specs.Kept.{count_at, is_alive, sum_alive, references, living, AreHolders, pending, IsEnding}
+use Rattle.wg_counts.proofs.Sums.{sum_same, sum_less, held_inside, living_some, alive_set, times_here, times_at, times_other, times_push, pending_push, one_if, one_true, one_false, at_same, at_other}
 
 holders_as : (own other : ℕ → ℕ) (refers : ℕ → List ℕ) (counts : List ℕ) → ((n : ℕ) → own n ≡ other n) → AreHolders own refers counts → AreHolders other refers counts
 holders_as own other refers counts same are = record { each = λ n. are.each n ∙ ap (λ k. k + references counts refers n) (same n) }
@@ -22,12 +23,12 @@ or_and_not true b = refl
 or_and_not false true = refl
 or_and_not false false = refl
 
-pub ending_start : (own : ℕ → ℕ) (refers : ℕ → List ℕ) (counts fallen : List ℕ) (k : ℕ) → k < length counts → AreHolders (λ n. own n + times (k ∷ []) n) refers counts → IsEnding own refers counts fallen counts fallen (length fallen) (k ∷ [])
+pub ending_start : (own : ℕ → ℕ) (refers : ℕ → List ℕ) (counts fallen : List ℕ) (k : ℕ) → k < length counts → AreHolders (λ n. own n + times n (k ∷ [])) refers counts → IsEnding own refers counts fallen counts fallen (length fallen) (k ∷ [])
 ending_start own refers counts fallen k lt are =
     let none : drop (length fallen) fallen ≡ [] = drop_all (length fallen) fallen (omega arith) in
     record {
-      falls = record { len = refl; below = λ n. omega arith; listed = λ n. or_and_not (is_among fallen n) (is_alive counts n); room = refl };
-      holders = rw none (holders_as (λ n. own n + times (k ∷ []) n) (λ n. own n + (times (k ∷ []) n + 0)) refers counts (λ n. omega arith) are);
+      falls = record { len = refl; below = λ n. omega arith; listed = λ n. or_and_not (is_among fallen n) (is_alive counts n); once = λ n. refl; room = refl };
+      holders = rw none (holders_as (λ n. own n + times n (k ∷ [])) (λ n. own n + (times n (k ∷ []) + 0)) refers counts (λ n. omega arith) are);
       inside = λ n e. absurd (true≢false (sym e ∙ ap (λ list. is_among list n) none));
       reached = omega arith;
     }
@@ -54,16 +55,17 @@ lowered_some own refers first before counts fallen place k rest ending above = r
           omega (arith, now, was))
     ];
     listed = λ n. ending.falls.listed n ∙ ap (λ b. is_among before n || (is_alive first n && not b)) (sym (still n));
+    once = λ n. ap (λ b. times n fallen + (if b then 1 else 0)) (still n) ∙ ending.falls.once n;
     room = (let was = ending.falls.room in let now = sums (λ m. 1) in omega (arith, was, now));
   };
   holders = record {
     each = λ n.
         let was = ending.holders.each n in
-        let now = sums (λ m. times (refers m) n) in
+        let now = sums (λ m. times n (refers m)) in
         elim (cases_eq n k) [
           | inl same ↦ (let here_now : count_at (set counts k (count_at counts k - 1)) n ≡ count_at counts k - 1 = rw same here in
               let old : count_at counts n ≡ count_at counts k = ap (count_at counts) same in
-              let one : times (k ∷ rest) n ≡ 1 + times rest n = rw same (times_here rest k) in
+              let one : times n (k ∷ rest) ≡ 1 + times n rest = times_at rest k n same in
               omega (arith, was, now, here_now, old, one, above))
           | inr other ↦ (let there : count_at (set counts k (count_at counts k - 1)) n ≡ count_at counts n = get_or-set_other counts k n (count_at counts k - 1) 0 other in
               let none = times_other rest k n other in
@@ -107,17 +109,29 @@ lowered_last own refers first before counts fallen place k rest ending one_left 
       | inl same ↦ or_right (is_among fallen n) (k == n) (eq-eqb k n (sym same)) ∙ sym (or_right (is_among before n) (is_alive first n && not (is_alive (set counts k 0) n)) (rw same (ap₂ (λ a b. a && not b) alive_first dead)))
       | inr other ↦ ap (λ b. is_among fallen n || b) (ne_eqb k n (λ e. other (sym e))) ∙ (or_none (is_among fallen n) ∙ (ending.falls.listed n ∙ ap (λ b. is_among before n || (is_alive first n && not b)) (alive_set counts k 0 n other)))
     ];
+    once = λ n.
+        let was = ending.falls.once n in
+        let more = times_push n k fallen in
+        elim (cases_eq n k) [
+          | inl same ↦ (let one = at_same k n (sym same) in
+              let some = one_true (is_alive counts n) (ap (is_alive counts) same ∙ alive) in
+              let none = one_false (is_alive (set counts k 0) n) (ap (is_alive (set counts k 0)) same ∙ dead) in
+              omega (arith, was, more, one, some, none))
+          | inr other ↦ (let one = at_other k n (λ e. other (sym e)) in
+              let there = ap one_if (sym (alive_set counts k 0 n other)) in
+              omega (arith, was, more, one, there))
+        ];
     room = (let was = ending.falls.room in let now = sums (λ m. 1) in let more = length_push fallen k in omega (arith, was, now, more));
   };
   holders = record {
     each = λ n.
         let was = ending.holders.each n in
-        let now = sums (λ m. times (refers m) n) in
-        let more : pending refers (drop place (fallen ++ k ∷ [])) n ≡ pending refers (drop place fallen) n + times (refers k) n = rw left (pending_push refers (drop place fallen) k n) in
+        let now = sums (λ m. times n (refers m)) in
+        let more : pending refers (drop place (fallen ++ k ∷ [])) n ≡ pending refers (drop place fallen) n + times n (refers k) = rw left (pending_push refers (drop place fallen) k n) in
         elim (cases_eq n k) [
           | inl same ↦ (let here_now : count_at (set counts k 0) n ≡ 0 = rw same here in
               let old : count_at counts n ≡ count_at counts k = ap (count_at counts) same in
-              let one : times (k ∷ rest) n ≡ 1 + times rest n = rw same (times_here rest k) in
+              let one : times n (k ∷ rest) ≡ 1 + times n rest = times_at rest k n same in
               omega (arith, was, now, more, here_now, old, one, one_left))
           | inr other ↦ (let there : count_at (set counts k 0) n ≡ count_at counts n = get_or-set_other counts k n 0 0 other in
               let none = times_other rest k n other in
@@ -179,7 +193,7 @@ ending_next own refers first before counts fallen place ending lt =
     let more : drop place fallen ≡ get_or fallen place 0 ∷ drop (place + 1) fallen = drop_more fallen place 0 lt in
     record {
       falls = ending.falls;
-      holders = holders_as (λ n. own n + (times [] n + pending refers (drop place fallen) n)) (λ n. own n + (times (refers (get_or fallen place 0)) n + pending refers (drop (place + 1) fallen) n)) refers counts (λ n. let e : pending refers (drop place fallen) n ≡ times (refers (get_or fallen place 0)) n + pending refers (drop (place + 1) fallen) n = ap (λ list. pending refers list n) more in omega (arith, e)) ending.holders;
+      holders = holders_as (λ n. own n + (times n [] + pending refers (drop place fallen) n)) (λ n. own n + (times n (refers (get_or fallen place 0)) + pending refers (drop (place + 1) fallen) n)) refers counts (λ n. let e : pending refers (drop place fallen) n ≡ times n (refers (get_or fallen place 0)) + pending refers (drop (place + 1) fallen) n = ap (λ list. pending refers list n) more in omega (arith, e)) ending.holders;
       inside = λ n e. ending.inside n (ap (λ list. is_among list n) more ∙ or_right (get_or fallen place 0 == n) (is_among (drop (place + 1) fallen) n) e);
       reached = omega (arith, lt);
     }
@@ -191,7 +205,7 @@ ending_inside own refers first before counts fallen place ending lt =
 
 pub ending_end : (own : ℕ → ℕ) (refers : ℕ → List ℕ) (first before counts fallen : List ℕ) (place : ℕ) → IsEnding own refers first before counts fallen place [] → length fallen ≤ place → AreHolders own refers counts
 ending_end own refers first before counts fallen place ending all =
-    holders_as (λ n. own n + (times [] n + pending refers (drop place fallen) n)) own refers counts (λ n. let e : pending refers (drop place fallen) n ≡ 0 = ap (λ list. pending refers list n) (drop_all place fallen all) in omega (arith, e)) ending.holders
+    holders_as (λ n. own n + (times n [] + pending refers (drop place fallen) n)) own refers counts (λ n. let e : pending refers (drop place fallen) n ≡ 0 = ap (λ list. pending refers list n) (drop_all place fallen all) in omega (arith, e)) ending.holders
 
 -- there is room for what falls
 pub ending_room : (own : ℕ → ℕ) (refers : ℕ → List ℕ) (first before counts fallen : List ℕ) (place : ℕ) (k : ℕ) (rest : List ℕ) → IsEnding own refers first before counts fallen place (k ∷ rest) → length fallen < length before + living first

@@ -1,12 +1,12 @@
 -- An object is held exactly where its count is not 0.
-use Rattle.std.proofs.Common.{◌≡◌, ◌≢◌, ℕ, zero, suc, ◌+◌, ◌-◌, ◌<◌, ◌≤◌, Bool, true, false, not, ◌&&◌, ◌||◌, nat_lt, List, [], ◌∷◌, ◌++◌, length, length-set, set, get_or, drop, inl, inr, refl, sym, ap, ap₂, ◌∙◌, arith, if◌then◌else◌}
+use Rattle.std.proofs.Common.{◌≡◌, ◌≢◌, ℕ, zero, suc, ◌+◌, ◌-◌, ◌<◌, ◌≤◌, Bool, true, false, not, ◌&&◌, ◌||◌, nat_lt, List, [], ◌∷◌, ◌++◌, length, length-set, set, get_or, drop, inl, inr, refl, sym, ap, ap₂, ◌∙◌, arith, if◌then◌else◌, true≢false}
 use Rattle.std.proofs.lemmas.Bool.{cases_eq, cases_lt, eq-eqb, lt-ltb, le-ltb, ltb-true, false_from_ne_true}
 use Rattle.std.proofs.lemmas.List.{get_or-set_same, get_or-set_other, get_or_append_left, get_or_push, get_or_past, get_or_read, drop_more, length_push}
 use Rattle.wg_model.specs.Holding.{Node, nobody, is_among, is_held_among}
-use Rattle.wg_counts.specs.Counts.{own_at, refers_in, node_at, counted_below, is_counted, Owns}
-use Rattle.wg_counts.specs.Kept.{count_at, is_alive, times, sum_alive, references, living, AreHolders, GoBack, AreWithin, IsKept, HaveFallen}
+use Rattle.wg_counts.specs.Counts.{own_at, refers_in, node_at, counted_below, is_counted, Owns, times}
+use Rattle.wg_counts.specs.Kept.{count_at, is_alive, sum_alive, references, living, AreHolders, GoBack, AreWithin, IsKept, HaveFallen}
 use Rattle.wg_model.proofs.Holding.{held_inside, among_cases, among_own, among_other}
-use Rattle.wg_counts.proofs.Sums.{sum_same, sum_weights, sum_some, alive_set, times_here, times_other, times_le, among_times, times_among}
+use Rattle.wg_counts.proofs.Sums.{sum_same, sum_weights, sum_some, alive_set, times_here, times_at, times_other, times_le, among_times, times_among}
 
 pub length-counted_below : (own : List ℕ) (refers : List (List ℕ)) (m : ℕ) → length (counted_below own refers m) ≡ m
 length-counted_below own refers zero = refl
@@ -27,12 +27,12 @@ record Referrer (alive : ℕ → Bool) (refers : ℕ → List ℕ) (n m : ℕ) :
   is : alive k ≡ true
   to : is_among (refers k) n ≡ true
 
-referrer_of : (alive : ℕ → Bool) (refers : ℕ → List ℕ) (n m : ℕ) → 0 < sum_alive alive (λ k. times (refers k) n) m → Referrer alive refers n m
+referrer_of : (alive : ℕ → Bool) (refers : ℕ → List ℕ) (n m : ℕ) → 0 < sum_alive alive (λ k. times n (refers k)) m → Referrer alive refers n m
 referrer_of alive refers n zero h = absurd (omega (arith, h))
 referrer_of alive refers n (suc m) h = by_alive (alive m) refl h (referrer_of alive refers n m)
   where
-    by_alive : (b : Bool) → alive m ≡ b → 0 < sum_alive alive (λ k. times (refers k) n) m + (if b then times (refers m) n else 0) → (0 < sum_alive alive (λ k. times (refers k) n) m → Referrer alive refers n m) → Referrer alive refers n (suc m)
-    by_alive true e h rest = elim (cases_lt 0 (times (refers m) n)) [
+    by_alive : (b : Bool) → alive m ≡ b → 0 < sum_alive alive (λ k. times n (refers k)) m + (if b then times n (refers m) else 0) → (0 < sum_alive alive (λ k. times n (refers k)) m → Referrer alive refers n m) → Referrer alive refers n (suc m)
+    by_alive true e h rest = elim (cases_lt 0 (times n (refers m))) [
       | inl some ↦ record { k = m; lt = omega arith; is = e; to = among_times (refers m) n some }
       | inr none ↦ (let found = rest (omega (arith, h, none)) in let lt = found.lt in record { k = found.k; lt = omega (arith, lt); is = found.is; to = found.to })
     ]
@@ -67,7 +67,7 @@ held_upto own refers counts nodes (suc fuel) n are back len roots lists le lt =
               let after = holder.after in
               let inside = holder.inside in
               let below : holder.m < length counts = omega (arith, inside, len) in
-              let some = sum_some (is_alive counts) (λ k. times (refers k) n) holder.m (length counts) below ((rest holder.m after below).1 holder.held) (times_among (refers holder.m) n (ap (λ list. is_among list n) (sym (lists holder.m below)) ∙ holder.refers)) in
+              let some = sum_some (is_alive counts) (λ k. times n (refers k)) holder.m (length counts) below ((rest holder.m after below).1 holder.held) (times_among (refers holder.m) n (ap (λ list. is_among list n) (sym (lists holder.m below)) ∙ holder.refers)) in
               lt-ltb 0 (count_at counts n) (omega (arith, was, some)))
         ]
 
@@ -147,7 +147,7 @@ kept_more own refers counts k o c kept lt own_is is some = record {
   holders = record {
     each = λ n.
         let was = kept.holders.each n in
-        let sums = sums_more counts k c lt is some (λ m. times (refers_in refers m) n) in
+        let sums = sums_more counts k c lt is some (λ m. times n (refers_in refers m)) in
         elim (cases_eq n k) [
           | inl same ↦ (let now : count_at (set counts k (c + 1)) n ≡ c + 1 = rw same (get_or-set_same counts k (c + 1) 0 lt) in
               let lt_own : k < length own = (let e = kept.owns in omega (arith, lt, e)) in
@@ -165,15 +165,39 @@ kept_more own refers counts k o c kept lt own_is is some = record {
   lists = kept.lists ∙ sym (length-set counts k (c + 1));
 }
 
+-- counts with a hold more of an object that is held
+pub record HasOneMore (own : List ℕ) (refers : List (List ℕ)) (counts : List ℕ) (k o c : ℕ) : Type 0 where
+  pub lt : k < length counts
+  pub is : c ≡ count_at counts k
+  pub some : 0 < c
+  pub kept : IsKept (set own k (o + 1)) refers (set counts k (c + 1))
+  pub same : (n : ℕ) → is_counted (set own k (o + 1)) refers n ≡ is_counted own refers n
+
+pub held_more : (own : List ℕ) (refers : List (List ℕ)) (counts : List ℕ) (k o c : ℕ) → IsKept own refers counts → is_counted own refers k ≡ true → k < length own → o ≡ get_or own k o → c ≡ get_or counts k c
+    → HasOneMore own refers counts k o c
+held_more own refers counts k o c kept held inside own_is count_is =
+    let owns = kept.owns in
+    let lt : k < length counts = omega (arith, inside, owns) in
+    let is = same_count counts k c lt count_is in
+    let some : 0 < c = omega (arith, is, ltb-true 0 (count_at counts k) (counts_held own refers counts k kept ∙ held)) in
+    let more = kept_more own refers counts k o c kept lt (same_count own k o inside own_is) is some in
+    record {
+      lt = lt;
+      is = is;
+      some = some;
+      kept = more;
+      same = λ n. held_same own refers counts (set own k (o + 1)) refers (set counts k (c + 1)) n kept more (alive_more counts k c lt is some n);
+    }
+
 -- The references of a new object are counted one after another.
 
-pub raised_next : (counts list : List ℕ) (i c : ℕ) → i < length list → get_or list i 0 < length counts → c ≡ count_at counts (get_or list i 0) → (n : ℕ) → count_at (set counts (get_or list i 0) (c + 1)) n + times (drop (i + 1) list) n ≡ count_at counts n + times (drop i list) n
+pub raised_next : (counts list : List ℕ) (i c : ℕ) → i < length list → get_or list i 0 < length counts → c ≡ count_at counts (get_or list i 0) → (n : ℕ) → count_at (set counts (get_or list i 0) (c + 1)) n + times n (drop (i + 1) list) ≡ count_at counts n + times n (drop i list)
 raised_next counts list i c lt inside is n =
-    let more : times (drop i list) n ≡ times (get_or list i 0 ∷ drop (i + 1) list) n = ap (λ xs. times xs n) (drop_more list i 0 lt) in
+    let more : times n (drop i list) ≡ times n (get_or list i 0 ∷ drop (i + 1) list) = ap (λ xs. times n xs) (drop_more list i 0 lt) in
     elim (cases_eq n (get_or list i 0)) [
       | inl same ↦ (let now : count_at (set counts (get_or list i 0) (c + 1)) n ≡ c + 1 = rw same (get_or-set_same counts (get_or list i 0) (c + 1) 0 inside) in
           let old : count_at counts n ≡ count_at counts (get_or list i 0) = ap (count_at counts) same in
-          let one : times (get_or list i 0 ∷ drop (i + 1) list) n ≡ 1 + times (drop (i + 1) list) n = ap (λ b. (if b then 1 else 0) + times (drop (i + 1) list) n) (eq-eqb (get_or list i 0) n (sym same)) in
+          let one : times n (get_or list i 0 ∷ drop (i + 1) list) ≡ 1 + times n (drop (i + 1) list) = ap (λ b. (if b then 1 else 0) + times n (drop (i + 1) list)) (eq-eqb (get_or list i 0) n (sym same)) in
           omega (arith, more, now, old, one, is))
       | inr other ↦ (let now = get_or-set_other counts (get_or list i 0) n (c + 1) 0 other in
           let none = times_other (drop (i + 1) list) (get_or list i 0) n other in
@@ -181,9 +205,9 @@ raised_next counts list i c lt inside is n =
     ]
 
 -- a count that is raised next is at most the old one and the number of references
-pub raised_room : (counts first list : List ℕ) (i : ℕ) → i < length list → count_at counts (get_or list i 0) + times (drop i list) (get_or list i 0) ≡ count_at first (get_or list i 0) + times list (get_or list i 0) → count_at counts (get_or list i 0) + 1 ≤ count_at first (get_or list i 0) + length list
+pub raised_room : (counts first list : List ℕ) (i : ℕ) → i < length list → count_at counts (get_or list i 0) + times (get_or list i 0) (drop i list) ≡ count_at first (get_or list i 0) + times (get_or list i 0) list → count_at counts (get_or list i 0) + 1 ≤ count_at first (get_or list i 0) + length list
 raised_room counts first list i lt each =
-    let more : times (drop i list) (get_or list i 0) ≡ times (get_or list i 0 ∷ drop (i + 1) list) (get_or list i 0) = ap (λ xs. times xs (get_or list i 0)) (drop_more list i 0 lt) in
+    let more : times (get_or list i 0) (drop i list) ≡ times (get_or list i 0) (get_or list i 0 ∷ drop (i + 1) list) = ap (λ xs. times (get_or list i 0) xs) (drop_more list i 0 lt) in
     let one = times_here (drop (i + 1) list) (get_or list i 0) in
     let le = times_le list (get_or list i 0) in
     omega (arith, each, more, one, le)
@@ -196,26 +220,26 @@ added_count raised n other = elim (cases_lt n (length raised)) [
   | inr past ↦ (let size = length_push raised 1 in get_or_past (raised ++ 1 ∷ []) n 0 (omega (arith, size, past, other)) ∙ sym (get_or_past raised n 0 past))
 ]
 
-alive_raised : (counts raised list : List ℕ) → ((n : ℕ) → count_at raised n ≡ count_at counts n + times list n) → ((n : ℕ) → is_among list n ≡ true → is_alive counts n ≡ true) → (n : ℕ) → is_alive raised n ≡ is_alive counts n
-alive_raised counts raised list each held n = elim (cases_lt 0 (times list n)) [
+alive_raised : (counts raised list : List ℕ) → ((n : ℕ) → count_at raised n ≡ count_at counts n + times n list) → ((n : ℕ) → is_among list n ≡ true → is_alive counts n ≡ true) → (n : ℕ) → is_alive raised n ≡ is_alive counts n
+alive_raised counts raised list each held n = elim (cases_lt 0 (times n list)) [
   | inl some ↦ (let e = each n in lt-ltb 0 (count_at raised n) (omega (arith, e, some)) ∙ sym (held n (among_times list n some)))
   | inr none ↦ (let e = each n in let same : count_at raised n ≡ count_at counts n = omega (arith, e, none) in ap (nat_lt 0) same)
 ]
 
-pub alive_added : (counts raised list : List ℕ) → length raised ≡ length counts → ((n : ℕ) → count_at raised n ≡ count_at counts n + times list n) → ((n : ℕ) → is_among list n ≡ true → is_alive counts n ≡ true) → (n : ℕ) → n ≢ length counts → is_alive (raised ++ 1 ∷ []) n ≡ is_alive counts n
+pub alive_added : (counts raised list : List ℕ) → length raised ≡ length counts → ((n : ℕ) → count_at raised n ≡ count_at counts n + times n list) → ((n : ℕ) → is_among list n ≡ true → is_alive counts n ≡ true) → (n : ℕ) → n ≢ length counts → is_alive (raised ++ 1 ∷ []) n ≡ is_alive counts n
 alive_added counts raised list len each held n other = ap (nat_lt 0) (added_count raised n (λ e. other (e ∙ len))) ∙ alive_raised counts raised list each held n
 
-sums_added : (counts raised list : List ℕ) → length raised ≡ length counts → ((n : ℕ) → count_at raised n ≡ count_at counts n + times list n) → ((n : ℕ) → is_among list n ≡ true → is_alive counts n ≡ true) → (weight : ℕ → ℕ) → sum_alive (is_alive (raised ++ 1 ∷ [])) weight (length (raised ++ 1 ∷ [])) ≡ sum_alive (is_alive counts) weight (length counts) + weight (length counts)
+sums_added : (counts raised list : List ℕ) → length raised ≡ length counts → ((n : ℕ) → count_at raised n ≡ count_at counts n + times n list) → ((n : ℕ) → is_among list n ≡ true → is_alive counts n ≡ true) → (weight : ℕ → ℕ) → sum_alive (is_alive (raised ++ 1 ∷ [])) weight (length (raised ++ 1 ∷ [])) ≡ sum_alive (is_alive counts) weight (length counts) + weight (length counts)
 sums_added counts raised list len each held weight =
     let size : length (raised ++ 1 ∷ []) ≡ suc (length counts) = (let e = length_push raised 1 in omega (arith, e, len)) in
     let before : sum_alive (is_alive (raised ++ 1 ∷ [])) weight (length counts) ≡ sum_alive (is_alive counts) weight (length counts) = sum_same (is_alive (raised ++ 1 ∷ [])) (is_alive counts) weight (length counts) (λ k lt. alive_added counts raised list len each held k (λ e. omega (arith, e, lt))) in
     let new : is_alive (raised ++ 1 ∷ []) (length counts) ≡ true = ap (nat_lt 0) (get_or_push raised 1 0 (length counts) len) in
     ap (sum_alive (is_alive (raised ++ 1 ∷ [])) weight) size ∙ ap₂ ◌+◌ before (ap (λ b. if b then weight (length counts) else 0) new)
 
-pub living_added : (counts raised list : List ℕ) → length raised ≡ length counts → ((n : ℕ) → count_at raised n ≡ count_at counts n + times list n) → ((n : ℕ) → is_among list n ≡ true → is_alive counts n ≡ true) → living (raised ++ 1 ∷ []) ≡ living counts + 1
+pub living_added : (counts raised list : List ℕ) → length raised ≡ length counts → ((n : ℕ) → count_at raised n ≡ count_at counts n + times n list) → ((n : ℕ) → is_among list n ≡ true → is_alive counts n ≡ true) → living (raised ++ 1 ∷ []) ≡ living counts + 1
 living_added counts raised list len each held = sums_added counts raised list len each held (λ m. 1)
 
-pub within_added : (taken : ℕ) (counts raised list : List ℕ) → length raised ≡ length counts → ((n : ℕ) → count_at raised n ≡ count_at counts n + times list n) → AreWithin taken counts → AreWithin (taken + (length list + 1)) (raised ++ 1 ∷ [])
+pub within_added : (taken : ℕ) (counts raised list : List ℕ) → length raised ≡ length counts → ((n : ℕ) → count_at raised n ≡ count_at counts n + times n list) → AreWithin taken counts → AreWithin (taken + (length list + 1)) (raised ++ 1 ∷ [])
 within_added taken counts raised list len each within = record {
   each = λ n. elim (cases_eq n (length raised)) [
     | inl same ↦ (let now = get_or_push raised 1 0 n (sym same) in omega (arith, now))
@@ -227,14 +251,14 @@ within_added taken counts raised list len each within = record {
   ];
 }
 
-pub kept_added : (own : List ℕ) (refers : List (List ℕ)) (counts raised list : List ℕ) → IsKept own refers counts → length raised ≡ length counts → ((n : ℕ) → count_at raised n ≡ count_at counts n + times list n) → ((n : ℕ) → is_among list n ≡ true → n < length own) → ((n : ℕ) → is_among list n ≡ true → is_counted own refers n ≡ true) → IsKept (own ++ 1 ∷ []) (refers ++ list ∷ []) (raised ++ 1 ∷ [])
+pub kept_added : (own : List ℕ) (refers : List (List ℕ)) (counts raised list : List ℕ) → IsKept own refers counts → length raised ≡ length counts → ((n : ℕ) → count_at raised n ≡ count_at counts n + times n list) → ((n : ℕ) → is_among list n ≡ true → n < length own) → ((n : ℕ) → is_among list n ≡ true → is_counted own refers n ≡ true) → IsKept (own ++ 1 ∷ []) (refers ++ list ∷ []) (raised ++ 1 ∷ [])
 kept_added own refers counts raised list kept len each back held = record {
   holders = record {
     each = λ n.
         let was = kept.holders.each n in
-        let weights : sum_alive (is_alive counts) (λ m. times (refers_in (refers ++ list ∷ []) m) n) (length counts) ≡ references counts (refers_in refers) n = sum_weights (is_alive counts) (λ m. times (refers_in (refers ++ list ∷ []) m) n) (λ m. times (refers_in refers m) n) (length counts) (λ k lt. ap (λ xs. times xs n) (lists_old k (λ e. omega (arith, e, lt)))) in
-        let new : times (refers_in (refers ++ list ∷ []) (length counts)) n ≡ times list n = ap (λ xs. times xs n) lists_new in
-        let sums = sums_added counts raised list len each alive (λ m. times (refers_in (refers ++ list ∷ []) m) n) in
+        let weights : sum_alive (is_alive counts) (λ m. times n (refers_in (refers ++ list ∷ []) m)) (length counts) ≡ references counts (refers_in refers) n = sum_weights (is_alive counts) (λ m. times n (refers_in (refers ++ list ∷ []) m)) (λ m. times n (refers_in refers m)) (length counts) (λ k lt. ap (λ xs. times n xs) (lists_old k (λ e. omega (arith, e, lt)))) in
+        let new : times n (refers_in (refers ++ list ∷ []) (length counts)) ≡ times n list = ap (λ xs. times n xs) lists_new in
+        let sums = sums_added counts raised list len each alive (λ m. times n (refers_in (refers ++ list ∷ []) m)) in
         let e = each n in
         elim (cases_eq n (length counts)) [
           | inl same ↦ (let now = get_or_push raised 1 0 n (len ∙ sym same) in
@@ -268,21 +292,40 @@ kept_added own refers counts raised list kept len each back held = record {
       | inr past ↦ (let size = length_push refers list in let lists = kept.lists in get_or_past (refers ++ list ∷ []) m [] (omega (arith, size, past, other, lists)) ∙ sym (get_or_past refers m [] past))
     ]
 
-pub held_added : (own : List ℕ) (refers : List (List ℕ)) (counts raised list : List ℕ) → IsKept own refers counts → length raised ≡ length counts → ((n : ℕ) → count_at raised n ≡ count_at counts n + times list n) → ((n : ℕ) → is_among list n ≡ true → n < length own) → ((n : ℕ) → is_among list n ≡ true → is_counted own refers n ≡ true) → (n : ℕ) → n < length own → is_counted (own ++ 1 ∷ []) (refers ++ list ∷ []) n ≡ is_counted own refers n
+pub held_added : (own : List ℕ) (refers : List (List ℕ)) (counts raised list : List ℕ) → IsKept own refers counts → length raised ≡ length counts → ((n : ℕ) → count_at raised n ≡ count_at counts n + times n list) → ((n : ℕ) → is_among list n ≡ true → n < length own) → ((n : ℕ) → is_among list n ≡ true → is_counted own refers n ≡ true) → (n : ℕ) → n < length own → is_counted (own ++ 1 ∷ []) (refers ++ list ∷ []) n ≡ is_counted own refers n
 held_added own refers counts raised list kept len each back held n lt =
     let owns = kept.owns in
     held_same own refers counts (own ++ 1 ∷ []) (refers ++ list ∷ []) (raised ++ 1 ∷ []) n kept (kept_added own refers counts raised list kept len each back held) (alive_added counts raised list len each (λ m e. counts_held own refers counts m kept ∙ held m e) n (λ e. omega (arith, e, lt, owns)))
 
+-- counts with a new object of one hold, whose references were counted
+pub record HasAdded (own : List ℕ) (refers : List (List ℕ)) (counts raised list : List ℕ) : Type 0 where
+  pub kept : IsKept (own ++ 1 ∷ []) (refers ++ list ∷ []) (raised ++ 1 ∷ [])
+  pub lives : living (raised ++ 1 ∷ []) ≡ living counts + 1
+  pub within : (taken : ℕ) → AreWithin taken counts → AreWithin (taken + (length list + 1)) (raised ++ 1 ∷ [])
+  pub same : (n : ℕ) → n < length own → is_counted (own ++ 1 ∷ []) (refers ++ list ∷ []) n ≡ is_counted own refers n
+
+pub object_added : (own : List ℕ) (refers : List (List ℕ)) (counts raised list items : List ℕ) → IsKept own refers counts → length raised ≡ length counts → ((n : ℕ) → count_at raised n ≡ count_at counts n + times n items) → items ≡ list
+    → ((n : ℕ) → is_among list n ≡ true → n < length own) → ((n : ℕ) → is_among list n ≡ true → is_counted own refers n ≡ true) → HasAdded own refers counts raised list
+object_added own refers counts raised list items kept len counted items_are back held = record {
+  kept = kept_added own refers counts raised list kept len each back held;
+  lives = living_added counts raised list len each (λ n e. counts_held own refers counts n kept ∙ held n e);
+  within = λ taken. within_added taken counts raised list len each;
+  same = held_added own refers counts raised list kept len each back held;
+}
+  where
+    each : (n : ℕ) → count_at raised n ≡ count_at counts n + times n list
+    each n = counted n ∙ ap (λ xs. count_at counts n + times n xs) items_are
+
 -- A hold that ended.
 
-pub owns_lowered : (own : List ℕ) (refers : ℕ → List ℕ) (counts : List ℕ) (k o : ℕ) → 0 < own_at own k → k < length own → o ≡ own_at own k → AreHolders (own_at own) refers counts → AreHolders (λ n. own_at (set own k (o - 1)) n + times (k ∷ []) n) refers counts
+pub owns_lowered : (own : List ℕ) (refers : ℕ → List ℕ) (counts : List ℕ) (k o : ℕ) → 0 < own_at own k → k < length own → o ≡ own_at own k → AreHolders (own_at own) refers counts → AreHolders (λ n. own_at (set own k (o - 1)) n + times n (k ∷ [])) refers counts
 owns_lowered own refers counts k o some lt is are = record {
   each = λ n.
       let was = are.each n in
       elim (cases_eq n k) [
         | inl same ↦ (let now : own_at (set own k (o - 1)) n ≡ o - 1 = rw same (get_or-set_same own k (o - 1) 0 lt) in
             let old : own_at own n ≡ own_at own k = ap (own_at own) same in
-            let one : times (k ∷ []) n ≡ 1 + times [] n = rw same (times_here [] k) in
+            let one : times n (k ∷ []) ≡ 1 + times n [] = times_at [] k n same in
             omega (arith, was, now, old, one, is, some))
         | inr other ↦ (let now = get_or-set_other own k n (o - 1) 0 other in
             let none = times_other [] k n other in
@@ -301,11 +344,28 @@ kept_lowered own refers counts fallen k o next_own next after kept is holders fa
 pub within_lowered : (taken : ℕ) (counts fallen next after : List ℕ) → HaveFallen counts fallen next after → AreWithin taken counts → AreWithin taken next
 within_lowered taken counts fallen next after falls within = record { each = λ n. let was = within.each n in let now = falls.below n in omega (arith, was, now) }
 
+-- nothing that was not alive is alive
+alive_before : (counts fallen next after : List ℕ) → HaveFallen counts fallen next after → (n : ℕ) → is_alive next n ≡ true → is_alive counts n ≡ true
+alive_before counts fallen next after falls n e =
+    let some = ltb-true 0 (count_at next n) e in
+    let below = falls.below n in
+    lt-ltb 0 (count_at counts n) (omega (arith, some, below))
+
 pub listed_fallen : (own : List ℕ) (refers : List (List ℕ)) (counts fallen next_own next after : List ℕ) → IsKept own refers counts → IsKept next_own refers next → HaveFallen counts fallen next after → (n : ℕ) → is_among after n ≡ is_among fallen n || (is_counted own refers n && not (is_counted next_own refers n))
 listed_fallen own refers counts fallen next_own next after kept later falls n = falls.listed n ∙ ap₂ (λ a b. is_among fallen n || (a && not b)) (counts_held own refers counts n kept) (counts_held next_own refers next n later)
 
+pub once_fallen : (own : List ℕ) (refers : List (List ℕ)) (counts fallen next_own next after : List ℕ) → IsKept own refers counts → IsKept next_own refers next → HaveFallen counts fallen next after
+    → (n : ℕ) → times n after ≡ times n fallen + (if is_counted own refers n && not (is_counted next_own refers n) then 1 else 0)
+once_fallen own refers counts fallen next_own next after kept later falls n =
+    by_alive (is_alive counts n) (is_alive next n) (alive_before counts fallen next after falls n) (falls.once n)
+    ∙ ap₂ (λ a b. times n fallen + (if a && not b then 1 else 0)) (counts_held own refers counts n kept) (counts_held next_own refers next n later)
+  where
+    by_alive : (a b : Bool) → (b ≡ true → a ≡ true) → times n after + (if b then 1 else 0) ≡ times n fallen + (if a then 1 else 0) → times n after ≡ times n fallen + (if a && not b then 1 else 0)
+    by_alive true true less e = omega (arith, e)
+    by_alive true false less e = omega (arith, e)
+    by_alive false true less e = absurd (true≢false (sym (less refl)))
+    by_alive false false less e = omega (arith, e)
+
 pub held_before : (own : List ℕ) (refers : List (List ℕ)) (counts fallen next_own next after : List ℕ) → IsKept own refers counts → IsKept next_own refers next → HaveFallen counts fallen next after → (n : ℕ) → is_counted next_own refers n ≡ true → is_counted own refers n ≡ true
 held_before own refers counts fallen next_own next after kept later falls n e =
-    let some = ltb-true 0 (count_at next n) (counts_held next_own refers next n later ∙ e) in
-    let below = falls.below n in
-    sym (counts_held own refers counts n kept) ∙ lt-ltb 0 (count_at counts n) (omega (arith, some, below))
+    sym (counts_held own refers counts n kept) ∙ alive_before counts fallen next after falls n (counts_held next_own refers next n later ∙ e)

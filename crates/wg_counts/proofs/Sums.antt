@@ -3,7 +3,8 @@ use Rattle.std.proofs.Common.{◌≡◌, ◌≢◌, ℕ, zero, suc, ◌+◌, ◌
 use Rattle.std.proofs.lemmas.Bool.{cases_lt, eq-eqb, ne_eqb, lt-ltb}
 use Rattle.std.proofs.lemmas.List.{get_or-set_other, get_or_past}
 use Rattle.wg_model.specs.Holding.{is_among}
-use Rattle.wg_counts.specs.Kept.{count_at, is_alive, times, sum_alive, living, pending}
+use Rattle.wg_counts.specs.Counts.{times}
+use Rattle.wg_counts.specs.Kept.{count_at, is_alive, sum_alive, living, pending}
 
 pub sum_same : (p q : ℕ → Bool) (weight : ℕ → ℕ) (m : ℕ) → ((k : ℕ) → k < m → p k ≡ q k) → sum_alive p weight m ≡ sum_alive q weight m
 sum_same p q weight zero same = refl
@@ -49,37 +50,65 @@ living_some counts n h = sum_some (is_alive counts) (λ m. 1) n (length counts) 
 pub alive_set : (counts : List ℕ) (k c i : ℕ) → i ≢ k → is_alive counts i ≡ is_alive (set counts k c) i
 alive_set counts k c i other = sym (ap (nat_lt 0) (get_or-set_other counts k i c 0 other))
 
-pub times_here : (rest : List ℕ) (r : ℕ) → times (r ∷ rest) r ≡ 1 + times rest r
-times_here rest r = ap (λ b. (if b then 1 else 0) + times rest r) (eq-eqb r r refl)
+-- one where a test holds
+abbrev pub one_if : Bool → ℕ
+one_if b = if b then 1 else 0
 
-pub times_other : (rest : List ℕ) (r n : ℕ) → n ≢ r → times (r ∷ rest) n ≡ 0 + times rest n
-times_other rest r n other = ap (λ b. (if b then 1 else 0) + times rest n) (ne_eqb r n (λ e. other (sym e)))
+pub one_true : (b : Bool) → b ≡ true → one_if b ≡ 1
+one_true true e = refl
+one_true false e = absurd (true≢false (sym e))
 
-pub times_le : (list : List ℕ) (n : ℕ) → times list n ≤ length list
+pub one_false : (b : Bool) → b ≡ false → one_if b ≡ 0
+one_false true e = absurd (true≢false e)
+one_false false e = refl
+
+pub at_same : (k n : ℕ) → k ≡ n → one_if (k == n) ≡ 1
+at_same k n e = one_true (k == n) (eq-eqb k n e)
+
+pub at_other : (k n : ℕ) → k ≢ n → one_if (k == n) ≡ 0
+at_other k n e = one_false (k == n) (ne_eqb k n e)
+
+pub times_here : (rest : List ℕ) (r : ℕ) → times r (r ∷ rest) ≡ 1 + times r rest
+times_here rest r = ap (λ b. (if b then 1 else 0) + times r rest) (eq-eqb r r refl)
+
+pub times_at : (rest : List ℕ) (r n : ℕ) → n ≡ r → times n (r ∷ rest) ≡ 1 + times n rest
+times_at rest r n same = ap (λ b. (if b then 1 else 0) + times n rest) (eq-eqb r n (sym same))
+
+pub times_other : (rest : List ℕ) (r n : ℕ) → n ≢ r → times n (r ∷ rest) ≡ 0 + times n rest
+times_other rest r n other = ap (λ b. (if b then 1 else 0) + times n rest) (ne_eqb r n (λ e. other (sym e)))
+
+pub times_append : (n : ℕ) (xs ys : List ℕ) → times n (xs ++ ys) ≡ times n xs + times n ys
+times_append n [] ys = omega arith
+times_append n (x ∷ xs) ys = let e = times_append n xs ys in omega (arith, e)
+
+pub times_push : (n k : ℕ) (ms : List ℕ) → times n (ms ++ k ∷ []) ≡ (if k == n then 1 else 0) + times n ms
+times_push n k ms = let e = times_append n ms (k ∷ []) in omega (arith, e)
+
+pub times_le : (list : List ℕ) (n : ℕ) → times n list ≤ length list
 times_le [] n = omega arith
 times_le (m ∷ ms) n = by_test (m == n) (times_le ms n)
   where
-    by_test : (b : Bool) → times ms n ≤ length ms → (if b then 1 else 0) + times ms n ≤ suc (length ms)
+    by_test : (b : Bool) → times n ms ≤ length ms → (if b then 1 else 0) + times n ms ≤ suc (length ms)
     by_test true rest = omega (arith, rest)
     by_test false rest = omega (arith, rest)
 
-pub among_times : (list : List ℕ) (n : ℕ) → 0 < times list n → is_among list n ≡ true
+pub among_times : (list : List ℕ) (n : ℕ) → 0 < times n list → is_among list n ≡ true
 among_times [] n h = absurd (omega (arith, h))
 among_times (m ∷ ms) n h = by_test (m == n) h (among_times ms n)
   where
-    by_test : (b : Bool) → 0 < (if b then 1 else 0) + times ms n → (0 < times ms n → is_among ms n ≡ true) → (b || is_among ms n) ≡ true
+    by_test : (b : Bool) → 0 < (if b then 1 else 0) + times n ms → (0 < times n ms → is_among ms n ≡ true) → (b || is_among ms n) ≡ true
     by_test true h rest = refl
     by_test false h rest = rest (omega (arith, h))
 
-pub times_among : (list : List ℕ) (n : ℕ) → is_among list n ≡ true → 0 < times list n
+pub times_among : (list : List ℕ) (n : ℕ) → is_among list n ≡ true → 0 < times n list
 times_among [] n e = absurd (true≢false (sym e))
 times_among (m ∷ ms) n e = by_test (m == n) e (times_among ms n)
   where
-    by_test : (b : Bool) → (b || is_among ms n) ≡ true → (is_among ms n ≡ true → 0 < times ms n) → 0 < (if b then 1 else 0) + times ms n
+    by_test : (b : Bool) → (b || is_among ms n) ≡ true → (is_among ms n ≡ true → 0 < times n ms) → 0 < (if b then 1 else 0) + times n ms
     by_test true e rest = omega arith
     by_test false e rest = let h = rest e in omega (arith, h)
 
-pub pending_push : (refers : ℕ → List ℕ) (list : List ℕ) (k n : ℕ) → pending refers (list ++ k ∷ []) n ≡ pending refers list n + times (refers k) n
+pub pending_push : (refers : ℕ → List ℕ) (list : List ℕ) (k n : ℕ) → pending refers (list ++ k ∷ []) n ≡ pending refers list n + times n (refers k)
 pending_push refers [] k n = omega arith
 pending_push refers (m ∷ ms) k n = let e = pending_push refers ms k n in omega (arith, e)
 

@@ -38,12 +38,18 @@ one_more k n holds = if k == n then holds + 1 else holds
 abbrev pub one_less : ℕ → ℕ → ℕ → ℕ
 one_less k n holds = if k == n then holds - 1 else holds
 
+-- how often a list has a number
+abbrev pub times : ℕ → List ℕ → ℕ
+times n [] = 0
+times n (m ∷ ms) = (if m == n then 1 else 0) + times n ms
+
 -- numbers and what a note makes of them, by object
 pub record Owns (note : ℕ → ℕ → ℕ) (old new : List ℕ) : Type 0 where
   pub len : length new ≡ length old
   pub each : (n : ℕ) → own_at new n ≡ (if nat_lt n (length old) then note n (own_at old n) else 0)
 
--- what fell is listed, and nothing that was not held is held
+-- what fell is listed, once more than it was, and nothing that was not held is held
 pub record Falls (old new : CountsValue) : Type 0 where
   pub listed : (n : ℕ) → is_among new.fallen n ≡ is_among old.fallen n || (is_held old n && not (is_held new n))
+  pub once : (n : ℕ) → times n new.fallen ≡ times n old.fallen + (if is_held old n && not (is_held new n) then 1 else 0)
   pub falls : (n : ℕ) → is_held new n ≡ true → is_held old n ≡ true

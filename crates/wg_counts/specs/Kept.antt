@@ -1,18 +1,13 @@
 -- What counts of holds are, and what becomes of them while holds end.
 use Rattle.std.specs.Prelude.{◌≡◌, ℕ, zero, suc, ◌+◌, ◌<◌, ◌≤◌, Bool, true, not, ◌&&◌, ◌||◌, ◌==◌, nat_lt, List, [], ◌∷◌, length, drop, slice_index_or, if◌then◌else◌}
 use Rattle.wg_model.specs.Holding.{is_among}
-use Rattle.wg_counts.specs.Counts.{own_at, refers_in}
+use Rattle.wg_counts.specs.Counts.{own_at, refers_in, times}
 
 abbrev pub count_at : List ℕ → ℕ → ℕ
 count_at counts n = slice_index_or counts n 0
 
 abbrev pub is_alive : List ℕ → ℕ → Bool
 is_alive counts n = nat_lt 0 (count_at counts n)
-
--- how often object n stands in a list
-abbrev pub times : List ℕ → ℕ → ℕ
-times [] n = 0
-times (m ∷ ms) n = (if m == n then 1 else 0) + times ms n
 
 -- the sum over those of the first m objects that are alive
 abbrev pub sum_alive : (ℕ → Bool) → (ℕ → ℕ) → ℕ → ℕ
@@ -21,7 +16,7 @@ sum_alive alive weight (suc m) = sum_alive alive weight m + (if alive m then wei
 
 -- how often objects that are alive refer to object n
 abbrev pub references : List ℕ → (ℕ → List ℕ) → ℕ → ℕ
-references counts refers n = sum_alive (is_alive counts) (λ m. times (refers m) n) (length counts)
+references counts refers n = sum_alive (is_alive counts) (λ m. times n (refers m)) (length counts)
 
 -- how many objects are alive
 abbrev pub living : List ℕ → ℕ
@@ -44,21 +39,22 @@ pub record IsKept (own : List ℕ) (refers : List (List ℕ)) (counts : List ℕ
   pub owns : length own ≡ length counts
   pub lists : length refers ≡ length counts
 
--- Counts fell, and an object whose count came to 0 was listed.
+-- Counts fell, and an object whose count came to 0 was listed, once.
 pub record HaveFallen (first before counts fallen : List ℕ) : Type 0 where
   pub len : length counts ≡ length first
   pub below : (n : ℕ) → count_at counts n ≤ count_at first n
   pub listed : (n : ℕ) → is_among fallen n ≡ is_among before n || (is_alive first n && not (is_alive counts n))
+  pub once : (n : ℕ) → times n fallen + (if is_alive counts n then 1 else 0) ≡ times n before + (if is_alive first n then 1 else 0)
   pub room : length fallen + living counts ≡ length before + living first
 
 -- how often objects of a list refer to object n
 abbrev pub pending : (ℕ → List ℕ) → List ℕ → ℕ → ℕ
 pending refers [] n = 0
-pending refers (m ∷ ms) n = times (refers m) n + pending refers ms n
+pending refers (m ∷ ms) n = times n (refers m) + pending refers ms n
 
 -- While a hold ends: holds of the objects of a list are still to end, and the references of those that fell from a place on.
 pub record IsEnding (own : ℕ → ℕ) (refers : ℕ → List ℕ) (first before counts fallen : List ℕ) (place : ℕ) (rest : List ℕ) : Type 0 where
   pub falls : HaveFallen first before counts fallen
-  pub holders : AreHolders (λ n. own n + (times rest n + pending refers (drop place fallen) n)) refers counts
+  pub holders : AreHolders (λ n. own n + (times n rest + pending refers (drop place fallen) n)) refers counts
   pub inside : (n : ℕ) → is_among (drop place fallen) n ≡ true → n < length first
   pub reached : place ≤ length fallen

@@ -3,8 +3,8 @@
 
 ghost use Rattle.std.specs.Prelude.{◌≡◌, ℕ, ◌+◌, ◌-◌, ◌^◌, ◌<◌, ◌≤◌, ◌==◌, ◌∷◌, ◌++◌, [], true, if◌then◌else◌, length, slice_set, vec_len, vec_capacity, OnOk};
 ghost use Rattle.wg_model.specs.Holding.{is_among};
-ghost use Rattle.wg_counts.specs.Counts.{CountsValue, own_at, refers_in, is_held, one_more, one_less, Owns, Falls};
-ghost use Rattle.wg_counts.specs.Kept.{count_at, times, living, AreHolders, HaveFallen};
+ghost use Rattle.wg_counts.specs.Counts.{CountsValue, own_at, refers_in, is_held, one_more, one_less, Owns, Falls, times};
+ghost use Rattle.wg_counts.specs.Kept.{count_at, living, AreHolders, HaveFallen};
 
 use std::alloc::Global;
 use std::marker::Model;
@@ -50,7 +50,7 @@ impl Model for Counts {
 fn raise(counts: &mut Vec<u64>, refers: &[u64])
     requires inside { (n : ℕ) → is_among refers.now n ≡ true → n < length counts.old.items }
     requires room { (n : ℕ) → count_at counts.old.items n + length refers.now < 2 ^ 64 }
-    ensures counts { (n : ℕ) → count_at counts.new.items n ≡ count_at counts.old.items n + times refers.now n }
+    ensures counts { (n : ℕ) → count_at counts.new.items n ≡ count_at counts.old.items n + times n refers.now }
     ensures len { length counts.new.items ≡ length counts.old.items }
     ensures capacity { vec_capacity counts.new ≡ vec_capacity counts.old }
 {
@@ -203,7 +203,7 @@ impl Counts {
         self.counts[number as usize] += 1;
     }
 
-    /// Ends a hold of an object, and lists what falls by it.
+    /// Ends a hold of an object, and lists what falls by it, each object once.
     pub fn end(&mut self, number: u64)
         requires { 0 < own_at self.old.own number }
         ensures own { Owns (one_less number) self.old.own self.new.own }

@@ -3,11 +3,12 @@ use Rattle.std.proofs.Common.{◌≡◌, ℕ, zero, suc, ◌+◌, ◌<◌, ◌�
 use Rattle.std.proofs.lemmas.Bool.{lt-ltb, cases_eq}
 use Rattle.std.proofs.lemmas.List.{length_push, get_or_append_left, get_or_push}
 use Rattle.wg_model.specs.Holding.{Node, is_among, nobody, has_holder, with_holders, is_held_among, is_named_in, is_root_in, nodes_below, is_held_in}
-use Rattle.wg_counts.specs.Counts.{CountsValue, own_at, node_at, counted_below, is_counted, Falls as CountsFalls}
+use Rattle.wg_counts.specs.Counts.{CountsValue, own_at, node_at, counted_below, is_counted, Falls as CountsFalls, times}
+use Rattle.wg_counts.proofs.Keeping.{counted_at}
 use Rattle.wg_holders.specs.declared.marks.Mark.{Mark}
 use Rattle.wg_holders.specs.declared.tokens.Awaited.{Awaited}
 use Rattle.wg_holders.specs.Holders.{Holdings, HoldersValue, new_mark, mark_at, list_at, holds_at, is_held, Falls}
-use Rattle.wg_holders.specs.Tokens.{times, held_by, named, lives, is_awaited_at, IsOwned, IsTidy}
+use Rattle.wg_holders.specs.Tokens.{held_by, named, lives, is_awaited_at, IsOwned, IsTidy}
 use Rattle.wg_holders.proofs.Sums.{times_among, sum_any}
 use Rattle.wg_holders.proofs.QueueLemmas.{tidy_waits}
 use Rattle.wg_holders.proofs.OwnLemmas.{lives_last}
@@ -51,17 +52,6 @@ held_is marks names refers opened awaited own tidy owned n =
 
 -- An object with a hold of its own is held.
 
-below_length : (own : List ℕ) (refers : List (List ℕ)) (k : ℕ) → length (counted_below own refers k) ≡ k
-below_length own refers zero = refl
-below_length own refers (suc k) = let e = below_length own refers k in let p = length_push (counted_below own refers k) (node_at own refers k) in omega (arith, e, p)
-
-below_at : (own : List ℕ) (refers : List (List ℕ)) (k n : ℕ) → n < k → slice_index_or (counted_below own refers k) n nobody ≡ node_at own refers n
-below_at own refers zero n lt = absurd (omega (arith, lt))
-below_at own refers (suc k) n lt = elim (cases_eq n k) [
-  | inl here ↦ get_or_push (counted_below own refers k) (node_at own refers k) nobody n (below_length own refers k ∙ sym here) ∙ ap (node_at own refers) (sym here)
-  | inr other ↦ (let less : n < k = omega (arith, lt, other) in get_or_append_left (counted_below own refers k) (node_at own refers k ∷ []) nobody n (let e = below_length own refers k in omega (arith, e, less)) ∙ below_at own refers k n less)
-]
-
 held_itself : (k n : ℕ) (nodes : List Node) → (slice_index_or nodes n nobody).held ≡ true → (slice_index_or (with_holders k nodes) n nobody).held ≡ true
 held_itself k n [] is = is
 held_itself k zero (node ∷ nodes) is = ap (λ b. b || has_holder (with_holders (suc k) nodes) k) is
@@ -69,15 +59,19 @@ held_itself k (suc n) (node ∷ nodes) is = held_itself (suc k) n nodes is
 
 pub own_held : (own : List ℕ) (refers : List (List ℕ)) (n : ℕ) → 0 < own_at own n → n < length own → is_counted own refers n ≡ true
 unfolding is_counted
-own_held own refers n some lt = held_itself 0 n (counted_below own refers (length own)) (ap (λ (node : Node). node.held) (below_at own refers (length own) n lt) ∙ lt-ltb 0 (own_at own n) some)
+own_held own refers n some lt = held_itself 0 n (counted_below own refers (length own)) (ap (λ (node : Node). node.held) (counted_at own refers (length own) n lt) ∙ lt-ltb 0 (own_at own n) some)
 
 -- What falls by the counts falls.
 pub falls_is : (old new : HoldersValue) (first last : CountsValue) → old.fallen ≡ first.fallen → new.fallen ≡ last.fallen → ((n : ℕ) → is_held old.holdings n ≡ is_counted first.own first.refers n) → ((n : ℕ) → is_held new.holdings n ≡ is_counted last.own last.refers n) → CountsFalls first last → Falls old new
 falls_is old new first last old_fallen new_fallen old_held new_held falls = record {
   listed = λ n. ap (λ list. is_among list n) new_fallen ∙ (falls.listed n ∙ ap₃ (ap (λ list. is_among list n) (sym old_fallen)) (sym (old_held n)) (sym (new_held n)));
+  once = λ n. ap (times n) new_fallen ∙ (falls.once n ∙ once_more (ap (times n) (sym old_fallen)) (sym (old_held n)) (sym (new_held n)));
   falls = λ n is. old_held n ∙ falls.falls n (sym (new_held n) ∙ is);
 }
   where
+    once_more : {k k' : ℕ} {b b' c c' : Bool} → k ≡ k' → b ≡ b' → c ≡ c' → (k + (if b && not c then 1 else 0)) ≡ (k' + (if b' && not c' then 1 else 0))
+    once_more e f g = cc
+
     ap₃ : {a a' b b' c c' : Bool} → a ≡ a' → b ≡ b' → c ≡ c' → (a || (b && not c)) ≡ (a' || (b' && not c'))
     ap₃ e f g = cc
 

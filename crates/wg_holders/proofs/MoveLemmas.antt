@@ -3,8 +3,8 @@ use Rattle.std.proofs.Common.{◌≡◌, ℕ, ◌+◌, ◌-◌, ◌<◌, ◌≤�
 use Rattle.std.proofs.lemmas.Bool.{cases_eq, cases_lt, eq-eqb, ne_eqb, lt-ltb, le-ltb}
 use Rattle.std.proofs.lemmas.List.{get_or_past}
 use Rattle.wg_model.specs.Holding.{is_among}
-use Rattle.wg_counts.specs.Counts.{CountsValue, own_at, is_held, one_more, one_less, Owns, Falls}
-use Rattle.wg_holders.specs.Tokens.{times, Moves, Raises}
+use Rattle.wg_counts.specs.Counts.{CountsValue, own_at, is_held, one_more, one_less, Owns, Falls, times}
+use Rattle.wg_holders.specs.Tokens.{Moves, Raises}
 use Rattle.wg_holders.proofs.Sums.{at_same, at_other}
 
 -- what a note of own holds makes inside, and outside
@@ -63,19 +63,37 @@ hold_own k n old new inside owns = elim (cases_lt n (length old)) [
 -- what falls
 
 pub Falls_none : (counts : CountsValue) → Falls counts counts
-Falls_none counts = record { listed = λ n. by_held (is_among counts.fallen n) (is_held counts n); falls = λ n is. is }
+Falls_none counts = record {
+  listed = λ n. by_held (is_among counts.fallen n) (is_held counts n);
+  once = λ n. none_more (times n counts.fallen) (is_held counts n);
+  falls = λ n is. is;
+}
   where
     by_held : (a h : Bool) → a ≡ (a || (h && not h))
     by_held true h = refl
     by_held false true = refl
     by_held false false = refl
 
+    none_more : (k : ℕ) (h : Bool) → k ≡ k + (if h && not h then 1 else 0)
+    none_more k true = omega arith
+    none_more k false = omega arith
+
 pub Falls_then : (a b c : CountsValue) → Falls a b → Falls b c → Falls a c
 Falls_then a b c first second = record {
   listed = λ n. second.listed n ∙ (ap (λ x. x || (is_held b n && not (is_held c n))) (first.listed n) ∙ by_held (is_among a.fallen n) (is_held a n) (is_held b n) (is_held c n) (first.falls n) (second.falls n));
+  once = λ n. let e = first.once n in let f = second.once n in let g = both_once (is_held a n) (is_held b n) (is_held c n) (first.falls n) (second.falls n) in omega (arith, e, f, g);
   falls = λ n is. first.falls n (second.falls n is);
 }
   where
+    both_once : (p q r : Bool) → (q ≡ true → p ≡ true) → (r ≡ true → q ≡ true) → (if p && not q then 1 else 0) + (if q && not r then 1 else 0) ≡ (if p && not r then 1 else 0)
+    both_once true true true pq qr = refl
+    both_once true true false pq qr = refl
+    both_once true false true pq qr = absurd (true≢false (sym (qr refl)))
+    both_once true false false pq qr = refl
+    both_once false true r pq qr = absurd (true≢false (sym (pq refl)))
+    both_once false false true pq qr = absurd (true≢false (sym (qr refl)))
+    both_once false false false pq qr = refl
+
     by_held : (x p q r : Bool) → (q ≡ true → p ≡ true) → (r ≡ true → q ≡ true) → ((x || (p && not q)) || (q && not r)) ≡ (x || (p && not r))
     by_held true p q r pq qr = refl
     by_held false true true r pq qr = refl

@@ -3,11 +3,11 @@ use Rattle.std.proofs.Common.{◌≡◌, ◌≢◌, ℕ, ◌+◌, ◌<◌, ◌�
 use Rattle.std.proofs.lemmas.Bool.{cases_eq, cases_lt, eq-eqb, ne_eqb, lt-ltb, le-ltb}
 use Rattle.std.proofs.lemmas.List.{length_push, get_or_past, get_or_append_left, get_or_push}
 use Rattle.wg_model.specs.Holding.{is_among}
-use Rattle.wg_counts.specs.Counts.{CountsValue, own_at}
+use Rattle.wg_counts.specs.Counts.{CountsValue, own_at, times}
 use Rattle.wg_holders.specs.declared.marks.Mark.{Mark}
 use Rattle.wg_holders.specs.declared.tokens.Awaited.{Awaited}
 use Rattle.wg_holders.specs.Holders.{mark_at, list_at, new_mark, is_unspent, with_ended, with_consumed, with_dropped}
-use Rattle.wg_holders.specs.Tokens.{Notes, times, sum_below, held_by, named, lives, living, waits, IsOwned, Moves, Raises}
+use Rattle.wg_holders.specs.Tokens.{Notes, sum_below, held_by, named, lives, living, waits, IsOwned, Moves, Raises}
 use Rattle.wg_holders.proofs.Sums.{at_same, at_other, sum_same, sum_but, sum_at, sum_le}
 use Rattle.wg_holders.proofs.MarkLemmas.{field_same, field_other, dropped_spent, mark_more, mark_last}
 use Rattle.wg_holders.proofs.QueueLemmas.{waits_append, dropped_at, dropped_other}

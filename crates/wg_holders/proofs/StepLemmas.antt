@@ -1,11 +1,11 @@
 -- All that is kept, after an object is added, dropped or consumed.
 use Rattle.std.proofs.Common.{◌≡◌, ℕ, ◌+◌, ◌<◌, Bool, true, ◌==◌, List, [], ◌∷◌, ◌++◌, ◌∙◌, length, None, ap, subst, arith, if◌then◌else◌}
 use Rattle.wg_model.specs.Holding.{is_among}
-use Rattle.wg_counts.specs.Counts.{CountsValue}
+use Rattle.wg_counts.specs.Counts.{CountsValue, times}
 use Rattle.wg_holders.specs.declared.marks.Mark.{Mark}
 use Rattle.wg_holders.specs.declared.tokens.Awaited.{Awaited}
 use Rattle.wg_holders.specs.Holders.{new_mark, mark_at, with_consumed, with_dropped}
-use Rattle.wg_holders.specs.Tokens.{Notes, times, held_by, living, IsOwned, Opens, Drops, IsTidy, Moves, Raises}
+use Rattle.wg_holders.specs.Tokens.{Notes, held_by, living, IsOwned, Opens, Drops, IsTidy, Moves, Raises}
 use Rattle.wg_holders.proofs.QueueLemmas.{tidy_added, tidy_consumed, opens_dropped, drops_dropped}
 use Rattle.wg_holders.proofs.OwnLemmas.{owned_added, owned_consumed, owned_dropped, living_dropped}
 

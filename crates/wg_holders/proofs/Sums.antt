@@ -3,35 +3,16 @@ use Rattle.std.proofs.Common.{◌≡◌, ◌≢◌, ℕ, zero, suc, ◌+◌, ◌
 use Rattle.std.proofs.lemmas.Bool.{cases_eq, cases_lt, eq-eqb, ne_eqb, lt-ltb}
 use Rattle.std.proofs.lemmas.List.{take_more, drop_more}
 use Rattle.wg_model.specs.Holding.{is_among, any_below}
-use Rattle.wg_holders.specs.Tokens.{times, sum_below}
-
--- one where a test holds
-abbrev pub one_if : Bool → ℕ
-one_if b = if b then 1 else 0
-
-pub one_true : (b : Bool) → b ≡ true → one_if b ≡ 1
-one_true true e = refl
-one_true false e = absurd (true≢false (sym e))
-
-pub one_false : (b : Bool) → b ≡ false → one_if b ≡ 0
-one_false true e = absurd (true≢false e)
-one_false false e = refl
+use Rattle.wg_counts.specs.Counts.{times}
+pub use Rattle.wg_counts.proofs.Sums.{one_if, at_same, at_other}
+use Rattle.wg_counts.proofs.Sums.{times_append}
+use Rattle.wg_holders.specs.Tokens.{sum_below}
 
 pub one_le : (b : Bool) → one_if b ≤ 1
 one_le true = omega arith
 one_le false = omega arith
 
-pub at_same : (k n : ℕ) → k ≡ n → one_if (k == n) ≡ 1
-at_same k n e = one_true (k == n) (eq-eqb k n e)
-
-pub at_other : (k n : ℕ) → k ≢ n → one_if (k == n) ≡ 0
-at_other k n e = one_false (k == n) (ne_eqb k n e)
-
 -- how often a list has a number
-
-pub times_append : (n : ℕ) (xs ys : List ℕ) → times n (xs ++ ys) ≡ times n xs + times n ys
-times_append n [] ys = omega arith
-times_append n (x ∷ xs) ys = let e = times_append n xs ys in omega (arith, e)
 
 pub times_take_more : (n : ℕ) (xs : List ℕ) (i d : ℕ) → i < length xs → times n (take (i + 1) xs) ≡ times n (take i xs) + (if get_or xs i d == n then 1 else 0)
 times_take_more n xs i d lt =

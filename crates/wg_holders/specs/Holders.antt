@@ -1,6 +1,7 @@
 -- Who holds which objects.
-use Rattle.std.specs.Prelude.{◌≡◌, ℕ, ◌<◌, Bool, true, false, not, ◌&&◌, ◌||◌, List, [], ◌∷◌, ◌++◌, length, Some, None, is_some, slice_index_or, if◌then◌else◌}
+use Rattle.std.specs.Prelude.{◌≡◌, ℕ, ◌+◌, ◌<◌, Bool, true, false, not, ◌&&◌, ◌||◌, List, [], ◌∷◌, ◌++◌, length, Some, None, is_some, slice_index_or, if◌then◌else◌}
 use Rattle.wg_model.specs.Holding.{Holds, is_among, is_held_in}
+use Rattle.wg_counts.specs.Counts.{times}
 use Rattle.wg_holders.specs.declared.marks.Mark.{Mark}
 use Rattle.wg_holders.specs.declared.marks.Links.{Links}
 
@@ -74,7 +75,8 @@ pub record Marks (note : ℕ → Mark → Mark) (old new : Holdings) : Type 0 wh
   pub names : new.names ≡ old.names
   pub refers : new.refers ≡ old.refers
 
--- what fell is listed, and nothing that was not held is held
+-- what fell is listed, once more than it was, and nothing that was not held is held
 pub record Falls (old new : HoldersValue) : Type 0 where
   pub listed : (n : ℕ) → is_among new.fallen n ≡ is_among old.fallen n || (is_held old.holdings n && not (is_held new.holdings n))
+  pub once : (n : ℕ) → times n new.fallen ≡ times n old.fallen + (if is_held old.holdings n && not (is_held new.holdings n) then 1 else 0)
   pub falls : (n : ℕ) → is_held new.holdings n ≡ true → is_held old.holdings n ≡ true

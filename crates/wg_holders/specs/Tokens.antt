@@ -3,7 +3,7 @@
 use Rattle.std.specs.Prelude.{◌≡◌, ℕ, zero, suc, ◌+◌, ◌<◌, ◌≤◌, Bool, true, false, ◌==◌, nat_lt, List, [], ◌∷◌, length, Some, is_some, if◌then◌else◌}
 use Rattle.std.specs.Option.{option_map_or}
 use Rattle.wg_model.specs.Holding.{is_among, any_below}
-use Rattle.wg_counts.specs.Counts.{CountsValue, own_at, is_counted, Falls}
+use Rattle.wg_counts.specs.Counts.{CountsValue, own_at, is_counted, Falls, times}
 use Rattle.wg_holders.specs.declared.marks.Mark.{Mark}
 use Rattle.wg_holders.specs.declared.tokens.Awaited.{Awaited}
 use Rattle.wg_holders.specs.Holders.{mark_at, list_at, is_open, is_unspent}
@@ -14,11 +14,6 @@ pub record Notes (note : ℕ → Mark → Mark) (old new : List Mark) : Type 0 w
   pub each : (n : ℕ) → n < length old → mark_at new n ≡ note n (mark_at old n)
 
 -- Numbers.
-
--- how often a list has a number
-abbrev pub times : ℕ → List ℕ → ℕ
-times n [] = 0
-times n (m ∷ ms) = (if m == n then 1 else 0) + times n ms
 
 abbrev pub sum_below : (ℕ → ℕ) → ℕ → ℕ
 sum_below f zero = 0

@@ -2,9 +2,9 @@
 ghost use Rattle.std.specs.Prelude.{◌≡◌, ℕ, List, ◌+◌, ◌≤◌, ◌<◌, ◌++◌, ◌∷◌, [], if◌then◌else◌, true, false, length, option_to_list, OnOk, IfSome, IfNone};
 ghost use Rattle.std.specs.VecDeque.{deque_len, deque_capacity};
 ghost use Rattle.wg_model.specs.Holding.{is_among};
-ghost use Rattle.wg_counts.specs.Counts.{own_at, is_held};
+ghost use Rattle.wg_counts.specs.Counts.{own_at, is_held, times};
 ghost use Rattle.wg_holders.specs.declared.marks.Mark.{Mark as TheMark};
-ghost use Rattle.wg_holders.specs.Tokens.{times, waits, is_open_at, starts_open, first_below, starts_awaited, Opens, IsFirstOpen, Drops, IsTidy, Moves, Raises};
+ghost use Rattle.wg_holders.specs.Tokens.{waits, is_open_at, starts_open, first_below, starts_awaited, Opens, IsFirstOpen, Drops, IsTidy, Moves, Raises};
 
 use crate::marks::{Mark, is_open, mark_in};
 use std::collections::VecDeque;

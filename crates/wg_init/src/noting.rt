@@ -2,19 +2,18 @@
 ghost use Rattle.std.specs.Prelude.{◌≡◌, ◌≤◌, ◌<◌, ◌++◌, ◌&&◌, not, IfOk, IsTrue, OnOk, OnErr};
 ghost use Rattle.wg_rows.specs.Runs.{cell_line, cell_lo, cell_hi};
 ghost use Rattle.wg_rows.specs.Uses.{kind_unsets};
-ghost use Rattle.wg_num.specs.Runs.{covers_run};
+ghost use Rattle.wg_num.specs.Runs.{covers_run, insert_run};
 ghost use Rattle.wg_bars.specs.Kept.{with_notes};
 ghost use Rattle.wg_init.specs.Rows.{runs_in};
 ghost use Rattle.wg_init.specs.Effects.{effect, with_effect, AreNotes, IsAfter, NotesOne};
 
 use crate::cell_row::CellRow;
 use crate::cells::{row_object, row_of, same_row};
-use crate::unset::runs_in;
+use crate::unset::set_in;
 use std::alloc::Global;
 use wg_bars::kept::{Notes, apply, current, grow, most, reserve_to, set_note};
 use wg_entry::NoMemory;
 use wg_num::RunSet;
-use wg_num::runs::covers_run;
 use wg_rows::cell_runs::{cell_hi, cell_lo, unsets, writes};
 use wg_types::items::Items;
 use wg_types::parts::{Cells, Kind};
@@ -70,6 +69,18 @@ fn with_effect(
     Ok(out)
 }
 
+/// Whether all of a run of cells is set in an object's rows.
+fn covers(rows: &[(CellRow, RunSet)], run: Cells) -> bool
+    requires { cell_lo run < cell_hi run }
+    ensures test { result ≡ covers_run (cell_lo run) (cell_hi run) (runs_in rows.now (cell_line run)) }
+    ensures same { IsTrue result → insert_run (cell_lo run) (cell_hi run) (runs_in rows.now (cell_line run)) ≡ runs_in rows.now (cell_line run) }
+{
+    match set_in(rows, row_of(run)) {
+        Some(set) => set.covers(cell_lo(run), cell_hi(run)),
+        None => false,
+    }
+}
+
 /// Whether an access that writes leaves an object's rows as they are, since it sets what is set.
 fn sets_what_is_set(rows: &[(CellRow, RunSet)], run: Cells, kind: Kind) -> bool
     requires { cell_lo run < cell_hi run }
@@ -77,7 +88,7 @@ fn sets_what_is_set(rows: &[(CellRow, RunSet)], run: Cells, kind: Kind) -> bool
         && covers_run (cell_lo run) (cell_hi run) (runs_in rows.now (cell_line run))) }
     ensures same { IsTrue result → with_effect run kind rows.now ≡ rows.now }
 {
-    !unsets(kind) && covers_run(runs_in(rows, row_of(run)), cell_lo(run), cell_hi(run))
+    !unsets(kind) && covers(rows, run)
 }
 
 /// Notes what an access makes of kept rows with notes over them.

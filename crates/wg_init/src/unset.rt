@@ -1,9 +1,9 @@
 //! The cells that accesses read and that are not set.
-ghost use Rattle.std.specs.Prelude.{◌≡◌, [], IfOk, OnOk, map};
+ghost use Rattle.std.specs.Prelude.{◌≡◌, [], IfOk, OnOk, map, unwrap_or, option_copied};
 ghost use Rattle.wg_rows.specs.Cut.{put_all};
-ghost use Rattle.wg_rows.specs.Runs.{cell_sort};
+ghost use Rattle.wg_rows.specs.Runs.{cell_sort, cell_line, cell_lo, cell_hi};
 ghost use Rattle.wg_rows.specs.Uses.{same_kind};
-ghost use Rattle.wg_num.specs.Runs.{AreApart};
+ghost use Rattle.wg_num.specs.Runs.{AreApart, missing_runs};
 ghost use Rattle.wg_bars.specs.Kept.{with_notes};
 ghost use Rattle.wg_init.specs.Rows.{row_line, runs_in};
 ghost use Rattle.wg_init.specs.Unset.{cells_at, unset_rows};
@@ -14,23 +14,42 @@ use std::alloc::Global;
 use wg_bars::kept::{Notes, current};
 use wg_entry::NoMemory;
 use wg_num::RunSet;
-use wg_num::runs::missing_runs;
 use wg_rows::cell_runs::{cell_hi, cell_lo, cells_to, reads};
 use wg_rows::rows::put_all;
 use wg_types::items::Items;
 use wg_types::parts::{Cells, Kind};
+
+/// The set cells of a row of an object's rows, if that has the row.
+pub fn set_in(rows: &[(CellRow, RunSet)], row: CellRow) -> Option<&RunSet>
+    ensures { unwrap_or (option_copied result) [] ≡ runs_in rows.now (row_line row) }
+{
+    for other in rows {
+        if same_row(other.0, row) {
+            return Some(&other.1);
+        }
+    }
+    None
+}
 
 /// The set cells of a row of an object's rows.
 pub fn runs_in(rows: &[(CellRow, RunSet)], row: CellRow) -> &[(u64, u64)]
     ensures runs { result.now ≡ runs_in rows.now (row_line row) }
     ensures apart { AreApart 0 result.now }
 {
-    for other in rows {
-        if same_row(other.0, row) {
-            return other.1.runs();
-        }
+    match set_in(rows, row) {
+        Some(set) => set.runs(),
+        None => &[],
     }
-    &[]
+}
+
+/// What of a run of cells is not set in an object's rows.
+fn missing_in(alloc: Global, rows: &[(CellRow, RunSet)], run: Cells) -> Result<RunSet, NoMemory>
+    ensures { IfOk result (λ set. set ≡ missing_runs (cell_lo run) (cell_hi run) (runs_in rows.now (cell_line run))) }
+{
+    match set_in(rows, row_of(run)) {
+        Some(set) => set.missing(cell_lo(run), cell_hi(run)),
+        None => RunSet::new(alloc).missing(cell_lo(run), cell_hi(run)),
+    }
 }
 
 /// Runs as cells of the row of a run, each written.
@@ -77,10 +96,9 @@ pub fn unset_rows(
         i -= 1;
         let access = accesses[i];
         if reads(access.1) && cell_lo(access.0) < cell_hi(access.0) {
-            let row = row_of(access.0);
-            let runs = runs_in(current(kept, fresh, row_object(row)), row);
-            let missing = missing_runs(alloc, runs, cell_lo(access.0), cell_hi(access.0))?;
-            push_cells(&mut cells, access.0, missing.as_slice())?;
+            let rows = current(kept, fresh, row_object(row_of(access.0)));
+            let missing = missing_in(alloc, rows, access.0)?;
+            push_cells(&mut cells, access.0, missing.runs())?;
         }
     }
     put_all(alloc, Vec::new(alloc), cells.as_slice())

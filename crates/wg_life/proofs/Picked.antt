@@ -10,10 +10,12 @@ use Rattle.std.specs.List.{sum_by}
 use Rattle.std.proofs.lemmas.List.Sums.{sum_by-append}
 use Rattle.wg_types.specs.declared.steps.Sort.{Sort}
 use Rattle.wg_orders.specs.Trace.{Free, free}
+use Rattle.wg_counts.specs.Counts.{times}
+use Rattle.wg_counts.proofs.Sums.{times_here}
 use Rattle.wg_life.specs.declared.rows.Resource.{Resource}
 use Rattle.wg_life.specs.declared.rows.Row.{Row}
 use Rattle.wg_life.specs.Lives.{row_at, below}
-use Rattle.wg_life.specs.Waits.{picked, with_number, times, sort_at}
+use Rattle.wg_life.specs.Waits.{picked, with_number, sort_at}
 
 -- what is released as an item, or none
 pub released_item : (rows : List Row) (n : ℕ) (o : Option Resource) → (row_at rows n).resource ≡ o → map free (sort_at rows n) ≡ option_to_list (option_map (λ (resource : Resource). Free n resource.sort) o)
@@ -158,10 +160,6 @@ times_sum n (m ∷ ms) = let e = times_sum n ms in let f = sum_by-append (one_if
 pub times_permuted : (n : ℕ) (xs ys : List ℕ) → IsPermutation xs ys → times n ys ≡ times n xs
 times_permuted n xs ys same = times_sum n ys ∙ (sum_by-IsPermutation (one_if n) xs ys same ∙ sym (times_sum n xs))
 
-pub times_push : (n k : ℕ) (ms : List ℕ) → times n (ms ++ k ∷ []) ≡ (if k == n then 1 else 0) + times n ms
-times_push n k [] = refl
-times_push n k (m ∷ ms) = let e = times_push n k ms in omega (arith, e)
-
 pub times_with : (n k : ℕ) (ms : List ℕ) → times n (with_number k ms) ≡ (if k == n then 1 else 0) + times n ms
 times_with n k [] = refl
 times_with n k (m ∷ ms) = by_test (nat_lt k m) (times_with n k ms)
@@ -176,20 +174,17 @@ times_none n (m ∷ ms) above =
     let first : n < m = above 0 0 (omega arith) in
     ap₂ ◌+◌ (ap (λ b. if b then 1 else 0) (ne_eqb m n (λ e. absurd (omega (arith, e, first))))) (times_none n ms (λ i d lt. above (suc i) d (omega (arith, lt))))
 
-times_first : (n : ℕ) (ms : List ℕ) → times n (n ∷ ms) ≡ 1 + times n ms
-times_first n ms = ap (λ b. (if b then 1 else 0) + times n ms) (eq-eqb n n refl)
-
 -- the first of one of two such lists is not below that of the other
 not_above : (x y : ℕ) (xs ys : List ℕ) → IsNonDecreasing (y ∷ ys) → times x (x ∷ xs) ≡ times x (y ∷ ys) → y ≤ x
 not_above x y xs ys rises same = elim (cases_lt x y) [
-  | inl less ↦ absurd (let e = times_first x xs in let f = times_none x (y ∷ ys) (λ i d lt. let le : y ≤ get_or (y ∷ ys) i d = rises 0 i d (omega arith) lt in omega (arith, le, less)) in omega (arith, e, f, same))
+  | inl less ↦ absurd (let e = times_here xs x in let f = times_none x (y ∷ ys) (λ i d lt. let le : y ≤ get_or (y ∷ ys) i d = rises 0 i d (omega arith) lt in omega (arith, le, less)) in omega (arith, e, f, same))
   | inr more ↦ more
 ]
 
 pub rising_same : (xs ys : List ℕ) → IsNonDecreasing xs → IsNonDecreasing ys → ((n : ℕ) → times n xs ≡ times n ys) → xs ≡ ys
 rising_same [] [] left right same = refl
-rising_same [] (y ∷ ys) left right same = absurd (let e = times_first y ys in let f = same y in omega (arith, e, f))
-rising_same (x ∷ xs) [] left right same = absurd (let e = times_first x xs in let f = same x in omega (arith, e, f))
+rising_same [] (y ∷ ys) left right same = absurd (let e = times_here ys y in let f = same y in omega (arith, e, f))
+rising_same (x ∷ xs) [] left right same = absurd (let e = times_here xs x in let f = same x in omega (arith, e, f))
 rising_same (x ∷ xs) (y ∷ ys) left right same =
     let low = not_above x y xs ys right (same x) in
     let high = not_above y x ys xs left (sym (same y)) in

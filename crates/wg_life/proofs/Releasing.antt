@@ -8,11 +8,13 @@ use Rattle.std.proofs.lemmas.Bool.Decides.{nat_tests}
 use Rattle.std.proofs.lemmas.List.{length_push, get_or_past, take-append-drop}
 use Rattle.std.proofs.lemmas.List.Sorted.{IsNonDecreasingBy-drop, IsNonDecreasingBy-insert, IsNonDecreasingBy-from_sort}
 use Rattle.wg_types.specs.declared.steps.Sort.{Sort}
+use Rattle.wg_counts.specs.Counts.{times}
+use Rattle.wg_counts.proofs.Sums.{times_push}
 use Rattle.wg_life.specs.declared.rows.Row.{Row}
 use Rattle.wg_life.specs.declared.waiting.Wait.{Wait}
 use Rattle.wg_life.specs.Lives.{no_row, row_at, sort_of, with_release, Notes}
-use Rattle.wg_life.specs.Waits.{gone_at, waits, is_waiting, is_due_where, with_due, freed_row, freed, picked, with_number, times, is_early, early, starts_late, stands_for, IsInserted, IsTidy, is_taken_out, IsReleasing, sort_at}
-use Rattle.wg_life.proofs.Picked.{picked_nothing, picked_with, picked_rises, flat_picked, length_picked, length_with, length_picked_lt, times_push, times_with, times_permuted, rising_same}
+use Rattle.wg_life.specs.Waits.{gone_at, waits, is_waiting, is_due_where, with_due, freed_row, freed, picked, with_number, is_early, early, starts_late, stands_for, IsInserted, IsTidy, is_taken_out, IsReleasing, sort_at}
+use Rattle.wg_life.proofs.Picked.{picked_nothing, picked_with, picked_rises, flat_picked, length_picked, length_with, length_picked_lt, times_with, times_permuted, rising_same}
 use Rattle.wg_life.proofs.Tidy.{or_left, or_right, stands_on}
 
 -- one more in its place

@@ -3,6 +3,7 @@ use Rattle.std.specs.Prelude.{◌≡◌, ℕ, zero, suc, ◌+◌, ◌<◌, ◌�
 use Rattle.std.specs.List.{list_any}
 use Rattle.std.specs.List.Sorted.{IsNonDecreasingBy}
 use Rattle.wg_types.specs.declared.steps.Sort.{Sort}
+use Rattle.wg_counts.specs.Counts.{times}
 use Rattle.wg_holders.specs.Holders.{Holdings, is_held}
 use Rattle.wg_life.specs.declared.rows.Row.{Row}
 use Rattle.wg_life.specs.declared.waiting.Wait.{Wait}
@@ -58,11 +59,6 @@ picked test (suc m) = picked test m ++ (if test m then m ∷ [] else [])
 abbrev pub with_number : ℕ → List ℕ → List ℕ
 with_number n [] = n ∷ []
 with_number n (m ∷ ms) = if nat_lt n m then n ∷ m ∷ ms else m ∷ with_number n ms
-
--- how often a list has a number
-abbrev pub times : ℕ → List ℕ → ℕ
-times n [] = 0
-times n (m ∷ ms) = (if m == n then 1 else 0) + times n ms
 
 -- what is listed may be due where all operations up to this one are complete
 abbrev pub is_early : ℕ → Wait → Bool

@@ -7,7 +7,7 @@ use Rattle.std.proofs.lemmas.Bool.{lt-ltb, le-ltb, leb-true, leb-false, eqb-true
 use Rattle.std.proofs.lemmas.List.Sums.{length-filter}
 use Rattle.wg_types.specs.declared.mappings.MapDone.{MapDone}
 use Rattle.wg_types.specs.declared.mappings.PendingMap.{PendingMap}
-use Rattle.wg_maps.specs.Mappings.{pending_of, without, with_map, is_due, still_pending, is_buffer_due, done_of, due_maps, promises}
+use Rattle.wg_maps.specs.Mappings.{pending_of, without, with_map, is_due, still_pending, is_buffer_due, map_done, due_maps, promises}
 use Rattle.wg_maps.specs.Waits.{IsEachOnce}
 
 -- which map a buffer has
@@ -136,8 +136,8 @@ rises_map f n (wait ∷ later) rises i j e le lt =
     let below : j < length (wait ∷ later) = subst (λ (m : ℕ). j < m) (length-map (wait ∷ later) f) lt in
     rw (get_or-map f (wait ∷ later) i wait e (omega (arith, le, below)), get_or-map f (wait ∷ later) j wait e below) (rises i j wait le below)
 
-pub done_in_order : (waits : List PendingMap) → IsNonDecreasingBy (λ (wait : PendingMap). wait.promise) waits → IsNonDecreasingBy (λ (done : MapDone). done.promise) (map done_of waits)
-done_in_order waits rises = rises_map done_of (λ (done : MapDone). done.promise) waits rises
+pub done_in_order : (waits : List PendingMap) → IsNonDecreasingBy (λ (wait : PendingMap). wait.promise) waits → IsNonDecreasingBy (λ (done : MapDone). done.promise) (map map_done waits)
+done_in_order waits rises = rises_map map_done (λ (done : MapDone). done.promise) waits rises
 
 pub promises_in_order : (pending : List PendingMap) → IsNonDecreasingBy (λ (wait : PendingMap). wait.promise) pending → IsNonDecreasing (promises pending)
 promises_in_order pending rises = rises_map (λ (wait : PendingMap). wait.promise) (λ n. n) pending rises

@@ -35,7 +35,9 @@ pub record MapsValue : Type 0 where
 -- by which a proof tells values apart
 
 abbrev pub mapped_code : Coded Mapping → Coded MappedValue
-mapped_code mapping = code_by (Mappings × ℕ) (coded× (table.code coded_ℕ mapping) coded_ℕ) (λ v. (v.buffers, v.spare)) (λ p. record { buffers = p.0; spare = p.1 }) (λ _. refl)
+mapped_code mapping =
+    code_by (Mappings × ℕ) (coded× (table.code coded_ℕ mapping) coded_ℕ)
+    (λ v. (v.buffers, v.spare)) (λ p. record { buffers = p.0; spare = p.1 }) (λ _. refl)
 
 abbrev pub maps_code : Coded PendingMap → Coded Mapping → Coded MapsValue
 maps_code wait mapping =
@@ -98,12 +100,12 @@ maps_of pending buffer = filter (λ wait. wait.buffer == buffer) pending
 abbrev pub is_due : ℕ → PendingMap → Bool
 is_due completed wait = nat_le wait.last completed
 
-abbrev pub done_of : PendingMap → MapDone
-done_of wait = record { buffer = wait.buffer; promise = wait.promise; mode = wait.mapping.mode; lo = wait.mapping.lo; hi = wait.mapping.hi }
+abbrev pub map_done : PendingMap → MapDone
+map_done wait = record { buffer = wait.buffer; promise = wait.promise; mode = wait.mapping.mode; lo = wait.mapping.lo; hi = wait.mapping.hi }
 
 -- the maps that are due, in the order of their promises
-abbrev pub due_maps : ℕ → List PendingMap → List MapDone
-due_maps completed pending = map done_of (filter (is_due completed) pending)
+abbrev pub due_maps : ℕ → List PendingMap → List PendingMap
+due_maps completed pending = filter (is_due completed) pending
 
 -- those that wait on
 abbrev pub still_pending : ℕ → List PendingMap → List PendingMap
@@ -117,6 +119,14 @@ with_due completed (wait ∷ later) mapped = with_due completed later (if is_due
 -- whether some map of a list is of this buffer and due
 abbrev pub is_buffer_due : ℕ → ℕ → List PendingMap → Bool
 is_buffer_due completed buffer pending = list_any (λ wait. is_due completed wait && wait.buffer == buffer) pending
+
+-- the map of a buffer that waits on, if there is one
+abbrev pub still_pending_of : ℕ → List PendingMap → ℕ → Option PendingMap
+still_pending_of completed pending buffer = if is_buffer_due completed buffer pending then None else pending_of pending buffer
+
+-- with the maps mapped that are due
+abbrev pub settled_up_to : ℕ → MapsValue → MapsValue
+settled_up_to completed maps = record maps { pending = still_pending completed maps.pending; mapped = with_due completed maps.pending maps.mapped }
 
 abbrev pub promises : List PendingMap → List ℕ
 promises pending = map (λ (wait : PendingMap). wait.promise) pending

@@ -79,10 +79,18 @@ abbrev pub starts_later : ℕ → List PendingMap → Bool
 starts_later completed [] = true
 starts_later completed (wait ∷ later) = not (is_due completed wait)
 
--- The maps that were pending and the buffers that were mapped when a completion came, and what it left so far: some of what is due is taken out and mapped.
-pub record IsSettling (completed : ℕ) (first : List PendingMap) (start : MappedValue) (promises : List (ℕ × ℕ)) (listed : List PendingMap) (mapped : MappedValue) : Type 0 where
+-- The maps that were pending and the buffers that were mapped when a completion came, and what it left so far: some of what is
+-- due is taken out and mapped.
+pub record IsSettling (completed : ℕ) (first : List PendingMap) (start : MappedValue)
+    (promises : List (ℕ × ℕ)) (listed : List PendingMap) (mapped : MappedValue) : Type 0 where
   pub kept : IsKept (waiting promises listed) promises
   pub are_listed : IsListed listed
   pub still : still_pending completed (waiting promises listed) ≡ still_pending completed first
   pub due : with_due completed (waiting promises listed) mapped.buffers ≡ with_due completed first start.buffers
   pub room : start.spare + length (waiting promises listed) ≤ mapped.spare + length first
+
+-- A settlement goes on past a map that is due.
+abbrev pub Settles : PendingMap → List (ℕ × ℕ) → MappedValue → List (ℕ × ℕ) → MappedValue → Type 0
+Settles wait promises mapped promises' mapped' =
+    (completed : ℕ) (first rest : List PendingMap) (start : MappedValue) → is_due completed wait ≡ true
+    → IsSettling completed first start promises (wait ∷ rest) mapped → IsSettling completed first start promises' rest mapped'

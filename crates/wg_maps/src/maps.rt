@@ -1,9 +1,9 @@
 //! How the buffers of a device are mapped.
-ghost use Rattle.std.specs.Prelude.{◌≡◌, ℕ, ◌+◌, ◌<◌, ◌≤◌, ◌==◌, [], if◌then◌else◌, IsOk, OnOk, OnErr, IfOk, Option, filter, true, option_to_list, map};
+ghost use Rattle.std.specs.Prelude.{◌≡◌, ℕ, ◌+◌, ◌<◌, ◌≤◌, ◌==◌, [], if◌then◌else◌, IsOk, OnOk, OnErr, IfOk, Option, true, option_to_list, map};
 ghost use Rattle.std.specs.FinMap as table;
 ghost use Rattle.std.specs.List.Sorted.{IsNonDecreasing, IsNonDecreasingBy};
 ghost use Rattle.wg_types.specs.declared.mappings.MapDone.{MapDone};
-ghost use Rattle.wg_maps.specs.Mappings.{MapsValue, has_pending, is_latest, maps_of, is_buffer_due, state_of, left_of, without, with_map, done_of, is_due, due_maps, still_pending, with_due, promises};
+ghost use Rattle.wg_maps.specs.Mappings.{MapsValue, has_pending, is_latest, maps_of, is_buffer_due, state_of, left_of, without, with_map, map_done, due_maps, settled_up_to, IsApart, promises};
 
 use crate::mapped::MappedBuffers;
 use crate::waits::Waits;
@@ -43,7 +43,7 @@ impl Model for Maps {
 
 /// A map as it is settled.
 fn done(wait: &PendingMap) -> MapDone
-    ensures { result ≡ done_of wait.now }
+    ensures { result ≡ map_done wait.now }
 {
     MapDone {
         buffer: wait.buffer,
@@ -56,7 +56,7 @@ fn done(wait: &PendingMap) -> MapDone
 
 /// Maps as they are settled.
 fn list_done(alloc: Global, maps: &[PendingMap]) -> Result<Vec<MapDone>, NoMemory>
-    ensures { IfOk result (λ list. list.items ≡ map done_of maps.now) }
+    ensures { IfOk result (λ list. list.items ≡ map map_done maps.now) }
 {
     let list = maps
         .iter()
@@ -68,7 +68,8 @@ fn list_done(alloc: Global, maps: &[PendingMap]) -> Result<Vec<MapDone>, NoMemor
 impl Maps {
     /// Every buffer is unmapped.
     pub fn new(alloc: Global) -> Maps
-        ensures { result ≡ record { pending = []; mapped = table.empty; spare = 0 } }
+        ensures value { result ≡ record { pending = []; mapped = table.empty; spare = 0 } }
+        ensures apart { IsApart result.pending result.mapped }
     {
         Maps {
             alloc,
@@ -81,6 +82,7 @@ impl Maps {
     /// Makes room for so many maps.
     pub fn reserve(&mut self, n: u64) -> Result<(), NoMemory>
         ensures kept { self.new ≡ record self.old { spare = self.new.spare } }
+        ensures apart { IsApart self.new.pending self.new.mapped }
         ensures unchanged { OnErr result (self.new ≡ self.old) }
         ensures spare { self.old.spare ≤ self.new.spare }
         ensures room { OnOk result (n ≤ self.new.spare) }
@@ -117,6 +119,7 @@ impl Maps {
             (record { promise = promise; buffer = buffer; last = last; mapping = record { mode = mode; lo = lo; hi = hi } })) }
         ensures states { OnOk result ((n : ℕ) → state_of self.new n ≡ (if buffer == n then MapState.Pending else state_of self.old n)) }
         ensures kept { self.new ≡ record self.old { pending = self.new.pending; spare = self.new.spare } }
+        ensures apart { IsApart self.new.pending self.new.mapped }
         ensures unchanged { OnErr result (self.new ≡ self.old) }
         ensures succeeds { 0 < self.old.spare → IsOk result }
         ensures room { OnOk result (self.old.spare ≤ self.new.spare + 1) }
@@ -138,6 +141,7 @@ impl Maps {
         ensures pending { OnOk result (self.new.pending ≡ without self.old.pending buffer) }
         ensures mapped { OnOk result (self.new.mapped ≡ table.insert self.old.mapped buffer mapping) }
         ensures states { OnOk result ((n : ℕ) → state_of self.new n ≡ (if buffer == n then MapState.Mapped else state_of self.old n)) }
+        ensures apart { IsApart self.new.pending self.new.mapped }
         ensures unchanged { OnErr result (self.new ≡ self.old) }
         ensures succeeds { 0 < self.old.spare → IsOk result }
         ensures room { OnOk result (self.old.spare ≤ self.new.spare + 1) }
@@ -155,6 +159,7 @@ impl Maps {
         ensures pending { OnOk result (self.new.pending ≡ without self.old.pending buffer) }
         ensures mapped { OnOk result (self.new.mapped ≡ table.insert self.old.mapped buffer (record { mode = MapMode.Write; lo = 0; hi = size })) }
         ensures states { OnOk result ((n : ℕ) → state_of self.new n ≡ (if buffer == n then MapState.Mapped else state_of self.old n)) }
+        ensures apart { IsApart self.new.pending self.new.mapped }
         ensures unchanged { OnErr result (self.new ≡ self.old) }
         ensures succeeds { 0 < self.old.spare → IsOk result }
         ensures room { OnOk result (self.old.spare ≤ self.new.spare + 1) }
@@ -189,6 +194,7 @@ impl Maps {
         ensures answer { result ≡ left_of self.old buffer }
         ensures after { self.new ≡ record self.old { pending = without self.old.pending buffer; mapped = table.remove self.old.mapped buffer } }
         ensures states { (n : ℕ) → state_of self.new n ≡ (if buffer == n then MapState.Unmapped else state_of self.old n) }
+        ensures apart { IsApart self.new.pending self.new.mapped }
     {
         let answer = self.look(buffer);
         self.waits.remove(buffer);
@@ -196,9 +202,10 @@ impl Maps {
         answer
     }
 
-    /// How a buffer stands.
+    /// How a buffer stands; none is both pending and mapped.
     pub fn state(&self, buffer: u64) -> MapState
-        ensures { result ≡ state_of self.now buffer }
+        ensures value { result ≡ state_of self.now buffer }
+        ensures apart { IsApart self.now.pending self.now.mapped }
     {
         if self.waits.promise(buffer).is_some() {
             return MapState::Pending;
@@ -233,7 +240,7 @@ impl Maps {
     /// The maps that are due once the operations up to this one are complete, in the order of their
     /// promises.
     pub fn due_waits(&self, completed: u64) -> Result<Vec<PendingMap>, NoMemory>
-        ensures { IfOk result (λ list. list.items ≡ filter (is_due completed) self.now.pending) }
+        ensures { IfOk result (λ list. list.items ≡ due_maps completed self.now.pending) }
     {
         self.waits.due(self.alloc, completed)
     }
@@ -241,7 +248,7 @@ impl Maps {
     /// The maps that are due, as they are settled.
     #[tactic(auto, using(crate::proofs::PendingLemmas::done_in_order))]
     pub fn due(&self, completed: u64) -> Result<Vec<MapDone>, NoMemory>
-        ensures due { IfOk result (λ list. list.items ≡ due_maps completed self.now.pending) }
+        ensures due { IfOk result (λ list. list.items ≡ map map_done (due_maps completed self.now.pending)) }
         ensures in_order { IfOk result (λ list. IsNonDecreasingBy (λ (done : MapDone). done.promise) list.items) }
     {
         let waits = self.waits.due(self.alloc, completed)?;
@@ -251,8 +258,9 @@ impl Maps {
     /// Maps the buffers of the maps that are due once the operations up to this one are complete.
     #[tactic(auto, using(crate::proofs::StateLemmas::state_settled, crate::proofs::StateLemmas::apart_settled))]
     pub fn settle(&mut self, completed: u64)
-        ensures after { self.new ≡ record self.old { pending = still_pending completed self.old.pending; mapped = with_due completed self.old.pending self.old.mapped } }
+        ensures after { self.new ≡ settled_up_to completed self.old }
         ensures states { (n : ℕ) → state_of self.new n ≡ (if is_buffer_due completed n self.old.pending then MapState.Mapped else state_of self.old n) }
+        ensures apart { IsApart self.new.pending self.new.mapped }
     {
         self.waits.settle(completed, &mut self.mapped);
     }
@@ -275,6 +283,7 @@ impl Maps {
     pub fn abort_all(&mut self)
         ensures after { self.new ≡ record self.old { pending = [] } }
         ensures states { (n : ℕ) → state_of self.new n ≡ (if has_pending self.old.pending n then MapState.Unmapped else state_of self.old n) }
+        ensures apart { IsApart self.new.pending self.new.mapped }
     {
         self.waits.clear();
     }

@@ -4,8 +4,8 @@ ghost use Rattle.std.specs.HashMap.{spare};
 ghost use Rattle.std.specs.VecDeque.{deque_len, deque_capacity};
 ghost use Rattle.std.specs.List.Sorted.{IsNonDecreasingBy};
 ghost use Rattle.wg_types.specs.declared.mappings.PendingMap.{PendingMap};
-ghost use Rattle.wg_maps.specs.Mappings.{MappedValue, pending_of, maps_of, without, with_map, still_pending, with_due, is_latest, is_due, is_buffer_due, promises};
-ghost use Rattle.wg_maps.specs.Waits.{WaitsValue, IsKept, IsListed, IsWithin, IsTidied, IsInserted, IsSettling, IsUnlike, AreUnlike, promise_of, is_waiting, arranged, waiting, starts_later};
+ghost use Rattle.wg_maps.specs.Mappings.{MappedValue, pending_of, maps_of, without, with_map, still_pending, with_due, is_latest, is_due, due_maps, still_pending_of, promises};
+ghost use Rattle.wg_maps.specs.Waits.{WaitsValue, IsKept, IsListed, IsWithin, IsTidied, IsInserted, IsSettling, Settles, IsUnlike, AreUnlike, promise_of, is_waiting, arranged, waiting, starts_later};
 
 use crate::mapped::MappedBuffers;
 use std::alloc::Global;
@@ -34,7 +34,10 @@ impl Model for Waits {
 
     ghost Value = { WaitsValue };
 
-    ghost view = { λ w. record { pending = waiting w.promises.entries w.listed.items; spare = min (deque_capacity w.listed - deque_len w.listed) (spare w.promises) } };
+    ghost view = { λ w. record {
+      pending = waiting w.promises.entries w.listed.items;
+      spare = min (deque_capacity w.listed - deque_len w.listed) (spare w.promises);
+    } };
 
     ghost invariant = { λ w. record {
       kept : IsKept (waiting w.promises.entries w.listed.items) w.promises.entries;
@@ -161,7 +164,7 @@ fn next_due(listed: &mut VecDeque<PendingMap>, completed: u64) -> Option<Pending
 /// Settles a map that was listed and is due: where it waits, its buffer is mapped.
 fn settle_one(promises: &mut HashMap<u64, u64>, mapped: &mut MappedBuffers, wait: &PendingMap)
     requires { is_waiting promises.old.entries wait.now ≡ true → 0 < mapped.old.spare }
-    ensures settling { (completed : ℕ) (first rest : List PendingMap) (start : MappedValue) → is_due completed wait.now ≡ true → IsSettling completed first start promises.old.entries (wait.now ∷ rest) mapped.old → IsSettling completed first start promises.new.entries rest mapped.new }
+    ensures settling { Settles wait.now promises.old.entries mapped.old promises.new.entries mapped.new }
     ensures spare { spare promises.old ≤ spare promises.new }
 {
     if is_waiting(promises, wait) {
@@ -238,7 +241,7 @@ impl Waits {
 
     /// The maps that are due, in the order of their promises.
     pub fn due(&self, alloc: Global, completed: u64) -> Result<Vec<PendingMap>, NoMemory>
-        ensures due { IfOk result (λ list. list.items ≡ filter (is_due completed) self.now.pending) }
+        ensures due { IfOk result (λ list. list.items ≡ due_maps completed self.now.pending) }
         ensures in_order { IfOk result (λ list. IsNonDecreasingBy (λ (wait : PendingMap). wait.promise) list.items) }
     {
         let count = count_due(&self.listed, completed);
@@ -286,7 +289,7 @@ impl Waits {
     pub fn settle(&mut self, completed: u64, mapped: &mut MappedBuffers)
         requires room { length self.old.pending ≤ mapped.old.spare }
         ensures pending { self.new.pending ≡ still_pending completed self.old.pending }
-        ensures found { (buffer : ℕ) → pending_of self.new.pending buffer ≡ (if is_buffer_due completed buffer self.old.pending then None else pending_of self.old.pending buffer) }
+        ensures found { (buffer : ℕ) → pending_of self.new.pending buffer ≡ still_pending_of completed self.old.pending buffer }
         ensures mapped { mapped.new.buffers ≡ with_due completed self.old.pending mapped.old.buffers }
         ensures mapped_room { mapped.old.spare + length self.new.pending ≤ mapped.new.spare + length self.old.pending }
         ensures spare { self.old.spare ≤ self.new.spare }

@@ -75,18 +75,20 @@ apart_full from lo hi next runs l m k a = by_test (nat_lt lo hi) refl
     by_test true e = (l, ltb-true lo hi e, later next (hi + 1) runs m a)
     by_test false e = later next from runs k a
 
+-- the numbers of a run below another, or from it on, and those that are neither
+
+below : (a b l n : ℕ) → in_run a (min b l) n ≡ (in_run a b n && nat_lt n l)
+below a b l n = grind (arith, nat_tests)
+
+above : (a b h n : ℕ) → in_run (max a h) b n ≡ (in_run a b n && nat_le h n)
+above a b h n = grind (arith, nat_tests)
+
+inner : (l h n : ℕ) → in_run l h n ≡ (not (nat_lt n l) && not (nat_le h n))
+inner l h n = grind (arith, nat_tests)
+
 cut_in_run : (lo hi a b n : ℕ) → (in_run a (min b lo) n || in_run (max a hi) b n) ≡ (in_run a b n && not (in_run lo hi n))
 cut_in_run lo hi a b n = by_parts (nat_le a n) (nat_lt n b) (nat_lt n lo) (nat_le hi n) (below a b lo n) (above a b hi n) (inner lo hi n)
   where
-    below : (a b l n : ℕ) → in_run a (min b l) n ≡ (in_run a b n && nat_lt n l)
-    below a b l n = grind (arith, nat_tests)
-
-    above : (a b h n : ℕ) → in_run (max a h) b n ≡ (in_run a b n && nat_le h n)
-    above a b h n = grind (arith, nat_tests)
-
-    inner : (l h n : ℕ) → in_run l h n ≡ (not (nat_lt n l) && not (nat_le h n))
-    inner l h n = grind (arith, nat_tests)
-
     by_parts : (p q x y : Bool) → in_run a (min b lo) n ≡ ((p && q) && x) → in_run (max a hi) b n ≡ ((p && q) && y) → in_run lo hi n ≡ (not x && not y) → (in_run a (min b lo) n || in_run (max a hi) b n) ≡ ((p && q) && not (in_run lo hi n))
     by_parts p q x y e f g = ap₂ ◌||◌ e f ∙ (cases p q x y ∙ ap (λ t. (p && q) && not t) (sym g))
       where
@@ -156,15 +158,6 @@ missing_in from lo hi n (x ∷ xs) a = in_append n (full_run lo (min hi x.0)) (m
     without : (lo hi a b n : ℕ) → a < b → (in_run lo (min hi a) n || (in_run (max lo b) hi n && true)) ≡ (in_run lo hi n && not (in_run a b n || false))
     without lo hi a b n h = by_parts (in_run lo hi n) (nat_lt n a) (nat_le b n) (below lo hi a n) (above lo hi b n) (inner a b n)
       where
-        below : (a b l n : ℕ) → in_run a (min b l) n ≡ (in_run a b n && nat_lt n l)
-        below a b l n = grind (arith, nat_tests)
-
-        above : (a b h n : ℕ) → in_run (max a h) b n ≡ (in_run a b n && nat_le h n)
-        above a b h n = grind (arith, nat_tests)
-
-        inner : (l h n : ℕ) → in_run l h n ≡ (not (nat_lt n l) && not (nat_le h n))
-        inner l h n = grind (arith, nat_tests)
-
         cases : (p x y : Bool) → ((p && x) || ((p && y) && true)) ≡ (p && not ((not x && not y) || false))
         cases true true y = refl
         cases true false true = refl

@@ -1,7 +1,7 @@
 //! Sets of numbers, kept as runs.
 #![tactic(auto)]
 
-pub mod runs;
+mod runs;
 pub mod set;
 
 pub use set::RunSet;

@@ -1,8 +1,8 @@
 //! A set of numbers.
-ghost use Rattle.std.specs.Prelude.{◌≡◌, ℕ, ◌≤◌, ◌&&◌, ◌||◌, not, List, [], IfOk};
-ghost use Rattle.wg_num.specs.Runs.{AreApart, in_run, insert_run, is_in, remove_run};
+ghost use Rattle.std.specs.Prelude.{◌≡◌, ℕ, ◌≤◌, ◌&&◌, ◌||◌, not, List, [], IfOk, IsTrue, ◌↔◌};
+ghost use Rattle.wg_num.specs.Runs.{AllIn, AreApart, covers_run, in_run, insert_run, is_in, missing_runs, remove_run};
 
-use crate::runs::{cut_runs, with_run};
+use crate::runs::{covers_run, cut_runs, missing_runs, with_run};
 use std::alloc::Global;
 use std::marker::Model;
 use wg_entry::NoMemory;
@@ -66,6 +66,26 @@ impl RunSet {
             return Ok(RunSet { held: runs });
         }
         self.copy()
+    }
+
+    /// Whether all numbers from `lo` up to but not including `hi` are in the set, so that it stays as it is
+    /// with them.
+    pub fn covers(&self, lo: u64, hi: u64) -> bool
+        ensures test { result ≡ covers_run lo hi self.now }
+        ensures all { IsTrue result ↔ AllIn lo hi self.now }
+        ensures same { IsTrue result → insert_run lo hi self.now ≡ self.now }
+    {
+        covers_run(self.held.as_slice(), lo, hi)
+    }
+
+    /// The numbers from `lo` up to but not including `hi` that are not in the set.
+    pub fn missing(&self, lo: u64, hi: u64) -> Result<RunSet, NoMemory>
+        ensures runs { IfOk result (λ set. set ≡ missing_runs lo hi self.now) }
+        ensures members { IfOk result
+            (λ set. (n : ℕ) → is_in set n ≡ (in_run lo hi n && not (is_in self.now n))) }
+    {
+        let runs = missing_runs(*self.held.allocator(), self.held.as_slice(), lo, hi)?;
+        Ok(RunSet { held: runs })
     }
 
     /// An equal set.

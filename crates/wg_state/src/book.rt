@@ -2,6 +2,7 @@
 ghost use Rattle.std.specs.Prelude.{◌≡◌, ◌+◌, ◌-◌, ◌^◌, ◌<◌, ◌≤◌, ◌∷◌, ◌++◌, [], length, reverse, slice_get, option_copied, OnOk, IfOk};
 ghost use Rattle.wg_history.specs.Objects.{count, maker, made_info, info_at, texture_at, texture_or_none_at, is_valid, is_made_valid};
 
+use crate::infos::as_texture;
 use std::alloc::Global;
 use std::marker::Model;
 use wg_formats::no_texture;
@@ -138,22 +139,10 @@ impl Book {
     pub fn texture(&self, number: u64) -> Option<TextureInfo>
         ensures { result ≡ texture_at (reverse self.now.entries) number }
     {
-        match self.info(number) {
-            Some(Info::Texture(info)) => Some(*info),
-            Some(
-                Info::Buffer(_)
-                | Info::View(_)
-                | Info::Sampler(_)
-                | Info::GroupLayout(_)
-                | Info::PipelineLayout(_)
-                | Info::Group(_)
-                | Info::Compute(_)
-                | Info::Render(_)
-                | Info::Encoder
-                | Info::CommandBuffer,
-            )
-            | None => None,
-        }
+        let Some(info) = self.info(number) else {
+            return None;
+        };
+        as_texture(info)
     }
 
     /// And with a texture of no texels standing for what is none.

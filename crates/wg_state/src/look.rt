@@ -8,7 +8,7 @@ ghost use Rattle.wg_types.specs.Wanted.{admits};
 ghost use Rattle.wg_types.specs.Kinds.{kind_of};
 
 use crate::book::Book;
-use crate::infos::{has_memory, is_command_buffer, is_encoder, same_info, same_kind};
+use crate::infos::{as_buffer, has_memory, is_command_buffer, is_encoder, same_info, same_kind};
 use wg_history::events::Setup;
 use wg_types::commands::{Command, On};
 use wg_types::handles::{BufferInfo, Handle, Info, ObjRef};
@@ -30,22 +30,10 @@ fn own_info(setup: Setup, book: &Book, object: ObjRef) -> Option<&Info>
 pub fn buffer_at(book: &Book, number: u64) -> Option<BufferInfo>
     ensures { result ≡ buffer_at (reverse book.now.entries) number }
 {
-    match book.info(number) {
-        Some(Info::Buffer(info)) => Some(*info),
-        Some(
-            Info::Texture(_)
-            | Info::View(_)
-            | Info::Sampler(_)
-            | Info::GroupLayout(_)
-            | Info::PipelineLayout(_)
-            | Info::Group(_)
-            | Info::Compute(_)
-            | Info::Render(_)
-            | Info::Encoder
-            | Info::CommandBuffer,
-        )
-        | None => None,
-    }
+    let Some(info) = book.info(number) else {
+        return None;
+    };
+    as_buffer(info)
 }
 
 /// What is known of the object, if it is a texture.

@@ -12,6 +12,7 @@ ghost use Rattle.wg_state.specs.Rows.{AreDropsOf};
 ghost use Rattle.wg_state.specs.Mapped.{is_mapping, made_in, keeps_map, with_asked_map, with_completed_maps, unmapped_by, unmapped_in, lost_in, maps_after, FitsIn, IsFree};
 
 use crate::book::Book;
+use crate::infos::as_buffer;
 use crate::look;
 use crate::notes::{destroyed_by, is_dropped};
 use wg_history::events::{Entry, Event, Form, Promise, Setup};
@@ -60,37 +61,27 @@ fn asked(room: u64, mode: u32, offset: u64, size: u64) -> Option<Mapping>
 }
 
 /// How the object of which this is known is mapped at its creation, if it is.
+#[tactic(auto, using(crate::proofs::MadeLemmas::mapped_none, crate::proofs::MadeLemmas::mapped_buffer))]
 fn mapped_made(answer: Answer, made: &Option<Info>) -> Option<Mapping>
     ensures { result ≡ mapped_with answer made.now }
 {
     let Answer::Made { valid: true, .. } = answer else {
         return None;
     };
-    match made {
-        Some(Info::Buffer(info)) => {
-            if !info.mapped {
-                return None;
-            }
-            Some(Mapping {
-                mode: MapMode::Write,
-                lo: 0,
-                hi: info.size,
-            })
-        }
-        Some(
-            Info::Texture(_)
-            | Info::View(_)
-            | Info::Sampler(_)
-            | Info::GroupLayout(_)
-            | Info::PipelineLayout(_)
-            | Info::Group(_)
-            | Info::Compute(_)
-            | Info::Render(_)
-            | Info::Encoder
-            | Info::CommandBuffer,
-        )
-        | None => None,
+    let Some(info) = made else {
+        return None;
+    };
+    let Some(buffer) = as_buffer(info) else {
+        return None;
+    };
+    if !buffer.mapped {
+        return None;
     }
+    Some(Mapping {
+        mode: MapMode::Write,
+        lo: 0,
+        hi: buffer.size,
+    })
 }
 
 /// Notes the buffer that an entry makes, if it is mapped at its creation.

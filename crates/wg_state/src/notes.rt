@@ -1,12 +1,12 @@
 //! What an entry notes of objects.
-ghost use Rattle.std.specs.Prelude.{◌≡◌, ◌+◌, ◌≤◌, ◌<◌, ◌==◌, ◌&&◌, reverse, length, false, is_some, IfSome};
+ghost use Rattle.std.specs.Prelude.{◌≡◌, ◌+◌, ◌≤◌, ◌<◌, ◌==◌, reverse, length, false, is_some, IfSome};
 ghost use Rattle.std.specs.List.{list_any};
-ghost use Rattle.wg_history.specs.Objects.{count, is_own, is_making, is_command_buffer};
+ghost use Rattle.wg_history.specs.Objects.{count, is_making};
 ghost use Rattle.wg_history.specs.Operations.{op_of, is_used, use_by};
-ghost use Rattle.wg_history.specs.Rules.{drops, is_dropped, destroys, ends_encoder, consumes};
-ghost use Rattle.wg_holders.specs.Holders.{mark_at, with_ended, with_consumed, with_dropped, Marks};
+ghost use Rattle.wg_history.specs.Rules.{destroys, ends_encoder};
+ghost use Rattle.wg_holders.specs.Holders.{mark_at, with_ended, with_consumed, Marks};
 ghost use Rattle.wg_life.specs.Lives.{with_destroyed, with_last, with_use, Notes};
-ghost use Rattle.wg_state.specs.Rows.{noted, marked, is_at, AreUsed, AreDropsOf, CanAdd, links_of, grown, grown_holdings, destroyed_by, dropped_by, ended_by};
+ghost use Rattle.wg_state.specs.Rows.{noted, marked, drop_marked, is_listed_as, some_listed_as, is_at, AreUsed, AreDropsOf, CanAdd, links_of, grown, grown_holdings, destroyed_by, dropped_by, ended_by};
 
 use crate::book::Book;
 use crate::look;
@@ -109,7 +109,7 @@ fn note_destroyed(setup: Setup, book: &Book, event: &Event, life: &mut Life)
 fn note_dropped(setup: Setup, book: &Book, event: &Event, life: &mut Life)
     requires drops { AreDropsOf setup (reverse book.now.entries) life.old.holdings.marks }
     requires count { is_making event.now ≡ false → length life.old.holdings.marks ≡ count (reverse book.now.entries) }
-    ensures marks { Marks (λ n. with_dropped (count (reverse book.now.entries)) (drops (is_dropped setup (reverse book.now.entries) n) setup (reverse book.now.entries) event.now n)) life.old.holdings life.new.holdings }
+    ensures marks { Marks (drop_marked setup (reverse book.now.entries) event.now) life.old.holdings life.new.holdings }
     ensures rows { life.new.rows ≡ life.old.rows }
     ensures budget { life.new.budget ≡ life.old.budget }
     ensures spare { life.new.spare ≡ life.old.spare }
@@ -135,7 +135,7 @@ fn note_ended(setup: Setup, book: &Book, event: &Event, life: &mut Life)
 
 /// Notes that a submit listed a command buffer.
 fn consume(setup: Setup, book: &Book, buffer: ObjRef, life: &mut Life)
-    ensures marks { Marks (λ n. with_consumed (buffer.number == n && is_own setup (reverse book.now.entries) is_command_buffer buffer)) life.old.holdings life.new.holdings }
+    ensures marks { Marks (λ n. with_consumed (is_listed_as setup (reverse book.now.entries) n buffer)) life.old.holdings life.new.holdings }
     ensures rows { life.new.rows ≡ life.old.rows }
     ensures budget { life.new.budget ≡ life.old.budget }
     ensures spare { life.new.spare ≡ life.old.spare }
@@ -148,7 +148,7 @@ fn consume(setup: Setup, book: &Book, buffer: ObjRef, life: &mut Life)
 
 /// Notes what a submit lists.
 fn note_consumed(setup: Setup, book: &Book, buffers: &[ObjRef], life: &mut Life)
-    ensures marks { Marks (λ n. with_consumed (list_any (λ buffer. buffer.number == n && is_own setup (reverse book.now.entries) is_command_buffer buffer) buffers.now)) life.old.holdings life.new.holdings }
+    ensures marks { Marks (λ n. with_consumed (some_listed_as setup (reverse book.now.entries) buffers.now n)) life.old.holdings life.new.holdings }
     ensures rows { life.new.rows ≡ life.old.rows }
     ensures budget { life.new.budget ≡ life.old.budget }
     ensures spare { life.new.spare ≡ life.old.spare }

@@ -9,6 +9,7 @@ ghost use Rattle.wg_history.specs.Objects.{is_made_valid, made_info};
 ghost use Rattle.wg_history.specs.Rules.{has_finished, is_consumed, is_destroyed, is_dropped, may_name, is_busy, mapped_at};
 ghost use Rattle.wg_history.specs.Answers.{Run, reply_to, settle_all, kept_how, ended_how, is_kept};
 ghost use Rattle.wg_history.specs.Releases.{freed};
+ghost use Rattle.wg_maps.specs.Mappings.{due_maps};
 ghost use Rattle.wg_state.specs.Rows.{AreUsed, made_by, links_of};
 ghost use Rattle.wg_state.specs.States.{IsKept};
 ghost use Rattle.wg_state.specs.Waits.{map_waits};
@@ -223,7 +224,7 @@ impl State {
 
     /// The maps that settle once all operations up to this one are complete, in the order of their promises.
     pub fn kept_maps(&self, op: u64) -> Result<Vec<PendingMap>, NoMemory>
-        ensures { IfOk result (λ list. list.items ≡ filter (λ w. nat_le w.last op) (map_waits (awaiting (reverse self.now.history)))) }
+        ensures { IfOk result (λ list. list.items ≡ due_maps op (map_waits (awaiting (reverse self.now.history)))) }
     {
         self.kept.maps.due_waits(op)
     }

@@ -116,7 +116,21 @@ impl Gather<Handle, Used> for Resources {
             Wanted::Texture => push_used(found, object, Sort::Texture),
             Wanted::View => push_view(found, object),
             Wanted::Group => push_group(found, object),
-            _ => Ok(()),
+            Wanted::Sampler
+            | Wanted::GroupLayout
+            | Wanted::PipelineLayout
+            | Wanted::Pipeline
+            | Wanted::ComputePipeline
+            | Wanted::RenderPipeline
+            | Wanted::Destroyable
+            | Wanted::Encoder
+            | Wanted::CommandBuffer
+            | Wanted::ComputePass
+            | Wanted::Pass
+            | Wanted::Binding
+            | Wanted::Drawing
+            | Wanted::Recording
+            | Wanted::Object => Ok(()),
         }
     }
 }

@@ -1,6 +1,6 @@
 use Rattle.std.proofs.Common.{◌≡◌, ◌≤◌, sym, subst, rules, arith}
-use Rattle.wg_counts.specs.Counts.{own_at}
-use Rattle.wg_holders.specs.Tokens.{times, held_by}
+use Rattle.wg_counts.specs.Counts.{own_at, times}
+use Rattle.wg_holders.specs.Tokens.{held_by}
 use Rattle.wg_holders.proofs.OwnLemmas.{names_le, living_consumed}
 use Rattle.wg_holders.proofs.StepLemmas.{kept_consumed}
 use Rattle.wg_holders.proofs.HeldLemmas.{falls_view}

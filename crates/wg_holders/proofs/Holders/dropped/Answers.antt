@@ -1,7 +1,7 @@
 use Rattle.std.proofs.Common.{◌≡◌, ◌≤◌, ◌<◌, ◌∙◌, None, length, sym, ap, subst, rules, arith}
-use Rattle.wg_counts.specs.Counts.{own_at}
+use Rattle.wg_counts.specs.Counts.{own_at, times}
 use Rattle.wg_holders.specs.Holders.{HoldersValue, mark_at}
-use Rattle.wg_holders.specs.Tokens.{times, held_by, IsTidy}
+use Rattle.wg_holders.specs.Tokens.{held_by, IsTidy}
 use Rattle.wg_holders.proofs.MoveLemmas.{Falls_then}
 use Rattle.wg_holders.proofs.OwnLemmas.{names_le, waits_le, owned_moved, living_dropped}
 use Rattle.wg_holders.proofs.StepLemmas.{kept_dropping}

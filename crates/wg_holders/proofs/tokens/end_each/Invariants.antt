@@ -1,5 +1,6 @@
 use Rattle.std.proofs.Common.{drop}
-use Rattle.wg_holders.specs.Tokens.{times, Moves}
+use Rattle.wg_counts.specs.Counts.{times}
+use Rattle.wg_holders.specs.Tokens.{Moves}
 use Rattle.wg_holders.proofs.tokens.end_each.Given as goal
 
 abbrev pub invariant-loop-number : goal.invariant-loop-number

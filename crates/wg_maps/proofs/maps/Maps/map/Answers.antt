@@ -16,3 +16,9 @@ invariant_of-self c =
       waits_fit = omega (arith, room);
       mapped_fit = omega (arith, room);
     }
+
+pub returns-clause-apart : goal.returns-clause-apart
+returns-clause-apart c =
+    let new : PendingMap = record { promise = c.args.promise; buffer = c.args.buffer; last = c.args.last; mapping = record { mode = c.args.mode; lo = c.args.lo; hi = c.args.hi } } in
+    let free : state_with (pending_of c.self.inside.waits.pending c.args.buffer) (table.get c.self.inside.mapped.buffers c.args.buffer) ≡ Unmapped = search rules in
+    rw c.add.ensures.pending (apart_pending c.self.inside.waits.pending c.self.inside.mapped.buffers new free c.self.invariant.apart)
