@@ -76,7 +76,7 @@ any_either p q r is [] = refl
 any_either p q r is (x ∷ xs) = ap₂ ◌||◌ (is x) (any_either p q r is xs) ∙ swap_heads (p x) (list_any p xs) (q x) (list_any q xs)
 
 -- A resource is a buffer or a texture.
-any_resource_is : (test : ℕ → Bool) (commands : List (On × Command)) → any_resource test commands ≡ any_named buffers_of test commands || any_named textures_of test commands
+pub any_resource_is : (test : ℕ → Bool) (commands : List (On × Command)) → any_resource test commands ≡ any_named buffers_of test commands || any_named textures_of test commands
 any_resource_is test commands = any_either (λ kept. list_any test (buffers_of kept.1)) (λ kept. list_any test (textures_of kept.1)) (λ kept. list_any test (resources kept.1)) (λ kept. list_any-append test (buffers_of kept.1) (textures_of kept.1)) commands
 
 any_destroyed_is : (setup : Setup) (past : Past) (buffers : List ObjRef) → any_used resources (is_destroyed setup past) past buffers ≡ any_used buffers_of (is_destroyed setup past) past buffers || any_used textures_of (is_destroyed setup past) past buffers
@@ -115,7 +115,7 @@ submit_stands setup past buffers n run e lt gone =
     by_use false used spared listed consumed = refl
 
 -- What is gone is used by no later operation of a run.
-no_op : (lost b : Bool) (k : ℕ) → b ≡ false → unwrap_or (op_of (if not lost && b then Queued k else Plain)) 0 ≡ 0
+pub no_op : (lost b : Bool) (k : ℕ) → b ≡ false → unwrap_or (op_of (if not lost && b then Queued k else Plain)) 0 ≡ 0
 no_op true b k e = refl
 no_op false b k e = ap (λ (b : Bool). unwrap_or (op_of (if b then Queued k else Plain)) 0) e
 

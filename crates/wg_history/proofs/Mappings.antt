@@ -158,23 +158,33 @@ map_unborn setup past buffer mode offset size n le same = by_rule (is_none (map_
     by_rule true e = absurd (let lt : buffer.number < count past = own_below setup past _ buffer (all_met (map_async_list setup past buffer mode offset size) e).0 in omega (arith, lt, le, same))
     by_rule false e = refl
 
-unborn_settled : (setup : Setup) (past : Past) (buffer : ObjRef) (mode offset size n : ℕ) → count past ≤ n → buffer.number ≡ n → (reply_to setup past (MapAsync buffer mode offset size)).settled ≡ at_once (length past) (refused_how (is_lost past))
-unborn_settled setup past buffer mode offset size n le same =
-    ap (λ met. own_settled past (is_lost past) met (ForMap buffer mode offset size)) (map_unborn setup past buffer mode offset size n le same) ∙ by_lost (is_lost past)
+-- A map that does not meet its rules is settled by its own entry, which leaves what waits as it was.
+refused_settled : (setup : Setup) (past : Past) (buffer : ObjRef) (mode offset size : ℕ) → is_none (map_async_rule setup past buffer mode offset size) ≡ false → (reply_to setup past (MapAsync buffer mode offset size)).settled ≡ at_once (length past) (refused_how (is_lost past))
+refused_settled setup past buffer mode offset size unmet = ap (λ met. own_settled past (is_lost past) met (ForMap buffer mode offset size)) unmet ∙ by_lost (is_lost past)
   where
     by_lost : (b : Bool) → own_settled past b false (ForMap buffer mode offset size) ≡ at_once (length past) (refused_how b)
     by_lost true = refl
     by_lost false = refl
 
-unborn_pends : (setup : Setup) (past : Past) (event : Event) (n : ℕ) → is_pending past n ≡ false → count past ≤ n → list_any (is_map_of n) (unsettled (reply_to setup past event).settled (awaiting past ++ promised past (effects_of event).form)) ≡ false
-unborn_pends setup past (MapAsync buffer mode offset size) n before le = by_same (buffer.number == n) refl
+pub refused_leaves : (setup : Setup) (past : Past) (buffer : ObjRef) (mode offset size : ℕ) → is_none (map_async_rule setup past buffer mode offset size) ≡ false
+    → unsettled (reply_to setup past (MapAsync buffer mode offset size)).settled (awaiting past ++ promised past (Promising (ForMap buffer mode offset size))) ≡ awaiting past
+refused_leaves setup past buffer mode offset size unmet =
+    ap (λ (settled : List Settlement). unsettled settled (awaiting past ++ promised past (Promising (ForMap buffer mode offset size)))) (refused_settled setup past buffer mode offset size unmet)
+    ∙ unsettled_own (refused_how (is_lost past)) (mapping buffer.number (last_use past buffer.number) (asked_mapping mode offset size)) (length past) (awaiting past) (awaiting_ascends past)
+
+-- No map of a buffer begins to wait where none meets its rules.
+pub refused_pends : (setup : Setup) (past : Past) (event : Event) (n : ℕ) → is_pending past n ≡ false
+    → ((buffer : ObjRef) (mode offset size : ℕ) → buffer.number ≡ n → is_none (map_async_rule setup past buffer mode offset size) ≡ false)
+    → list_any (is_map_of n) (unsettled (reply_to setup past event).settled (awaiting past ++ promised past (effects_of event).form)) ≡ false
+refused_pends setup past (MapAsync buffer mode offset size) n before refuses = by_same (buffer.number == n) refl
   where
     by_same : (b : Bool) → (buffer.number == n) ≡ b → list_any (is_map_of n) (unsettled (reply_to setup past (MapAsync buffer mode offset size)).settled (awaiting past ++ promised past (Promising (ForMap buffer mode offset size)))) ≡ false
-    by_same true e =
-        ap (λ (settled : List Settlement). list_any (is_map_of n) (unsettled settled (awaiting past ++ promised past (Promising (ForMap buffer mode offset size))))) (unborn_settled setup past buffer mode offset size n le (eqb-true buffer.number n e))
-        ∙ (ap (list_any (is_map_of n)) (unsettled_own (refused_how (is_lost past)) (mapping buffer.number (last_use past buffer.number) (asked_mapping mode offset size)) (length past) (awaiting past) (awaiting_ascends past)) ∙ before)
+    by_same true e = ap (list_any (is_map_of n)) (refused_leaves setup past buffer mode offset size (refuses buffer mode offset size (eqb-true buffer.number n e))) ∙ before
     by_same false e = any_unsettled (is_map_of n) (reply_to setup past (MapAsync buffer mode offset size)).settled (awaiting past ++ promised past (Promising (ForMap buffer mode offset size))) (any_both (is_map_of n) (awaiting past) (promised past (Promising (ForMap buffer mode offset size))) before (ap (λ b. b || false) e))
-unborn_pends setup past event n before le = any_unsettled (is_map_of n) (reply_to setup past event).settled (awaiting past ++ promised past (effects_of event).form) (any_both (is_map_of n) (awaiting past) (promised past (effects_of event).form) before (own_of_other n past (effects_of event).form (λ buffer mode offset size e. absurd (cc))))
+refused_pends setup past event n before refuses = any_unsettled (is_map_of n) (reply_to setup past event).settled (awaiting past ++ promised past (effects_of event).form) (any_both (is_map_of n) (awaiting past) (promised past (effects_of event).form) before (own_of_other n past (effects_of event).form (λ buffer mode offset size e. absurd (cc))))
+
+pub unborn_pends : (setup : Setup) (past : Past) (event : Event) (n : ℕ) → is_pending past n ≡ false → count past ≤ n → list_any (is_map_of n) (unsettled (reply_to setup past event).settled (awaiting past ++ promised past (effects_of event).form)) ≡ false
+unborn_pends setup past event n before le = refused_pends setup past event n before (λ buffer mode offset size same. map_unborn setup past buffer mode offset size n le same)
 
 pub pending_new : (setup : Setup) (past : Past) (n : ℕ) → IsRun setup past → count past ≤ n → is_pending past n ≡ false
 pending_new setup [] n run le = refl
@@ -187,7 +197,7 @@ unborn_keeps : (setup : Setup) (past : Past) (event : Event) (n : ℕ) → count
 unborn_keeps setup past (MapAsync buffer mode offset size) n le = by_same (buffer.number == n) refl
   where
     by_same : (b : Bool) → (buffer.number == n) ≡ b → (((buffer.number == n) && settles_mapped (reply_to setup past (MapAsync buffer mode offset size)).settled (length past)) || false) ≡ false
-    by_same true e = ap₂ (λ a b. (a && b) || false) e (ap (λ (settled : List Settlement). settles_mapped settled (length past)) (unborn_settled setup past buffer mode offset size n le (eqb-true buffer.number n e)) ∙ own_refused past (is_lost past))
+    by_same true e = ap₂ (λ a b. (a && b) || false) e (ap (λ (settled : List Settlement). settles_mapped settled (length past)) (refused_settled setup past buffer mode offset size (map_unborn setup past buffer mode offset size n le (eqb-true buffer.number n e))) ∙ own_refused past (is_lost past))
     by_same false e = ap (λ b. (b && settles_mapped (reply_to setup past (MapAsync buffer mode offset size)).settled (length past)) || false) e
 unborn_keeps setup past event n le = keeps_none n (reply_to setup past event).settled (promised past (effects_of event).form) (own_of_other n past (effects_of event).form (λ buffer mode offset size e. absurd (cc)))
 

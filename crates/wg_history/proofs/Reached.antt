@@ -1,8 +1,8 @@
 -- What commands use, directly or through bind groups, was made before, and is held by what they name.
-use Rattle.std.proofs.Common.{◌≡◌, ℕ, ◌+◌, ◌<◌, List, [], ◌∷◌, ◌++◌, map, Bool, true, false, not, ◌&&◌, ◌||◌, ◌==◌, Option, Some, None, is_none, refl, ap, ap₂, sym, ◌∙◌, subst, arith, if◌then◌else◌, true≢false, inl, inr}
+use Rattle.std.proofs.Common.{◌≡◌, ℕ, ◌<◌, List, [], ◌∷◌, ◌++◌, map, Bool, true, false, not, ◌&&◌, ◌||◌, ◌==◌, Option, Some, None, is_none, refl, ap, ap₂, sym, ◌∙◌, subst, arith, if◌then◌else◌, true≢false, inl, inr}
 use Rattle.std.specs.List.{list_any, flat_map}
 use Rattle.std.specs.Option.{option_map_or}
-use Rattle.std.proofs.lemmas.Bool.{and_parts, and_from, or_cases, or_left, or_right, eq-eqb}
+use Rattle.std.proofs.lemmas.Bool.{and_parts, and_from, or_cases, or_left, or_right, eq-eqb, eqb-true}
 use Rattle.std.proofs.lemmas.List.Folds.{list_any-append}
 use Rattle.wg_types.specs.Handles.{HandleValue}
 use Rattle.wg_types.specs.Kinds.{kind_of}
@@ -37,7 +37,7 @@ use Rattle.wg_history.specs.Entries.{Setup, Event, CreateBindGroup, Finish, effe
 use Rattle.wg_history.specs.Objects.{ObjRef, is_making, count, maker, info_made, unknown, known_in, info_at, is_own, is_valid, is_made_valid, commands_at}
 use Rattle.wg_history.specs.Operations.{submit_uses}
 use Rattle.wg_history.specs.Infos.{same_kind, same_info}
-use Rattle.wg_history.specs.Rules.{is_dropped, is_consumed, is_genuine, may_name, any_barred, encoder_rules, recording_rules, finish_rule, listed_rules}
+use Rattle.wg_history.specs.Rules.{is_dropped, is_consumed, is_genuine, is_barred, any_barred, recording_rules, finish_rule, listed_rules}
 use Rattle.wg_history.specs.GroupRules.{named_rules, group_named, create_bind_group_rule}
 use Rattle.wg_history.specs.Held.{resource_number, refers_of, refers_made, refers_at, holds_of, is_held}
 use Rattle.wg_history.specs.Loss.{is_lost}
@@ -46,9 +46,10 @@ use Rattle.wg_history.specs.Answers.{answer_by, IsRun}
 use Rattle.wg_history.proofs.BindingLaws.{infos_tell}
 use Rattle.wg_history.proofs.Runs.{newest, others}
 use Rattle.wg_history.proofs.Tests.{not_true, was_not, met_before, neither}
-use Rattle.wg_history.proofs.Makers.{maker_stays, known_below, own_below, made_met, made_more}
+use Rattle.wg_history.proofs.Makers.{own_below, made_met, made_more}
 use Rattle.wg_history.proofs.Holders.{named_held, named_from, refers_same, genuine_below}
 use Rattle.wg_history.proofs.Making.{refers_back, names_back}
+use Rattle.wg_history.proofs.Viewing.{is_texture_at, texture_later, view_texture}
 
 -- To what an object refers is told by what is known of it.
 
@@ -98,20 +99,26 @@ pub record Viewed (past : Past) (numbers : List ℕ) (n : ℕ) : Type 0 where
   pub lt : v < count past
   pub among : is_among numbers v ≡ true
   pub refers : is_among (refers_at past v) n ≡ true
+  pub texture : is_texture_at past n ≡ true
 
 further : (past : Past) (x : ℕ) (xs : List ℕ) (n : ℕ) → Viewed past xs n → Viewed past (x ∷ xs) n
-further past x xs n found = record { v = found.v; lt = found.lt; among = or_right (x == found.v) (is_among xs found.v) found.among; refers = found.refers }
+further past x xs n found = record { v = found.v; lt = found.lt; among = or_right (x == found.v) (is_among xs found.v) found.among; refers = found.refers; texture = found.texture }
 
 view_refers : (past : Past) (v n : ℕ) (o : Option Info) → is_valid past v ≡ true → info_at past v ≡ o → option_map_or (λ known. admits wanted.View (kind_of known)) o false ≡ true → ((known_view o).texture.number == n) ≡ true → is_among (refers_at past v) n ≡ true
 view_refers past v n None valid e own here = absurd (true≢false (sym own))
 view_refers past v n (Some (ViewInfo known)) valid e own here = ap (λ (list : List ℕ). is_among list n) (refers_known past v (ViewInfo known) valid e) ∙ or_left (known.texture.number == n) false here
 view_refers past v n (Some _) valid e own here = absurd (true≢false (sym own))
 
-views_of : (setup : Setup) (older : Past) (entries : List (GroupEntryOf ObjRef)) (n : ℕ) → AreMet (named_rules setup older (entries_named entries))
+viewed_texture : (setup : Setup) (past : Past) (v n : ℕ) (o : Option Info) → IsRun setup past → is_valid past v ≡ true → info_at past v ≡ o → option_map_or (λ known. admits wanted.View (kind_of known)) o false ≡ true → ((known_view o).texture.number == n) ≡ true → is_texture_at past n ≡ true
+viewed_texture setup past v n None run valid e own here = absurd (true≢false (sym own))
+viewed_texture setup past v n (Some (ViewInfo known)) run valid e own here = ap (is_texture_at past) (sym (eqb-true known.texture.number n here)) ∙ view_texture setup past v known run valid e
+viewed_texture setup past v n (Some _) run valid e own here = absurd (true≢false (sym own))
+
+views_of : (setup : Setup) (older : Past) (entries : List (GroupEntryOf ObjRef)) (n : ℕ) → IsRun setup older → AreMet (named_rules setup older (entries_named entries))
     → is_among (flat_map (λ (entry : BoundEntry). bound_texture entry.resource) (map (bound_entry (λ r. r) (known_in older)) entries)) n ≡ true
     → Viewed older (map (λ (entry : BoundEntry). resource_number entry.resource) (map (bound_entry (λ r. r) (known_in older)) entries)) n
-views_of setup older [] n met e = absurd (true≢false (sym e))
-views_of setup older (entry ∷ entries) n met e = by_resource entry.resource met e (views_of setup older entries n)
+views_of setup older [] n run met e = absurd (true≢false (sym e))
+views_of setup older (entry ∷ entries) n run met e = by_resource entry.resource met e (views_of setup older entries n run)
   where
     by_resource : (resource : ResourceOf ObjRef) → AreMet (named_rules setup older (resource_named resource ∷ entries_named entries))
         → is_among (bound_texture (bound_resource (λ r. r) (known_in older) resource) ++ flat_map (λ (entry : BoundEntry). bound_texture entry.resource) (map (bound_entry (λ r. r) (known_in older)) entries)) n ≡ true
@@ -125,22 +132,23 @@ views_of setup older (entry ∷ entries) n met e = by_resource entry.resource me
         lt = own_below setup older _ view met.0;
         among = or_left (view.number == view.number) _ (eq-eqb view.number view.number refl);
         refers = view_refers older view.number n (info_at older view.number) met.1.1.0 refl (and_parts (view.device == setup.serial) _ met.0).1 here;
+        texture = viewed_texture setup older view.number n (info_at older view.number) run met.1.1.0 refl (and_parts (view.device == setup.serial) _ met.0).1 here;
       }
       | inr later ↦ further older view.number _ n (rest met.1.1.1 later)
     ]
 
-made_views : (setup : Setup) (older : Past) (event : Event) (group : GroupInfo) (n : ℕ) → info_made (known_in older) event ≡ Some (Group group) → is_made_valid (answer_by older (effects_of event).form (not (is_lost older) && is_none (first_rule setup older event))) ≡ true
+made_views : (setup : Setup) (older : Past) (event : Event) (group : GroupInfo) (n : ℕ) → IsRun setup older → info_made (known_in older) event ≡ Some (Group group) → is_made_valid (answer_by older (effects_of event).form (not (is_lost older) && is_none (first_rule setup older event))) ≡ true
     → is_among (flat_map (λ (entry : BoundEntry). bound_texture entry.resource) group.entries) n ≡ true → Viewed older (refers_of (Group group)) n
 unfolding create_bind_group_rule
-made_views setup older (CreateBindGroup layout entries) group n e made among =
+made_views setup older (CreateBindGroup layout entries) group n run e made among =
     let rules : List Rule = named_rules setup older (group_named layout entries) in
     let more : List Rule = group_rules setup.limits (group_made (λ r. r) (known_in older) layout entries).layout_info.entries (group_made (λ r. r) (known_in older) layout entries).entries in
     let met = all_met (rules ++ more) (and_parts (not (is_lost older)) (is_none (create_bind_group_rule setup older layout entries)) made).1 in
     let those : AreMet (named_rules setup older (group_named layout entries)) = met_before rules more met in
     let same : group_made (λ r. r) (known_in older) layout entries ≡ group = cc in
     subst (λ (g : GroupInfo). Viewed older (refers_of (Group g)) n) same
-    (further older layout.number _ n (views_of setup older entries n those.1.1.1 (ap (λ (g : GroupInfo). is_among (flat_map (λ (entry : BoundEntry). bound_texture entry.resource) g.entries) n) same ∙ among)))
-made_views setup older _ group n e made among = absurd (cc)
+    (further older layout.number _ n (views_of setup older entries n run those.1.1.1 (ap (λ (g : GroupInfo). is_among (flat_map (λ (entry : BoundEntry). bound_texture entry.resource) g.entries) n) same ∙ among)))
+made_views setup older _ group n run e made among = absurd (cc)
 
 viewed_later : (entry : Entry) (older : Past) (numbers : List ℕ) (n : ℕ) → Viewed older numbers n → Viewed (entry ∷ older) numbers n
 viewed_later entry older numbers n found = record {
@@ -148,6 +156,7 @@ viewed_later entry older numbers n found = record {
   lt = made_more (is_making entry.event) (count older) found.v found.lt;
   among = found.among;
   refers = ap (λ (list : List ℕ). is_among list n) (refers_same entry older found.v found.lt) ∙ found.refers;
+  texture = texture_later entry older n found.texture;
 }
 
 pub group_views : (setup : Setup) (past : Past) (g n : ℕ) (group : GroupInfo) → IsRun setup past → is_valid past g ≡ true → info_at past g ≡ Some (Group group)
@@ -158,7 +167,7 @@ group_views setup (entry ∷ older) g n group run valid e among = viewed_later e
     by_maker : (b : Bool) → option_map_or (λ entry. is_made_valid entry.reply.answer) (if b then Some entry else maker older g) false ≡ true → (if b then info_made (λ object. info_at older object.number) entry.event else info_at older g) ≡ Some (Group group)
         → (is_valid older g ≡ true → info_at older g ≡ Some (Group group) → is_among (flat_map (λ (entry : BoundEntry). bound_texture entry.resource) group.entries) n ≡ true → Viewed older (refers_of (Group group)) n)
         → Viewed older (refers_of (Group group)) n
-    by_maker true valid e rest = made_views setup older entry.event group n e (made_met setup entry older (newest setup entry older run) valid) among
+    by_maker true valid e rest = made_views setup older entry.event group n (others setup entry older run) e (made_met setup entry older (newest setup entry older run) valid) among
     by_maker false valid e rest = rest valid e among
 
 -- How commands reach a resource that they use: they name it, or a view or group that refers to it, or a group that refers to a
@@ -274,10 +283,7 @@ object_reaches setup past object n run genuine among = elim (or_cases (names_by 
 
 -- what the objects that commands name give, where none is barred
 
-abbrev is_barred : Setup → Past → ℕ → HandleValue × Wanted → Bool
-is_barred setup past encoder object = not (is_genuine setup past object.0 && may_name setup past encoder object.0.reference.number)
-
-double_not : (b : Bool) → not b ≡ false → b ≡ true
+pub double_not : (b : Bool) → not b ≡ false → b ≡ true
 double_not true e = refl
 double_not false e = absurd (true≢false e)
 

@@ -15,22 +15,21 @@ use Rattle.wg_history.specs.Loss.{is_lost, Awaited, mapping, work, Wait, asked_m
 use Rattle.wg_history.specs.FirstRules.{first_rule}
 use Rattle.wg_history.specs.Answers.{Plain, BadCompletion, at_once, settle_all, kept_how, is_over, is_kept, is_taken, reply_to, IsRun}
 use Rattle.wg_history.proofs.Runs.{newest, others}
-use Rattle.wg_history.proofs.Tests.{none_either}
+use Rattle.wg_history.proofs.Tests.{was_not, none_either}
 use Rattle.wg_history.proofs.Awaiting.{awaiting_ascends, unsettled_own, unsettled_tested}
 
 -- what is left of what waits, by a test
 
-pub any_unsettled : (p : Wait → Bool) (settled : List Settlement) (ws : List Wait) → list_any p ws ≡ false → list_any p (unsettled settled ws) ≡ false
-any_unsettled p settled [] e = refl
-any_unsettled p settled (w ∷ ws) e = by_test (not (settles settled w.promise)) (any_unsettled p settled ws (or_second (p w) (list_any p ws) e))
+pub any_filter : (p q : Wait → Bool) (ws : List Wait) → list_any p ws ≡ false → list_any p (filter q ws) ≡ false
+any_filter p q [] e = refl
+any_filter p q (w ∷ ws) e = by_test (q w) (any_filter p q ws (was_not (p w) (list_any p ws) e))
   where
-    or_second : (a b : Bool) → (a || b) ≡ false → b ≡ false
-    or_second true b h = absurd (true≢false h)
-    or_second false b h = h
-
-    by_test : (b : Bool) → list_any p (unsettled settled ws) ≡ false → list_any p (if b then w ∷ unsettled settled ws else unsettled settled ws) ≡ false
+    by_test : (b : Bool) → list_any p (filter q ws) ≡ false → list_any p (if b then w ∷ filter q ws else filter q ws) ≡ false
     by_test true rest = ap₂ ◌||◌ (or_first (p w) (list_any p ws) e) rest
     by_test false rest = rest
+
+pub any_unsettled : (p : Wait → Bool) (settled : List Settlement) (ws : List Wait) → list_any p ws ≡ false → list_any p (unsettled settled ws) ≡ false
+any_unsettled p settled ws e = any_filter p (λ w. not (settles settled w.promise)) ws e
 
 pub any_both : (p : Wait → Bool) (xs ys : List Wait) → list_any p xs ≡ false → list_any p ys ≡ false → list_any p (xs ++ ys) ≡ false
 any_both p xs ys e f = list_any-append p xs ys ∙ ap₂ ◌||◌ e f

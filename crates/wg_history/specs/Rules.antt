@@ -1,5 +1,5 @@
 -- The first unmet rule of an event that names objects.
-use Rattle.std.specs.Prelude.{ℕ, Bool, true, false, not, ◌&&◌, ◌||◌, ◌==◌, nat_lt, List, [], ◌∷◌, ◌++◌, reverse, Option, Some, None, is_none, is_some, unwrap_or, if◌then◌else◌}
+use Rattle.std.specs.Prelude.{ℕ, Bool, true, false, not, ◌&&◌, ◌||◌, ◌==◌, nat_lt, List, [], ◌∷◌, ◌++◌, reverse, Option, Some, None, is_none, is_some, option_and_then, unwrap_or, if◌then◌else◌}
 use Rattle.std.specs.List.{list_any}
 use Rattle.std.specs.Option.{option_map_or, option_or}
 use Rattle.wg_types.specs.Handles.{HandleValue}
@@ -8,6 +8,7 @@ use Rattle.wg_types.specs.declared.textures.TextureSpot.{TextureSpot}
 use Rattle.wg_types.specs.declared.textures.DataLayout.{DataLayout}
 use Rattle.wg_types.specs.declared.commands.On.{On}
 use Rattle.wg_types.specs.Commands.{Command}
+use Rattle.wg_types.specs.declared.wanted.Wanted.{Wanted}
 use Rattle.wg_model.specs.Rules.{Rule, first_unmet}
 use Rattle.wg_model.specs.Buffers.{write_buffer_rules, map_rules}
 use Rattle.wg_model.specs.Textures.{create_view_rules}
@@ -18,9 +19,8 @@ use Rattle.wg_model.specs.Walk.{Verdict, ScopesOf, open_pass, encoder_depth}
 use Rattle.wg_model.specs.Recorded.{buffers_of, textures_of, any_named}
 use Rattle.wg_encoder.specs.Recorders.{RecordingValue}
 use Rattle.wg_history.specs.Entries.{Setup, Event, effects_of, submitted, Entry, Past}
-use Rattle.wg_history.specs.Objects.{ObjRef, is_making, count, info_made, unknown, is_made_valid, is_own, is_valid, info_at, is_any, is_buffer, is_texture, is_encoder, is_command_buffer, has_memory, buffer_at, texture_or_none_at, commands_at}
+use Rattle.wg_history.specs.Objects.{ObjRef, BufferInfo, is_making, count, info_made, unknown, is_made_valid, is_own, is_valid, info_at, is_any, is_buffer, is_texture_info, is_encoder, is_command_buffer, has_memory, as_buffer, buffer_at, texture_or_none_at, commands_at}
 use Rattle.wg_types.specs.declared.handles.Info.{Info}
-use Rattle.wg_types.specs.declared.handles.Info.TheVariants.{Buffer}
 use Rattle.wg_types.specs.declared.mappings.Mapping.{Mapping}
 use Rattle.wg_types.specs.declared.mappings.MapMode.TheVariants.{Write as WriteMode}
 use Rattle.wg_types.specs.declared.replies.Answer.{Answer}
@@ -37,13 +37,16 @@ drop_list dropped setup past object = (10, is_own setup past is_any object) ∷ 
 
 -- whether an event that comes after a past drops object n, where that was dropped before or was not
 abbrev pub drops : Bool → Setup → Past → Event → ℕ → Bool
-drops dropped setup past event n = option_map_or (λ object. object.number == n && is_none (first_unmet (drop_list dropped setup past object))) (effects_of event).dropped false
+drops dropped setup past event n =
+    option_map_or (λ object. object.number == n && is_none (first_unmet (drop_list dropped setup past object))) (effects_of event).dropped false
 
 -- How many objects had been made when object n was dropped, if it was: some drop of it met its rules at its place. Objects are
 -- numbered as they are made, so those of lower numbers are those that were made before the drop.
 abbrev pub dropped_at : Setup → Past → ℕ → Option ℕ
 dropped_at setup [] n = None
-dropped_at setup (entry ∷ older) n = if drops (is_some (dropped_at setup older n)) setup older entry.event n then Some (count older) else dropped_at setup older n
+dropped_at setup (entry ∷ older) n =
+    if drops (is_some (dropped_at setup older n)) setup older entry.event n then Some (count older)
+    else dropped_at setup older n
 
 abbrev pub is_dropped : Setup → Past → ℕ → Bool
 is_dropped setup past n = is_some (dropped_at setup past n)
@@ -55,7 +58,7 @@ drop_rule setup past object = first_unmet (drop_list (is_dropped setup past obje
 -- the texture is
 abbrev pub create_view_list : Setup → Past → ObjRef → ViewDesc → List Rule
 create_view_list setup past texture desc =
-    (10, is_own setup past is_texture texture)
+    (10, is_own setup past is_texture_info texture)
     ∷ ((11, not (is_dropped setup past texture.number))
     ∷ ((12, is_valid past texture.number)
     ∷ create_view_rules (texture_or_none_at past texture.number) desc))
@@ -83,12 +86,15 @@ unmap_rule setup past buffer = first_unmet ((10, is_own setup past is_buffer buf
 
 -- whether an event that comes after a past unmaps buffer n, as its unmap does that meets its rules, and its destroy
 abbrev pub unmaps : Setup → Past → Event → ℕ → Bool
-unmaps setup past event n = option_map_or (λ buffer. buffer.number == n && is_none (unmap_rule setup past buffer)) (effects_of event).unmapped (destroys setup past event n)
+unmaps setup past event n =
+    option_map_or (λ buffer. buffer.number == n && is_none (unmap_rule setup past buffer)) (effects_of event).unmapped (destroys setup past event n)
 
 -- a valid creation that is mapped: for writing, the whole range
+abbrev pub mapped_whole : Answer → BufferInfo → Option Mapping
+mapped_whole answer info = if info.mapped && is_made_valid answer then Some (record { mode = WriteMode; lo = 0; hi = info.size }) else None
+
 abbrev pub mapped_with : Answer → Option Info → Option Mapping
-mapped_with answer (Some (Buffer info)) = if info.mapped && is_made_valid answer then Some (record { mode = WriteMode; lo = 0; hi = info.size }) else None
-mapped_with answer _ = None
+mapped_with answer known = option_and_then (mapped_whole answer) (option_and_then as_buffer known)
 
 abbrev pub mapped_made : Entry → Option Mapping
 mapped_made entry = mapped_with entry.reply.answer (info_made unknown entry.event)
@@ -161,7 +167,7 @@ write_buffer_rule setup past buffer offset size = first_unmet (write_buffer_list
 -- by what it is, and 210 it is not destroyed
 abbrev pub write_texture_list : Setup → Past → ObjRef → TextureSpot → DataLayout → List ℕ → ℕ → List Rule
 write_texture_list setup past texture spot layout size data_size =
-    (10, is_own setup past is_texture texture)
+    (10, is_own setup past is_texture_info texture)
     ∷ ((11, not (is_dropped setup past texture.number))
     ∷ ((12, is_valid past texture.number)
     ∷ (write_texture_rules (texture_or_none_at past texture.number) spot layout size data_size
@@ -182,10 +188,14 @@ is_genuine setup past handle =
 abbrev pub may_name : Setup → Past → ℕ → ℕ → Bool
 may_name setup past encoder n = option_map_or (nat_lt encoder) (dropped_at setup past n) true
 
--- whether some handle that recorded commands of an encoder name is not genuine, or its object was dropped before the encoder
+-- whether a handle that a recorded command of an encoder names is not genuine, or its object was dropped before the encoder
 -- was made
+abbrev pub is_barred : Setup → Past → ℕ → HandleValue × Wanted → Bool
+is_barred setup past encoder object = not (is_genuine setup past object.0 && may_name setup past encoder object.0.reference.number)
+
+-- whether some handle that recorded commands of an encoder name is
 abbrev pub any_barred : Setup → Past → ℕ → List (On × Command) → Bool
-any_barred setup past encoder commands = list_any (λ kept. list_any (λ object. not (is_genuine setup past object.0 && may_name setup past encoder object.0.reference.number)) (named kept.1)) commands
+any_barred setup past encoder commands = list_any (λ kept. list_any (is_barred setup past encoder) (named kept.1)) commands
 
 -- whether an event that comes after a past ends the encoder n: a finish of it does, whether or not it is accepted. A finish
 -- that names a number which no encoder of this device has ends nothing, also if one gets that number later.
@@ -219,7 +229,9 @@ recording_rules setup past encoder recording =
 -- finish: the rules of the encoder, then the rule that invalidated it first, then those of the recording
 unfoldable pub finish_rule : Setup → Past → ObjRef → RecordingValue → Option ℕ
 finish_rule setup past encoder recording =
-    option_or (first_unmet (encoder_rules setup past encoder)) (option_or (Verdict recording.device recording.commands) (first_unmet (recording_rules setup past encoder.number recording)))
+    option_or (first_unmet (encoder_rules setup past encoder))
+    (option_or (Verdict recording.device recording.commands)
+    (first_unmet (recording_rules setup past encoder.number recording)))
 
 -- whether an event that comes after a past consumes the command buffer n: a submit that lists it does, whether or not it is
 -- accepted
