@@ -51,9 +51,14 @@ module _ {W : Type 0} (next : W → Option Event) (after : W → Reply → W) wh
       let same : u ≡ w = cc (at) in
       let who : e.who ≡ m = omega (arith, is) in
       let here : made_by m (e ∷ es) ≡ e ∷ made_by m es = same_caller m e es who in
-      let gt : e.who < suc m = omega (arith, who) in
-      (subst (Gives next after u) (sym here) (ap next same ∙ has, subst (λ v. Gives next after (after v e.reply) (made_by m es))
-      (sym same) all.0), others_give (suc m) ws e es gt all.1)
+      let gt : e.who < suc m = omega (arith, who) in (
+        subst (Gives next after u) (sym here) (
+          ap next same ∙ has,
+          subst (λ v. Gives next after (after v e.reply) (made_by m es))
+              (sym same) all.0,
+        ),
+        others_give (suc m) ws e es gt all.1,
+      )
   gives_first m (suc n) (u ∷ ws) w e es is at has all =
       let there : made_by m (e ∷ es) ≡ made_by m es = other_caller m e es (λ q. absurd (omega (arith, is, q))) in
       let who : e.who ≡ suc m + n = omega (arith, is) in
@@ -201,8 +206,14 @@ module _ (setup : Setup) where
         callers = one.callers ∙ (ap (λ (l : List ℕ). callers_of one.part ++ l) rest.callers ∙ sym (callers_more one.part rest.log));
         end_is = rest.end_is ∙ (ap (λ (p : Past). onto p rest.log) one.past ∙ sym (onto_more one.part rest.log past));
         answered = answered_more one.part rest.log past one.answered (subst (λ (p : Past). Answered setup p rest.log) one.past rest.answered);
-        lanes = (one.part, rest.log, refl, one.give, (λ n le. one.few n (omega (arith, le, starts_length setup objects phase))),
-            subst (λ ls. Interleaves setup phases (gathered objects ls) rest.log) one.lanes rest.lanes);
+        lanes = (
+          one.part,
+          rest.log,
+          refl,
+          one.give,
+          (λ n le. one.few n (omega (arith, le, starts_length setup objects phase))),
+          subst (λ ls. Interleaves setup phases (gathered objects ls) rest.log) one.lanes rest.lanes,
+        );
       }
 
   pub phases_back : (phases : List (List (List BoundCall))) (objects : List Object) (numbers : List ℕ) (past end : Past)

@@ -256,7 +256,7 @@ module _ (setup : Setup) where
   lane_joined objects own plays ours was made from = λ maker slot k there makes. elim (Contains-append_cases plays ours maker there) [
     | inl old ↦ made_append setup.serial objects own slot maker (was maker slot k old makes)
     | inr new ↦ let le : length objects ≤ slot = at_least (length objects) (made_in (calls_in ours)) slot k from
-          (maker_contains ours maker (slot, k) new makes) in
+        (maker_contains ours maker (slot, k) new makes) in
         let here = made maker slot k new makes in
         record { what = here.what; is = at_behind objects own slot le ∙ here.is; of = here.of }
   ]

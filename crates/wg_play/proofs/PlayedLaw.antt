@@ -160,9 +160,9 @@ module _ (setup : Setup) (some : setup.serial ≢ 0) where
       (λ (cs : List PlayedCall). calls_of done ++ cs) (append-nil (flat_map (λ (cs : List PlayedCall). cs) phase.lanes)) in
       record {
         held = subst (λ (ps : List (List (List BoundCall))). Holds (objects_next setup.serial objects phase.lanes) (flat_map (flat_map made_in) ps))
-        (ap (λ (ls : List (List BoundCall)). front ++ ls ∷ []) same ∙ sym one) held;
+            (ap (λ (ls : List (List BoundCall)). front ++ ls ∷ []) same ∙ sym one) held;
         made = subst (MadeAll setup (objects_next setup.serial objects phase.lanes)) (sym end)
-        (lanes_joined setup objects phase.lanes objects (calls_of done) was.made runs numbers);
+            (lanes_joined setup objects phase.lanes objects (calls_of done) was.made runs numbers);
       }
 
   stands_at : (earlier done later : List PlayedPhase) (objects : List Object) (past : Past) → IsBound (map lanes_in (done ++ (earlier ++ later)))
@@ -207,7 +207,7 @@ module _ (setup : Setup) (some : setup.serial ≢ 0) where
       (command : CommandOf ℕ) (made : Option ℕ)
       → BoundAt earlier later lanes_before lanes_after (calls_in before ++ Record on command made ∷ calls_in after) → All IsAnswered (map with_answer before)
       → let sight = sight_after setup.serial earlier lanes_before before in is_late_on sight.own (stand_seen sight on)
-          ≡ is_late_after sight (calls_in before) on
+      ≡ is_late_after sight (calls_in before) on
   late_at earlier later lanes_before lanes_after before after on command made bound answered =
       let others : List Object = objects_after setup.serial [] earlier in
       let start : Sight = record { others = others; first = slots_before (map lanes_in earlier) (map calls_in lanes_before); own = [] } in
@@ -320,8 +320,11 @@ module _ (setup : Setup) (some : setup.serial ≢ 0) where
             (lane_answered setup before start front_runs));
         sees = λ front moment.
             let genuine = genuine_at earlier phase lanes_before lanes_after before after call others first lanes_are first_is here front_runs front moment in
-            record { genuine = genuine; names = names_at earlier later lanes_before lanes_after before after call bound_here stands.made front_runs
-            (past_at earlier front) genuine };
+            record {
+              genuine = genuine;
+              names = names_at earlier later lanes_before lanes_after before after call bound_here stands.made front_runs
+                  (past_at earlier front) genuine;
+            };
       }
 
 pub play_goes_through : PlayGoesThrough

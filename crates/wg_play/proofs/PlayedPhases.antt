@@ -126,8 +126,12 @@ module _ (setup : Setup) where
         (record { past = e ∷ past; lanes = next }) e.who turn sees in
         subst (LanesSee setup (onto (e ∷ past) front)) (after_first next_event (after_ setup) 0 e.who ws w e front who one.1)
         (sees_at front back next (e ∷ past) one.3
-        (λ n le. fewer n e (front ++ back) (few n (omega (arith, le, length_set next_event (after_ setup) ws e.who
-        (after_ setup w e.reply))))) answered.1 seen)
+        (λ n le. fewer n e (front ++ back) (few n (omega (
+          arith,
+          le,
+          length_set next_event (after_ setup) ws e.who
+              (after_ setup w e.reply),
+        )))) answered.1 seen)
 
     -- ---- phases one after another
 
@@ -181,16 +185,19 @@ module _ (setup : Setup) where
           plays = played ∷ tail.plays;
           calls = ap₂ (λ (p : List (List BoundCall)) (ps : List (List (List BoundCall))). p ∷ ps) lanes.are tail.calls;
           entries = ap (λ (l : List Entry). part ++ l) tail.entries ∙ sym whole;
-          run = (record {
+          run = (
+            record {
               runs = lanes.runs;
               own = λ n. (let zero_is : 0 + n ≡ n = omega arith in
                   subst (λ k. made_by k part ≡ entries_in (get_or lanes.plays n [])) zero_is
                   (own_at 0 lanes.plays part lanes.own (λ k le. h.4 k (omega (arith, le, same))) n));
               genuine = λ front back is. subst (λ (ls : List (List BoundCall)). LanesSee setup (onto past front) (after_part 0 (starts objects ls) front))
-              (sym lanes.are) (at front back is);
-            }, tail.run);
+                  (sym lanes.are) (at front back is);
+            },
+            tail.run,
+          );
           kept = subst (λ (p : Past). AreKept setup p (objects_after setup.serial (objects_next setup.serial objects played.lanes) tail.plays))
-          (sym (onto_more part rest past) ∙ ap (onto past) (sym whole)) tail.kept;
+              (sym (onto_more part rest past) ∙ ap (onto past) (sym whole)) tail.kept;
         }
 
     -- ---- a phase at its place

@@ -95,7 +95,7 @@ module _ (setup : Setup) where
       → RunsAs sight call found
       → Runs (after_call setup.serial sight (with_answer (call, found))) before
       → end_of setup (lane_with sight (call ∷ (calls_in before ++ more))) (option_to_list found ++ entries_in before)
-        ≡ settle (lane_with (after_calls setup.serial (after_call setup.serial sight (with_answer (call, found))) (map with_answer before)) more)
+      ≡ settle (lane_with (after_calls setup.serial (after_call setup.serial sight (with_answer (call, found))) (map with_answer before)) more)
   call_goes call None before more goes sight here runs =
       let after : Sight = after_call setup.serial sight (call, Plain) in
       let calls : List BoundCall = calls_in before ++ more in
