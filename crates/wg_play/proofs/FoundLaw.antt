@@ -52,22 +52,22 @@ within_from k (m ∷ ms) from =
     All-cons (IsWithin k (k + length (m ∷ ms))) m ms (omega (arith, here), omega (arith, here))
     (All-weaker (IsWithin (k + 1) ((k + 1) + length ms)) (IsWithin k (k + length (m ∷ ms))) (wider (k + 1) ((k + 1) + length ms) k (k + length (m ∷ ms)) low high) ms (within_from (k + 1) ms from.1))
 
-at_least : (k : ℕ) (ms : Slots) (slot : ℕ) (kind : Kind) → AreFrom k (slots_of ms) → Contains ms (slot, kind) → k ≤ slot
+pub at_least : (k : ℕ) (ms : Slots) (slot : ℕ) (kind : Kind) → AreFrom k (slots_of ms) → Contains ms (slot, kind) → k ≤ slot
 unfolding IsWithin
 at_least k ms slot kind from there = (All-contains (IsWithin k (k + length ms)) ms (slot, kind) (within_from k ms from) there).0
 
-below : (k : ℕ) (ms : Slots) (slot : ℕ) (kind : Kind) → AreFrom k (slots_of ms) → Contains ms (slot, kind) → slot < k + length ms
+pub below : (k : ℕ) (ms : Slots) (slot : ℕ) (kind : Kind) → AreFrom k (slots_of ms) → Contains ms (slot, kind) → slot < k + length ms
 unfolding IsWithin
 below k ms slot kind from there = (All-contains (IsWithin k (k + length ms)) ms (slot, kind) (within_from k ms from) there).1
 
-earlier_from : (earlier rest : List (List (List BoundCall))) (count : ℕ) → all_made (earlier ++ rest) ≡ numbers_below count → AreFrom 0 (slots_of (flat_map (flat_map made_in) earlier))
+pub earlier_from : (earlier rest : List (List (List BoundCall))) (count : ℕ) → all_made (earlier ++ rest) ≡ numbers_below count → AreFrom 0 (slots_of (flat_map (flat_map made_in) earlier))
 earlier_from earlier rest count numbered =
     from_front 0 (flat_map (flat_map made_in) earlier) (flat_map (flat_map made_in) rest)
     (subst (λ ms. AreFrom 0 (slots_of ms)) (flat_map-append (flat_map made_in) earlier rest) (subst (AreFrom 0) (sym numbered) (from_zero count)))
 
 -- ---- what a lane sees
 
-others_after : (serial : ℕ) (calls : List Answered) (sight : Sight) → (after_calls serial sight calls).others ≡ sight.others
+pub others_after : (serial : ℕ) (calls : List Answered) (sight : Sight) → (after_calls serial sight calls).others ≡ sight.others
 others_after serial [] sight = refl
 others_after serial (call ∷ calls) sight = others_after serial calls _ ∙ same_others serial sight call.0 call.1
 
@@ -173,7 +173,7 @@ bound_is_found earlier later lanes_before lanes_after answered call after bound 
 
 -- ---- what a phase has made
 
-at_behind : (objects more : List Object) (n : ℕ) → length objects ≤ n → slice_get (objects ++ more) n ≡ slice_get more (n - length objects)
+pub at_behind : (objects more : List Object) (n : ℕ) → length objects ≤ n → slice_get (objects ++ more) n ≡ slice_get more (n - length objects)
 at_behind [] more n le = let e : n ≡ n - 0 = omega arith in ap (slice_get more) e
 at_behind (x ∷ objects) more zero le = absurd (omega (arith, le))
 at_behind (x ∷ objects) more (suc n) le =

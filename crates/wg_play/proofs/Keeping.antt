@@ -47,7 +47,7 @@ object_more : (setup : Setup) (entry : Entry) (past : Past) (o : Object) → IsK
 object_more setup entry past (object.Made handle recorder) genuine = genuine_more setup entry past handle genuine
 object_more setup entry past (object.Pass encoder number) genuine = tt
 
-objects_more : (setup : Setup) (entry : Entry) (past : Past) (objects : List Object) → AreKept setup past objects → AreKept setup (entry ∷ past) objects
+pub objects_more : (setup : Setup) (entry : Entry) (past : Past) (objects : List Object) → AreKept setup past objects → AreKept setup (entry ∷ past) objects
 objects_more setup entry past objects all = All-weaker (IsKept setup past) (IsKept setup (entry ∷ past)) (object_more setup entry past) objects all
 
 pub sees_more : (setup : Setup) (entry : Entry) (past : Past) (sight : Sight) → SeesGenuine setup past sight → SeesGenuine setup (entry ∷ past) sight

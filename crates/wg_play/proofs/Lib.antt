@@ -16,3 +16,8 @@ pub mod FoundLaw
 pub mod Passage
 pub mod Keeping
 pub mod KeptLaw
+pub mod Backward
+pub mod Running
+pub mod Makers
+pub mod PlayedPhases
+pub mod PlayedLaw

@@ -78,32 +78,32 @@ some_kind None found e = absurd (cc (e))
 some_kind (Some slot) None e = absurd (cc (e))
 some_kind (Some slot) (Some k) e = (k, refl)
 
-event_answered : (setup : Setup) (sight : Sight) (call : BoundCall) (entry : Entry) → event_of sight call ≡ entry.event → IsReplied setup entry → Answers call entry.reply.answer
+pub event_answered : (setup : Setup) (sight : Sight) (call : BoundCall) (entry : Entry) → event_of sight call ≡ entry.event → IsReplied setup entry → Answers call entry.reply.answer
 event_answered setup sight (Record on command made) entry is replied = tt
 event_answered setup sight (Ask request made) entry is replied = λ some.
     let kind = some_kind made (kind_made request) some in
     let form : form_of entry.event ≡ Making = ap form_of (sym is) ∙ sent_makes sight request kind.0 kind.1 in
     ap (λ (r : Reply). is_made r.answer) replied.is ∙ made_reply setup replied.past entry.event form
 
-kept_answered : (sight after : Sight) (call : BoundCall) (answer : Answer) → kept sight call ≡ Some after → Answers call answer
+pub kept_answered : (sight after : Sight) (call : BoundCall) (answer : Answer) → kept sight call ≡ Some after → Answers call answer
 kept_answered sight after (Record on command made) answer is = tt
 kept_answered sight after (Ask request made) answer is = absurd (cc (is))
 
 -- ---- a lane that keeps its next calls
 
 module _ (setup : Setup) where
-  abbrev GivesAll : Lane → List Entry → Type 0
+  abbrev pub GivesAll : Lane → List Entry → Type 0
   GivesAll lane entries = Gives next_event (after_ setup) lane entries
 
-  abbrev end_of : Lane → List Entry → Lane
+  abbrev pub end_of : Lane → List Entry → Lane
   end_of lane entries = settle (after_all next_event (after_ setup) lane entries)
 
-  gives_same : (v w : Lane) → settle v ≡ settle w → (entries : List Entry) → GivesAll v entries → GivesAll w entries
+  pub gives_same : (v w : Lane) → settle v ≡ settle w → (entries : List Entry) → GivesAll v entries → GivesAll w entries
   gives_same v w same [] gives = ap next_at (sym same) ∙ gives
   gives_same v w same (e ∷ entries) gives =
       (ap next_at (sym same) ∙ gives.0, subst (λ (l : Lane). GivesAll l entries) (ap (λ (l : Lane). after_at setup.serial l e.reply) same) gives.1)
 
-  end_same : (v w : Lane) → settle v ≡ settle w → (entries : List Entry) → end_of v entries ≡ end_of w entries
+  pub end_same : (v w : Lane) → settle v ≡ settle w → (entries : List Entry) → end_of v entries ≡ end_of w entries
   end_same v w same [] = same
   end_same v w same (e ∷ entries) = ap (λ (l : Lane). end_of l entries) (ap (λ (l : Lane). after_at setup.serial l e.reply) same)
 
@@ -115,11 +115,11 @@ module _ (setup : Setup) where
   abbrev Goes : List BoundCall → Type 0
   Goes calls = (sight : Sight) (entries : List Entry) → All (IsReplied setup) entries → GivesAll (lane_of sight calls) entries → GoesThrough setup (lane_of sight calls) entries
 
-  settled_by : (sight : Sight) (call : BoundCall) (calls : List BoundCall) (found : Option Sight) → kept sight call ≡ found
+  pub settled_by : (sight : Sight) (call : BoundCall) (calls : List BoundCall) (found : Option Sight) → kept sight call ≡ found
       → settle (lane_of sight (call ∷ calls)) ≡ option_map_or (λ after. settled after calls) found (lane_of sight (call ∷ calls))
   settled_by sight call calls found is = ap (λ (o : Option Sight). option_map_or (λ after. settled after calls) o (lane_of sight (call ∷ calls))) is
 
-  after_is : (sight : Sight) (call : BoundCall) (answer : Answer) (found : Option Sight) → kept sight call ≡ found → after_call setup.serial sight (call, answer) ≡ unwrap_or found (answered_by setup.serial sight call answer)
+  pub after_is : (sight : Sight) (call : BoundCall) (answer : Answer) (found : Option Sight) → kept sight call ≡ found → after_call setup.serial sight (call, answer) ≡ unwrap_or found (answered_by setup.serial sight call answer)
   after_is sight call answer found is = ap (λ (o : Option Sight). unwrap_or o (answered_by setup.serial sight call answer)) is
 
   by_call : (call : BoundCall) (calls : List BoundCall) → Goes calls → (sight : Sight) (found : Option Sight) → kept sight call ≡ found → (entries : List Entry) → All (IsReplied setup) entries

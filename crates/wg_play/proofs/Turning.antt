@@ -26,7 +26,7 @@ onto past [] = past
 onto past (e ∷ es) = onto (e ∷ past) es
 
 -- a caller who has an entry is one of the lanes
-not_past : (e : Entry) (es : List Entry) (k : ℕ) → (k ≤ e.who → made_by e.who (e ∷ es) ≡ []) → e.who < k
+pub not_past : (e : Entry) (es : List Entry) (k : ℕ) → (k ≤ e.who → made_by e.who (e ∷ es) ≡ []) → e.who < k
 not_past e es k f = pick (ltb e.who k) refl where
   pick : (t : Bool) → ltb e.who k ≡ t → e.who < k
   pick true q = grind (arith, nat_tests)

@@ -7,3 +7,4 @@ pub mod Late
 pub mod Found
 pub mod Through
 pub mod Kept
+pub mod Played

@@ -2,6 +2,7 @@
 ghost use Rattle.wg_play.specs.Found.{BoundIsFound, GatheredIsHeld};
 ghost use Rattle.wg_play.specs.Kept.{StartsGenuine, TurnsGenuine, GathersGenuine};
 ghost use Rattle.wg_play.specs.Late.{LateIsFinished};
+ghost use Rattle.wg_play.specs.Played.{PlayInterleaves, PlayGoesThrough};
 ghost use Rattle.wg_play.specs.Through.{LanesGoThrough};
 
 /// In each lane of a script whose names are bound, a recording call is late exactly where a call before it
@@ -29,4 +30,13 @@ pub fn genuine_handles()
     ensures begins { StartsGenuine }
     ensures turns { TurnsGenuine }
     ensures gathers { GathersGenuine }
+{}
+
+/// Where an order of turns gives a history, its numbers are the callers of that, every reply is the one to
+/// its event, and each phase's lanes give their entries. Where the script's names are bound, each of its
+/// calls is played as what it is: kept, late or an event, with each name standing for what its call has
+/// made; and every handle that the lane sees is genuine in the history by then.
+pub fn played_scripts()
+    ensures interleaves { PlayInterleaves }
+    ensures through { PlayGoesThrough }
 {}

@@ -1,0 +1,297 @@
+-- What a call has made stands at the place of its slot, with the handle that its entry gave.
+use Rattle.std.proofs.Common.{◌≡◌, ℕ, ◌+◌, ◌-◌, ◌≤◌, Option, Some, None, List, [], ◌∷◌, ◌++◌, length, map, refl, sym, ap, subst, ◌∙◌, inl, inr, arith, append_assoc, append-nil}
+use Rattle.std.specs.Prelude.{All, Contains, option_map, option_and_then, slice_get}
+use Rattle.std.specs.List.{flat_map}
+use Rattle.std.specs.Option.{option_to_list}
+use Rattle.std.proofs.lemmas.Bool.{cases_eq}
+use Rattle.std.proofs.lemmas.List.{length-append}
+use Rattle.std.proofs.lemmas.List.Elements.{All-nil, All-cons, Contains-append_left, Contains-append_right, Contains-append_cases, Contains-push_cases}
+use Rattle.wg_types.specs.Handles.{HandleValue}
+use Rattle.wg_types.specs.Commands.{Command}
+use Rattle.wg_types.specs.declared.handles.Info.{Info}
+use Rattle.wg_types.specs.declared.replies.Answer.{Answer}
+use Rattle.wg_types.specs.declared.replies.Answer.TheVariants.{Made, Queued, Promised, Plain, BadCompletion}
+use Rattle.wg_types.specs.declared.wanted.Kind.{Kind}
+use Rattle.wg_encoder.specs.Recorders.{RecorderValue}
+use Rattle.wg_history.specs.declared.events.Setup.{Setup}
+use Rattle.wg_history.specs.Entries.{Entry}
+use Rattle.wg_calls.specs.Calls.{info_asked, handle_of, taken_out}
+use Rattle.wg_script.specs.CallOf.{BoundCall}
+use Rattle.wg_script.specs.declared.calls.CallOf.TheVariants.{Record, Ask}
+use Rattle.wg_names.specs.Uses.{made_of}
+use Rattle.wg_names.specs.Bound.{made_by, made_in}
+use Rattle.wg_play.specs.declared.objects.Object.{Object}
+use Rattle.wg_play.specs.declared.objects.Object.TheVariants as object
+use Rattle.wg_play.specs.declared.objects.Stand.{Stand}
+use Rattle.wg_play.specs.Objects.{handle_in, changed, with_recorder, recorded_by, recorded_on, begun_by, ended_by, object_of}
+use Rattle.wg_play.specs.Sights.{Sight, place_in}
+use Rattle.wg_play.specs.Lanes.{command_seen, stand_seen, request_seen, handle_kept, count_made, gathered}
+use Rattle.wg_play.specs.Late.{Answered, IsAnswered, after_call, after_calls}
+use Rattle.wg_play.specs.Found.{ended_from, phase_of}
+use Rattle.wg_play.specs.Played.{PlayedCall, calls_in, with_answer, answered_lanes}
+use Rattle.wg_play.proofs.Slots.{own_at, other_at, at_append, at_new}
+use Rattle.wg_play.proofs.Following.{ended_on, with_kept, after_record, after_ask, same_first, Fits, handle_fits}
+use Rattle.wg_play.proofs.Lateness.{ended_length}
+use Rattle.wg_play.proofs.Making.{call_length}
+use Rattle.wg_play.proofs.Numbered.{only, Slots, AreFrom, slots_of, first_from, from_front, from_back}
+use Rattle.wg_play.proofs.Holding.{call_makes, HoldsFrom, none_held, all_held}
+use Rattle.wg_play.proofs.LateLaw.{first_after}
+use Rattle.wg_play.proofs.FoundLaw.{at_least, at_behind}
+use Rattle.wg_play.proofs.Running.{RunsAs, Runs, call_answered, lane_answered}
+
+-- ---- lists of calls
+
+pub lane_same : (calls : List PlayedCall) → map (λ (c : Answered). c.0) (map with_answer calls) ≡ calls_in calls
+lane_same [] = refl
+lane_same (call ∷ calls) = ap (λ (cs : List BoundCall). call.0 ∷ cs) (lane_same calls)
+
+pub lanes_same : (lanes : List (List PlayedCall)) → phase_of (answered_lanes lanes) ≡ map calls_in lanes
+lanes_same [] = refl
+lanes_same (calls ∷ lanes) =
+    ap (λ (cs : List BoundCall). cs ∷ phase_of (answered_lanes lanes)) (lane_same calls) ∙ ap (λ (ls : List (List BoundCall)). calls_in calls ∷ ls)
+    (lanes_same lanes)
+
+pub calls_more : (before after : List PlayedCall) → calls_in (before ++ after) ≡ calls_in before ++ calls_in after
+calls_more [] after = refl
+calls_more (call ∷ before) after = ap (λ (cs : List BoundCall). call.0 ∷ cs) (calls_more before after)
+
+-- what a call of some makes is among what they make
+only_one : (x y : PlayedCall) → Contains (x ∷ []) y → x ≡ y
+only_one x y there = elim (Contains-push_cases [] x y there) [ inl none ↦ absurd (omega (arith, none.1)) | inr same ↦ same ]
+
+new_contains : (found : Option (ℕ × Kind)) (m : ℕ × Kind) → found ≡ Some m → Contains (option_to_list found) m
+new_contains found m e = subst (λ (o : Option (ℕ × Kind)). Contains (option_to_list o) m) (sym e) (0, omega arith, refl)
+
+pub maker_contains : (plays : List PlayedCall) (maker : PlayedCall) (m : ℕ × Kind) → Contains plays maker → made_of maker.0 ≡ Some m
+    → Contains (made_in (calls_in plays)) m
+maker_contains [] maker m there makes = absurd (omega (arith, there.1))
+maker_contains (call ∷ plays) maker m there makes = elim (Contains-append_cases (call ∷ []) plays maker there) [
+  | inl here ↦ Contains-append_left (made_by call.0) (made_in (calls_in plays)) m
+      (new_contains (made_of call.0) m (ap (λ (c : PlayedCall). made_of c.0) (only_one call maker here) ∙ makes))
+  | inr later ↦ Contains-append_right (made_by call.0) (made_in (calls_in plays)) m (maker_contains plays maker m later makes)
+]
+
+-- and of what they make there is a call that makes it
+pub record IsMadeIn (plays : List PlayedCall) (m : ℕ × Kind) : Type 0 where
+  pub maker : PlayedCall
+  pub is_there : Contains plays maker
+  pub makes : made_of maker.0 ≡ Some m
+
+pub made_among : (plays : List PlayedCall) (m : ℕ × Kind) → Contains (made_in (calls_in plays)) m → IsMadeIn plays m
+made_among [] m there = absurd (omega (arith, there.1))
+made_among (call ∷ plays) m there = elim (Contains-append_cases (made_by call.0) (made_in (calls_in plays)) m there) [
+  | inl here ↦ record { maker = call; is_there = (0, omega arith, refl); makes = only (made_of call.0) m here }
+  | inr later ↦ let rest = made_among plays m later in
+      record { maker = rest.maker; is_there = Contains-append_right (call ∷ []) plays rest.maker rest.is_there; makes = rest.makes }
+]
+
+-- ---- the handle of what a call made
+
+-- that of an object is of its entry
+abbrev pub IsFrom : ℕ → HandleValue → BoundCall → Option Entry → Type 0
+IsFrom serial handle (Record on command made) found = Unit {0}
+IsFrom serial handle (Ask request made) None = ⊥
+IsFrom serial handle (Ask request made) (Some entry) = (handle.reference.device ≡ serial) × (entry.reply.answer ≡ Made handle.reference.number handle.valid)
+
+pub record IsMadeAt (serial : ℕ) (objects : List Object) (place : ℕ) (maker : PlayedCall) : Type 0 where
+  pub what : Object
+  pub is : slice_get objects place ≡ Some what
+  pub of : IsFrom serial (handle_in what) maker.0 maker.1
+
+made_append : (serial : ℕ) (objects more : List Object) (place : ℕ) (maker : PlayedCall) → IsMadeAt serial objects place maker
+    → IsMadeAt serial (objects ++ more) place maker
+made_append serial objects more place maker was = record { what = was.what; is = at_append objects more place was.what was.is; of = was.of }
+
+same_handle : (change : RecorderValue → RecorderValue) (x : Object) → handle_in (changed x change) ≡ handle_in x
+same_handle change (object.Made handle recorder) = refl
+same_handle change (object.Pass encoder number) = refl
+
+made_changed : (serial : ℕ) (change : RecorderValue → RecorderValue) (objects : List Object) (at place : ℕ) (maker : PlayedCall)
+    → IsMadeAt serial objects place maker → IsMadeAt serial (with_recorder objects at change) place maker
+made_changed serial change objects at place maker was = elim (cases_eq at place) [
+  | inl same ↦ subst (λ n. IsMadeAt serial (with_recorder objects n change) place maker) (sym same) (record {
+    what = changed was.what change;
+    is = own_at change objects place ∙ ap (option_map (λ (x : Object). changed x change)) was.is;
+    of = subst (λ (h : HandleValue). IsFrom serial h maker.0 maker.1) (sym (same_handle change was.what)) was.of;
+  })
+  | inr differs ↦ record { what = was.what; is = other_at change objects at place differs ∙ was.is; of = was.of }
+]
+
+ended_made : (serial : ℕ) (sight : Sight) (ended : Option ℕ) (place : ℕ) (maker : PlayedCall) → IsMadeAt serial sight.own place maker
+    → IsMadeAt serial (ended_on sight ended) place maker
+ended_made serial sight None place maker was = was
+ended_made serial sight (Some encoder) place maker was = made_changed serial taken_out sight.own (place_in sight encoder) place maker was
+
+kept_made : (serial : ℕ) (objects : List Object) (handle : Option HandleValue) (place : ℕ) (maker : PlayedCall) → IsMadeAt serial objects place maker
+    → IsMadeAt serial (with_kept objects handle) place maker
+kept_made serial objects None place maker was = was
+kept_made serial objects (Some handle) place maker was = made_append serial objects (object_of handle ∷ []) place maker was
+
+-- it stays where it is
+call_leaves : (serial : ℕ) (sight : Sight) (call : BoundCall) (answer : Answer) (place : ℕ) (maker : PlayedCall) → IsMadeAt serial sight.own place maker
+    → IsMadeAt serial (after_call serial sight (call, answer)).own place maker
+call_leaves serial sight (Record on command made) answer place maker was =
+    let stand : Stand = stand_seen sight on in
+    let found : Command = command_seen sight command in
+    subst (λ (s : Sight). IsMadeAt serial s.own place maker) (sym (after_record serial sight on command made answer))
+    (made_append serial (recorded_on sight.own stand found) (begun_by sight.own stand.encoder found made) place maker
+    (made_changed serial (recorded_by stand.on found) sight.own stand.encoder place maker was))
+call_leaves serial sight (Ask request made) answer place maker was =
+    subst (λ (s : Sight). IsMadeAt serial s.own place maker) (sym (after_ask serial sight request made answer))
+    (kept_made serial (ended_on sight (ended_by request)) (handle_kept serial sight (Ask request made) answer) place maker
+    (ended_made serial sight (ended_by request) place maker was))
+
+abbrev IsAnswer : ℕ → Answer → HandleValue → Type 0
+IsAnswer serial answer handle = (handle.reference.device ≡ serial) × (answer ≡ Made handle.reference.number handle.valid)
+
+handle_from : (serial : ℕ) (known : Info) (answer : Answer) (handle : HandleValue) → handle_of serial known answer ≡ Some handle
+    → IsAnswer serial answer handle
+handle_from serial known (Made number valid) handle e =
+    let new : HandleValue = record { reference = record { device = serial; number = number }; valid = valid; info = known } in
+    let same : new ≡ handle = cc (e) in
+    subst (IsAnswer serial (Made number valid)) same (refl, refl)
+handle_from serial known (Queued op) handle e = absurd (cc (e))
+handle_from serial known Promised handle e = absurd (cc (e))
+handle_from serial known Plain handle e = absurd (cc (e))
+handle_from serial known BadCompletion handle e = absurd (cc (e))
+
+kept_from : (serial : ℕ) (known : Option Info) (answer : Answer) (made : Option ℕ) (handle : HandleValue)
+    → option_and_then (λ (slot : ℕ). option_and_then (λ (x : Info). handle_of serial x answer) known) made ≡ Some handle → IsAnswer serial answer handle
+kept_from serial known answer None handle e = absurd (cc (e))
+kept_from serial None answer (Some slot) handle e = absurd (cc (e))
+kept_from serial (Some x) answer (Some slot) handle e = handle_from serial x answer handle e
+
+new_made : (serial : ℕ) (objects : List Object) (handle : Option HandleValue) (slot : ℕ) (k : Kind) (maker : PlayedCall) → Fits handle (Some (slot, k))
+    → ((h : HandleValue) → handle ≡ Some h → IsFrom serial h maker.0 maker.1) → IsMadeAt serial (with_kept objects handle) (length objects) maker
+new_made serial objects None slot k maker fits from = absurd fits
+new_made serial objects (Some handle) slot k maker fits from =
+    record { what = object_of handle; is = at_new objects (object_of handle); of = from handle refl }
+
+module _ (setup : Setup) where
+  -- and what a call has made stands at the next place
+  call_new : (sight : Sight) (call : BoundCall) (found : Option Entry) (slot : ℕ) (k : Kind) → RunsAs setup sight call found → made_of call ≡ Some (slot, k)
+      → IsMadeAt setup.serial (after_call setup.serial sight (with_answer (call, found))).own (length sight.own) (call, found)
+  call_new sight (Record on command made) found slot k runs e =
+      let there = call_makes setup.serial sight (Record on command made) (with_answer (Record on command made, found)).1 slot k tt e in
+      record { what = there.what; is = there.is; of = tt }
+  call_new sight (Ask request made) None slot k runs e = absurd (cc (runs))
+  call_new sight (Ask request made) (Some entry) slot k runs e =
+      let answer : Answer = entry.reply.answer in
+      let handle : Option HandleValue = handle_kept setup.serial sight (Ask request made) answer in
+      let fits : Fits handle (Some (slot, k)) = subst (Fits handle) e
+      (handle_fits setup.serial sight request made answer (call_answered setup sight (Ask request made, Some entry) runs)) in
+      subst (λ (s : Sight). IsMadeAt setup.serial s.own (length sight.own) (Ask request made, Some entry))
+      (sym (after_ask setup.serial sight request made answer))
+      (subst (λ n. IsMadeAt setup.serial (with_kept (ended_on sight (ended_by request)) handle) n (Ask request made, Some entry))
+      (ended_length sight (ended_by request))
+      (new_made setup.serial (ended_on sight (ended_by request)) handle slot k (Ask request made, Some entry) fits
+      (λ h x. kept_from setup.serial (info_asked (request_seen sight request)) answer made h x)))
+
+  -- ---- calls of a lane, one after another
+
+  abbrev pub MadeFrom : ℕ → List Object → List PlayedCall → Type 0
+  MadeFrom first own plays = (maker : PlayedCall) (slot : ℕ) (k : Kind) → Contains plays maker → made_of maker.0 ≡ Some (slot, k)
+      → IsMadeAt setup.serial own (slot - first) maker
+
+  pub none_made : (first : ℕ) → MadeFrom first [] []
+  none_made first = λ maker slot k there makes. absurd (omega (arith, there.1))
+
+  one_made : (sight : Sight) (before : List PlayedCall) (call : PlayedCall) → MadeFrom sight.first sight.own before → RunsAs setup sight call.0 call.1
+      → ((m : ℕ × Kind) → made_of call.0 ≡ Some m → m.0 ≡ sight.first + length sight.own)
+      → MadeFrom sight.first (after_call setup.serial sight (with_answer call)).own (before ++ call ∷ [])
+  one_made sight before call was runs here = λ maker slot k there makes. elim (Contains-push_cases before call maker there) [
+    | inl old ↦ call_leaves setup.serial sight call.0 (with_answer call).1 (slot - sight.first) maker (was maker slot k old makes)
+    | inr same ↦ let own : List Object = (after_call setup.serial sight (with_answer call)).own in
+        let is : made_of call.0 ≡ Some (slot, k) = ap (λ (c : PlayedCall). made_of c.0) same ∙ makes in
+        let next : slot ≡ sight.first + length sight.own = here (slot, k) is in
+        let place : length sight.own ≡ slot - sight.first = omega (arith, next) in
+        subst (λ n. IsMadeAt setup.serial own n maker) place
+        (subst (λ (c : PlayedCall). IsMadeAt setup.serial own (length sight.own) c) same (call_new sight call.0 call.1 slot k runs is))
+  ]
+
+  pub lane_made : (calls before : List PlayedCall) (sight : Sight) → MadeFrom sight.first sight.own before → Runs setup sight calls
+      → AreFrom (sight.first + length sight.own) (slots_of (made_in (calls_in calls)))
+      → MadeFrom (after_calls setup.serial sight (map with_answer calls)).first (after_calls setup.serial sight (map with_answer calls)).own (before ++ calls)
+  lane_made [] before sight was runs from = subst (λ cs. MadeFrom sight.first sight.own cs) (sym (append-nil before)) was
+  lane_made (call ∷ calls) before sight was runs from =
+      let after : Sight = after_call setup.serial sight (with_answer call) in
+      let end : Sight = after_calls setup.serial after (map with_answer calls) in
+      let answered : IsAnswered (with_answer call) = call_answered setup sight call runs.0 in
+      let first_is : after.first ≡ sight.first = same_first setup.serial sight call.0 (with_answer call).1 in
+      let length_is : length after.own ≡ length sight.own + length (made_by call.0) = call_length setup.serial sight call.0 (with_answer call).1 answered in
+      let grown : (sight.first + length sight.own) + length (made_by call.0) ≡ after.first + length after.own = omega (arith, first_is, length_is) in
+      subst (λ cs. MadeFrom end.first end.own cs) (append_assoc before (call ∷ []) calls)
+      (lane_made calls (before ++ call ∷ []) after
+      (subst (λ n. MadeFrom n after.own (before ++ call ∷ [])) (sym first_is)
+      (one_made sight before call was runs.0 (first_from (sight.first + length sight.own) (made_of call.0) (made_in (calls_in calls)) from)))
+      runs.1
+      (subst (λ n. AreFrom n (slots_of (made_in (calls_in calls)))) grown
+      (from_back (sight.first + length sight.own) (made_by call.0) (made_in (calls_in calls)) from)))
+
+  -- ---- lanes of a phase
+
+  abbrev pub start_at : List Object → ℕ → Sight
+  start_at others first = record { others = others; first = first; own = [] }
+
+  -- the lanes run, from the one on whose first slot is this
+  abbrev pub AllRun : List Object → ℕ → List (List PlayedCall) → Type 0
+  AllRun others first [] = Unit {0}
+  AllRun others first (calls ∷ lanes) = Runs setup (start_at others first) calls × AllRun others (first + count_made (calls_in calls)) lanes
+
+  pub all_answered : (others : List Object) (first : ℕ) (lanes : List (List PlayedCall)) → AllRun others first lanes
+      → All (All IsAnswered) (answered_lanes lanes)
+  all_answered others first [] runs = All-nil (All IsAnswered)
+  all_answered others first (calls ∷ lanes) runs =
+      All-cons (All IsAnswered) (map with_answer calls) (answered_lanes lanes) (lane_answered setup calls (start_at others first) runs.0)
+      (all_answered others (first + count_made (calls_in calls)) lanes runs.1)
+
+  -- what calls have made stands at their slots
+  abbrev pub MadeAll : List Object → List PlayedCall → Type 0
+  MadeAll objects plays = (maker : PlayedCall) (slot : ℕ) (k : Kind) → Contains plays maker → made_of maker.0 ≡ Some (slot, k)
+      → IsMadeAt setup.serial objects slot maker
+
+  lane_joined : (objects own : List Object) (plays ours : List PlayedCall) → MadeAll objects plays → MadeFrom (length objects) own ours
+      → AreFrom (length objects) (slots_of (made_in (calls_in ours)))
+      → MadeAll (objects ++ own) (plays ++ ours)
+  lane_joined objects own plays ours was made from = λ maker slot k there makes. elim (Contains-append_cases plays ours maker there) [
+    | inl old ↦ made_append setup.serial objects own slot maker (was maker slot k old makes)
+    | inr new ↦ let le : length objects ≤ slot = at_least (length objects) (made_in (calls_in ours)) slot k from
+        (maker_contains ours maker (slot, k) new makes) in
+        let here = made maker slot k new makes in
+        record { what = here.what; is = at_behind objects own slot le ∙ here.is; of = here.of }
+  ]
+
+  pub lanes_joined : (others : List Object) (lanes : List (List PlayedCall)) (objects : List Object) (plays : List PlayedCall) → MadeAll objects plays
+      → AllRun others (length objects) lanes
+      → AreFrom (length objects) (slots_of (flat_map made_in (map calls_in lanes)))
+      → MadeAll (gathered objects (ended_from setup.serial others (length objects) (answered_lanes lanes))) (plays ++ flat_map (λ calls. calls) lanes)
+  lanes_joined others [] objects plays was runs from = subst (MadeAll objects) (sym (append-nil plays)) was
+  lanes_joined others (calls ∷ lanes) objects plays was runs from =
+      let first : ℕ = length objects in
+      let start : Sight = start_at others first in
+      let sight : Sight = after_calls setup.serial start (map with_answer calls) in
+      let ours : Slots = made_in (calls_in calls) in
+      let rest : Slots = flat_map made_in (map calls_in lanes) in
+      let numbers : AreFrom first (slots_of ours) = from_front first ours rest from in
+      let zero_is : first ≡ first + 0 = omega arith in
+      let numbers_start : AreFrom (first + 0) (slots_of ours) = subst (λ n. AreFrom n (slots_of ours)) zero_is numbers in
+      let made : MadeFrom first sight.own calls
+      = subst (λ n. MadeFrom n sight.own calls) (first_after setup.serial (map with_answer calls) start)
+      (lane_made calls [] start (none_made first) runs.0 numbers_start) in
+      let same : made_in (map (λ (c : Answered). c.0) (map with_answer calls)) ≡ ours = ap (λ (cs : List BoundCall). made_in cs) (lane_same calls) in
+      let held : HoldsFrom sight.first sight.own (made_in (map (λ (c : Answered). c.0) (map with_answer calls)))
+      = all_held setup.serial (map with_answer calls) [] start (none_held first) (lane_answered setup calls start runs.0)
+      (subst (λ (ms : Slots). AreFrom (first + 0) (slots_of ms)) (sym same) numbers_start) in
+      let count : length sight.own ≡ length ours = held.count ∙ ap (λ (ms : Slots). length ms) same in
+      let more : length (objects ++ sight.own) ≡ length objects + length sight.own = length-append objects sight.own in
+      let next : length (objects ++ sight.own) ≡ first + length ours = omega (arith, more, count) in
+      let next_answered : length (objects ++ sight.own) ≡ first + count_made (map (λ (c : Answered). c.0) (map with_answer calls))
+      = next ∙ ap (λ (ms : Slots). first + length ms) (sym same) in
+      let end : MadeAll (gathered (objects ++ sight.own) (ended_from setup.serial others (length (objects ++ sight.own)) (answered_lanes lanes)))
+      ((plays ++ calls) ++ flat_map (λ cs. cs) lanes)
+      = lanes_joined others lanes (objects ++ sight.own) (plays ++ calls) (lane_joined objects sight.own plays calls was made numbers)
+      (subst (λ n. AllRun others n lanes) (sym next) runs.1) (subst (λ n. AreFrom n (slots_of rest)) (sym next) (from_back first ours rest from)) in
+      subst (λ n. MadeAll (gathered (objects ++ sight.own) (ended_from setup.serial others n (answered_lanes lanes)))
+      (plays ++ (calls ++ flat_map (λ cs. cs) lanes))) next_answered
+      (subst (MadeAll (gathered (objects ++ sight.own) (ended_from setup.serial others (length (objects ++ sight.own)) (answered_lanes lanes))))
+      (append_assoc plays calls (flat_map (λ cs. cs) lanes)) end)

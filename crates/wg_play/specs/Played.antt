@@ -1,0 +1,182 @@
+-- What a script has given that was played: each of its calls, with the entry that it became where it is an event.
+use Rattle.std.specs.Prelude.{◌≡◌, ◌≢◌, ℕ, ◌+◌, List, [], ◌∷◌, ◌++◌, length, map, reverse, get_or, Bool, true, ◌||◌, Option, Some, None, is_some, All, Contains}
+use Rattle.std.specs.Option.{option_map_or, option_to_list}
+use Rattle.std.specs.List.{flat_map, list_any}
+use Rattle.wg_types.specs.Handles.{HandleValue}
+use Rattle.wg_types.specs.Wanted.{admits}
+use Rattle.wg_types.specs.declared.replies.Answer.TheVariants.{Made, Plain}
+use Rattle.wg_types.specs.declared.requests.RequestOf.{RequestOf}
+use Rattle.wg_types.specs.declared.wanted.Kind.{Kind}
+use Rattle.wg_types.specs.declared.wanted.Wanted.{Wanted}
+use Rattle.wg_history.specs.declared.events.Event.TheVariants.{Late}
+use Rattle.wg_history.specs.declared.events.Setup.{Setup}
+use Rattle.wg_history.specs.Entries.{Entry, Past}
+use Rattle.wg_history.specs.Rules.{is_genuine}
+use Rattle.wg_history.specs.Answers.{Run}
+use Rattle.wg_script.specs.CallOf.{BoundCall}
+use Rattle.wg_script.specs.declared.calls.CallOf.TheVariants.{Record, Ask}
+use Rattle.wg_names.specs.Bound.{IsBound}
+use Rattle.wg_names.specs.Uses.{made_of, uses_of}
+use Rattle.wg_play.specs.declared.objects.Object.{Object}
+use Rattle.wg_play.specs.Objects.{reference_at}
+use Rattle.wg_play.specs.Sights.{Sight, handle_in_sight}
+use Rattle.wg_play.specs.Lanes.{stand_seen, event_sent, gathered}
+use Rattle.wg_play.specs.Turns.{made_by, callers_of}
+use Rattle.wg_play.specs.Late.{Answered, after_calls, slots_before, finishes, has_pass_ended}
+use Rattle.wg_play.specs.Found.{ended_from}
+use Rattle.wg_play.specs.Kept.{AreKept, SeesGenuine}
+use Rattle.wg_play.specs.Play.{Play, Interleaves}
+
+-- ---- calls as they were played
+
+-- a call, with the entry that it became; a recording call that was kept became none
+abbrev pub PlayedCall : Type 0
+PlayedCall = BoundCall × Option Entry
+
+-- a phase: the entries that were made in it, in order, and the calls of its lanes
+pub record PlayedPhase : Type 0 where
+  pub entries : List Entry
+  pub lanes : List (List PlayedCall)
+
+abbrev pub calls_in : List PlayedCall → List BoundCall
+calls_in calls = map (λ call. call.0) calls
+
+abbrev pub entries_in : List PlayedCall → List Entry
+entries_in calls = flat_map (λ call. option_to_list call.1) calls
+
+abbrev pub lanes_in : PlayedPhase → List (List BoundCall)
+lanes_in phase = map calls_in phase.lanes
+
+-- of each number the entries of a phase are those of its lane's calls, in order; a number that no lane has is nobody's
+abbrev pub IsInterleaved : PlayedPhase → Type 0
+IsInterleaved phase = (n : ℕ) → made_by n phase.entries ≡ entries_in (get_or phase.lanes n [])
+
+-- ---- what a lane sees at a call
+
+-- a call with its answer; one that was kept has none, so that any will do
+abbrev pub with_answer : PlayedCall → Answered
+with_answer call = (call.0, option_map_or (λ (entry : Entry). entry.reply.answer) call.1 Plain)
+
+abbrev pub answered_lanes : List (List PlayedCall) → List (List Answered)
+answered_lanes lanes = map (λ calls. map with_answer calls) lanes
+
+-- what there is after a phase, and after phases one after another
+abbrev pub objects_next : ℕ → List Object → List (List PlayedCall) → List Object
+objects_next serial objects lanes = gathered objects (ended_from serial objects (length objects) (answered_lanes lanes))
+
+abbrev pub objects_after : ℕ → List Object → List PlayedPhase → List Object
+objects_after serial objects [] = objects
+objects_after serial objects (phase ∷ phases) = objects_after serial (objects_next serial objects phase.lanes) phases
+
+-- What a lane sees after these calls of it, where earlier phases were played so, and these lanes of its phase go before it.
+abbrev pub sight_after : ℕ → List PlayedPhase → List (List PlayedCall) → List PlayedCall → Sight
+sight_after serial earlier lanes before = after_calls serial
+    (record { others = objects_after serial [] earlier; first = slots_before (map lanes_in earlier) (map calls_in lanes); own = [] })
+    (map with_answer before)
+
+-- the calls whose objects it sees then: those of earlier phases, and its own
+abbrev pub seen_calls : List PlayedPhase → List PlayedCall → List PlayedCall
+seen_calls earlier before = flat_map (λ phase. flat_map (λ calls. calls) phase.lanes) earlier ++ before
+
+-- ---- how a call was played
+
+-- A recording call is late where a call before it in its lane finishes its encoder, or its pass has ended.
+abbrev pub is_late_after : Sight → List BoundCall → ℕ → Bool
+is_late_after sight before on = list_any (finishes (sight.first + (stand_seen sight on).encoder)) before || has_pass_ended sight.own (stand_seen sight on)
+
+-- It became an entry exactly where it is late, and is then the event that its encoder gets.
+pub record IsRecordedAs (sight : Sight) (before : List BoundCall) (on : ℕ) (found : Option Entry) : Type 0 where
+  pub late : is_some found ≡ is_late_after sight before on
+  pub event : (entry : Entry) → found ≡ Some entry → entry.event ≡ Late (reference_at sight.own (stand_seen sight on).encoder)
+
+-- every other call became one, which is its event
+pub record IsAskedAs (sight : Sight) (request : RequestOf ℕ) (found : Option Entry) : Type 0 where
+  pub entry : Entry
+  pub is : found ≡ Some entry
+  pub event : entry.event ≡ event_sent sight request
+
+abbrev pub IsPlayedAs : Sight → List BoundCall → BoundCall → Option Entry → Type 0
+IsPlayedAs sight before (Record on command made) found = IsRecordedAs sight before on found
+IsPlayedAs sight before (Ask request made) found = IsAskedAs sight request found
+
+-- ---- what a name stands for
+
+-- A handle is of the object that an entry made: it has the serial of the device, and the number and the validity that were
+-- answered; and it is genuine in a past, so that it knows what is known of the object.
+pub record IsOfEntry (setup : Setup) (past : Past) (handle : HandleValue) (entry : Entry) : Type 0 where
+  pub device : handle.reference.device ≡ setup.serial
+  pub answer : entry.reply.answer ≡ Made handle.reference.number handle.valid
+  pub genuine : is_genuine setup past handle ≡ true
+
+-- what a call has made is an object, or a pass, which has no handle
+abbrev pub IsOfCall : Setup → Past → HandleValue → BoundCall → Option Entry → Type 0
+IsOfCall setup past handle (Record on command made) found = Unit {0}
+IsOfCall setup past handle (Ask request made) None = ⊥
+IsOfCall setup past handle (Ask request made) (Some entry) = IsOfEntry setup past handle entry
+
+-- A name that a call uses stands for what one of these calls has made, as which that made it.
+pub record StandsForMade (setup : Setup) (past : Past) (sight : Sight) (seen : List PlayedCall) (used : ℕ × Wanted) : Type 0 where
+  pub maker : PlayedCall
+  pub is_seen : Contains seen maker
+  pub kind : Kind
+  pub makes : made_of maker.0 ≡ Some (used.0, kind)
+  pub fits : admits used.1 kind ≡ true
+  pub of : IsOfCall setup past (handle_in_sight sight used.0) maker.0 maker.1
+
+-- ---- a call at its place
+
+-- What has happened up to a moment of a phase, in which these entries were made before it.
+abbrev pub past_at : List PlayedPhase → List Entry → Past
+past_at earlier front = reverse (flat_map (λ phase. phase.entries) earlier ++ front)
+
+-- The moments of a phase at which lane n has made the entries of just these of its calls: what was made in the phase before them.
+pub record IsMoment (phase : PlayedPhase) (n : ℕ) (before : List PlayedCall) (front : List Entry) : Type 0 where
+  pub back : List Entry
+  pub whole : phase.entries ≡ front ++ back
+  pub own : made_by n front ≡ entries_in before
+
+-- all that a lane sees is genuine, and each name that a call uses stands for what was made as that
+pub record SeesMade (setup : Setup) (past : Past) (sight : Sight) (seen : List PlayedCall) (call : BoundCall) : Type 0 where
+  pub genuine : SeesGenuine setup past sight
+  pub names : All (StandsForMade setup past sight seen) (uses_of call)
+
+-- A call was played as what it is; and so it is at each moment from the last entry of the calls before it to its own, or to the
+-- lane's next.
+pub record IsPlayedAt (setup : Setup) (earlier : List PlayedPhase) (phase : PlayedPhase) (lanes : List (List PlayedCall))
+    (before : List PlayedCall) (call : PlayedCall) : Type 0 where
+  pub how : IsPlayedAs (sight_after setup.serial earlier lanes before) (calls_in before) call.0 call.1
+  pub sees : (front : List Entry) → IsMoment phase (length lanes) before front
+      → SeesMade setup (past_at earlier front) (sight_after setup.serial earlier lanes before) (seen_calls earlier before) call.0
+
+-- each call of a script, whatever phases, lanes and calls go before and after it
+abbrev pub EachIsPlayed : Setup → List PlayedPhase → Type 0
+EachIsPlayed setup plays = (earlier later : List PlayedPhase) (phase : PlayedPhase) (lanes_before lanes_after : List (List PlayedCall))
+    (before after : List PlayedCall) (call : PlayedCall)
+    → plays ≡ earlier ++ phase ∷ later → phase.lanes ≡ lanes_before ++ (before ++ call ∷ after) ∷ lanes_after
+    → IsPlayedAt setup earlier phase lanes_before before call
+
+-- ---- a script that was played
+
+-- The calls of a script as they were played: they are the script's; the entries of the phases, one phase after another, are the
+-- history; in each phase every lane gives its own, in order; each call is played as what it is; and all that was made is genuine.
+pub record IsPlayedThrough (setup : Setup) (phases : List (List (List BoundCall))) (history : List Entry) : Type 0 where
+  pub plays : List PlayedPhase
+  pub calls : map lanes_in plays ≡ phases
+  pub entries : flat_map (λ phase. phase.entries) plays ≡ history
+  pub lanes : All IsInterleaved plays
+  pub each : EachIsPlayed setup plays
+  pub kept : AreKept setup (reverse history) (objects_after setup.serial [] plays)
+
+-- ---- the laws
+
+-- Where an order of turns gives a history, its numbers are the callers of that, every reply in it is the one to its event, and
+-- each phase's lanes give their entries.
+abbrev pub PlayInterleaves : Type 0
+PlayInterleaves = (setup : Setup) (phases : List (List (List BoundCall))) (numbers : List ℕ) (history : List Entry) → Play setup phases numbers ≡ Some history
+    → (callers_of history ≡ numbers) × Run setup history × Interleaves setup phases [] history
+
+-- And where the names of the script are bound, each call is played as what it is. The device's serial is not 0, as which a slot
+-- counts that stands for no object.
+abbrev pub PlayGoesThrough : Type 0
+PlayGoesThrough = (setup : Setup) → setup.serial ≢ 0 → (phases : List (List (List BoundCall))) (numbers : List ℕ) (history : List Entry)
+    → IsBound phases → Play setup phases numbers ≡ Some history → IsPlayedThrough setup phases history
