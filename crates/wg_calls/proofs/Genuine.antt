@@ -1,8 +1,9 @@
 -- The handle that a call gives of what it made is genuine once the call is made, if those that it names are, and stays so.
-use Rattle.std.proofs.Common.{◌≡◌, ℕ, ◌<◌, List, [], ◌∷◌, ◌++◌, map, Bool, true, false, not, ◌&&◌, ◌||◌, ◌==◌, Option, Some, None, is_some, is_none, option_and_then, refl, ap, ap₂, sym, ◌∙◌, subst, if◌then◌else◌, true≢false}
+use Rattle.std.proofs.Common.{◌≡◌, ℕ, ◌<◌, List, [], ◌∷◌, ◌++◌, map, reverse, Bool, true, false, not, ◌&&◌, ◌||◌, ◌==◌, Option, Some, None, is_some, is_none, option_and_then, refl, ap, ap₂, sym, ◌∙◌, subst, if◌then◌else◌, true≢false}
 use Rattle.std.specs.Prelude.{All, slice_index_or}
 use Rattle.std.specs.Option.{option_map_or}
 use Rattle.std.proofs.lemmas.Bool.{and_parts, and_from, eq-eqb}
+use Rattle.std.proofs.lemmas.List.{reverse-append}
 use Rattle.std.proofs.lemmas.List.Elements.{All-nil, All-cons}
 use Rattle.wg_types.specs.Handles.{HandleValue}
 use Rattle.wg_types.specs.Kinds.{kind_of}
@@ -52,6 +53,7 @@ use Rattle.wg_history.proofs.Makers.{maker_stays, info_stays, own_below}
 use Rattle.wg_history.proofs.Holders.{genuine_below}
 use Rattle.wg_history.proofs.Reached.{genuine_knows}
 use Rattle.wg_calls.specs.Calls.{reference_of, event_asked, info_asked, handle_of, handle_made, view_asked}
+use Rattle.wg_calls.specs.Genuine.{StaysGenuine}
 use Rattle.wg_calls.proofs.Infos.{Knows as Tells, info_is_made}
 
 -- a handle that is genuine stays so
@@ -64,6 +66,15 @@ genuine_more setup entry past handle genuine =
     && (not handle.valid || option_map_or (same_info handle.info) o false))
     (info_stays past entry handle.reference.number lt) (maker_stays past entry handle.reference.number lt)
     ∙ genuine
+
+genuine_longer : (setup : Setup) (more past : Past) (handle : HandleValue) → is_genuine setup past handle ≡ true → is_genuine setup (more ++ past) handle ≡ true
+genuine_longer setup [] past handle genuine = genuine
+genuine_longer setup (entry ∷ more) past handle genuine = genuine_more setup entry (more ++ past) handle (genuine_longer setup more past handle genuine)
+
+pub stays_genuine : StaysGenuine
+stays_genuine setup before after handle begins genuine =
+    let parts : reverse after ≡ reverse begins.0 ++ reverse before = ap reverse (sym begins.1) ∙ reverse-append before begins.0 in
+    subst (λ (past : Past). is_genuine setup past handle ≡ true) (sym parts) (genuine_longer setup (reverse begins.0) (reverse before) handle genuine)
 
 -- What the newest event made.
 

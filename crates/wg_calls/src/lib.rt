@@ -7,5 +7,5 @@ mod laws;
 mod making;
 
 pub use asking::event_asked;
-pub use laws::made_infos;
+pub use laws::{made_infos, stays_genuine};
 pub use making::{handle_of, info_asked, recorder_for};

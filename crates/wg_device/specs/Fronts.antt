@@ -37,17 +37,20 @@ IsSoundIn lock pass = IsSound history_of (λ c. c.setup) Run lock pass
 abbrev pub CanCall : Lock → DevicePass → Type 0
 CanCall lock pass = IsPassOf lock pass × (calls_of pass < 2 ^ 40)
 
--- A call was made with the pass, or was not for want of memory: it is of this device, and has its number, at most one call more,
--- and has seen a history that begins with what it had seen.
+-- A call was made with the pass, or was not for want of memory: it is of this device, and has its number and its calls, with at
+-- most one more, and has seen a history that begins with what it had seen. A call that memory was wanting for counts only where it
+-- had its turn.
 pub record HasCalled (lock : Lock) (old new : DevicePass) : Type 0 where
   pub of : IsPassOf lock new
   pub number : number_of new ≡ number_of old
   pub calls : calls_of new ≤ calls_of old + 1
+  pub no_fewer : calls_of old ≤ calls_of new
   pub sound : IsSoundIn lock old → IsSoundIn lock new
   pub seen : IsPrefix (front_in lock old) (front_in lock new)
 
--- The pass is sound, what it has seen ends with the event and its reply, and so do its own entries.
+-- The pass has made one call more and is sound, what it has seen ends with the event and its reply, and so do its own entries.
 pub record IsAct (lock : Lock) (old new : DevicePass) (event : Event) (reply : Reply) : Type 0 where
+  pub calls : calls_of new ≡ calls_of old + 1
   pub sound : IsSoundIn lock new
   pub ends : EndsWith (front_in lock old) (front_in lock new) (entry (number_of old) event reply)
   pub own : own_of new ≡ own_of old ++ entry (number_of old) event reply ∷ []

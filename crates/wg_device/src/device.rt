@@ -11,7 +11,7 @@ ghost use Rattle.wg_turn.specs.Passes.{IsPassOf, AreFresh, AreSound, AreInOrder,
 ghost use Rattle.wg_turn.specs.Closings.{entries_of, passes_of, state_of};
 ghost use Rattle.wg_calls.specs.Calls.{event_asked, info_asked, handle_of, handle_made, finish_of, taken_out};
 ghost use Rattle.wg_device.specs.Fronts.{front_in, history_of, setup_of, CanCall, HasCalled, HasNotMade, IsAct, IsSoundIn};
-ghost use Rattle.wg_device.specs.Handles.{IsGenuine, AreGenuine};
+ghost use Rattle.wg_device.specs.Handles.{IsHandleOf, IsGenuineIn, AreGenuineIn};
 ghost use Rattle.wg_device.specs.Takes.{HasTaken, given_back, IsAsBefore};
 
 use std::alloc::Global;
@@ -129,8 +129,8 @@ impl Device {
         ensures called { HasCalled self.now.lock pass.old pass.new }
         ensures done { IfOk result (λ t. IsAct self.now.lock pass.old pass.new (event_asked request.now) t.1) }
         ensures handle { IfOk result (λ t. t.0 ≡ handle_made (setup_of self.now.lock).serial request.now t.1.answer) }
-        ensures genuine { IfOk result (λ t. AreGenuine (setup_of self.now.lock) (front_in self.now.lock pass.new) (named request.now)
-            → IfSome t.0 (λ handle. IsGenuine (setup_of self.now.lock) (front_in self.now.lock pass.new) handle)) }
+        ensures genuine { IfOk result (λ t. AreGenuineIn self.now.lock pass.new (named request.now)
+            → IfSome t.0 (λ handle. IsGenuineIn self.now.lock pass.new handle)) }
         ensures refused { IfErr result (λ _. HasNotMade self.now.lock pass.old pass.new) }
     {
         let info = keep(self.alloc, info_asked(self.alloc, request)?)?;
@@ -152,9 +152,9 @@ impl Device {
         requires makes { is_some (kind_made request.now) ≡ true }
         ensures called { HasCalled self.now.lock pass.old pass.new }
         ensures done { IfOk result (λ t. IsAct self.now.lock pass.old pass.new (event_asked request.now) t.1) }
-        ensures handle { IfOk result (λ t. handle_made (setup_of self.now.lock).serial request.now t.1.answer ≡ Some t.0) }
-        ensures genuine { IfOk result (λ t. AreGenuine (setup_of self.now.lock) (front_in self.now.lock pass.new) (named request.now)
-            → IsGenuine (setup_of self.now.lock) (front_in self.now.lock pass.new) t.0) }
+        ensures handle { IfOk result (λ t. IsHandleOf self.now.lock request.now t.1 t.0) }
+        ensures genuine { IfOk result (λ t. AreGenuineIn self.now.lock pass.new (named request.now)
+            → IsGenuineIn self.now.lock pass.new t.0) }
         ensures refused { IfErr result (λ _. HasNotMade self.now.lock pass.old pass.new) }
     {
         let (made, reply) = self.ask(rt, pass, request)?;
@@ -175,9 +175,9 @@ impl Device {
         requires makes { is_some (kind_made request) ≡ true }
         ensures called { HasCalled self.now.lock pass.old pass.new }
         ensures done { IfOk result (λ t. IsAct self.now.lock pass.old pass.new (event_asked request) t.1) }
-        ensures handle { IfOk result (λ t. handle_made (setup_of self.now.lock).serial request t.1.answer ≡ Some t.0) }
-        ensures genuine { IfOk result (λ t. AreGenuine (setup_of self.now.lock) (front_in self.now.lock pass.new) (named request)
-            → IsGenuine (setup_of self.now.lock) (front_in self.now.lock pass.new) t.0) }
+        ensures handle { IfOk result (λ t. IsHandleOf self.now.lock request t.1 t.0) }
+        ensures genuine { IfOk result (λ t. AreGenuineIn self.now.lock pass.new (named request)
+            → IsGenuineIn self.now.lock pass.new t.0) }
         ensures refused { IfErr result (λ _. HasNotMade self.now.lock pass.old pass.new) }
     {
         self.make(rt, pass, &request)
@@ -198,7 +198,7 @@ impl Device {
         ensures done { IfOk result (λ t. IfSome recorder.old.encoder (λ encoder.
             IsAct self.now.lock pass.old pass.new (finish_of encoder recorder.old) t.1)) }
         ensures handle { IfOk result (λ t. handle_of (setup_of self.now.lock).serial CommandBuffer t.1.answer ≡ Some t.0) }
-        ensures genuine { IfOk result (λ t. IsGenuine (setup_of self.now.lock) (front_in self.now.lock pass.new) t.0) }
+        ensures genuine { IfOk result (λ t. IsGenuineIn self.now.lock pass.new t.0) }
         ensures taken { IfOk result (λ _. recorder.new ≡ taken_out recorder.old) }
         ensures refused { IfErr result (λ _. HasNotMade self.now.lock pass.old pass.new) }
         ensures as_before { OnErr result (IsAsBefore recorder.old recorder.new) }
@@ -243,8 +243,10 @@ impl Device {
         ensures pass { IsPassOf self.now.lock pass.new × IsSamePass pass.old pass.new × IsSoundIn self.now.lock pass.new }
         ensures other { IsPassOf self.now.lock other.new × IsSamePass other.old other.new × IsSoundIn self.now.lock other.new }
         ensures same { front_in self.now.lock pass.new ≡ front_in self.now.lock other.new }
-        ensures one { (front_in self.now.lock pass.new ≡ front_in self.now.lock pass.old) ⊎ (front_in self.now.lock pass.new ≡ front_in self.now.lock other.old) }
-        ensures both { IsPrefix (front_in self.now.lock pass.old) (front_in self.now.lock pass.new) × IsPrefix (front_in self.now.lock other.old) (front_in self.now.lock pass.new) }
+        ensures one { (front_in self.now.lock pass.new ≡ front_in self.now.lock pass.old)
+            ⊎ (front_in self.now.lock pass.new ≡ front_in self.now.lock other.old) }
+        ensures both { IsPrefix (front_in self.now.lock pass.old) (front_in self.now.lock pass.new)
+            × IsPrefix (front_in self.now.lock other.old) (front_in self.now.lock pass.new) }
     {
         self.lock.meet(pass, other);
     }

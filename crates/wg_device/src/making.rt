@@ -1,10 +1,10 @@
 //! The calls of a device that make objects.
-ghost use Rattle.std.specs.Prelude.{◌≡◌, ◌∷◌, [], All, map, Some, None, IfOk, IfErr};
+ghost use Rattle.std.specs.Prelude.{◌≡◌, All, map, IfOk, IfErr};
 ghost use Rattle.wg_types.specs.Bindings.{entries_named, map_entry};
 ghost use Rattle.wg_types.specs.declared.requests.RequestOf.TheVariants as request;
-ghost use Rattle.wg_calls.specs.Calls.{reference_of, opened_for, handle_made};
-ghost use Rattle.wg_device.specs.Fronts.{front_in, setup_of, CanCall, HasCalled, HasNotMade, IsAct};
-ghost use Rattle.wg_device.specs.Handles.{IsGenuine, AreGenuine, whole};
+ghost use Rattle.wg_calls.specs.Calls.{reference_of, opened_for};
+ghost use Rattle.wg_device.specs.Fronts.{CanCall, HasCalled, HasNotMade, IsAct};
+ghost use Rattle.wg_device.specs.Handles.{IsHandleOf, IsGenuineIn, AreGenuineIn, whole};
 
 use crate::device::{Device, DevicePass};
 use std::sync::Wait;
@@ -34,8 +34,8 @@ impl Device {
         requires { CanCall self.now.lock pass.old }
         ensures called { HasCalled self.now.lock pass.old pass.new }
         ensures done { IfOk result (λ t. IsAct self.now.lock pass.old pass.new (Event.CreateBuffer info) t.1) }
-        ensures handle { IfOk result (λ t. handle_made (setup_of self.now.lock).serial (request.CreateBuffer info) t.1.answer ≡ Some t.0) }
-        ensures genuine { IfOk result (λ t. IsGenuine (setup_of self.now.lock) (front_in self.now.lock pass.new) t.0) }
+        ensures handle { IfOk result (λ t. IsHandleOf self.now.lock (request.CreateBuffer info) t.1 t.0) }
+        ensures genuine { IfOk result (λ t. IsGenuineIn self.now.lock pass.new t.0) }
         ensures refused { IfErr result (λ _. HasNotMade self.now.lock pass.old pass.new) }
     {
         self.make_of(rt, pass, RequestOf::CreateBuffer { info })
@@ -52,8 +52,8 @@ impl Device {
         requires { CanCall self.now.lock pass.old }
         ensures called { HasCalled self.now.lock pass.old pass.new }
         ensures done { IfOk result (λ t. IsAct self.now.lock pass.old pass.new (Event.CreateTexture info) t.1) }
-        ensures handle { IfOk result (λ t. handle_made (setup_of self.now.lock).serial (request.CreateTexture info) t.1.answer ≡ Some t.0) }
-        ensures genuine { IfOk result (λ t. IsGenuine (setup_of self.now.lock) (front_in self.now.lock pass.new) t.0) }
+        ensures handle { IfOk result (λ t. IsHandleOf self.now.lock (request.CreateTexture info) t.1 t.0) }
+        ensures genuine { IfOk result (λ t. IsGenuineIn self.now.lock pass.new t.0) }
         ensures refused { IfErr result (λ _. HasNotMade self.now.lock pass.old pass.new) }
     {
         self.make_of(rt, pass, RequestOf::CreateTexture { info })
@@ -70,8 +70,8 @@ impl Device {
         requires { CanCall self.now.lock pass.old }
         ensures called { HasCalled self.now.lock pass.old pass.new }
         ensures done { IfOk result (λ t. IsAct self.now.lock pass.old pass.new (Event.CreateView texture.now.reference desc) t.1) }
-        ensures handle { IfOk result (λ t. handle_made (setup_of self.now.lock).serial (request.CreateView texture.now (whole desc)) t.1.answer ≡ Some t.0) }
-        ensures genuine { IfOk result (λ t. IsGenuine (setup_of self.now.lock) (front_in self.now.lock pass.new) texture.now → IsGenuine (setup_of self.now.lock) (front_in self.now.lock pass.new) t.0) }
+        ensures handle { IfOk result (λ t. IsHandleOf self.now.lock (request.CreateView texture.now (whole desc)) t.1 t.0) }
+        ensures genuine { IfOk result (λ t. IsGenuineIn self.now.lock pass.new texture.now → IsGenuineIn self.now.lock pass.new t.0) }
         ensures refused { IfErr result (λ _. HasNotMade self.now.lock pass.old pass.new) }
     {
         let asked = ViewAsked {
@@ -97,8 +97,8 @@ impl Device {
         requires { CanCall self.now.lock pass.old }
         ensures called { HasCalled self.now.lock pass.old pass.new }
         ensures done { IfOk result (λ t. IsAct self.now.lock pass.old pass.new (Event.CreateSampler kind) t.1) }
-        ensures handle { IfOk result (λ t. handle_made (setup_of self.now.lock).serial (request.CreateSampler kind) t.1.answer ≡ Some t.0) }
-        ensures genuine { IfOk result (λ t. IsGenuine (setup_of self.now.lock) (front_in self.now.lock pass.new) t.0) }
+        ensures handle { IfOk result (λ t. IsHandleOf self.now.lock (request.CreateSampler kind) t.1 t.0) }
+        ensures genuine { IfOk result (λ t. IsGenuineIn self.now.lock pass.new t.0) }
         ensures refused { IfErr result (λ _. HasNotMade self.now.lock pass.old pass.new) }
     {
         self.make_of(rt, pass, RequestOf::CreateSampler { kind })
@@ -115,8 +115,8 @@ impl Device {
         requires { CanCall self.now.lock pass.old }
         ensures called { HasCalled self.now.lock pass.old pass.new }
         ensures done { IfOk result (λ t. IsAct self.now.lock pass.old pass.new (Event.CreateBindGroupLayout (record { entries = entries.items })) t.1) }
-        ensures handle { IfOk result (λ t. handle_made (setup_of self.now.lock).serial (request.CreateBindGroupLayout (record { entries = entries.items })) t.1.answer ≡ Some t.0) }
-        ensures genuine { IfOk result (λ t. IsGenuine (setup_of self.now.lock) (front_in self.now.lock pass.new) t.0) }
+        ensures handle { IfOk result (λ t. IsHandleOf self.now.lock (request.CreateBindGroupLayout (record { entries = entries.items })) t.1 t.0) }
+        ensures genuine { IfOk result (λ t. IsGenuineIn self.now.lock pass.new t.0) }
         ensures refused { IfErr result (λ _. HasNotMade self.now.lock pass.old pass.new) }
     {
         let info = GroupLayoutInfo {
@@ -136,8 +136,9 @@ impl Device {
         requires { CanCall self.now.lock pass.old }
         ensures called { HasCalled self.now.lock pass.old pass.new }
         ensures done { IfOk result (λ t. IsAct self.now.lock pass.old pass.new (Event.CreatePipelineLayout (map reference_of layouts.items)) t.1) }
-        ensures handle { IfOk result (λ t. handle_made (setup_of self.now.lock).serial (request.CreatePipelineLayout layouts.items) t.1.answer ≡ Some t.0) }
-        ensures genuine { IfOk result (λ t. All (λ layout. IsGenuine (setup_of self.now.lock) (front_in self.now.lock pass.new) layout) layouts.items → IsGenuine (setup_of self.now.lock) (front_in self.now.lock pass.new) t.0) }
+        ensures handle { IfOk result (λ t. IsHandleOf self.now.lock (request.CreatePipelineLayout layouts.items) t.1 t.0) }
+        ensures genuine { IfOk result (λ t. All (λ layout. IsGenuineIn self.now.lock pass.new layout) layouts.items
+            → IsGenuineIn self.now.lock pass.new t.0) }
         ensures refused { IfErr result (λ _. HasNotMade self.now.lock pass.old pass.new) }
     {
         let layouts = Items::from_vec(layouts);
@@ -154,9 +155,11 @@ impl Device {
     ) -> Result<(Handle, Reply), NoMemory>
         requires { CanCall self.now.lock pass.old }
         ensures called { HasCalled self.now.lock pass.old pass.new }
-        ensures done { IfOk result (λ t. IsAct self.now.lock pass.old pass.new (Event.CreateBindGroup layout.now.reference (map (map_entry reference_of) entries.items)) t.1) }
-        ensures handle { IfOk result (λ t. handle_made (setup_of self.now.lock).serial (request.CreateBindGroup layout.now entries.items) t.1.answer ≡ Some t.0) }
-        ensures genuine { IfOk result (λ t. IsGenuine (setup_of self.now.lock) (front_in self.now.lock pass.new) layout.now → AreGenuine (setup_of self.now.lock) (front_in self.now.lock pass.new) (entries_named entries.items) → IsGenuine (setup_of self.now.lock) (front_in self.now.lock pass.new) t.0) }
+        ensures done { IfOk result (λ t. IsAct self.now.lock pass.old pass.new
+            (Event.CreateBindGroup layout.now.reference (map (map_entry reference_of) entries.items)) t.1) }
+        ensures handle { IfOk result (λ t. IsHandleOf self.now.lock (request.CreateBindGroup layout.now entries.items) t.1 t.0) }
+        ensures genuine { IfOk result (λ t. IsGenuineIn self.now.lock pass.new layout.now → AreGenuineIn self.now.lock pass.new (entries_named entries.items)
+            → IsGenuineIn self.now.lock pass.new t.0) }
         ensures refused { IfErr result (λ _. HasNotMade self.now.lock pass.old pass.new) }
     {
         let layout = layout.share()?;
@@ -174,9 +177,10 @@ impl Device {
     ) -> Result<(Handle, Reply), NoMemory>
         requires { CanCall self.now.lock pass.old }
         ensures called { HasCalled self.now.lock pass.old pass.new }
-        ensures done { IfOk result (λ t. IsAct self.now.lock pass.old pass.new (Event.CreateComputePipeline layout.now.reference (record { entries = iface.items })) t.1) }
-        ensures handle { IfOk result (λ t. handle_made (setup_of self.now.lock).serial (request.CreateComputePipeline layout.now (record { entries = iface.items })) t.1.answer ≡ Some t.0) }
-        ensures genuine { IfOk result (λ t. IsGenuine (setup_of self.now.lock) (front_in self.now.lock pass.new) layout.now → IsGenuine (setup_of self.now.lock) (front_in self.now.lock pass.new) t.0) }
+        ensures done { IfOk result (λ t. IsAct self.now.lock pass.old pass.new
+            (Event.CreateComputePipeline layout.now.reference (record { entries = iface.items })) t.1) }
+        ensures handle { IfOk result (λ t. IsHandleOf self.now.lock (request.CreateComputePipeline layout.now (record { entries = iface.items })) t.1 t.0) }
+        ensures genuine { IfOk result (λ t. IsGenuineIn self.now.lock pass.new layout.now → IsGenuineIn self.now.lock pass.new t.0) }
         ensures refused { IfErr result (λ _. HasNotMade self.now.lock pass.old pass.new) }
     {
         let layout = layout.share()?;
@@ -198,8 +202,8 @@ impl Device {
         requires { CanCall self.now.lock pass.old }
         ensures called { HasCalled self.now.lock pass.old pass.new }
         ensures done { IfOk result (λ t. IsAct self.now.lock pass.old pass.new (Event.CreateRenderPipeline layout.now.reference desc) t.1) }
-        ensures handle { IfOk result (λ t. handle_made (setup_of self.now.lock).serial (request.CreateRenderPipeline layout.now desc) t.1.answer ≡ Some t.0) }
-        ensures genuine { IfOk result (λ t. IsGenuine (setup_of self.now.lock) (front_in self.now.lock pass.new) layout.now → IsGenuine (setup_of self.now.lock) (front_in self.now.lock pass.new) t.0) }
+        ensures handle { IfOk result (λ t. IsHandleOf self.now.lock (request.CreateRenderPipeline layout.now desc) t.1 t.0) }
+        ensures genuine { IfOk result (λ t. IsGenuineIn self.now.lock pass.new layout.now → IsGenuineIn self.now.lock pass.new t.0) }
         ensures refused { IfErr result (λ _. HasNotMade self.now.lock pass.old pass.new) }
     {
         let layout = layout.share()?;
@@ -217,9 +221,9 @@ impl Device {
         requires { CanCall self.now.lock pass.old }
         ensures called { HasCalled self.now.lock pass.old pass.new }
         ensures done { IfOk result (λ t. IsAct self.now.lock pass.old pass.new Event.CreateEncoder t.2) }
-        ensures handle { IfOk result (λ t. handle_made (setup_of self.now.lock).serial request.CreateEncoder t.2.answer ≡ Some t.1) }
+        ensures handle { IfOk result (λ t. IsHandleOf self.now.lock request.CreateEncoder t.2 t.1) }
         ensures recorder { IfOk result (λ t. t.0 ≡ opened_for t.1.reference) }
-        ensures genuine { IfOk result (λ t. IsGenuine (setup_of self.now.lock) (front_in self.now.lock pass.new) t.1) }
+        ensures genuine { IfOk result (λ t. IsGenuineIn self.now.lock pass.new t.1) }
         ensures refused { IfErr result (λ _. HasNotMade self.now.lock pass.old pass.new) }
     {
         let (handle, reply) = self.make_of(rt, pass, RequestOf::CreateEncoder)?;

@@ -77,7 +77,8 @@ impl Device {
     ) -> Result<Reply, NoMemory>
         requires { CanCall self.now.lock pass.old }
         ensures called { HasCalled self.now.lock pass.old pass.new }
-        ensures done { IfOk result (λ reply. IsAct self.now.lock pass.old pass.new (Event.WriteTexture texture.now.reference spot layout size data_size) reply) }
+        ensures done { IfOk result (λ reply. IsAct self.now.lock pass.old pass.new
+            (Event.WriteTexture texture.now.reference spot layout size data_size) reply) }
         ensures refused { IfErr result (λ _. HasNotMade self.now.lock pass.old pass.new) }
     {
         let texture = texture.reference();

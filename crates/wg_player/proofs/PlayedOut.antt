@@ -1,5 +1,5 @@
 -- From the opened device to the closed one.
-use Rattle.std.proofs.Common.{◌≡◌, ℕ, suc, ◌+◌, ◌<◌, ◌≤◌, ltb, nat_lt, Bool, true, false, List, [], ◌∷◌, ◌++◌, All, map, drop, get_or, length, refl, ap, sym, ◌∙◌, subst, arith, Some, if◌then◌else◌}
+use Rattle.std.proofs.Common.{◌≡◌, ◌≢◌, ℕ, suc, ◌+◌, ◌<◌, ◌≤◌, ltb, nat_lt, Bool, true, false, List, [], ◌∷◌, ◌++◌, All, map, drop, get_or, length, refl, ap, sym, ◌∙◌, subst, arith, Some, if◌then◌else◌}
 use Rattle.std.proofs.lemmas.Bool.Decides.{nat_tests}
 use Rattle.std.proofs.lemmas.List.Elements.{All-nil, All-cons}
 use Rattle.wg_history.specs.declared.events.Setup.{Setup}
@@ -14,6 +14,7 @@ use Rattle.wg_play.specs.declared.objects.Object.{Object}
 use Rattle.wg_play.specs.Play.{most_lanes, Play, PlaysTo}
 use Rattle.wg_play.proofs.Turning.{same_caller, fewer}
 use Rattle.wg_play.proofs.Unique.{one_zero}
+use Rattle.wg_play.proofs.PlayedLaw.{play_interleaves, play_goes_through}
 use Rattle.wg_player.specs.Moves.{AllAt}
 use Rattle.wg_player.specs.Whole.{IsPlayedOut}
 use Rattle.wg_player.proofs.Going.{drop_at}
@@ -62,11 +63,11 @@ all_zero (e ∷ log) none =
       by_test false is rest = let zero_is : e.who ≡ 0 = grind (arith, nat_tests) in cc (zero_is, rest)
 
 pub played_out : (lock : Lock) (setup : Setup) (phases : List (List (List BoundCall))) (ps : List DevicePass) (front : List Entry) (end : List Object) (state : CoreValue) (entries : ℕ)
-    → setup_of lock ≡ setup → (opened_with lock).history ≡ [] → 0 < length ps → length ps ≡ lock.callers
+    → setup.serial ≢ 0 → setup_of lock ≡ setup → (opened_with lock).history ≡ [] → 0 < length ps → length ps ≡ lock.callers
     → AllAt lock 0 ps front → PlaysTo (setup_of lock) phases [] front end
     → IsWhole history_of lock ps state entries → Run (setup_of lock) state.history
     → IsPlayedOut setup phases (length ps) state entries
-played_out lock setup phases ps front end state entries is empty some all at plays whole run =
+played_out lock setup phases ps front end state entries serial is empty some all at plays whole run =
     let both = headline lock ps state entries front phases end empty some all whole at plays run in
     let log_is : state.history ≡ whole.log = whole.history_is ∙ ap (λ (h : List Entry). h ++ whole.log) empty in
     let play : Play setup phases (callers_of state.history) ≡ Some state.history = subst (λ (s : Setup). Play s phases (callers_of state.history) ≡ Some state.history) is both.0 in
@@ -74,6 +75,8 @@ played_out lock setup phases ps front end state entries is empty some all at pla
     record {
       play = play;
       entries_are = both.1;
+      interleaves = (play_interleaves setup phases (callers_of state.history) state.history play).2;
+      through = λ bound. play_goes_through setup serial phases (callers_of state.history) state.history bound play;
       zeros = zero;
       only = λ one h is. one_zero setup phases h state.history is (subst (λ (ns : List ℕ). Play setup phases ns ≡ Some state.history) (zero one) play);
     }

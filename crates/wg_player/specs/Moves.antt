@@ -1,15 +1,16 @@
 -- What a lane's body has done.
-use Rattle.std.specs.Prelude.{◌≡◌, ◌⊎◌, ℕ, suc, ◌++◌, [], ◌∷◌, List, Option, Some, None, drop}
+use Rattle.std.specs.Prelude.{◌≡◌, ◌⊎◌, ℕ, suc, ◌++◌, [], ◌∷◌, List, Option, Some, None, drop, length}
 use mathlib.Core.List.{IsPrefix}
 use Rattle.wg_history.specs.Entries.{Entry}
 use Rattle.wg_history.specs.declared.events.Event.{Event}
 use Rattle.wg_turn.specs.Passes.{IsPassOf, IsSamePass, own_of}
-use Rattle.wg_device.specs.Fronts.{Lock, DevicePass, front_in, IsSoundIn}
+use Rattle.wg_device.specs.Fronts.{Lock, DevicePass, setup_of, front_in, IsSoundIn}
 use Rattle.wg_types.specs.Handles.{HandleValue}
 use Rattle.wg_types.specs.declared.requests.RequestOf.{RequestOf}
 use Rattle.wg_calls.specs.Calls.{handle_made}
 use Rattle.wg_script.specs.CallOf.{BoundCall}
-use Rattle.wg_play.specs.Sights.{Sight}
+use Rattle.wg_play.specs.declared.seen.Seen.{Seen}
+use Rattle.wg_play.specs.Sights.{Sight, sight_of}
 use Rattle.wg_play.specs.Lanes.{Lane, event_of, answered_by, kept, settle, next_event, after_reply}
 
 -- the entries are the lane's events in order, and take it to another
@@ -23,6 +24,10 @@ pub record HasAsked (serial : ℕ) (event : Event) (asked : RequestOf HandleValu
   pub grown : made_after ≡ made ++ entry ∷ []
   pub event_is : entry.event ≡ event
   pub handle_is : handle ≡ handle_made serial asked entry.reply.answer
+
+-- so it was with a pass of a device, between two moments
+abbrev pub HasAskedBy : Lock → Event → RequestOf HandleValue → Option HandleValue → DevicePass → DevicePass → Type 0
+HasAskedBy lock event asked handle old new = HasAsked (setup_of lock).serial event asked handle (own_of old) (own_of new)
 
 -- a pass made one entry, that of a call
 pub record HasSent (serial : ℕ) (sight sight_after : Sight) (call : BoundCall) (made made_after : List Entry) : Type 0 where
@@ -39,7 +44,12 @@ pub record HasKept (sight sight_after : Sight) (call : BoundCall) (made made_aft
 
 -- a call was played, as an event or as a recording call
 abbrev pub HasPlayed : ℕ → Sight → Sight → BoundCall → List Entry → List Entry → Type 0
-HasPlayed serial sight sight_after call made made_after = HasSent serial sight sight_after call made made_after ⊎ HasKept sight sight_after call made made_after
+HasPlayed serial sight sight_after call made made_after =
+    HasSent serial sight sight_after call made made_after ⊎ HasKept sight sight_after call made made_after
+
+-- so it was with a pass of a device, by a lane that saw the one and then the other
+abbrev pub HasPlayedBy : Lock → Seen → Seen → BoundCall → DevicePass → DevicePass → Type 0
+HasPlayedBy lock seen seen_after call old new = HasPlayed (setup_of lock).serial (sight_of seen) (sight_of seen_after) call (own_of old) (own_of new)
 
 -- from one moment to another a pass saw more, and its own entries grew by those that take the one lane to the other
 pub record Moves (serial : ℕ) (lock : Lock) (lane lane_after : Lane) (old new : DevicePass) : Type 0 where
@@ -55,6 +65,11 @@ pub record Moves (serial : ℕ) (lock : Lock) (lane lane_after : Lane) (old new 
 abbrev pub lane_at : Sight → List BoundCall → ℕ → Lane
 lane_at sight calls k = record { sight = sight; left = drop k calls }
 
+-- a pass went through all the calls of a lane
+abbrev pub MovesThrough : Lock → List BoundCall → Sight → Sight → DevicePass → DevicePass → Type 0
+MovesThrough lock calls sight sight_after old new =
+    Moves (setup_of lock).serial lock (lane_at sight calls 0) (lane_at sight_after calls (length calls)) old new
+
 -- two passes have met
 pub record HaveMet (lock : Lock) (a b a_after b_after : DevicePass) : Type 0 where
   pub first : IsPassOf lock a_after × IsSamePass a a_after × IsSoundIn lock a_after
@@ -67,7 +82,8 @@ pub record HaveMet (lock : Lock) (a b a_after b_after : DevicePass) : Type 0 whe
 -- one pass met each of the others in turn
 abbrev pub Tells : Lock → DevicePass → List DevicePass → DevicePass → List DevicePass → Type 0
 Tells lock hub [] hub_after after = (hub_after ≡ hub) × (after ≡ [])
-Tells lock hub (p ∷ ps) hub_after after = (mid : DevicePass) × (q : DevicePass) × (rest : List DevicePass) × (after ≡ q ∷ rest) × HaveMet lock hub p mid q × Tells lock mid ps hub_after rest
+Tells lock hub (p ∷ ps) hub_after after = (mid : DevicePass) × (q : DevicePass) × (rest : List DevicePass) × (after ≡ q ∷ rest)
+    × HaveMet lock hub p mid q × Tells lock mid ps hub_after rest
 
 abbrev pub ArePassesOf : Lock → List DevicePass → Type 0
 ArePassesOf lock [] = Unit {0}
@@ -80,7 +96,8 @@ AreSoundIn lock (p ∷ ps) = IsSoundIn lock p × AreSoundIn lock ps
 -- the passes have seen this and no more, which begins with what each had seen
 abbrev pub MetAt : Lock → List Entry → List DevicePass → List DevicePass → Type 0
 MetAt lock front [] [] = Unit {0}
-MetAt lock front (p ∷ ps) (q ∷ qs) = IsPassOf lock q × IsSamePass p q × IsSoundIn lock q × (front_in lock q ≡ front) × IsPrefix (front_in lock p) front × MetAt lock front ps qs
+MetAt lock front (p ∷ ps) (q ∷ qs) = IsPassOf lock q × IsSamePass p q × IsSoundIn lock q × (front_in lock q ≡ front)
+    × IsPrefix (front_in lock p) front × MetAt lock front ps qs
 MetAt lock front _ _ = ⊥
 
 abbrev pub HaveAllMet : Lock → List DevicePass → List DevicePass → Type 0

@@ -1,13 +1,13 @@
 -- The bodies of a phase's lanes.
 use Rattle.std.specs.Prelude.{◌≡◌, ℕ, zero, suc, ◌+◌, ◌++◌, [], ◌∷◌, List, true, length, map, flat_map}
 use Rattle.wg_device.specs.declared.device.Device.{Device}
-use Rattle.wg_device.specs.Fronts.{Lock, DevicePass, setup_of}
+use Rattle.wg_device.specs.Fronts.{Lock, DevicePass}
 use Rattle.wg_script.specs.CallOf.{BoundCall}
 use Rattle.wg_play.specs.declared.objects.Object.{Object}
 use Rattle.wg_play.specs.Sights.{Sight, SeesSame, sight_of}
 use Rattle.wg_play.specs.Lanes.{count_made}
 use Rattle.wg_player.specs.declared.lane.LaneRun.{LaneRun}
-use Rattle.wg_player.specs.Moves.{Moves, lane_at, HaveAllMet}
+use Rattle.wg_player.specs.Moves.{MovesThrough, HaveAllMet}
 
 -- the calls of lane n, or none where the phase has fewer lanes
 abbrev pub calls_of : List (List BoundCall) → ℕ → List BoundCall
@@ -32,7 +32,8 @@ sight_with objects lanes n own = record { others = objects; first = first_of (le
 module _ {G : Type 0} where
   -- a lane's body before it runs, and its pass
   abbrev pub IsSeated : Device → List (List BoundCall) → List Object → DevicePass → LaneRun G → Type 0
-  IsSeated device lanes objects p b = (b.pass ≡ p) × (b.device.now ≡ device) × (b.calls.now ≡ calls_of lanes p.number) × (sight_of b.seen ≡ sight_at objects lanes p.number)
+  IsSeated device lanes objects p b = (b.pass ≡ p) × (b.device.now ≡ device) × (b.calls.now ≡ calls_of lanes p.number)
+      × (sight_of b.seen ≡ sight_at objects lanes p.number)
 
   abbrev pub AreSeated : Device → List (List BoundCall) → List Object → List DevicePass → List (LaneRun G) → Type 0
   AreSeated device lanes objects [] bodies = bodies ≡ []
@@ -41,15 +42,15 @@ module _ {G : Type 0} where
 
 -- a body has run: what it was lent stays, and where it is through its pass has made the lane's entries
 abbrev pub HasRun : {G : Type 0} → LaneRun G → LaneRun G → Type 0
-HasRun b c = (c.device ≡ b.device) × (c.calls ≡ b.calls) × SeesSame b.seen c.seen × (c.through ≡ true →
-    Moves (setup_of b.device.now.lock).serial b.device.now.lock (lane_at (sight_of b.seen) b.calls.now 0) (lane_at (sight_of c.seen) b.calls.now (length b.calls.now)) b.pass c.pass)
+HasRun b c = (c.device ≡ b.device) × (c.calls ≡ b.calls) × SeesSame b.seen c.seen
+    × (c.through ≡ true → MovesThrough b.device.now.lock b.calls.now (sight_of b.seen) (sight_of c.seen) b.pass c.pass)
 
 -- what each body did, from the pass that it was given: its pass afterwards, and what it made
 abbrev pub HaveRun : Lock → List (List BoundCall) → List Object → List DevicePass → List (DevicePass × List Object) → Type 0
 HaveRun lock lanes objects [] ends = ends ≡ []
 HaveRun lock lanes objects (p ∷ ps) [] = ⊥
 HaveRun lock lanes objects (p ∷ ps) (b ∷ bs) =
-    Moves (setup_of lock).serial lock (lane_at (sight_at objects lanes p.number) (calls_of lanes p.number) 0) (lane_at (sight_with objects lanes p.number b.1) (calls_of lanes p.number) (length (calls_of lanes p.number))) p b.0
+    MovesThrough lock (calls_of lanes p.number) (sight_at objects lanes p.number) (sight_with objects lanes p.number b.1) p b.0
     × HaveRun lock lanes objects ps bs
 
 -- a phase was run: its lanes from these passes to those, which then met; and what was made

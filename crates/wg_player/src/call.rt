@@ -1,14 +1,13 @@
 //! One call of a lane.
 ghost use Rattle.std.specs.Prelude.{◌≡◌, Some, None, IfOk, OnOk};
-ghost use Rattle.wg_turn.specs.Passes.{own_of};
 ghost use Rattle.wg_types.specs.declared.handles.Info.TheVariants.{CommandBuffer};
 ghost use Rattle.wg_calls.specs.Calls.{event_asked, info_asked, taken_out};
-ghost use Rattle.wg_device.specs.Fronts.{setup_of, CanCall, HasCalled};
+ghost use Rattle.wg_device.specs.Fronts.{CanCall, HasCalled};
 ghost use Rattle.wg_script.specs.declared.calls.CallOf.TheVariants.{Record, Ask};
 ghost use Rattle.wg_play.specs.Lanes.{event_sent, finish_by, request_seen, taken_by};
 ghost use Rattle.wg_play.specs.Objects.{changed, recorder_in, recorder_at, taken_on};
 ghost use Rattle.wg_play.specs.Sights.{SeesSame, sight_of};
-ghost use Rattle.wg_player.specs.Moves.{HasAsked, HasPlayed};
+ghost use Rattle.wg_player.specs.Moves.{HasAskedBy, HasPlayedBy};
 
 use std::alloc::Global;
 use std::sync::Wait;
@@ -37,7 +36,7 @@ fn play_command(
     requires { CanCall device.now.lock pass.old }
     ensures called { HasCalled device.now.lock pass.old pass.new }
     ensures same { SeesSame seen.old seen.new }
-    ensures played { OnOk result (HasPlayed (setup_of device.now.lock).serial (sight_of seen.old) (sight_of seen.new) (Record on command.now made) (own_of pass.old) (own_of pass.new)) }
+    ensures played { OnOk result (HasPlayedBy device.now.lock seen.old seen.new (Record on command.now made) pass.old pass.new) }
 {
     let alloc = *seen.own.allocator();
     let stand = stand_at(seen.own.as_slice(), seen.place(on));
@@ -62,7 +61,7 @@ fn ask(
 ) -> Result<Option<Handle>, NoMemory>
     requires { CanCall device.now.lock pass.old }
     ensures called { HasCalled device.now.lock pass.old pass.new }
-    ensures done { IfOk result (λ handle. HasAsked (setup_of device.now.lock).serial (event_asked asked.now) asked.now handle (own_of pass.old) (own_of pass.new)) }
+    ensures done { IfOk result (λ handle. HasAskedBy device.now.lock (event_asked asked.now) asked.now handle pass.old pass.new) }
 {
     let (handle, _) = device.ask(rt, pass, asked)?;
     Ok(handle)
@@ -79,7 +78,8 @@ fn finish(
     requires pass { CanCall device.now.lock pass.old }
     requires asked { info_asked asked.now ≡ Some CommandBuffer }
     ensures called { HasCalled device.now.lock pass.old pass.new }
-    ensures done { IfOk result (λ handle. HasAsked (setup_of device.now.lock).serial (finish_by (Some recorder.old) (event_asked asked.now)) asked.now handle (own_of pass.old) (own_of pass.new)) }
+    ensures done { IfOk result (λ handle. HasAskedBy device.now.lock
+        (finish_by (Some recorder.old) (event_asked asked.now)) asked.now handle pass.old pass.new) }
     ensures taken { OnOk result (recorder.new ≡ taken_out recorder.old) }
 {
     if recorder.encoder().is_none() {
@@ -101,7 +101,8 @@ fn finish_in(
     requires pass { CanCall device.now.lock pass.old }
     requires asked { info_asked asked.now ≡ Some CommandBuffer }
     ensures called { HasCalled device.now.lock pass.old pass.new }
-    ensures done { IfOk result (λ handle. HasAsked (setup_of device.now.lock).serial (finish_by (recorder_in object.old) (event_asked asked.now)) asked.now handle (own_of pass.old) (own_of pass.new)) }
+    ensures done { IfOk result (λ handle. HasAskedBy device.now.lock
+        (finish_by (recorder_in object.old) (event_asked asked.now)) asked.now handle pass.old pass.new) }
     ensures taken { OnOk result (object.new ≡ changed object.old taken_out) }
 {
     match object {
@@ -125,7 +126,8 @@ fn finish_on(
     requires pass { CanCall device.now.lock pass.old }
     requires asked { info_asked asked.now ≡ Some CommandBuffer }
     ensures called { HasCalled device.now.lock pass.old pass.new }
-    ensures done { IfOk result (λ handle. HasAsked (setup_of device.now.lock).serial (finish_by (recorder_at own.old.items place) (event_asked asked.now)) asked.now handle (own_of pass.old) (own_of pass.new)) }
+    ensures done { IfOk result (λ handle. HasAskedBy device.now.lock
+        (finish_by (recorder_at own.old.items place) (event_asked asked.now)) asked.now handle pass.old pass.new) }
     ensures taken { OnOk result (own.new.items ≡ taken_on own.old.items place) }
 {
     let index = place as usize;
@@ -146,7 +148,8 @@ fn send_request(
     requires { CanCall device.now.lock pass.old }
     ensures called { HasCalled device.now.lock pass.old pass.new }
     ensures same { SeesSame seen.old seen.new }
-    ensures done { IfOk result (λ handle. HasAsked (setup_of device.now.lock).serial (event_sent (sight_of seen.old) request.now) (request_seen (sight_of seen.old) request.now) handle (own_of pass.old) (own_of pass.new)) }
+    ensures done { IfOk result (λ handle. HasAskedBy device.now.lock
+        (event_sent (sight_of seen.old) request.now) (request_seen (sight_of seen.old) request.now) handle pass.old pass.new) }
     ensures taken { OnOk result (sight_of seen.new ≡ taken_by (sight_of seen.old) (Ask request.now None)) }
 {
     let alloc = *seen.own.allocator();
@@ -173,7 +176,7 @@ fn play_request(
     requires { CanCall device.now.lock pass.old }
     ensures called { HasCalled device.now.lock pass.old pass.new }
     ensures same { SeesSame seen.old seen.new }
-    ensures played { OnOk result (HasPlayed (setup_of device.now.lock).serial (sight_of seen.old) (sight_of seen.new) (Ask request.now made) (own_of pass.old) (own_of pass.new)) }
+    ensures played { OnOk result (HasPlayedBy device.now.lock seen.old seen.new (Ask request.now made) pass.old pass.new) }
 {
     let alloc = *seen.own.allocator();
     let handle = send_request(rt, device, pass, seen, request)?;
@@ -197,7 +200,7 @@ pub fn play_call(
     requires { CanCall device.now.lock pass.old }
     ensures called { HasCalled device.now.lock pass.old pass.new }
     ensures same { SeesSame seen.old seen.new }
-    ensures played { OnOk result (HasPlayed (setup_of device.now.lock).serial (sight_of seen.old) (sight_of seen.new) call.now (own_of pass.old) (own_of pass.new)) }
+    ensures played { OnOk result (HasPlayedBy device.now.lock seen.old seen.new call.now pass.old pass.new) }
 {
     match call {
         BoundCall::Record { on, command, made } => {

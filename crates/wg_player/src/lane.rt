@@ -1,10 +1,9 @@
 //! A lane of a phase.
-ghost use Rattle.std.specs.Prelude.{◌≡◌, true, length, OnOk};
+ghost use Rattle.std.specs.Prelude.{◌≡◌, true, OnOk};
 ghost use Rattle.std.proofs.Props.{props};
 ghost use Rattle.wg_turn.specs.Passes.{IsPassOf};
-ghost use Rattle.wg_device.specs.Fronts.{setup_of};
 ghost use Rattle.wg_play.specs.Sights.{SeesSame, sight_of};
-ghost use Rattle.wg_player.specs.Moves.{Moves, lane_at};
+ghost use Rattle.wg_player.specs.Moves.{MovesThrough};
 
 use crate::call::play_call;
 use std::sync::Wait;
@@ -42,7 +41,7 @@ fn play_lane<G: Gate>(
     requires { IsPassOf device.now.lock pass.old }
     ensures pass { IsPassOf device.now.lock pass.new }
     ensures same { SeesSame seen.old seen.new }
-    ensures moves { OnOk result (Moves (setup_of device.now.lock).serial device.now.lock (lane_at (sight_of seen.old) calls.now 0) (lane_at (sight_of seen.new) calls.now (length calls.now)) pass.old pass.new) }
+    ensures moves { OnOk result (MovesThrough device.now.lock calls.now (sight_of seen.old) (sight_of seen.new) pass.old pass.new) }
 {
     let lane = pass.number();
     for (index, call) in calls.iter().enumerate() {
@@ -60,8 +59,8 @@ fn play_lane<G: Gate>(
 }
 
 impl<'a, G: Gate> LaneBody for LaneRun<'a, G> {
-    ghost ran = { λ b c. (c.device ≡ b.device) × (c.calls ≡ b.calls) × SeesSame b.seen c.seen × (c.through ≡ true
-        → Moves (setup_of b.device.now.lock).serial b.device.now.lock (lane_at (sight_of b.seen) b.calls.now 0) (lane_at (sight_of c.seen) b.calls.now (length b.calls.now)) b.pass c.pass) };
+    ghost ran = { λ b c. (c.device ≡ b.device) × (c.calls ≡ b.calls) × SeesSame b.seen c.seen
+        × (c.through ≡ true → MovesThrough b.device.now.lock b.calls.now (sight_of b.seen) (sight_of c.seen) b.pass c.pass) };
 
     fn run<T: Wait + Sync>(&mut self, rt: &T) {
         let played = play_lane(

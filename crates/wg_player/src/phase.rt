@@ -71,7 +71,8 @@ pub fn play_phases<T: Wait + Threads + Sync, G: Gate + Sync>(
     requires at { AllAt device.now.lock 0 passes.items [] }
     requires all { vec_len passes ≡ callers_of device.now.lock }
     requires few { All (λ lanes. length lanes ≤ callers_of device.now.lock) phases.now }
-    ensures played { IfOk result (λ qs. (front : List Entry) × (objects : List ObjectOf) × (vec_len qs ≡ callers_of device.now.lock) × AllAt device.now.lock 0 qs.items front × PlaysTo (setup_of device.now.lock) phases.now [] front objects) }
+    ensures played { IfOk result (λ qs. (front : List Entry) × (objects : List ObjectOf) × (vec_len qs ≡ callers_of device.now.lock)
+        × AllAt device.now.lock 0 qs.items front × PlaysTo (setup_of device.now.lock) phases.now [] front objects) }
 {
     let mut objects = Vec::new(alloc);
     for (index, lanes) in phases.iter().enumerate() {

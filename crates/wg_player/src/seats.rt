@@ -120,7 +120,8 @@ pub fn run_bodies<'a, T: Wait + Threads + Sync, G: Gate + Sync>(
     bodies: &mut Vec<LaneRun<'a, G>>,
 )
     ensures count { length bodies.new.items ≡ length bodies.old.items }
-    ensures each { (i : ℕ) (b : LaneRun G) → slice_get bodies.old.items i ≡ Some b → (c : LaneRun G) × (slice_get bodies.new.items i ≡ Some c) × HasRun b c }
+    ensures each { (i : ℕ) (b : LaneRun G) → slice_get bodies.old.items i ≡ Some b
+        → (c : LaneRun G) × (slice_get bodies.new.items i ≡ Some c) × HasRun b c }
 {
     run_all(rt, bodies.as_mut_slice());
 }

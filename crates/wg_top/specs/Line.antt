@@ -8,7 +8,8 @@ use Rattle.wg_gen.specs.Counts.{Counts, is_bar, is_clear_step, counts_of}
 
 abbrev pub counts_text : Counts → List ℕ
 counts_text counts =
-    codes "entries " ++ decimal counts.entries ++ codes " ops " ++ decimal counts.ops ++ codes " faults " ++ decimal counts.faults ++ codes " frees " ++ decimal counts.frees
+    codes "entries " ++ decimal counts.entries ++ codes " ops " ++ decimal counts.ops
+    ++ codes " faults " ++ decimal counts.faults ++ codes " frees " ++ decimal counts.frees
 
 -- Where no lanes are asked for, the barriers and the clears are counted too: these depend on the order of turns, of which one lane
 -- has only one.
