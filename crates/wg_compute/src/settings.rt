@@ -100,18 +100,15 @@ impl Settings {
     }
 
     /// Sets a group at its index. There is no index past the last, so nothing is set there.
-    #[tactic(auto, using(crate::proofs::Slots::slots_unset, crate::proofs::Slots::slot_set, crate::proofs::Slots::slots_past))]
+    #[tactic(auto, using(crate::proofs::Slots::slots_unset))]
     fn set_group(&mut self, given: Option<GroupGiven>) -> Result<(), NoMemory>
         ensures ok { OnOk result (self.new ≡ record self.old { groups = slots_after given.entry 0 self.old.groups }) }
         ensures err { OnErr result (self.new ≡ self.old) }
     {
         let Some(given) = given else { return Ok(()) };
-        if given.index >= 4 {
-            return Ok(());
-        }
         let group = given.group.share()?;
         let offsets = given.offsets.share()?;
-        self.groups[given.index as usize] = Some(BoundGroup { group, offsets });
+        put(&mut self.groups, given.index, BoundGroup { group, offsets });
         Ok(())
     }
 
@@ -126,6 +123,16 @@ impl Settings {
         self.set_pipeline(pipeline);
         self.depth = depth;
         Ok(())
+    }
+}
+
+/// Puts a group into the slot with its index, if there is one.
+#[tactic(auto, using(crate::proofs::Slots::slot_set, crate::proofs::Slots::slots_past))]
+fn put(groups: &mut [Option<BoundGroup>], index: u32, group: BoundGroup)
+    ensures { groups.new ≡ slots_after (Some (index, group)) 0 groups.old }
+{
+    if (index as usize) < groups.len() {
+        groups[index as usize] = Some(group);
     }
 }
 
