@@ -106,7 +106,7 @@ impl Settings {
         ensures err { OnErr result (self.new ≡ self.old) }
     {
         let Some(given) = given else { return Ok(()) };
-        if given.index >= 4 {
+        if given.index as usize >= self.groups().len() {
             return Ok(());
         }
         let group = given.group.share()?;
