@@ -47,7 +47,7 @@ pub fn is_made_valid(answer: Answer) -> bool
 {
     match answer {
         Answer::Made { valid, .. } => valid,
-        _ => false,
+        Answer::Queued(_) | Answer::Promised | Answer::Plain | Answer::BadCompletion => false,
     }
 }
 

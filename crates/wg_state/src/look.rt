@@ -2,7 +2,7 @@
 ghost use Rattle.std.specs.Prelude.{◌≡◌, ◌≤◌, ◌==◌, reverse, option_copied, length, is_some, IfSome, Some, None, not, true, false, ◌&&◌, if◌then◌else◌};
 ghost use Rattle.std.specs.Option.{option_map_or};
 ghost use Rattle.wg_history.specs.Infos.{same_kind, same_info};
-ghost use Rattle.wg_history.specs.Objects.{info_at, buffer_at, texture_at, texture_or_none_at, commands_at, deeds_at, is_valid, is_own, is_any, is_buffer, is_texture, is_encoder, is_command_buffer, has_memory};
+ghost use Rattle.wg_history.specs.Objects.{info_at, buffer_at, texture_at, texture_or_none_at, commands_at, deeds_at, is_valid, is_own, is_any, is_buffer, is_texture_info, is_encoder, is_command_buffer, has_memory};
 ghost use Rattle.wg_history.specs.Rules.{is_genuine};
 ghost use Rattle.wg_types.specs.Wanted.{admits};
 ghost use Rattle.wg_types.specs.Kinds.{kind_of};
@@ -63,7 +63,7 @@ pub fn own_buffer(setup: Setup, book: &Book, buffer: ObjRef) -> Option<BufferInf
 
 /// What is known of a texture of this device.
 pub fn own_texture(setup: Setup, book: &Book, texture: ObjRef) -> Option<TextureInfo>
-    ensures own { is_some result ≡ is_own setup (reverse book.now.entries) is_texture texture }
+    ensures own { is_some result ≡ is_own setup (reverse book.now.entries) is_texture_info texture }
     ensures info { IfSome result (λ info. texture_or_none_at (reverse book.now.entries) texture.number ≡ info) }
 {
     if texture.device != setup.serial {
