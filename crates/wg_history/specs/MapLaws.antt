@@ -15,7 +15,8 @@ MapsAreSingle = (setup : Setup) (history : List Entry) (n : ℕ) → Run setup h
 
 -- and none of a buffer that is mapped.
 abbrev pub PendingIsUnmapped : Type 0
-PendingIsUnmapped = (setup : Setup) (history : List Entry) (n : ℕ) → Run setup history → is_pending (reverse history) n ≡ true → mapped_at setup (reverse history) n ≡ None
+PendingIsUnmapped =
+    (setup : Setup) (history : List Entry) (n : ℕ) → Run setup history → is_pending (reverse history) n ≡ true → mapped_at setup (reverse history) n ≡ None
 
 -- A recorder keeps a command that stands on the encoder itself, or on a pass that was begun on it before and has not ended.
 abbrev pub StandsOn : On → Kept → Type 0
@@ -37,7 +38,7 @@ abbrev pub IsLast : Past → Awaited → Type 0
 IsLast past (mapping buffer last m) = last ≡ last_use past buffer
 IsLast past (work ops) = Unit {0}
 
--- It is so in a run of recordings that recorders kept: none of their commands names a buffer where a texture is wanted, so no
+-- It is so in a run of recordings that recorders kept: the commands of one that is accepted name no buffer as a texture, so no
 -- submit or write that meets its rules uses a buffer while a map of it is pending.
 abbrev pub MapsWaitForLast : Type 0
 MapsWaitForLast = (setup : Setup) (history : List Entry) → Run setup history → AreRecorded (reverse history)
