@@ -14,7 +14,8 @@ use Rattle.wg_play.specs.declared.objects.Object.{Object}
 use Rattle.wg_play.specs.Play.{most_lanes, Play, PlaysTo}
 use Rattle.wg_play.proofs.Turning.{same_caller, fewer}
 use Rattle.wg_play.proofs.Unique.{one_zero}
-use Rattle.wg_play.proofs.PlayedLaw.{play_interleaves, play_goes_through}
+use Rattle.wg_play.proofs.Backward.{play_interleaves}
+use Rattle.wg_play.proofs.PlayedLaw.{play_goes_through}
 use Rattle.wg_player.specs.Moves.{AllAt}
 use Rattle.wg_player.specs.Whole.{IsPlayedOut}
 use Rattle.wg_player.proofs.Going.{drop_at}
