@@ -40,7 +40,7 @@ use Rattle.wg_history.specs.declared.events.Form.{Form}
 use Rattle.wg_history.specs.declared.events.Form.TheVariants.{Making, Queue, Promise as Promising, Completion, Plain as Plainly}
 use Rattle.wg_history.specs.Entries.{effects_of, Entry, Past}
 use Rattle.wg_history.specs.declared.events.Event.TheVariants as event
-use Rattle.wg_history.specs.Objects.{is_making, is_making_form, count, maker, info_made, made_info, known_in, info_at, is_own, is_valid, is_made_valid, is_texture}
+use Rattle.wg_history.specs.Objects.{is_making, is_making_form, count, maker, info_made, made_info, known_in, info_at, is_own, is_valid, is_made_valid, is_texture_info}
 use Rattle.wg_history.specs.Infos.{same_kind, same_info}
 use Rattle.wg_history.specs.Loss.{is_lost}
 use Rattle.wg_history.specs.Rules.{is_genuine, create_view_list, create_view_rule}
@@ -210,7 +210,7 @@ known_same setup entry past (CreateBuffer made) if_own ruled = refl
 known_same setup entry past (CreateTexture made) if_own ruled = refl
 known_same setup entry past (CreateView texture asked) if_own ruled =
     let met : AreMet (create_view_list setup past texture.reference (view_asked texture asked)) = all_met (create_view_list setup past texture.reference (view_asked texture asked)) ruled in
-    let stands : Stands setup past (texture, wanted.Texture) = own_stands setup past is_texture (texture, wanted.Texture) met.0 met.1.1.0 in
+    let stands : Stands setup past (texture, wanted.Texture) = own_stands setup past is_texture_info (texture, wanted.Texture) met.0 met.1.1.0 in
     info_is_made (known_in past) (CreateView texture asked)
     (all_told setup entry past ((texture, wanted.Texture) ∷ []) if_own (All-cons (Stands setup past) (texture, wanted.Texture) [] stands (All-nil (Stands setup past))))
 known_same setup entry past (CreateSampler made) if_own ruled = refl
