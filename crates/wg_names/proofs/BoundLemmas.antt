@@ -17,7 +17,7 @@ use Rattle.wg_script.specs.declared.calls.CallOf.TheVariants.{Record, Ask}
 use Rattle.wg_types.specs.declared.commands.CommandOf.{CommandOf}
 use Rattle.wg_types.specs.Commands.{place_wanted, named, named_on}
 use Rattle.wg_types.specs.Requests.{named as asked_of}
-use Rattle.wg_types.specs.Wanted.{within}
+use Rattle.wg_types.specs.Wanted.{pipelines_on, within}
 use Rattle.wg_types.specs.declared.wanted.Kind.TheVariants as kind
 use Rattle.wg_types.specs.declared.wanted.Wanted.TheVariants as wanted
 use Rattle.wg_types.specs.declared.wanted.Kind.{Kind}
@@ -78,16 +78,19 @@ render_pipeline : (k : Kind) → admits wanted.RenderPipeline k ≡ true → adm
 render_pipeline kind.Render e = refl
 render_pipeline _ e = absurd (cc)
 
+pipelines : (place k : Kind) → admits (pipelines_on place) k ≡ true → admits wanted.Pipeline k ≡ true
+pipelines kind.ComputePass k e = compute_pipeline k e
+pipelines kind.RenderPass k e = render_pipeline k e
+pipelines _ k e = e
+
 within_admits : (place : Kind) (want : Wanted) (k : Kind) → admits (within place want) k ≡ true → admits want k ≡ true
-within_admits kind.ComputePass wanted.Pipeline k e = compute_pipeline k e
-within_admits kind.RenderPass wanted.Pipeline k e = render_pipeline k e
-within_admits _ _ k e = e
+within_admits place wanted.Pipeline k e = pipelines place k e
+within_admits place _ k e = e
 
 -- What asks for the lane's own asks for it on something of a kind, too.
 within_own : (place : Kind) (want : Wanted) → wants_own want ≡ true → wants_own (within place want) ≡ true
-within_own kind.ComputePass wanted.Pipeline e = absurd (cc)
-within_own kind.RenderPass wanted.Pipeline e = absurd (cc)
-within_own _ _ e = e
+within_own place wanted.Pipeline e = absurd (cc)
+within_own place _ e = e
 
 found_within : {R : Type 0} (made ours : Made R) (place : Kind) (keys : List (R × Wanted)) → All (IsFound made ours) (map (λ key. (key.0, within place key.1)) keys) → All (IsFound made ours) keys
 found_within made ours place [] all = All-nil (IsFound made ours)

@@ -194,7 +194,7 @@ pass_on serial sight before on made slot command answer k holder here begins =
     }
 
 -- the encoder on which a pass is begun is the lane's own
-begun_on : (first : ℕ) (own : List Object) (made : Slots) (before : List BoundCall) (on : ℕ) (command : CommandOf ℕ) (slot : Option ℕ) → Stands first own before → CallIsBound made (made_in before) (Record on command slot)
+pub begun_on : (first : ℕ) (own : List Object) (made : Slots) (before : List BoundCall) (on : ℕ) (command : CommandOf ℕ) (slot : Option ℕ) → Stands first own before → CallIsBound made (made_in before) (Record on command slot)
     → place_wanted command ≡ wanted.Encoder → IsEncoder first own before (on - first)
 begun_on first own made before on command slot was bound place =
     was.encoders on (subst (λ k. Contains (made_in before) (on, k)) (is_encoder bound.place (ap (λ w. admits w bound.place) (sym place) ∙ bound.takes)) bound.own)

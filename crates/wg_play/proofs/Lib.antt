@@ -19,5 +19,6 @@ pub mod KeptLaw
 pub mod Backward
 pub mod Running
 pub mod Makers
+pub mod Encoders
 pub mod PlayedPhases
 pub mod PlayedLaw

@@ -59,7 +59,7 @@ calls_more (call ∷ before) after = ap (λ (cs : List BoundCall). call.0 ∷ cs
 only_one : (x y : PlayedCall) → Contains (x ∷ []) y → x ≡ y
 only_one x y there = elim (Contains-push_cases [] x y there) [ inl none ↦ absurd (omega (arith, none.1)) | inr same ↦ same ]
 
-new_contains : (found : Option (ℕ × Kind)) (m : ℕ × Kind) → found ≡ Some m → Contains (option_to_list found) m
+pub new_contains : (found : Option (ℕ × Kind)) (m : ℕ × Kind) → found ≡ Some m → Contains (option_to_list found) m
 new_contains found m e = subst (λ (o : Option (ℕ × Kind)). Contains (option_to_list o) m) (sym e) (0, omega arith, refl)
 
 pub maker_contains : (plays : List PlayedCall) (maker : PlayedCall) (m : ℕ × Kind) → Contains plays maker → made_of maker.0 ≡ Some m

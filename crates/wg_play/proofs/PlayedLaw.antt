@@ -36,6 +36,7 @@ use Rattle.wg_play.proofs.FoundLaw.{at_least, below, earlier_from, others_after,
 use Rattle.wg_play.proofs.Numbered.{Slots, AreFrom, slots_of, from_zero, from_front, from_back, lane_in, lane_from, call_in}
 use Rattle.wg_play.proofs.Backward.{play_back}
 use Rattle.wg_play.proofs.Running.{RunsAs, Runs, lane_with, goes_to, runs_front, runs_at, lane_answered, recorded_as, asked_as, settled_back}
+use Rattle.wg_play.proofs.Encoders.{encoder_is}
 use Rattle.wg_play.proofs.Makers.{lane_same, lanes_same, calls_more, made_among, IsFrom, IsMadeAt, MadeFrom, none_made, lane_made, start_at, AllRun, all_answered, MadeAll, lanes_joined}
 use Rattle.wg_play.proofs.PlayedPhases.{lanes_length, after_part, PhaseRuns, PhasesRun, entries_of, script_runs, phase_at, all_interleaved, lane_run_at, lane_sees_at}
 
@@ -210,15 +211,23 @@ module _ (setup : Setup) (some : setup.serial ≢ 0) where
       ≡ is_late_after sight (calls_in before) on
   late_at earlier later lanes_before lanes_after before after on command made bound answered =
       let others : List Object = objects_after setup.serial [] earlier in
-      let start : Sight = record { others = others; first = slots_before (map lanes_in earlier) (map calls_in lanes_before); own = [] } in
+      let first : ℕ = slots_before (map lanes_in earlier) (map calls_in lanes_before) in
       let sight : Sight = sight_after setup.serial earlier lanes_before before in
+      let call : BoundCall = Record on command made in
+      let calls : List BoundCall = calls_in before ++ call ∷ calls_in after in
       let same : map (λ (c : AnsweredCall). c.0) (map with_answer before) ≡ calls_in before = lane_same before in
+      let lane = lane_in (map lanes_in earlier) (map lanes_in later) (map calls_in lanes_before) (map calls_in lanes_after) calls bound.used in
+      let parts : made_in calls ≡ made_in (calls_in before) ++ made_in (call ∷ calls_in after)
+      = flat_map-append made_by (calls_in before) (call ∷ calls_in after) in
+      let numbers : AreFrom first (slots_of (made_in (calls_in before))) = from_front first (made_in (calls_in before)) (made_in (call ∷ calls_in after))
+      (subst (λ (ms : Slots). AreFrom first (slots_of ms)) parts
+      (lane_from (map lanes_in earlier) (map lanes_in later) (map calls_in lanes_before) (map calls_in lanes_after) calls bound.count bound.numbered)) in
       late_is_finished (map lanes_in earlier) (map lanes_in later) (map calls_in lanes_before) (map calls_in lanes_after) (map with_answer before)
       (calls_in after) on command made
-      (subst (λ (cs : List BoundCall). BoundAt earlier later lanes_before lanes_after (cs ++ Record on command made ∷ calls_in after))
+      (subst (λ (cs : List BoundCall). BoundAt earlier later lanes_before lanes_after (cs ++ call ∷ calls_in after))
       (sym same) bound) answered setup.serial others
-      ∙ ap₂ (λ (n : ℕ) (cs : List BoundCall). list_any (finishes (n + (stand_seen sight on).encoder)) cs || has_pass_ended sight.own (stand_seen sight on))
-      (sym (first_after setup.serial (map with_answer before) start)) same
+      ∙ ap₂ (λ (n : ℕ) (cs : List BoundCall). list_any (finishes n) cs || has_pass_ended sight.own (stand_seen sight on))
+      (encoder_is setup.serial others first (slots_in earlier) before on command made (calls_in after) lane numbers answered) same
 
   -- all that the lane sees is genuine
   genuine_at : (earlier : List PlayedPhase) (phase : PlayedPhase) (lanes_before lanes_after : List (List PlayedCall)) (before after : List PlayedCall)

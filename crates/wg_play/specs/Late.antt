@@ -1,7 +1,8 @@
 -- Which recording calls are late, looking back over the calls of their lane.
-use Rattle.std.specs.Prelude.{◌≡◌, ℕ, ◌+◌, List, [], ◌∷◌, ◌++◌, Bool, true, false, ◌==◌, ◌||◌, Option, unwrap_or, is_some, length, map, reverse, All}
+use Rattle.std.specs.Prelude.{◌≡◌, ℕ, ◌+◌, List, [], ◌∷◌, ◌++◌, Bool, true, false, ◌==◌, ◌&&◌, ◌||◌, if◌then◌else◌, Option, Some, None, unwrap_or, is_some, length, map, reverse, All}
 use Rattle.std.specs.Option.{option_map_or}
 use Rattle.std.specs.List.{flat_map, list_any}
+use Rattle.wg_types.specs.Commands.{kind_begun}
 use Rattle.wg_types.specs.declared.commands.CommandOf.{CommandOf}
 use Rattle.wg_types.specs.declared.commands.On.{On}
 use Rattle.wg_types.specs.declared.commands.On.TheVariants.{Encoder, Pass}
@@ -62,6 +63,18 @@ slots_before earlier lanes = length (flat_map (flat_map made_in) earlier) + leng
 abbrev pub finishes : ℕ → BoundCall → Bool
 finishes slot (Record on command made) = false
 finishes slot (Ask request made) = option_map_or (λ encoder. encoder == slot) (ended_by request) false
+
+-- the encoder on which a call begins the pass of a slot
+abbrev pub begun_as : ℕ → BoundCall → Option ℕ
+begun_as slot (Record on command None) = None
+begun_as slot (Record on command (Some made)) = if is_some (kind_begun command) && (made == slot) then Some on else None
+begun_as slot (Ask request made) = None
+
+-- The encoder of a slot on which a recording call stands that comes after these calls: that on which one of them has begun the
+-- pass of the slot, or the slot itself.
+abbrev pub encoder_of : List BoundCall → ℕ → ℕ
+encoder_of [] slot = slot
+encoder_of (call ∷ calls) slot = unwrap_or (begun_as slot call) (encoder_of calls slot)
 
 -- whether the pass on which a recording call stands has ended, by the walk over what its encoder's recorder has kept
 abbrev pub pass_ended : On → Option RecorderValue → Bool

@@ -1,5 +1,5 @@
 -- What a script has given that was played: each of its calls, with the entry that it became where it is an event.
-use Rattle.std.specs.Prelude.{◌≡◌, ◌≢◌, ℕ, ◌+◌, List, [], ◌∷◌, ◌++◌, length, map, reverse, get_or, Bool, true, ◌||◌, Option, Some, None, is_some, All, Contains}
+use Rattle.std.specs.Prelude.{◌≡◌, ◌≢◌, ℕ, List, [], ◌∷◌, ◌++◌, length, map, reverse, get_or, Bool, true, ◌||◌, Option, Some, None, is_some, All, Contains}
 use Rattle.std.specs.Option.{option_map_or, option_to_list}
 use Rattle.std.specs.List.{flat_map, list_any}
 use Rattle.wg_types.specs.Handles.{HandleValue}
@@ -22,7 +22,7 @@ use Rattle.wg_play.specs.Objects.{reference_at}
 use Rattle.wg_play.specs.Sights.{Sight, handle_in_sight}
 use Rattle.wg_play.specs.Lanes.{stand_seen, event_sent, gathered}
 use Rattle.wg_play.specs.Turns.{made_by, callers_of}
-use Rattle.wg_play.specs.Late.{Answered, after_calls, slots_before, finishes, has_pass_ended}
+use Rattle.wg_play.specs.Late.{Answered, after_calls, slots_before, finishes, encoder_of, has_pass_ended}
 use Rattle.wg_play.specs.Found.{ended_from}
 use Rattle.wg_play.specs.Kept.{AreKept, SeesGenuine}
 use Rattle.wg_play.specs.Play.{Play, Interleaves}
@@ -80,9 +80,10 @@ seen_calls earlier before = flat_map (λ phase. flat_map (λ calls. calls) phase
 
 -- ---- how a call was played
 
--- A recording call is late where a call before it in its lane finishes its encoder, or its pass has ended.
+-- A recording call is late where a call before it in its lane finishes its encoder, which is that on which its pass was begun, or
+-- where its pass has ended.
 abbrev pub is_late_after : Sight → List BoundCall → ℕ → Bool
-is_late_after sight before on = list_any (finishes (sight.first + (stand_seen sight on).encoder)) before || has_pass_ended sight.own (stand_seen sight on)
+is_late_after sight before on = list_any (finishes (encoder_of before on)) before || has_pass_ended sight.own (stand_seen sight on)
 
 -- It became an entry exactly where it is late, and is then the event that its encoder gets.
 pub record IsRecordedAs (sight : Sight) (before : List BoundCall) (on : ℕ) (found : Option Entry) : Type 0 where
