@@ -25,7 +25,7 @@ use Rattle.wg_turn.specs.Passes.{number_of}
 use Rattle.wg_calls.specs.Calls.{event_asked, handle_of, handle_made, finish_of, recording_of}
 use Rattle.wg_calls.proofs.Genuine.{genuine_made, gives_handle, genuine_finish, gives_finish}
 use Rattle.wg_device.specs.Fronts.{Lock, DevicePass, setup_of, front_in, IsAct}
-use Rattle.wg_device.specs.Handles.{IsGenuine, AreGenuine}
+use Rattle.wg_device.specs.Handles.{IsGenuine, AreGenuine, IsGenuineIn, AreGenuineIn}
 
 -- the past of the last entry of a history that ends with a call, whose reply is the one that it has there
 record Ended (lock : Lock) (new : DevicePass) (last : Entry) : Type 0 where
@@ -51,8 +51,8 @@ asked_genuine lock old new request handle reply act genuine made =
     (subst (λ (past : Past). All (λ (used : HandleValue × Wanted). is_genuine (setup_of lock) past used.0 ≡ true) (named request)) end.back genuine) made)
 
 pub if_genuine : (lock : Lock) (old new : DevicePass) (request : RequestOf HandleValue) (made : Option HandleValue) (reply : Reply) → IsAct lock old new (event_asked request) reply
-    → made ≡ handle_made (setup_of lock).serial request reply.answer → AreGenuine (setup_of lock) (front_in lock new) (named request)
-    → IfSome made (λ handle. IsGenuine (setup_of lock) (front_in lock new) handle)
+    → made ≡ handle_made (setup_of lock).serial request reply.answer → AreGenuineIn lock new (named request)
+    → IfSome made (λ handle. IsGenuineIn lock new handle)
 if_genuine lock old new request (Some handle) reply act made genuine = asked_genuine lock old new request handle reply act genuine (sym made)
 if_genuine lock old new request None reply act made genuine = tt
 
