@@ -25,7 +25,9 @@ fn is_multisampled(format: Format) -> bool
 fn are_color(targets: &[Option<Format>]) -> bool
     ensures { result ≡ list_all (passes is_color) targets.now }
 {
-    targets.iter().all(|target| target.is_none_or(|format| is_color(format)))
+    targets
+        .iter()
+        .all(|target| target.is_none_or(|format| is_color(format)))
 }
 
 /// Whether some target is not left out.
