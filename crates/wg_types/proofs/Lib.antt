@@ -1,2 +1,3 @@
 pub mod RefLemmas
 pub mod WordLemmas
+pub mod WantedLemmas

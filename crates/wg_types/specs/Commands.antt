@@ -2,7 +2,7 @@
 use Rattle.std.specs.Prelude.{ℕ, Bool, true, false, List, [], ◌∷◌, map, Option, Some, None}
 use Rattle.std.specs.List.{list_any}
 use Rattle.wg_types.specs.Handles.{HandleValue}
-use Rattle.wg_types.specs.Render.{targets_named, map_begin}
+use Rattle.wg_types.specs.Render.{begin_named, map_begin}
 pub use Rattle.wg_types.specs.Refs.{first_of, all_wanted}
 use Rattle.wg_types.specs.declared.wanted.Wanted.{Wanted}
 use Rattle.wg_types.specs.declared.wanted.Wanted.TheVariants as wanted
@@ -12,7 +12,7 @@ use Rattle.wg_types.specs.Wanted.{is_wanted, within}
 use Rattle.wg_types.specs.declared.vertex.IndexFormat.{IndexFormat}
 use Rattle.wg_types.specs.declared.render.RenderBeginOf.{RenderBeginOf}
 pub use Rattle.wg_types.specs.declared.commands.CommandOf.{CommandOf}
-use Rattle.wg_types.specs.declared.commands.CommandOf.TheVariants.{BeginComputePass, BeginRenderPass, CopyBufferToBuffer, CopyBufferToTexture, CopyTextureToBuffer, CopyTextureToTexture, ClearBuffer, PushDebugGroup, PopDebugGroup, End, SetPipeline, SetBindGroup, Dispatch, DispatchIndirect, SetVertexBuffer, SetIndexBuffer, Draw, DrawIndexed, DrawIndirect, DrawIndexedIndirect}
+use Rattle.wg_types.specs.declared.commands.CommandOf.TheVariants.{BeginComputePass, BeginRenderPass, CopyBufferToBuffer, CopyBufferToTexture, CopyTextureToBuffer, CopyTextureToTexture, ClearBuffer, ResolveQuerySet, PushDebugGroup, PopDebugGroup, End, SetPipeline, SetBindGroup, Dispatch, DispatchIndirect, SetVertexBuffer, SetIndexBuffer, Draw, DrawIndexed, DrawIndirect, DrawIndexedIndirect, BeginOcclusionQuery, EndOcclusionQuery}
 use Rattle.wg_types.specs.declared.commands.Bracket.{Bracket}
 use Rattle.wg_types.specs.declared.commands.Bracket.TheVariants as brackets
 use Rattle.wg_types.specs.declared.commands.CommandPlace.{CommandPlace}
@@ -23,11 +23,11 @@ abbrev pub Command : Type 0
 Command = CommandOf HandleValue
 
 -- what a place of a kind is to the commands that stand on it: debug groups stand anywhere, an end on a pass, what sets pipelines
--- and groups on passes and bundle encoders, what draws on render passes and these
+-- and groups on passes and bundle encoders, what draws on render passes and these, what begins and ends queries on render passes
 abbrev pub serves_at : CommandPlace → List Wanted
 serves_at Encoder = wanted.Encoder ∷ wanted.Recording ∷ []
 serves_at ComputePass = wanted.ComputePass ∷ wanted.Pass ∷ wanted.Binding ∷ wanted.Recording ∷ []
-serves_at RenderPass = wanted.Pass ∷ wanted.Binding ∷ wanted.Drawing ∷ wanted.Recording ∷ []
+serves_at RenderPass = wanted.RenderPass ∷ wanted.Pass ∷ wanted.Binding ∷ wanted.Drawing ∷ wanted.Recording ∷ []
 serves_at Bundle = wanted.Binding ∷ wanted.Drawing ∷ wanted.Recording ∷ []
 
 -- whether what a command asks of what it stands on is met by a place of a kind
@@ -43,6 +43,7 @@ place_wanted (CopyBufferToTexture buffer layout texture spot size) = wanted.Enco
 place_wanted (CopyTextureToBuffer buffer layout texture spot size) = wanted.Encoder
 place_wanted (CopyTextureToTexture source source_mip source_origin target target_mip target_origin size) = wanted.Encoder
 place_wanted (ClearBuffer buffer offset size) = wanted.Encoder
+place_wanted (ResolveQuerySet queries first count buffer offset) = wanted.Encoder
 place_wanted PushDebugGroup = wanted.Recording
 place_wanted PopDebugGroup = wanted.Recording
 place_wanted End = wanted.Pass
@@ -56,6 +57,8 @@ place_wanted (Draw vertices instances first_vertex first_instance) = wanted.Draw
 place_wanted (DrawIndexed indices instances first_index first_instance) = wanted.Drawing
 place_wanted (DrawIndirect buffer offset) = wanted.Drawing
 place_wanted (DrawIndexedIndirect buffer offset) = wanted.Drawing
+place_wanted (BeginOcclusionQuery index) = wanted.RenderPass
+place_wanted EndOcclusionQuery = wanted.RenderPass
 
 -- whether a command may stand on a place of a kind
 abbrev pub fits : {R : Type 0} → CommandOf R → CommandPlace → Bool
@@ -70,6 +73,7 @@ bracket (CopyBufferToTexture buffer layout texture spot size) = brackets.Neither
 bracket (CopyTextureToBuffer buffer layout texture spot size) = brackets.Neither
 bracket (CopyTextureToTexture source source_mip source_origin target target_mip target_origin size) = brackets.Neither
 bracket (ClearBuffer buffer offset size) = brackets.Neither
+bracket (ResolveQuerySet queries first count buffer offset) = brackets.Neither
 bracket PushDebugGroup = brackets.PushGroup
 bracket PopDebugGroup = brackets.PopGroup
 bracket End = brackets.EndPass
@@ -83,18 +87,20 @@ bracket (Draw vertices instances first_vertex first_instance) = brackets.Neither
 bracket (DrawIndexed indices instances first_index first_instance) = brackets.Neither
 bracket (DrawIndirect buffer offset) = brackets.Neither
 bracket (DrawIndexedIndirect buffer offset) = brackets.Neither
+bracket (BeginOcclusionQuery index) = brackets.Neither
+bracket EndOcclusionQuery = brackets.Neither
 
 -- the kind of the pass that a command begins, if it begins one
-abbrev pub kind_begun_by : Bracket → Option Kind
-kind_begun_by brackets.BeginComputePass = Some kind.ComputePass
-kind_begun_by brackets.BeginRenderPass = Some kind.RenderPass
-kind_begun_by brackets.EndPass = None
-kind_begun_by brackets.PushGroup = None
-kind_begun_by brackets.PopGroup = None
-kind_begun_by brackets.Neither = None
+abbrev pub kind_begin_in : Bracket → Option Kind
+kind_begin_in brackets.BeginComputePass = Some kind.ComputePass
+kind_begin_in brackets.BeginRenderPass = Some kind.RenderPass
+kind_begin_in brackets.EndPass = None
+kind_begin_in brackets.PushGroup = None
+kind_begin_in brackets.PopGroup = None
+kind_begin_in brackets.Neither = None
 
 abbrev pub kind_begun : {R : Type 0} → CommandOf R → Option Kind
-kind_begun command = kind_begun_by (bracket command)
+kind_begun command = kind_begin_in (bracket command)
 
 -- whether a command begins a pass
 abbrev pub begins_pass_by : Bracket → Bool
@@ -136,12 +142,18 @@ pub data Running (R : Type 0) : Type 0 where
   draw_indirect : (buffer : R) (offset : ℕ) → Running R
   draw_indexed_indirect : (buffer : R) (offset : ℕ) → Running R
 
+-- What a command does with the queries of its pass: it begins the one of an index, or ends the one that is active.
+pub data OcclusionCall : Type 0 where
+  begin_occlusion : (index : ℕ) → OcclusionCall
+  end_occlusion : OcclusionCall
+
 -- What a command is to the pass that it begins or on which it stands: what the render pass begins with, something that is set,
--- or something that is dispatched or drawn.
+-- something that is dispatched or drawn, or a query's begin or end.
 pub data Act (R : Type 0) : Type 0 where
   begins : (begin : RenderBeginOf R) → Act R
   sets : (setting : Setting R) → Act R
   runs : (running : Running R) → Act R
+  occludes : (call : OcclusionCall) → Act R
   neither : Act R
 
 abbrev pub act : {R : Type 0} → CommandOf R → Act R
@@ -152,6 +164,7 @@ act (CopyBufferToTexture buffer layout texture spot size) = neither
 act (CopyTextureToBuffer buffer layout texture spot size) = neither
 act (CopyTextureToTexture source source_mip source_origin target target_mip target_origin size) = neither
 act (ClearBuffer buffer offset size) = neither
+act (ResolveQuerySet queries first count buffer offset) = neither
 act PushDebugGroup = neither
 act PopDebugGroup = neither
 act End = neither
@@ -165,26 +178,30 @@ act (Draw vertices instances first_vertex first_instance) = runs (draw vertices 
 act (DrawIndexed indices instances first_index first_instance) = runs (draw_indexed indices instances first_index first_instance)
 act (DrawIndirect buffer offset) = runs (draw_indirect buffer offset)
 act (DrawIndexedIndirect buffer offset) = runs (draw_indexed_indirect buffer offset)
+act (BeginOcclusionQuery index) = occludes (begin_occlusion index)
+act EndOcclusionQuery = occludes end_occlusion
 
 -- what the render pass begins with that a command begins, if it begins one
-abbrev pub begun_by : {R : Type 0} → Act R → Option (RenderBeginOf R)
-begun_by (begins begin) = Some begin
-begun_by (sets setting) = None
-begun_by (runs running) = None
-begun_by neither = None
+abbrev pub begin_in : {R : Type 0} → Act R → Option (RenderBeginOf R)
+begin_in (begins begin) = Some begin
+begin_in (sets setting) = None
+begin_in (runs running) = None
+begin_in (occludes call) = None
+begin_in neither = None
 
 abbrev pub render_begun : {R : Type 0} → CommandOf R → Option (RenderBeginOf R)
-render_begun command = begun_by (act command)
+render_begun command = begin_in (act command)
 
 -- the objects that a command names, in the order of its keys, with what is wanted of each
 abbrev pub named : {R : Type 0} → CommandOf R → List (R × Wanted)
 named BeginComputePass = []
-named (BeginRenderPass begin) = targets_named begin
+named (BeginRenderPass begin) = begin_named begin
 named (CopyBufferToBuffer source source_offset target target_offset size) = (source, wanted.Buffer) ∷ (target, wanted.Buffer) ∷ []
 named (CopyBufferToTexture buffer layout texture spot size) = (buffer, wanted.Buffer) ∷ (texture, wanted.Texture) ∷ []
 named (CopyTextureToBuffer buffer layout texture spot size) = (buffer, wanted.Buffer) ∷ (texture, wanted.Texture) ∷ []
 named (CopyTextureToTexture source source_mip source_origin target target_mip target_origin size) = (source, wanted.Texture) ∷ (target, wanted.Texture) ∷ []
 named (ClearBuffer buffer offset size) = (buffer, wanted.Buffer) ∷ []
+named (ResolveQuerySet queries first count buffer offset) = (queries, wanted.Queries) ∷ (buffer, wanted.Buffer) ∷ []
 named PushDebugGroup = []
 named PopDebugGroup = []
 named End = []
@@ -198,6 +215,8 @@ named (Draw vertices instances first_vertex first_instance) = []
 named (DrawIndexed indices instances first_index first_instance) = []
 named (DrawIndirect buffer offset) = (buffer, wanted.Buffer) ∷ []
 named (DrawIndexedIndirect buffer offset) = (buffer, wanted.Buffer) ∷ []
+named (BeginOcclusionQuery index) = []
+named EndOcclusionQuery = []
 
 -- the same in a call on something of a kind, where a pipeline has to be one of such passes
 abbrev pub named_on : {R : Type 0} → Kind → CommandOf R → List (R × Wanted)
@@ -212,6 +231,7 @@ map_refs f (CopyBufferToTexture buffer layout texture spot size) = CopyBufferToT
 map_refs f (CopyTextureToBuffer buffer layout texture spot size) = CopyTextureToBuffer (f buffer) layout (f texture) spot size
 map_refs f (CopyTextureToTexture source source_mip source_origin target target_mip target_origin size) = CopyTextureToTexture (f source) source_mip source_origin (f target) target_mip target_origin size
 map_refs f (ClearBuffer buffer offset size) = ClearBuffer (f buffer) offset size
+map_refs f (ResolveQuerySet queries first count buffer offset) = ResolveQuerySet (f queries) first count (f buffer) offset
 map_refs f PushDebugGroup = PushDebugGroup
 map_refs f PopDebugGroup = PopDebugGroup
 map_refs f End = End
@@ -225,3 +245,5 @@ map_refs f (Draw vertices instances first_vertex first_instance) = Draw vertices
 map_refs f (DrawIndexed indices instances first_index first_instance) = DrawIndexed indices instances first_index first_instance
 map_refs f (DrawIndirect buffer offset) = DrawIndirect (f buffer) offset
 map_refs f (DrawIndexedIndirect buffer offset) = DrawIndexedIndirect (f buffer) offset
+map_refs f (BeginOcclusionQuery index) = BeginOcclusionQuery index
+map_refs f EndOcclusionQuery = EndOcclusionQuery

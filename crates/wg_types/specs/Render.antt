@@ -1,4 +1,4 @@
--- The views that the begin of a render pass names.
+-- The views and the query set that the begin of a render pass names.
 use Rattle.std.specs.Prelude.{List, [], ◌∷◌, ◌++◌, map, Option, Some, None, option_map}
 use Rattle.std.specs.List.{flat_map}
 use Rattle.wg_types.specs.Refs.{maybe_wanted}
@@ -21,7 +21,11 @@ depth_named (Some target) = (target.view, wanted.View) ∷ []
 abbrev pub targets_named : {R : Type 0} → RenderBeginOf R → List (R × Wanted)
 targets_named begin = flat_map color_named begin.colors ++ depth_named begin.depth
 
--- the same with other views
+-- and then the query set
+abbrev pub begin_named : {R : Type 0} → RenderBeginOf R → List (R × Wanted)
+begin_named begin = targets_named begin ++ maybe_wanted wanted.Queries begin.queries
+
+-- the same with other objects
 abbrev pub map_color : {R S : Type 0} → (R → S) → ColorTargetOf R → ColorTargetOf S
 map_color f target = record { view = f target.view; resolve = option_map f target.resolve; load = target.load; store = target.store }
 
@@ -38,4 +42,4 @@ map_depth f target =
     }
 
 abbrev pub map_begin : {R S : Type 0} → (R → S) → RenderBeginOf R → RenderBeginOf S
-map_begin f begin = record { colors = map (option_map (map_color f)) begin.colors; depth = option_map (map_depth f) begin.depth }
+map_begin f begin = record { colors = map (option_map (map_color f)) begin.colors; depth = option_map (map_depth f) begin.depth; queries = option_map f begin.queries }

@@ -7,7 +7,7 @@ use Rattle.wg_types.specs.declared.wanted.Kind.TheVariants as kind
 use Rattle.wg_types.specs.declared.wanted.Wanted.{Wanted}
 use Rattle.wg_types.specs.declared.wanted.Wanted.TheVariants as wanted
 pub use Rattle.wg_types.specs.declared.requests.RequestOf.{RequestOf}
-use Rattle.wg_types.specs.declared.requests.RequestOf.TheVariants.{CreateBuffer, CreateTexture, CreateView, CreateSampler, CreateBindGroupLayout, CreatePipelineLayout, CreateBindGroup, CreateComputePipeline, CreateRenderPipeline, CreateEncoder, Finish, Submit, WriteBuffer, WriteTexture, Destroy, Drop, Complete, PushErrorScope, PopErrorScope, Lose, WorkDone, MapAsync, Unmap}
+use Rattle.wg_types.specs.declared.requests.RequestOf.TheVariants.{CreateBuffer, CreateTexture, CreateView, CreateSampler, CreateBindGroupLayout, CreatePipelineLayout, CreateBindGroup, CreateComputePipeline, CreateRenderPipeline, CreateQuerySet, CreateEncoder, Finish, Submit, WriteBuffer, WriteTexture, Destroy, Drop, Complete, PushErrorScope, PopErrorScope, Lose, WorkDone, MapAsync, Unmap}
 
 -- the kind of the object that a call makes, if it makes one
 abbrev pub kind_made : {R : Type 0} → RequestOf R → Option Kind
@@ -20,6 +20,7 @@ kind_made (CreatePipelineLayout layouts) = Some kind.PipelineLayout
 kind_made (CreateBindGroup layout entries) = Some kind.Group
 kind_made (CreateComputePipeline layout iface) = Some kind.Compute
 kind_made (CreateRenderPipeline layout desc) = Some kind.Render
+kind_made (CreateQuerySet info) = Some kind.Queries
 kind_made CreateEncoder = Some kind.Encoder
 kind_made (Finish encoder) = Some kind.CommandBuffer
 kind_made (Submit buffers) = None
@@ -46,6 +47,7 @@ named (CreatePipelineLayout layouts) = all_wanted wanted.GroupLayout layouts
 named (CreateBindGroup layout entries) = (layout, wanted.GroupLayout) ∷ entries_named entries
 named (CreateComputePipeline layout iface) = (layout, wanted.PipelineLayout) ∷ []
 named (CreateRenderPipeline layout desc) = (layout, wanted.PipelineLayout) ∷ []
+named (CreateQuerySet info) = []
 named CreateEncoder = []
 named (Finish encoder) = (encoder, wanted.Encoder) ∷ []
 named (Submit buffers) = all_wanted wanted.CommandBuffer buffers
@@ -72,6 +74,7 @@ map_refs f (CreatePipelineLayout layouts) = CreatePipelineLayout (map f layouts)
 map_refs f (CreateBindGroup layout entries) = CreateBindGroup (f layout) (map (map_entry f) entries)
 map_refs f (CreateComputePipeline layout iface) = CreateComputePipeline (f layout) iface
 map_refs f (CreateRenderPipeline layout desc) = CreateRenderPipeline (f layout) desc
+map_refs f (CreateQuerySet info) = CreateQuerySet info
 map_refs f CreateEncoder = CreateEncoder
 map_refs f (Finish encoder) = Finish (f encoder)
 map_refs f (Submit buffers) = Submit (map f buffers)

@@ -49,7 +49,8 @@ pub enum Bracket {
 /// from texture to texture copies all aspects. Dynamic offsets stand in the order of the bindings' numbers,
 /// and a dispatch has a count of workgroups in each dimension (WebGPU, "Compute Passes"). Vertex buffers
 /// are set by slot, and a draw goes over a range of vertices or indexes, and of instances (WebGPU,
-/// "GPURenderCommandsMixin").
+/// "GPURenderCommandsMixin"). Queries are named by their indexes in the query set of the render pass, or, to
+/// be resolved, from the first on (WebGPU, "Queries").
 #[derive(Drop)]
 pub enum CommandOf<R> {
     BeginComputePass,
@@ -90,6 +91,13 @@ pub enum CommandOf<R> {
         buffer: R,
         offset: u64,
         size: Option<u64>,
+    },
+    ResolveQuerySet {
+        queries: R,
+        first: u32,
+        count: u32,
+        buffer: R,
+        offset: u64,
     },
     PushDebugGroup,
     PopDebugGroup,
@@ -143,6 +151,10 @@ pub enum CommandOf<R> {
         buffer: R,
         offset: u64,
     },
+    BeginOcclusionQuery {
+        index: u32,
+    },
+    EndOcclusionQuery,
 }
 
 /// A command as its caller holds its objects.
@@ -162,6 +174,7 @@ fn stands(wanted: Wanted, place: CommandPlace) -> bool
     match (wanted, place) {
         (Wanted::Encoder, CommandPlace::Encoder) => true,
         (Wanted::ComputePass, CommandPlace::ComputePass) => true,
+        (Wanted::RenderPass, CommandPlace::RenderPass) => true,
         (Wanted::Pass, CommandPlace::ComputePass | CommandPlace::RenderPass) => true,
         (Wanted::Binding, CommandPlace::ComputePass) => true,
         (Wanted::Binding | Wanted::Drawing, CommandPlace::RenderPass | CommandPlace::Bundle) =>
@@ -194,13 +207,17 @@ impl<R> CommandOf<R> {
             | CommandOf::DrawIndexed { .. }
             | CommandOf::DrawIndirect { .. }
             | CommandOf::DrawIndexedIndirect { .. } => Wanted::Drawing,
+            CommandOf::BeginOcclusionQuery { .. } | CommandOf::EndOcclusionQuery => {
+                Wanted::RenderPass
+            }
             CommandOf::BeginComputePass
             | CommandOf::BeginRenderPass { .. }
             | CommandOf::CopyBufferToBuffer { .. }
             | CommandOf::CopyBufferToTexture { .. }
             | CommandOf::CopyTextureToBuffer { .. }
             | CommandOf::CopyTextureToTexture { .. }
-            | CommandOf::ClearBuffer { .. } => Wanted::Encoder,
+            | CommandOf::ClearBuffer { .. }
+            | CommandOf::ResolveQuerySet { .. } => Wanted::Encoder,
         }
     }
 
@@ -227,6 +244,7 @@ impl<R> CommandOf<R> {
             | CommandOf::CopyTextureToBuffer { .. }
             | CommandOf::CopyTextureToTexture { .. }
             | CommandOf::ClearBuffer { .. }
+            | CommandOf::ResolveQuerySet { .. }
             | CommandOf::SetPipeline { .. }
             | CommandOf::SetBindGroup { .. }
             | CommandOf::Dispatch { .. }
@@ -236,7 +254,9 @@ impl<R> CommandOf<R> {
             | CommandOf::Draw { .. }
             | CommandOf::DrawIndexed { .. }
             | CommandOf::DrawIndirect { .. }
-            | CommandOf::DrawIndexedIndirect { .. } => Bracket::Neither,
+            | CommandOf::DrawIndexedIndirect { .. }
+            | CommandOf::BeginOcclusionQuery { .. }
+            | CommandOf::EndOcclusionQuery => Bracket::Neither,
             CommandOf::PushDebugGroup => Bracket::PushGroup,
             CommandOf::PopDebugGroup => Bracket::PopGroup,
             CommandOf::End => Bracket::EndPass,
@@ -305,6 +325,11 @@ impl<R> CommandOf<R> {
             | CommandOf::SetIndexBuffer { buffer, .. }
             | CommandOf::DrawIndirect { buffer, .. }
             | CommandOf::DrawIndexedIndirect { buffer, .. } => asked.ask(buffer, Wanted::Buffer),
+            CommandOf::ResolveQuerySet {
+                queries,
+                buffer,
+                ..
+            } => refs::two(asked, (queries, Wanted::Queries), (buffer, Wanted::Buffer)),
             CommandOf::SetPipeline { pipeline } => asked.ask(pipeline, Wanted::Pipeline),
             CommandOf::SetBindGroup { group, .. } => asked.ask(group, Wanted::Group),
             CommandOf::BeginComputePass
@@ -313,7 +338,9 @@ impl<R> CommandOf<R> {
             | CommandOf::End
             | CommandOf::Dispatch { .. }
             | CommandOf::Draw { .. }
-            | CommandOf::DrawIndexed { .. } => None,
+            | CommandOf::DrawIndexed { .. }
+            | CommandOf::BeginOcclusionQuery { .. }
+            | CommandOf::EndOcclusionQuery => None,
         }
     }
 
@@ -375,6 +402,16 @@ impl<R> CommandOf<R> {
             | CommandOf::DrawIndexedIndirect { buffer, .. } => {
                 refs::gather_one(gather, found, buffer, Wanted::Buffer)
             }
+            CommandOf::ResolveQuerySet {
+                queries,
+                buffer,
+                ..
+            } => refs::gather_two(
+                gather,
+                found,
+                (queries, Wanted::Queries),
+                (buffer, Wanted::Buffer),
+            ),
             CommandOf::SetPipeline { pipeline } => {
                 refs::gather_one(gather, found, pipeline, Wanted::Pipeline)
             }
@@ -387,7 +424,9 @@ impl<R> CommandOf<R> {
             | CommandOf::End
             | CommandOf::Dispatch { .. }
             | CommandOf::Draw { .. }
-            | CommandOf::DrawIndexed { .. } => Ok(()),
+            | CommandOf::DrawIndexed { .. }
+            | CommandOf::BeginOcclusionQuery { .. }
+            | CommandOf::EndOcclusionQuery => Ok(()),
         }
     }
 
@@ -481,6 +520,22 @@ impl<R> CommandOf<R> {
                 offset: *offset,
                 size: *size,
             }),
+            CommandOf::ResolveQuerySet {
+                queries,
+                first,
+                count,
+                buffer,
+                offset,
+            } => {
+                let (queries, buffer) = refs::find_two(find, queries, buffer)?;
+                Ok(CommandOf::ResolveQuerySet {
+                    queries,
+                    first: *first,
+                    count: *count,
+                    buffer,
+                    offset: *offset,
+                })
+            }
             CommandOf::PushDebugGroup => Ok(CommandOf::PushDebugGroup),
             CommandOf::PopDebugGroup => Ok(CommandOf::PopDebugGroup),
             CommandOf::End => Ok(CommandOf::End),
@@ -559,6 +614,10 @@ impl<R> CommandOf<R> {
                     offset: *offset,
                 },
             ),
+            CommandOf::BeginOcclusionQuery { index } => {
+                Ok(CommandOf::BeginOcclusionQuery { index: *index })
+            }
+            CommandOf::EndOcclusionQuery => Ok(CommandOf::EndOcclusionQuery),
         }
     }
 }

@@ -2,7 +2,7 @@
 ghost use Rattle.std.specs.Prelude.{◌≡◌, ◌++◌, IfOk, OnOk, map, option_map};
 ghost use Rattle.std.specs.List.{flat_map};
 ghost use Rattle.wg_types.specs.Refs.{first_of};
-ghost use Rattle.wg_types.specs.Render.{color_named, depth_named, targets_named, map_color, map_depth, map_begin};
+ghost use Rattle.wg_types.specs.Render.{color_named, depth_named, targets_named, begin_named, map_color, map_depth, map_begin};
 
 use crate::NoMemory;
 use crate::bindings::IfaceEntry;
@@ -80,31 +80,39 @@ pub struct DepthTargetOf<R> {
     pub stencil_read_only: bool,
 }
 
-/// What a render pass begins with, with views as `R` (WebGPU, "GPURenderPassDescriptor"). Color
-/// attachments stand by slot, some of which may be left out.
+/// What a render pass begins with, with views and the query set as `R` (WebGPU, "GPURenderPassDescriptor").
+/// Color attachments stand by slot, some of which may be left out. The occlusion queries of the pass are
+/// those of the query set.
 #[derive(Drop)]
 pub struct RenderBeginOf<R> {
     pub colors: Items<Option<ColorTargetOf<R>>>,
     pub depth: Option<DepthTargetOf<R>>,
+    pub queries: Option<R>,
 }
 
 impl<R> RenderBeginOf<R> {
-    /// What the first view answers that has an answer: of each color attachment the view and then that
-    /// to which it is resolved, and last that of the depth attachment.
+    /// What the first object answers that has an answer: of each color attachment the view and then that
+    /// to which it is resolved, then the view of the depth attachment, and last the query set.
+    #[tactic(auto, using(crate::proofs::RefLemmas::first_joined))]
     pub fn first<E: Drop, A: Ask<R, E>>(&self, asked: &A) -> Option<E>
-        ensures { result ≡ first_of (A.asks asked.now) (targets_named self.now) }
+        ensures { result ≡ first_of (A.asks asked.now) (begin_named self.now) }
     {
-        first_target(asked, self.colors.as_slice(), &self.depth)
+        if let Some(found) = first_target(asked, self.colors.as_slice(), &self.depth) {
+            return Some(found);
+        }
+        refs::maybe(asked, &self.queries, Wanted::Queries)
     }
 
-    /// Gathers what there is of the views, in the same order.
+    /// Gathers what there is of the views and of the query set, in the same order.
+    #[tactic(auto, using(crate::proofs::RefLemmas::flat_joined))]
     pub fn gather<T, G: Gather<R, T>>(&self, gather: &G, found: &mut Vec<T>) -> Result<(), NoMemory>
-        ensures { OnOk result (found.new.items ≡ found.old.items ++ flat_map (G.gathers gather.now) (targets_named self.now)) }
+        ensures { OnOk result (found.new.items ≡ found.old.items ++ flat_map (G.gathers gather.now) (begin_named self.now)) }
     {
-        gather_targets(gather, found, self.colors.as_slice(), &self.depth)
+        gather_targets(gather, found, self.colors.as_slice(), &self.depth)?;
+        refs::gather_maybe(gather, found, &self.queries, Wanted::Queries)
     }
 
-    /// The same with other views.
+    /// The same with other objects.
     pub fn map<S: Drop, F: Find<R, S>>(
         &self,
         alloc: Global,
@@ -115,6 +123,7 @@ impl<R> RenderBeginOf<R> {
         Ok(RenderBeginOf {
             colors: found_colors(alloc, find, self.colors.as_slice())?,
             depth: found_depth(find, &self.depth)?,
+            queries: refs::map_maybe(find, &self.queries)?,
         })
     }
 }

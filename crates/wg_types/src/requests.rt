@@ -6,7 +6,7 @@ ghost use Rattle.wg_types.specs.Requests.{named, kind_made, map_refs};
 use crate::NoMemory;
 use crate::bindings::{GroupEntryOf, SamplerKind, each_entry, map_entries};
 use crate::groups::{GroupLayoutInfo, Interface};
-use crate::handles::BufferInfo;
+use crate::handles::{BufferInfo, QueriesInfo};
 use crate::items::Items;
 use crate::refs::{self, Ask, Find};
 use crate::render::RenderDesc;
@@ -49,6 +49,9 @@ pub enum RequestOf<R> {
     CreateRenderPipeline {
         layout: R,
         desc: Shared<RenderDesc>,
+    },
+    CreateQuerySet {
+        info: QueriesInfo,
     },
     CreateEncoder,
     Finish {
@@ -110,6 +113,7 @@ impl<R> RequestOf<R> {
             RequestOf::CreateBindGroup { .. } => Some(Kind::Group),
             RequestOf::CreateComputePipeline { .. } => Some(Kind::Compute),
             RequestOf::CreateRenderPipeline { .. } => Some(Kind::Render),
+            RequestOf::CreateQuerySet { .. } => Some(Kind::Queries),
             RequestOf::CreateEncoder => Some(Kind::Encoder),
             RequestOf::Finish { .. } => Some(Kind::CommandBuffer),
             RequestOf::Submit { .. }
@@ -160,6 +164,7 @@ impl<R> RequestOf<R> {
             | RequestOf::CreateTexture { .. }
             | RequestOf::CreateSampler { .. }
             | RequestOf::CreateBindGroupLayout { .. }
+            | RequestOf::CreateQuerySet { .. }
             | RequestOf::CreateEncoder
             | RequestOf::Complete { .. }
             | RequestOf::PushErrorScope { .. }
@@ -207,6 +212,7 @@ impl<R> RequestOf<R> {
                     desc: desc.share()?,
                 })
             }
+            RequestOf::CreateQuerySet { info } => Ok(RequestOf::CreateQuerySet { info: *info }),
             RequestOf::CreateEncoder => Ok(RequestOf::CreateEncoder),
             RequestOf::Finish { encoder } => Ok(RequestOf::Finish {
                 encoder: find.find(encoder)?,
