@@ -54,6 +54,7 @@ view_in (info.PipelineLayout known) = None
 view_in (info.Group known) = None
 view_in (info.Compute known) = None
 view_in (info.Render known) = None
+view_in (info.Queries known) = None
 view_in info.Encoder = None
 view_in info.CommandBuffer = None
 
@@ -180,7 +181,7 @@ begin_rules begin =
 
 -- what the begin of a pass begins with, which for what begins no render pass is nothing
 abbrev pub no_begin : RenderBegin
-no_begin = record { colors = []; depth = None }
+no_begin = record { colors = []; depth = None; queries = None }
 
 abbrev pub begin_of : Command → RenderBegin
 begin_of command = unwrap_or (render_begun command) no_begin

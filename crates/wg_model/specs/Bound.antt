@@ -39,6 +39,7 @@ group_in (info.PipelineLayout known) = None
 group_in (info.Group known) = Some known
 group_in (info.Compute known) = None
 group_in (info.Render known) = None
+group_in (info.Queries known) = None
 group_in info.Encoder = None
 group_in info.CommandBuffer = None
 
@@ -57,6 +58,7 @@ layouts_in (info.PipelineLayout known) = []
 layouts_in (info.Group known) = []
 layouts_in (info.Compute known) = known.layout_info.layouts_info
 layouts_in (info.Render known) = known.layout_info.layouts_info
+layouts_in (info.Queries known) = []
 layouts_in info.Encoder = []
 layouts_in info.CommandBuffer = []
 

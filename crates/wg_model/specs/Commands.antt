@@ -1,9 +1,10 @@
 -- The objects that commands name, and the rules of each command (WebGPU, "Command Encoding").
-use Rattle.std.specs.Prelude.{ℕ, ◌+◌, ◌%◌, Bool, true, false, not, ◌&&◌, ◌==◌, nat_lt, nat_le, List, [], ◌∷◌, ◌++◌, ◌-◌, Option, unwrap_or, if◌then◌else◌}
+use Rattle.std.specs.Prelude.{ℕ, ◌+◌, ◌*◌, ◌%◌, Bool, true, false, not, ◌&&◌, ◌==◌, nat_lt, nat_le, List, [], ◌∷◌, ◌++◌, ◌-◌, Option, unwrap_or, if◌then◌else◌}
 use Rattle.wg_types.specs.Handles.{HandleValue}
 use Rattle.wg_types.specs.declared.handles.BufferInfo.{BufferInfo}
 use Rattle.wg_types.specs.declared.handles.Info.{Info}
-use Rattle.wg_types.specs.declared.handles.Info.TheVariants.{Buffer, Texture}
+use Rattle.wg_types.specs.declared.handles.QueriesInfo.{QueriesInfo}
+use Rattle.wg_types.specs.declared.handles.Info.TheVariants.{Buffer, Texture, Queries}
 use Rattle.wg_types.specs.declared.formats.Format.TheVariants.{R8Unorm}
 use Rattle.wg_types.specs.declared.textures.TextureDim.TheVariants.{Two}
 use Rattle.wg_types.specs.declared.textures.TextureInfo.{TextureInfo}
@@ -14,10 +15,10 @@ pub use Rattle.wg_types.specs.Commands.{Command, named}
 use Rattle.wg_types.specs.Commands.{bracket}
 use Rattle.wg_types.specs.declared.commands.Bracket.{Bracket}
 use Rattle.wg_types.specs.declared.commands.Bracket.TheVariants as brackets
-use Rattle.wg_types.specs.declared.commands.CommandOf.TheVariants.{BeginComputePass, BeginRenderPass, CopyBufferToBuffer, CopyBufferToTexture, CopyTextureToBuffer, CopyTextureToTexture, ClearBuffer, PushDebugGroup, PopDebugGroup, End, SetPipeline, SetBindGroup, Dispatch, DispatchIndirect, SetVertexBuffer, SetIndexBuffer, Draw, DrawIndexed, DrawIndirect, DrawIndexedIndirect}
+use Rattle.wg_types.specs.declared.commands.CommandOf.TheVariants.{BeginComputePass, BeginRenderPass, CopyBufferToBuffer, CopyBufferToTexture, CopyTextureToBuffer, CopyTextureToTexture, ClearBuffer, ResolveQuerySet, PushDebugGroup, PopDebugGroup, End, SetPipeline, SetBindGroup, Dispatch, DispatchIndirect, SetVertexBuffer, SetIndexBuffer, Draw, DrawIndexed, DrawIndirect, DrawIndexedIndirect, BeginOcclusionQuery, EndOcclusionQuery}
 use Rattle.wg_model.specs.Rules.{Rule}
 use Rattle.wg_model.specs.Equality.{same_reference}
-use Rattle.wg_model.specs.Buffers.{copy_src, copy_dst, has_usage}
+use Rattle.wg_model.specs.Buffers.{copy_src, copy_dst, query_resolve, has_usage}
 use Rattle.wg_model.specs.TexelCopies.{buffer_to_texture_rules, texture_to_buffer_rules, texture_to_texture_rules, whole_spot}
 
 abbrev pub is_buffer : Info → Bool
@@ -60,6 +61,22 @@ texture_or_none _ = no_texture
 abbrev pub texture_of : HandleValue → TextureInfo
 texture_of handle = texture_or_none handle.info
 
+abbrev pub is_queries : Info → Bool
+is_queries (Queries info) = true
+is_queries _ = false
+
+-- likewise for what is known of a query set
+abbrev pub no_queries : QueriesInfo
+no_queries = record { count = 0 }
+
+abbrev pub queries_or_none : Info → QueriesInfo
+queries_or_none (Queries info) = info
+queries_or_none _ = no_queries
+
+-- what a handle of a query set knows of it
+abbrev pub queries_of : HandleValue → QueriesInfo
+queries_of handle = queries_or_none handle.info
+
 -- The rules that go before the others of a command, of one object after another (WebGPU, "Device Timeline" and "Invalid
 -- Internal Objects & Contagious Invalidity"): 10 it is of the recorder's device and of the kind that is asked for, as far as its handle tells; 12 it is
 -- valid.
@@ -93,6 +110,20 @@ clear_buffer_rules buffer offset size =
     ∷ ((277, nat_le (offset + size) (buffer_of buffer).size)
     ∷ []))
 
+-- the bytes that a query takes where it is resolved
+abbrev pub query_bytes : ℕ
+query_bytes = 8
+
+-- resolveQuerySet (WebGPU, "Query Set Resolution"): 280 the buffer has QUERY_RESOLVE; 281 the first query is one of the set, and
+-- so are all; 282 the offset is a multiple of 256; 283 the results fit the buffer.
+abbrev pub resolve_set_rules : HandleValue → ℕ → ℕ → HandleValue → ℕ → List Rule
+resolve_set_rules queries first count buffer offset =
+    (280, has_usage (buffer_of buffer).usage query_resolve)
+    ∷ ((281, nat_lt first (queries_of queries).count && nat_le (first + count) (queries_of queries).count)
+    ∷ ((282, offset % 256 == 0)
+    ∷ ((283, nat_le (offset + query_bytes * count) (buffer_of buffer).size)
+    ∷ [])))
+
 -- a command's own rules, but for those that look at the commands before it
 abbrev pub own_rules : Command → List Rule
 own_rules BeginComputePass = []
@@ -102,6 +133,7 @@ own_rules (CopyBufferToTexture buffer layout texture spot size) = buffer_to_text
 own_rules (CopyTextureToBuffer buffer layout texture spot size) = texture_to_buffer_rules (buffer_of buffer) layout (texture_of texture) spot size
 own_rules (CopyTextureToTexture source source_mip source_origin target target_mip target_origin size) = texture_to_texture_rules (same_reference source.reference target.reference) (texture_of source) (whole_spot source_mip source_origin) (texture_of target) (whole_spot target_mip target_origin) size
 own_rules (ClearBuffer buffer offset size) = clear_buffer_rules buffer offset (size_or_rest buffer offset size)
+own_rules (ResolveQuerySet queries first count buffer offset) = resolve_set_rules queries first count buffer offset
 own_rules PushDebugGroup = []
 own_rules PopDebugGroup = []
 own_rules End = []
@@ -115,6 +147,8 @@ own_rules (Draw vertices instances first_vertex first_instance) = []
 own_rules (DrawIndexed indices instances first_index first_instance) = []
 own_rules (DrawIndirect buffer offset) = []
 own_rules (DrawIndexedIndirect buffer offset) = []
+own_rules (BeginOcclusionQuery index) = []
+own_rules EndOcclusionQuery = []
 
 -- popDebugGroup (WebGPU, "Debug Markers"), by how many groups of its place are open: 285 one is.
 abbrev pub debug_rules_by : ℕ → Bracket → List Rule

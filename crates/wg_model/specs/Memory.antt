@@ -1,10 +1,11 @@
 -- How many bytes a resource takes of the budget.
 use Rattle.std.specs.Prelude.{ℕ, zero, suc, ◌+◌, ◌*◌}
 use Rattle.wg_types.specs.declared.handles.Info.{Info}
-use Rattle.wg_types.specs.declared.handles.Info.TheVariants.{Buffer, Texture, View, Sampler, GroupLayout, PipelineLayout, Group, Compute, Render, Encoder, CommandBuffer}
+use Rattle.wg_types.specs.declared.handles.Info.TheVariants.{Buffer, Texture, View, Sampler, GroupLayout, PipelineLayout, Group, Compute, Render, Queries, Encoder, CommandBuffer}
 use Rattle.wg_types.specs.declared.textures.TextureInfo.{TextureInfo}
 use Rattle.wg_types.specs.Formats.{row}
 use Rattle.wg_types.specs.Textures.{width, height, depth}
+use Rattle.wg_model.specs.Commands.{query_bytes}
 use Rattle.wg_model.specs.Textures.{extent}
 
 -- the bytes of a mip level: its width, height and depth or layers, by samples, by the bytes of a texel of all aspects
@@ -30,5 +31,6 @@ bytes_of (PipelineLayout info) = 0
 bytes_of (Group info) = 0
 bytes_of (Compute info) = 0
 bytes_of (Render info) = 0
+bytes_of (Queries info) = query_bytes * info.count
 bytes_of Encoder = 0
 bytes_of CommandBuffer = 0

@@ -90,11 +90,12 @@ abbrev pub in_view : Option ViewInfo → List ℕ
 in_view None = []
 in_view (Some view) = view.texture.number ∷ []
 
--- What resources are reached through an object that a command names: the buffer or the texture that it is, the texture of which
--- it is a view, the buffers that it binds and the textures whose views it binds, or none.
+-- What resources are reached through an object that a command names: the buffer, the texture or the query set that it is, the
+-- texture of which it is a view, the buffers that it binds and the textures whose views it binds, or none.
 pub data Reaching : Type 0 where
   own_buffer : Reaching
   own_texture : Reaching
+  own_queries : Reaching
   viewed_texture : Reaching
   bound_resources : Reaching
   no_resource : Reaching
@@ -111,10 +112,12 @@ reaching wanted.Group = bound_resources
 reaching wanted.Pipeline = no_resource
 reaching wanted.ComputePipeline = no_resource
 reaching wanted.RenderPipeline = no_resource
+reaching wanted.Queries = own_queries
 reaching wanted.Destroyable = no_resource
 reaching wanted.Encoder = no_resource
 reaching wanted.CommandBuffer = no_resource
 reaching wanted.ComputePass = no_resource
+reaching wanted.RenderPass = no_resource
 reaching wanted.Pass = no_resource
 reaching wanted.Binding = no_resource
 reaching wanted.Drawing = no_resource
@@ -125,6 +128,7 @@ reaching wanted.Object = no_resource
 abbrev pub buffers_by : Reaching → HandleValue → List ℕ
 buffers_by own_buffer object = object.reference.number ∷ []
 buffers_by own_texture object = []
+buffers_by own_queries object = []
 buffers_by viewed_texture object = []
 buffers_by bound_resources object = in_group bound_buffer (known_group object)
 buffers_by no_resource object = []
@@ -136,12 +140,25 @@ buffers_as asked object = buffers_by (reaching asked) object
 abbrev pub textures_by : Reaching → HandleValue → List ℕ
 textures_by own_buffer object = []
 textures_by own_texture object = object.reference.number ∷ []
+textures_by own_queries object = []
 textures_by viewed_texture object = in_view (attached_view object)
 textures_by bound_resources object = in_group bound_texture (known_group object)
 textures_by no_resource object = []
 
 abbrev pub textures_as : Wanted → HandleValue → List ℕ
 textures_as asked object = textures_by (reaching asked) object
+
+-- and of the query sets
+abbrev pub query_sets_by : Reaching → HandleValue → List ℕ
+query_sets_by own_buffer object = []
+query_sets_by own_texture object = []
+query_sets_by own_queries object = object.reference.number ∷ []
+query_sets_by viewed_texture object = []
+query_sets_by bound_resources object = []
+query_sets_by no_resource object = []
+
+abbrev pub query_sets_as : Wanted → HandleValue → List ℕ
+query_sets_as asked object = query_sets_by (reaching asked) object
 
 abbrev pub numbers_by : (Wanted → HandleValue → List ℕ) → List (HandleValue × Wanted) → List ℕ
 numbers_by which [] = []
@@ -155,9 +172,13 @@ buffers_of command = numbers_by buffers_as (named command)
 abbrev pub textures_of : Command → List ℕ
 textures_of command = numbers_by textures_as (named command)
 
+-- and of the query sets
+abbrev pub query_sets_of : Command → List ℕ
+query_sets_of command = numbers_by query_sets_as (named command)
+
 -- and of all resources
 abbrev pub resources : Command → List ℕ
-resources command = buffers_of command ++ textures_of command
+resources command = buffers_of command ++ (textures_of command ++ query_sets_of command)
 
 -- whether one of the objects that recorded commands name passes the test
 abbrev pub any_named : (Command → List ℕ) → (ℕ → Bool) → List (On × Command) → Bool
@@ -168,7 +189,7 @@ abbrev pub names_by : (Wanted → HandleValue → List ℕ) → (ℕ → Bool) �
 names_by which test object = list_any test (which object.1 object.0)
 
 abbrev pub names_resource : (ℕ → Bool) → HandleValue × Wanted → Bool
-names_resource test object = names_by buffers_as test object || names_by textures_as test object
+names_resource test object = names_by buffers_as test object || (names_by textures_as test object || names_by query_sets_as test object)
 
 -- whether one of the objects passes a test that sees what its handle tells and what is wanted of it
 abbrev pub any_object : (HandleValue × Wanted → Bool) → List (On × Command) → Bool

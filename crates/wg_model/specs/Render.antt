@@ -6,7 +6,7 @@ use Rattle.std.specs.Option.{option_map_or, option_map, option_or}
 use Rattle.wg_types.specs.Handles.{HandleValue}
 use Rattle.wg_types.specs.Formats.{same_format}
 use Rattle.wg_types.specs.Vertex.{index_bytes}
-use Rattle.wg_types.specs.Commands.{Command, bracket, Act, begins, sets, runs, neither, act}
+use Rattle.wg_types.specs.Commands.{Command, bracket, Act, begins, sets, runs, occludes, neither, act}
 use Rattle.wg_types.specs.Commands.{Setting, set_pipeline, set_group, set_vertex_buffer, set_index_buffer}
 use Rattle.wg_types.specs.Commands.{Running, dispatch, dispatch_indirect, draw, draw_indexed, draw_indirect, draw_indexed_indirect}
 use Rattle.wg_types.specs.declared.formats.Format.{Format}
@@ -29,6 +29,7 @@ use Rattle.wg_model.specs.Commands.{debug_rules, buffer_of, size_or_rest}
 use Rattle.wg_model.specs.Touches.{Touch, Doing, bytes_at, input_usage}
 use Rattle.wg_model.specs.Bound.{set_places, place_touches}
 use Rattle.wg_model.specs.Vertex.{draw_fits}
+use Rattle.wg_model.specs.Queries.{Occlusion, occlusion_of, occlusion_call, set_of_pass, occlusion_rules, pass_end_rules, query_touches}
 use Rattle.wg_model.specs.Attachments.{RenderBegin, targets_of, targets_touches}
 use Rattle.wg_model.specs.Settings.{Settings, settings, slot_after, group_given, pipeline_given, given_rules, end_rules, ready_rules, indirect_rules, indirect_touch}
 
@@ -43,6 +44,7 @@ desc_in (info.PipelineLayout known) = None
 desc_in (info.Group known) = None
 desc_in (info.Compute known) = None
 desc_in (info.Render known) = Some known.desc
+desc_in (info.Queries known) = None
 desc_in info.Encoder = None
 desc_in info.CommandBuffer = None
 
@@ -68,6 +70,7 @@ abbrev pub vertex_given_by : Act HandleValue → Option (ℕ × ℕ)
 vertex_given_by (begins begin) = None
 vertex_given_by (sets setting) = setting_vertex setting
 vertex_given_by (runs running) = None
+vertex_given_by (occludes call) = None
 vertex_given_by neither = None
 
 -- the range that a command sets as a vertex buffer, if it sets one
@@ -103,6 +106,7 @@ abbrev pub index_given_by : Act HandleValue → Option (IndexFormat × ℕ)
 index_given_by (begins begin) = None
 index_given_by (sets setting) = setting_index setting
 index_given_by (runs running) = None
+index_given_by (occludes call) = None
 index_given_by neither = None
 
 -- the range that a command sets as the index buffer, if it sets one
@@ -144,26 +148,29 @@ abbrev pub input_touches_by : Act HandleValue → List Touch
 input_touches_by (begins begin) = []
 input_touches_by (sets setting) = setting_touches setting
 input_touches_by (runs running) = running_touches running
+input_touches_by (occludes call) = []
 input_touches_by neither = []
 
 abbrev pub input_touches : Command → List Touch
 input_touches command = input_touches_by (act command)
 
-abbrev pub command_touches : Command → List Touch
-command_touches command = bound_group_touches (group_given command) ++ input_touches command
+abbrev pub command_touches : Option (ℕ × ℕ) → Command → List Touch
+command_touches queries command = bound_group_touches (group_given command) ++ (input_touches command ++ query_touches queries (occlusion_call command))
 
 -- what a pass touches: its attachments, and then what its commands do
 abbrev pub render_touches : RenderBegin → List Command → List Touch
 render_touches begin [] = targets_touches begin
-render_touches begin (command ∷ earlier) = render_touches begin earlier ++ command_touches command
+render_touches begin (command ∷ earlier) = render_touches begin earlier ++ command_touches (set_of_pass begin.queries) command
 
 -- What is set in a render pass: what is set in any pass, the sizes of the ranges that are set as vertex buffers by slot, the
--- index buffer; to what it draws, and what it touches so far.
+-- index buffer; to what it draws, its query set, if it has one, and the queries of that; and what it touches so far.
 pub record RenderSet : Type 0 where
   pub set : Settings
   pub ranges : List (Option ℕ)
   pub index : Option (IndexFormat × ℕ)
   pub targets : TargetInfo
+  pub queries : Option (ℕ × ℕ)
+  pub occlusion : Occlusion
   pub touches : List Touch
 
 abbrev pub render_set : RenderBegin → List Command → RenderSet
@@ -172,6 +179,8 @@ render_set begin earlier = record {
   ranges = ranges_set earlier;
   index = index_set earlier;
   targets = targets_of begin;
+  queries = set_of_pass begin.queries;
+  occlusion = occlusion_of earlier;
   touches = render_touches begin earlier;
 }
 
@@ -289,6 +298,7 @@ abbrev pub drawing_rules_by : RenderSet → Act HandleValue → List Rule
 drawing_rules_by render (begins begin) = []
 drawing_rules_by render (sets setting) = setting_rules setting
 drawing_rules_by render (runs running) = running_rules render running
+drawing_rules_by render (occludes call) = occlusion_rules render.queries render.occlusion (Some call)
 drawing_rules_by render neither = []
 
 abbrev pub drawing_rules : RenderSet → Command → List Rule
@@ -299,8 +309,9 @@ abbrev pub render_rules : RenderSet → Command → List Rule
 render_rules render command =
     debug_rules render.set.depth command
     ++ (end_rules render.set.depth command
+    ++ (pass_end_rules render.occlusion.active command
     ++ (pipeline_given_rules render.targets (pipeline_given command)
-    ++ (given_rules (group_given command) ++ drawing_rules render command)))
+    ++ (given_rules (group_given command) ++ drawing_rules render command))))
 
 -- the whole pass is one step, which its end completes
 abbrev pub render_does_by : RenderSet → Bracket → Option Doing

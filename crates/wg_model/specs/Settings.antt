@@ -3,7 +3,7 @@
 use Rattle.std.specs.Prelude.{ℕ, ◌+◌, ◌-◌, ◌%◌, ◌==◌, nat_le, List, [], ◌∷◌, Option, Some, None, is_some, if◌then◌else◌}
 use Rattle.std.specs.Option.{option_or}
 use Rattle.wg_types.specs.Handles.{HandleValue}
-use Rattle.wg_types.specs.Commands.{Command, bracket, Act, begins, sets, runs, neither, act}
+use Rattle.wg_types.specs.Commands.{Command, bracket, Act, begins, sets, runs, occludes, neither, act}
 use Rattle.wg_types.specs.Commands.{Setting, set_pipeline, set_group, set_vertex_buffer, set_index_buffer}
 use Rattle.wg_types.specs.declared.commands.BoundGroup.{BoundGroup}
 use Rattle.wg_types.specs.declared.groups.GroupLayoutInfo.{GroupLayoutInfo}
@@ -44,6 +44,7 @@ abbrev pub pipeline_given_by : Act HandleValue → Option HandleValue
 pipeline_given_by (begins begin) = None
 pipeline_given_by (sets setting) = setting_pipeline setting
 pipeline_given_by (runs running) = None
+pipeline_given_by (occludes call) = None
 pipeline_given_by neither = None
 
 -- the pipeline that a command sets, if it sets one
@@ -71,6 +72,7 @@ abbrev pub group_given_by : Act HandleValue → Option (ℕ × BoundGroup)
 group_given_by (begins begin) = None
 group_given_by (sets setting) = setting_group setting
 group_given_by (runs running) = None
+group_given_by (occludes call) = None
 group_given_by neither = None
 
 -- the bind group that a command sets, with its index, if it sets one

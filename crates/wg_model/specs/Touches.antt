@@ -1,24 +1,24 @@
 -- What steps touch: the cells that they access and the parts that they use (WebGPU, "Resource Usages").
-use Rattle.std.specs.Prelude.{ℕ, ◌+◌, ◌*◌, ◌==◌, nat_lt, Bool, List, [], ◌∷◌, ◌++◌, map, Option, Some, None, unwrap_or, if◌then◌else◌}
+use Rattle.std.specs.Prelude.{ℕ, ◌+◌, ◌*◌, ◌==◌, nat_lt, Bool, true, false, List, [], ◌∷◌, ◌++◌, map, Option, Some, None, unwrap_or, if◌then◌else◌}
 use Rattle.std.specs.List.{filter}
 use Rattle.wg_types.specs.declared.steps.StepName.{StepName}
 use Rattle.wg_types.specs.declared.steps.StepName.TheVariants as name
 use Rattle.wg_types.specs.declared.steps.Deed.{Deed}
 use Rattle.wg_types.specs.Handles.{HandleValue}
 use Rattle.wg_types.specs.Commands.{Command}
-use Rattle.wg_types.specs.declared.commands.CommandOf.TheVariants.{BeginComputePass, BeginRenderPass, CopyBufferToBuffer, CopyBufferToTexture, CopyTextureToBuffer, CopyTextureToTexture, ClearBuffer, PushDebugGroup, PopDebugGroup, End, SetPipeline, SetBindGroup, Dispatch, DispatchIndirect, SetVertexBuffer, SetIndexBuffer, Draw, DrawIndexed, DrawIndirect, DrawIndexedIndirect}
+use Rattle.wg_types.specs.declared.commands.CommandOf.TheVariants.{BeginComputePass, BeginRenderPass, CopyBufferToBuffer, CopyBufferToTexture, CopyTextureToBuffer, CopyTextureToTexture, ClearBuffer, ResolveQuerySet, PushDebugGroup, PopDebugGroup, End, SetPipeline, SetBindGroup, Dispatch, DispatchIndirect, SetVertexBuffer, SetIndexBuffer, Draw, DrawIndexed, DrawIndirect, DrawIndexedIndirect, BeginOcclusionQuery, EndOcclusionQuery}
 use Rattle.wg_types.specs.declared.textures.TextureInfo.{TextureInfo}
 use Rattle.wg_types.specs.declared.textures.TextureSpot.{TextureSpot}
 use Rattle.wg_types.specs.declared.textures.DataLayout.{DataLayout}
 use Rattle.wg_types.specs.Textures.{width, height, depth}
-use Rattle.wg_rows.specs.Runs.{PartRun, Cells, Bytes, cell_lo, cell_hi, run_part}
+use Rattle.wg_rows.specs.Runs.{PartRun, Cells, Bytes, Layers, Slices, Queries, cell_lo, cell_hi, run_part}
 use Rattle.wg_rows.specs.Uses.{Usages, Kind, Read, Write, Both, printed_accesses}
 use Rattle.wg_rows.specs.Sets.{UseRow, sets}
 use Rattle.wg_orders.specs.Steps.{Step, StepPlace}
 use Rattle.wg_model.specs.Formats.{texel_from, texel_to}
 use Rattle.wg_model.specs.Subresources.{copied_cells, has_no_texel}
 use Rattle.wg_model.specs.TexelCopies.{required, covers_all, bytes_in, whole_spot}
-use Rattle.wg_model.specs.Commands.{texture_of, size_or_rest}
+use Rattle.wg_model.specs.Commands.{texture_of, size_or_rest, query_bytes}
 
 -- Usages of parts, a bit each.
 abbrev pub input_usage : Usages
@@ -39,6 +39,12 @@ copy_src_usage = record { 0 = 64 }
 abbrev pub copy_dst_usage : Usages
 copy_dst_usage = record { 0 = 128 }
 
+abbrev pub query_write_usage : Usages
+query_write_usage = record { 0 = 256 }
+
+abbrev pub query_read_usage : Usages
+query_read_usage = record { 0 = 512 }
+
 -- What a step does with some cells: how it uses the parts that they lie in, and how it accesses them.
 abbrev pub Touch : Type 0
 Touch = Cells × (Usages × Kind)
@@ -57,9 +63,23 @@ has_cells row = nat_lt (cell_lo row.0) (cell_hi row.0)
 abbrev pub Doing : Type 0
 Doing = StepName × List Touch
 
--- its uses as they come, which are a usage scope where the step has one
+-- its uses as they come
 abbrev pub uses_in : Doing → List UseRow
 uses_in doing = map use_of doing.1
+
+-- whether cells are of a part that usage scopes have, which query sets are not
+abbrev pub is_scoped : Cells → Bool
+is_scoped (Bytes object lo hi) = true
+is_scoped (Layers object aspect mip lo hi) = true
+is_scoped (Slices object mip lo hi) = true
+is_scoped (Queries object lo hi) = false
+
+abbrev pub in_scope : Touch → Bool
+in_scope touch = is_scoped touch.0
+
+-- the usage scope of a step that has one
+abbrev pub scope_in : Doing → List UseRow
+scope_in doing = map use_of (filter in_scope doing.1)
 
 -- The same as it is printed: it uses each part by the union of what its touches use it as, one row for the parts that are used
 -- alike. Where a touch has no cell its part is used and nothing is accessed.
@@ -140,6 +160,13 @@ texture_to_buffer_touches buffer layout texture info spot size =
 abbrev pub texture_to_texture_touches : ℕ → TextureInfo → TextureSpot → ℕ → TextureInfo → TextureSpot → List ℕ → List Touch
 texture_to_texture_touches source from_info from target to_info to size = copied_from source from_info from size ++ copied_to target to_info to size
 
+-- What resolveQuerySet touches: the queries are read, and their results are written.
+abbrev pub queries_read : ℕ → ℕ → ℕ → Touch
+queries_read queries first count = (Queries queries first (first + count), (query_read_usage, Read))
+
+abbrev pub resolve_set_touches : ℕ → ℕ → ℕ → ℕ → ℕ → List Touch
+resolve_set_touches queries first count buffer offset = queries_read queries first count ∷ range_touches buffer offset (query_bytes * count)
+
 abbrev pub unless : Bool → Doing → Option Doing
 unless nothing doing = if nothing then None else Some doing
 
@@ -166,6 +193,11 @@ texture_to_texture_does source from target to size =
 abbrev pub clear_does : HandleValue → ℕ → ℕ → Option Doing
 clear_does buffer offset size = unless (size == 0) (name.ClearBuffer, range_touches buffer.reference.number offset size)
 
+-- and so makes a resolve of no queries
+abbrev pub resolve_set_does : HandleValue → ℕ → ℕ → HandleValue → ℕ → Option Doing
+resolve_set_does queries first count buffer offset =
+    unless (count == 0) (name.ResolveQuerySet, resolve_set_touches queries.reference.number first count buffer.reference.number offset)
+
 -- what a command on an encoder does, if it makes a step
 unfoldable pub encoder_does : Command → Option Doing
 encoder_does BeginComputePass = None
@@ -176,6 +208,7 @@ encoder_does (CopyTextureToBuffer buffer layout texture spot size) = texture_to_
 encoder_does (CopyTextureToTexture source source_mip source_origin target target_mip target_origin size) =
     texture_to_texture_does source (whole_spot source_mip source_origin) target (whole_spot target_mip target_origin) size
 encoder_does (ClearBuffer buffer offset size) = clear_does buffer offset (size_or_rest buffer offset size)
+encoder_does (ResolveQuerySet queries first count buffer offset) = resolve_set_does queries first count buffer offset
 encoder_does PushDebugGroup = None
 encoder_does PopDebugGroup = None
 encoder_does End = None
@@ -189,3 +222,5 @@ encoder_does (Draw vertices instances first_vertex first_instance) = None
 encoder_does (DrawIndexed indices instances first_index first_instance) = None
 encoder_does (DrawIndirect buffer offset) = None
 encoder_does (DrawIndexedIndirect buffer offset) = None
+encoder_does (BeginOcclusionQuery index) = None
+encoder_does EndOcclusionQuery = None

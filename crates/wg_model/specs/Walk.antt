@@ -11,7 +11,7 @@ use Rattle.wg_types.specs.Commands.{bracket, is_begin, is_end, named_on}
 use Rattle.wg_types.specs.declared.wanted.Kind.TheVariants as kind
 use Rattle.wg_model.specs.Rules.{first_unmet}
 use Rattle.wg_model.specs.Commands.{named, common_rules, command_rules}
-use Rattle.wg_model.specs.Touches.{Doing, uses_in, deed_of, encoder_does}
+use Rattle.wg_model.specs.Touches.{Doing, scope_in, deed_of, encoder_does}
 use Rattle.wg_model.specs.Settings.{Settings, depth_after, settings}
 use Rattle.wg_model.specs.Compute.{compute_rules, compute_does}
 use Rattle.wg_model.specs.Attachments.{RenderBegin, begin_of, begun_rules}
@@ -62,7 +62,7 @@ abbrev pub pass_rule : ℕ → Command → List Command → Option ℕ
 pass_rule device begin [] = begun_rule device begin
 pass_rule device begin (command ∷ earlier) = option_or (pass_rule device begin earlier) (rule_in device begin earlier command)
 
--- what a command of a pass completes, if it does: a step, whose uses are a usage scope
+-- what a command of a pass completes, if it does: a step, which has a usage scope
 abbrev pub does_by : RenderBegin → Bracket → List Command → Command → Option Doing
 does_by begin brackets.BeginComputePass earlier command = compute_does (settings earlier) command
 does_by begin brackets.BeginRenderPass earlier command = render_does (render_set begin earlier) command
@@ -176,10 +176,10 @@ doings (kept ∷ older) = doings older ++ option_to_list (does_at (open_pass old
 abbrev pub deeds : Kept → List Deed
 deeds kept = map deed_of (doings kept)
 
--- Usage scopes, in the order of the commands that complete them: what a command of a pass does is one.
+-- Usage scopes, in the order of the commands that complete them: what a command of a pass does has one.
 abbrev pub scopes_at : Option PassSoFar → On → Command → List (List Use)
 scopes_at opened Encoder command = []
-scopes_at opened (Pass pass) command = map uses_in (option_to_list (does_in_pass opened pass command))
+scopes_at opened (Pass pass) command = map scope_in (option_to_list (does_in_pass opened pass command))
 
 abbrev pub usage_scopes : Kept → List (List Use)
 usage_scopes [] = []

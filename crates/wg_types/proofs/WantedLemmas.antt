@@ -16,6 +16,7 @@ with_number : ℕ → Wanted
 with_number number = slice_index_or in_order number wanted.Object
 
 numbered : (asked : Wanted) → with_number (wanted_number asked) ≡ asked
+unfolding with_number in_order
 numbered wanted.Buffer = refl
 numbered wanted.Texture = refl
 numbered wanted.View = refl

@@ -1,7 +1,7 @@
 //! Render pipelines, and what render passes begin with.
 ghost use Rattle.std.specs.Prelude.{◌≡◌, ◌++◌, IfOk, OnOk, map, option_map};
 ghost use Rattle.std.specs.List.{flat_map};
-ghost use Rattle.wg_types.specs.Refs.{first_of};
+ghost use Rattle.wg_types.specs.Refs.{first_of, maybe_wanted};
 ghost use Rattle.wg_types.specs.Render.{color_named, depth_named, targets_named, begin_named, map_color, map_depth, map_begin};
 
 use crate::NoMemory;
@@ -93,23 +93,23 @@ pub struct RenderBeginOf<R> {
 impl<R> RenderBeginOf<R> {
     /// What the first object answers that has an answer: of each color attachment the view and then that
     /// to which it is resolved, then the view of the depth attachment, and last the query set.
-    #[tactic(auto, using(crate::proofs::RefLemmas::first_joined))]
     pub fn first<E: Drop, A: Ask<R, E>>(&self, asked: &A) -> Option<E>
         ensures { result ≡ first_of (A.asks asked.now) (begin_named self.now) }
     {
-        if let Some(found) = first_target(asked, self.colors.as_slice(), &self.depth) {
-            return Some(found);
-        }
-        refs::maybe(asked, &self.queries, Wanted::Queries)
+        first_begun(asked, self.colors.as_slice(), &self.depth, &self.queries)
     }
 
     /// Gathers what there is of the views and of the query set, in the same order.
-    #[tactic(auto, using(crate::proofs::RefLemmas::flat_joined))]
     pub fn gather<T, G: Gather<R, T>>(&self, gather: &G, found: &mut Vec<T>) -> Result<(), NoMemory>
         ensures { OnOk result (found.new.items ≡ found.old.items ++ flat_map (G.gathers gather.now) (begin_named self.now)) }
     {
-        gather_targets(gather, found, self.colors.as_slice(), &self.depth)?;
-        refs::gather_maybe(gather, found, &self.queries, Wanted::Queries)
+        gather_begun(
+            gather,
+            found,
+            self.colors.as_slice(),
+            &self.depth,
+            &self.queries,
+        )
     }
 
     /// The same with other objects.
@@ -184,6 +184,22 @@ fn first_target<R, E: Drop, A: Ask<R, E>>(
     ask_depth(asked, depth)
 }
 
+/// Asks the views of all attachments, and then the query set, if there is one.
+#[tactic(auto, using(crate::proofs::RefLemmas::first_joined))]
+fn first_begun<R, E: Drop, A: Ask<R, E>>(
+    asked: &A,
+    colors: &[Option<ColorTargetOf<R>>],
+    depth: &Option<DepthTargetOf<R>>,
+    queries: &Option<R>,
+) -> Option<E>
+    ensures { result ≡ first_of (A.asks asked.now) ((flat_map color_named colors.now ++ depth_named depth.now) ++ maybe_wanted Wanted.Queries queries.now) }
+{
+    if let Some(found) = first_target(asked, colors, depth) {
+        return Some(found);
+    }
+    refs::maybe(asked, queries, Wanted::Queries)
+}
+
 /// Gathers what there is of the views of a color attachment, if there is one.
 #[tactic(auto, using(crate::proofs::RefLemmas::flat_joined))]
 fn gather_color<R, T, G: Gather<R, T>>(
@@ -243,6 +259,21 @@ fn gather_targets<R, T, G: Gather<R, T>>(
 {
     gather_colors(gather, found, colors)?;
     gather_depth(gather, found, depth)
+}
+
+/// Gathers what there is of the views of all attachments, and then of the query set, if there is one.
+#[tactic(auto, using(crate::proofs::RefLemmas::flat_joined))]
+fn gather_begun<R, T, G: Gather<R, T>>(
+    gather: &G,
+    found: &mut Vec<T>,
+    colors: &[Option<ColorTargetOf<R>>],
+    depth: &Option<DepthTargetOf<R>>,
+    queries: &Option<R>,
+) -> Result<(), NoMemory>
+    ensures { OnOk result (found.new.items ≡ found.old.items ++ flat_map (G.gathers gather.now) ((flat_map color_named colors.now ++ depth_named depth.now) ++ maybe_wanted Wanted.Queries queries.now)) }
+{
+    gather_targets(gather, found, colors, depth)?;
+    refs::gather_maybe(gather, found, queries, Wanted::Queries)
 }
 
 fn found_color<R, S: Drop, F: Find<R, S>>(
