@@ -9,11 +9,11 @@ use Rattle.wg_types.specs.declared.steps.StepName.TheVariants as name
 use Rattle.wg_types.specs.declared.commands.On.{On}
 use Rattle.wg_types.specs.declared.commands.On.TheVariants.{Encoder, Pass}
 use Rattle.wg_types.specs.Commands.{Command}
-use Rattle.wg_types.specs.declared.commands.CommandOf.TheVariants.{BeginComputePass, BeginRenderPass, CopyBufferToBuffer, CopyBufferToTexture, CopyTextureToBuffer, CopyTextureToTexture, ClearBuffer, ResolveQuerySet, SetBindGroup, Dispatch, DispatchIndirect, SetVertexBuffer, SetIndexBuffer, DrawIndirect, DrawIndexedIndirect, BeginOcclusionQuery}
+use Rattle.wg_types.specs.declared.commands.CommandOf.TheVariants.{BeginComputePass, BeginRenderPass, CopyBufferToBuffer, CopyBufferToTexture, CopyTextureToBuffer, CopyTextureToTexture, ClearBuffer, ResolveQuerySet, SetBindGroup, Dispatch, DispatchIndirect, SetVertexBuffer, SetIndexBuffer, DrawIndirect, DrawIndexedIndirect, BeginOcclusionQuery, ExecuteBundles}
 use Rattle.wg_types.specs.declared.mappings.Mapping.{Mapping}
 use Rattle.wg_types.specs.declared.textures.TextureInfo.{TextureInfo}
 use Rattle.wg_types.specs.declared.textures.TextureSpot.{TextureSpot}
-use Rattle.wg_rows.specs.Runs.{Aspect, Part, PartRun, Cells, object_of}
+use Rattle.wg_rows.specs.Runs.{Aspect, Part, PartRun, Cells, Bytes, Layers, Slices, Queries, object_of}
 use Rattle.wg_orders.specs.Steps.{Step, StepPlace, set_of}
 use Rattle.wg_orders.specs.Laws.{Unused}
 use Rattle.wg_orders.proofs.Unused.{unused_none, unused_one, unused_append}
@@ -27,10 +27,13 @@ use Rattle.wg_model.specs.Bound.{Place, known_group, entry_places, places_in, pl
 use Rattle.wg_model.specs.Settings.{settings, group_set, groups_set, layouts_set, indirect_touch}
 use Rattle.wg_model.specs.Compute.{dispatch_touches, compute_does}
 use Rattle.wg_model.specs.Attachments.{RenderBegin, ColorTarget, DepthTarget, attached_view, view_parts, attach_kind, attached, attachment_usage, resolve_touches, color_touches, depth_touch, depth_touches, targets_touches}
-use Rattle.wg_model.specs.Render.{RenderSet, render_set, render_touches, command_touches, bound_group_touches, render_does, render_does_by}
+use Rattle.wg_model.specs.Render.{RenderSet, render_set, touches_over, command_touches, bound_group_touches, render_does, render_does_by}
+use Rattle.wg_types.specs.declared.bundles.BundleInfo.{BundleInfo}
+use Rattle.wg_types.specs.declared.bundles.BundleTouch.{BundleTouch}
+use Rattle.wg_model.specs.Bundles.{known_bundle, bundle_touch, touches_within, executed_touches, buffer_in, texture_in, query_set_in, in_bundle}
 use Rattle.wg_model.specs.Queries.{set_of_pass, query_begun_touches}
 use Rattle.wg_types.specs.Render.{color_named, depth_named, targets_named}
-use Rattle.wg_types.specs.Refs.{maybe_wanted}
+use Rattle.wg_types.specs.Refs.{maybe_wanted, all_wanted}
 use Rattle.wg_types.specs.Commands.{bracket}
 use Rattle.wg_types.specs.declared.commands.Bracket.{Bracket}
 use Rattle.wg_types.specs.declared.commands.Bracket.TheVariants as brackets
@@ -342,6 +345,45 @@ query_away : (n : ℕ) (queries : Option (ℕ × ℕ)) (index : ℕ) → SparesS
 query_away n None index e = tt
 query_away n (Some set) index e = (e, tt)
 
+-- Bundles are executed that use other resources.
+abbrev AllOthers : ℕ → List ℕ → Type 0
+AllOthers n numbers = list_any (λ r. r == n) numbers ≡ false
+
+cells_away : (n : ℕ) (cells : Cells) → AllOthers n (buffer_in cells) → AllOthers n (texture_in cells) → AllOthers n (query_set_in cells) → cells_object cells == n ≡ false
+cells_away n (Bytes object lo hi) a b c = or_first (object == n) false a
+cells_away n (Layers object aspect mip lo hi) a b c = or_first (object == n) false b
+cells_away n (Slices object mip lo hi) a b c = or_first (object == n) false b
+cells_away n (Queries object lo hi) a b c = or_first (object == n) false c
+
+abbrev of_touches : (Cells → List ℕ) → List BundleTouch → List ℕ
+of_touches which touches = flat_map (λ (touch : BundleTouch). which touch.cells) touches
+
+bundle_away : (n : ℕ) (touches : List BundleTouch) → AllOthers n (of_touches buffer_in touches) → AllOthers n (of_touches texture_in touches) → AllOthers n (of_touches query_set_in touches) → AreAway n (map bundle_touch touches)
+bundle_away n [] a b c = tt
+bundle_away n (touch ∷ touches) a b c =
+    let buffers = both_none n (buffer_in touch.cells) (of_touches buffer_in touches) a in
+    let textures = both_none n (texture_in touch.cells) (of_touches texture_in touches) b in
+    let sets = both_none n (query_set_in touch.cells) (of_touches query_set_in touches) c in
+    (cells_away n touch.cells buffers.0 textures.0 sets.0, bundle_away n touches buffers.1 textures.1 sets.1)
+
+within_away : (n : ℕ) (known : Option BundleInfo) → AllOthers n (in_bundle buffer_in known) → AllOthers n (in_bundle texture_in known) → AllOthers n (in_bundle query_set_in known) → AreAway n (touches_within known)
+within_away n None a b c = tt
+within_away n (Some bundle) a b c = bundle_away n bundle.touches a b c
+
+all_away : (n : ℕ) (bundles : List HandleValue) → AllOthers n (numbers_by buffers_as (all_wanted wanted.Bundle bundles)) → AllOthers n (numbers_by textures_as (all_wanted wanted.Bundle bundles)) → AllOthers n (numbers_by query_sets_as (all_wanted wanted.Bundle bundles)) → AreAway n (executed_touches bundles)
+all_away n [] a b c = tt
+all_away n (bundle ∷ bundles) a b c =
+    let buffers = both_none n (buffers_as wanted.Bundle bundle) (numbers_by buffers_as (all_wanted wanted.Bundle bundles)) a in
+    let textures = both_none n (textures_as wanted.Bundle bundle) (numbers_by textures_as (all_wanted wanted.Bundle bundles)) b in
+    let sets = both_none n (query_sets_as wanted.Bundle bundle) (numbers_by query_sets_as (all_wanted wanted.Bundle bundles)) c in
+    joined_away n (touches_within (known_bundle bundle)) (executed_touches bundles) (within_away n (known_bundle bundle) buffers.0 textures.0 sets.0) (all_away n bundles buffers.1 textures.1 sets.1)
+
+executed_away : (n : ℕ) (bundles : List HandleValue) → SparesCommand n (ExecuteBundles bundles) → AreAway n (executed_touches bundles)
+executed_away n bundles e =
+    let first = both_none n (buffers_of (ExecuteBundles bundles)) (textures_of (ExecuteBundles bundles) ++ query_sets_of (ExecuteBundles bundles)) e in
+    let rest = both_none n (textures_of (ExecuteBundles bundles)) (query_sets_of (ExecuteBundles bundles)) first.1 in
+    all_away n bundles first.0 rest.0 rest.1
+
 -- What commands of a render pass touch.
 command_away : (n : ℕ) (queries : Option (ℕ × ℕ)) (command : Command) → SparesSet n queries → SparesCommand n command → AreAway n (command_touches queries command)
 command_away n queries (SetBindGroup index group offsets) q e =
@@ -352,11 +394,15 @@ command_away n queries (SetIndexBuffer buffer format offset size) q e = (or_firs
 command_away n queries (DrawIndirect buffer offset) q e = (or_first (buffer.reference.number == n) false e, tt)
 command_away n queries (DrawIndexedIndirect buffer offset) q e = (or_first (buffer.reference.number == n) false e, tt)
 command_away n queries (BeginOcclusionQuery index) q e = query_away n queries index q
+command_away n queries (ExecuteBundles bundles) q e = joined_away n (executed_touches bundles) [] (executed_away n bundles e) tt
 command_away n queries _ q e = tt
 
-render_away : (n : ℕ) (begin : RenderBegin) (earlier : List Command) → SparesCommand n (BeginRenderPass begin) → AreSparing n earlier → AreAway n (render_touches begin earlier)
-render_away n begin [] b each = targets_away n begin b
-render_away n begin (command ∷ earlier) b each = joined_away n (render_touches begin earlier) (command_touches (set_of_pass begin.queries) command) (render_away n begin earlier b each.1) (command_away n (set_of_pass begin.queries) command (set_away n begin b) each.0)
+over_away : (n : ℕ) (queries : Option (ℕ × ℕ)) (first : List Touch) (earlier : List Command) → SparesSet n queries → AreAway n first → AreSparing n earlier → AreAway n (touches_over queries first earlier)
+over_away n queries first [] q away each = away
+over_away n queries first (command ∷ earlier) q away each = joined_away n (touches_over queries first earlier) (command_touches queries command) (over_away n queries first earlier q away each.1) (command_away n queries command q each.0)
+
+render_away : (n : ℕ) (begin : RenderBegin) (earlier : List Command) → SparesCommand n (BeginRenderPass begin) → AreSparing n earlier → AreAway n (render_set begin earlier).touches
+render_away n begin earlier b each = over_away n (set_of_pass begin.queries) (targets_touches begin) earlier (set_away n begin b) (targets_away n begin b) each
 
 end_away : (n : ℕ) (render : RenderSet) (b : Bracket) → AreAway n render.touches → AllAway n (option_to_list (render_does_by render b))
 end_away n render brackets.EndPass away = (away, tt)
@@ -438,7 +484,8 @@ any_reversed test [] = refl
 any_reversed test (x ∷ xs) = ap (list_any test) (reverse-append (x ∷ []) xs) ∙ (list_any-append test (reverse xs) (x ∷ []) ∙ (ap (λ b. b || (test x || false)) (any_reversed test xs) ∙ or_swap (test x) (list_any test xs)))
 
 pub recorded_spare : RecordedSpare
-recorded_spare place device commands n e = by_rules (is_none (verdict device (reverse commands)) && is_none (open_pass (reverse commands)))
+recorded_spare place device (Some targets) commands n e = unused_none n
+recorded_spare place device None commands n e = by_rules (is_none (verdict device (reverse commands)) && is_none (open_pass (reverse commands)))
   where
     by_rules : (b : Bool) → Unused n (map (placed place) (if b then deeds (reverse commands) else []))
     by_rules true = subst (λ steps. Unused n steps) (sym (placed_deeds place (doings (reverse commands)))) (steps_unused place n (doings (reverse commands)) (doings_away n (reverse commands) (any_reversed (λ kept. list_any (λ r. r == n) (resources kept.1)) commands ∙ e)))

@@ -6,7 +6,7 @@ use Rattle.wg_types.specs.declared.steps.StepName.TheVariants as name
 use Rattle.wg_types.specs.declared.commands.On.{On}
 use Rattle.wg_types.specs.declared.commands.On.TheVariants.{Encoder, Pass}
 use Rattle.wg_types.specs.Commands.{Command}
-use Rattle.wg_types.specs.declared.commands.CommandOf.TheVariants.{BeginComputePass, BeginRenderPass, CopyBufferToBuffer, CopyBufferToTexture, CopyTextureToBuffer, CopyTextureToTexture, ClearBuffer, ResolveQuerySet, SetBindGroup, Dispatch, DispatchIndirect, SetVertexBuffer, SetIndexBuffer, DrawIndirect, DrawIndexedIndirect, BeginOcclusionQuery, BeginOcclusionQuery}
+use Rattle.wg_types.specs.declared.commands.CommandOf.TheVariants.{BeginComputePass, BeginRenderPass, CopyBufferToBuffer, CopyBufferToTexture, CopyTextureToBuffer, CopyTextureToTexture, ClearBuffer, ResolveQuerySet, SetBindGroup, Dispatch, DispatchIndirect, SetVertexBuffer, SetIndexBuffer, DrawIndirect, DrawIndexedIndirect, BeginOcclusionQuery, BeginOcclusionQuery, ExecuteBundles}
 use Rattle.wg_types.specs.declared.mappings.Mapping.{Mapping}
 use Rattle.wg_types.specs.declared.mappings.MapMode.{MapMode}
 use Rattle.wg_types.specs.declared.mappings.MapMode.TheVariants.{Read as ReadMode, Write as WriteMode}
@@ -37,7 +37,12 @@ use Rattle.wg_model.specs.Bound.{set_places}
 use Rattle.wg_model.specs.Settings.{Settings, settings, layouts_set, indirect_touch}
 use Rattle.wg_model.specs.Compute.{compute_does, dispatch_touches}
 use Rattle.wg_model.specs.Attachments.{RenderBegin, ColorTarget, DepthTarget, view_parts, attach_kind, attached, attachment_usage, resolve_touches, color_touches, aspect_how, depth_how, run_aspect, depth_touch, depth_touches, targets_touches}
-use Rattle.wg_model.specs.Render.{RenderSet, render_set, render_touches, command_touches, bound_group_touches, render_does, render_does_by}
+use Rattle.wg_model.specs.Render.{RenderSet, render_set, touches_over, command_touches, bound_group_touches, render_does, render_does_by}
+use Rattle.wg_types.specs.declared.bundles.BundleInfo.{BundleInfo}
+use Rattle.wg_types.specs.declared.bundles.BundleTouch.{BundleTouch}
+use Rattle.wg_types.specs.declared.bundles.BundleUse.{BundleUse}
+use Rattle.wg_types.specs.declared.bundles.BundleUse.TheVariants.{Input, Constant, StorageRead, Storage as StorageUse}
+use Rattle.wg_model.specs.Bundles.{known_bundle, bundle_how, bundle_touch, touches_within, executed_touches}
 use Rattle.wg_model.specs.Queries.{set_of_pass, query_begun_touches}
 use Rattle.wg_types.specs.Handles.{HandleValue}
 use Rattle.wg_types.specs.declared.parts.Aspect.{Aspect}
@@ -213,6 +218,25 @@ unfolding targets_touches
 targets_own begin = joined_proper (flat_map color_touches begin.colors) (depth_touches begin.depth) (colors_own begin.colors) (depth_own begin.depth)
 
 -- What render passes touch.
+-- What bundles touch that are executed.
+bundle_fair : (used : BundleUse) → IsFair (bundle_how used)
+bundle_fair Input e = absurd (cc)
+bundle_fair Constant e = absurd (cc)
+bundle_fair StorageRead e = absurd (cc)
+bundle_fair StorageUse e = refl
+
+bundle_own : (touches : List BundleTouch) → AreProper (map bundle_touch touches)
+bundle_own [] = tt
+bundle_own (touch ∷ touches) = (bundle_fair touch.used, bundle_own touches)
+
+within_bundle_own : (known : Option BundleInfo) → AreProper (touches_within known)
+within_bundle_own None = tt
+within_bundle_own (Some bundle) = bundle_own bundle.touches
+
+executed_own : (bundles : List HandleValue) → AreProper (executed_touches bundles)
+executed_own [] = tt
+executed_own (bundle ∷ bundles) = joined_proper (touches_within (known_bundle bundle)) (executed_touches bundles) (within_bundle_own (known_bundle bundle)) (executed_own bundles)
+
 query_own : (queries : Option (ℕ × ℕ)) (index : ℕ) → AreProper (query_begun_touches queries index)
 query_own None index = tt
 query_own (Some set) index = (λ e. refl, tt)
@@ -224,11 +248,15 @@ command_own queries (SetIndexBuffer buffer format offset size) = (λ e. absurd (
 command_own queries (DrawIndirect buffer offset) = (λ e. absurd (cc), tt)
 command_own queries (DrawIndexedIndirect buffer offset) = (λ e. absurd (cc), tt)
 command_own queries (BeginOcclusionQuery index) = query_own queries index
+command_own queries (ExecuteBundles bundles) = joined_proper (executed_touches bundles) [] (executed_own bundles) tt
 command_own queries _ = tt
 
-touches_own : (begin : RenderBegin) (earlier : List Command) → AreProper (render_touches begin earlier)
-touches_own begin [] = targets_own begin
-touches_own begin (command ∷ earlier) = joined_proper (render_touches begin earlier) (command_touches (set_of_pass begin.queries) command) (touches_own begin earlier) (command_own (set_of_pass begin.queries) command)
+over_own : (queries : Option (ℕ × ℕ)) (first : List Touch) (earlier : List Command) → AreProper first → AreProper (touches_over queries first earlier)
+over_own queries first [] proper = proper
+over_own queries first (command ∷ earlier) proper = joined_proper (touches_over queries first earlier) (command_touches queries command) (over_own queries first earlier proper) (command_own queries command)
+
+touches_own : (begin : RenderBegin) (earlier : List Command) → AreProper (render_set begin earlier).touches
+touches_own begin earlier = over_own (set_of_pass begin.queries) (targets_touches begin) earlier (targets_own begin)
 
 render_own : (render : RenderSet) (b : Bracket) → AreProper render.touches → AreOwn (option_to_list (render_does_by render b))
 render_own render brackets.EndPass proper = ((refl, proper), tt)
@@ -289,7 +317,8 @@ placed_deeds place [] = refl
 placed_deeds place (doing ∷ done) = ap (λ steps. step_of place doing ∷ steps) (placed_deeds place done)
 
 pub recorded_are_declared : RecordedAreDeclared
-recorded_are_declared place device commands k s e = by_rules (is_none (verdict device (reverse commands)) && is_none (open_pass (reverse commands))) e
+recorded_are_declared place device (Some targets) commands k s e = absurd (no_step s k e)
+recorded_are_declared place device None commands k s e = by_rules (is_none (verdict device (reverse commands)) && is_none (open_pass (reverse commands))) e
   where
     by_rules : (b : Bool) → slice_get (map (placed place) (if b then deeds (reverse commands) else [])) k ≡ Some s → IsOwnStep s
     by_rules true h = steps_own place (doings (reverse commands)) (doings_own (reverse commands)) k s (ap (λ steps. slice_get steps k) (sym (placed_deeds place (doings (reverse commands)))) ∙ h)

@@ -56,7 +56,9 @@ view_in (info.Compute known) = None
 view_in (info.Render known) = None
 view_in (info.Queries known) = None
 view_in info.Encoder = None
+view_in (info.BundleEncoder known) = None
 view_in info.CommandBuffer = None
+view_in (info.Bundle known) = None
 
 -- what a handle knows of a view, which of an invalid one is nothing
 abbrev pub attached_view : HandleValue → Option ViewInfo

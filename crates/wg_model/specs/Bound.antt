@@ -41,7 +41,9 @@ group_in (info.Compute known) = None
 group_in (info.Render known) = None
 group_in (info.Queries known) = None
 group_in info.Encoder = None
+group_in (info.BundleEncoder known) = None
 group_in info.CommandBuffer = None
+group_in (info.Bundle known) = None
 
 -- what a handle knows of a group, which of an invalid one is nothing
 abbrev pub known_group : HandleValue → Option GroupInfo
@@ -60,7 +62,9 @@ layouts_in (info.Compute known) = known.layout_info.layouts_info
 layouts_in (info.Render known) = known.layout_info.layouts_info
 layouts_in (info.Queries known) = []
 layouts_in info.Encoder = []
+layouts_in (info.BundleEncoder known) = []
 layouts_in info.CommandBuffer = []
+layouts_in (info.Bundle known) = []
 
 -- how many of a layout's bindings take a dynamic offset
 abbrev pub dynamics : List LayoutEntry → ℕ

@@ -15,7 +15,7 @@ pub use Rattle.wg_types.specs.Commands.{Command, named}
 use Rattle.wg_types.specs.Commands.{bracket}
 use Rattle.wg_types.specs.declared.commands.Bracket.{Bracket}
 use Rattle.wg_types.specs.declared.commands.Bracket.TheVariants as brackets
-use Rattle.wg_types.specs.declared.commands.CommandOf.TheVariants.{BeginComputePass, BeginRenderPass, CopyBufferToBuffer, CopyBufferToTexture, CopyTextureToBuffer, CopyTextureToTexture, ClearBuffer, ResolveQuerySet, PushDebugGroup, PopDebugGroup, End, SetPipeline, SetBindGroup, Dispatch, DispatchIndirect, SetVertexBuffer, SetIndexBuffer, Draw, DrawIndexed, DrawIndirect, DrawIndexedIndirect, BeginOcclusionQuery, EndOcclusionQuery}
+use Rattle.wg_types.specs.declared.commands.CommandOf.TheVariants.{BeginComputePass, BeginRenderPass, CopyBufferToBuffer, CopyBufferToTexture, CopyTextureToBuffer, CopyTextureToTexture, ClearBuffer, ResolveQuerySet, PushDebugGroup, PopDebugGroup, End, SetPipeline, SetBindGroup, Dispatch, DispatchIndirect, SetVertexBuffer, SetIndexBuffer, Draw, DrawIndexed, DrawIndirect, DrawIndexedIndirect, BeginOcclusionQuery, EndOcclusionQuery, ExecuteBundles}
 use Rattle.wg_model.specs.Rules.{Rule}
 use Rattle.wg_model.specs.Equality.{same_reference}
 use Rattle.wg_model.specs.Buffers.{copy_src, copy_dst, query_resolve, has_usage}
@@ -149,6 +149,7 @@ own_rules (DrawIndirect buffer offset) = []
 own_rules (DrawIndexedIndirect buffer offset) = []
 own_rules (BeginOcclusionQuery index) = []
 own_rules EndOcclusionQuery = []
+own_rules (ExecuteBundles bundles) = []
 
 -- popDebugGroup (WebGPU, "Debug Markers"), by how many groups of its place are open: 285 one is.
 abbrev pub debug_rules_by : ℕ → Bracket → List Rule

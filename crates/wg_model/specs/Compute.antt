@@ -1,6 +1,6 @@
 -- Compute passes (WebGPU, "Compute Passes"): the rules of the commands, and what they do.
 use Rattle.std.specs.Prelude.{ℕ, nat_le, ◌&&◌, List, [], ◌∷◌, ◌++◌, Option, Some, None}
-use Rattle.wg_types.specs.Commands.{Command, Act, begins, sets, runs, occludes, neither, act}
+use Rattle.wg_types.specs.Commands.{Command, Act, begins, sets, runs, occludes, executes, neither, act}
 use Rattle.wg_types.specs.Commands.{Running, dispatch, dispatch_indirect, draw, draw_indexed, draw_indirect, draw_indexed_indirect}
 use Rattle.wg_types.specs.Handles.{HandleValue}
 use Rattle.wg_types.specs.declared.steps.StepName.TheVariants as name
@@ -32,6 +32,7 @@ dispatch_rules_by set (begins begin) = []
 dispatch_rules_by set (sets setting) = []
 dispatch_rules_by set (runs running) = dispatching_rules set running
 dispatch_rules_by set (occludes call) = []
+dispatch_rules_by set (executes bundles) = []
 dispatch_rules_by set neither = []
 
 abbrev pub dispatch_rules : Settings → Command → List Rule
@@ -59,6 +60,7 @@ compute_does_by set (begins begin) = None
 compute_does_by set (sets setting) = None
 compute_does_by set (runs running) = dispatching_does set running
 compute_does_by set (occludes call) = None
+compute_does_by set (executes bundles) = None
 compute_does_by set neither = None
 
 -- what a command of the pass does, if it makes a step

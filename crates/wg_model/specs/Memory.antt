@@ -1,7 +1,7 @@
 -- How many bytes a resource takes of the budget.
 use Rattle.std.specs.Prelude.{ℕ, zero, suc, ◌+◌, ◌*◌}
 use Rattle.wg_types.specs.declared.handles.Info.{Info}
-use Rattle.wg_types.specs.declared.handles.Info.TheVariants.{Buffer, Texture, View, Sampler, GroupLayout, PipelineLayout, Group, Compute, Render, Queries, Encoder, CommandBuffer}
+use Rattle.wg_types.specs.declared.handles.Info.TheVariants.{Buffer, Texture, View, Sampler, GroupLayout, PipelineLayout, Group, Compute, Render, Queries, Encoder, BundleEncoder, CommandBuffer, Bundle}
 use Rattle.wg_types.specs.declared.textures.TextureInfo.{TextureInfo}
 use Rattle.wg_types.specs.Formats.{row}
 use Rattle.wg_types.specs.Textures.{width, height, depth}
@@ -33,4 +33,6 @@ bytes_of (Compute info) = 0
 bytes_of (Render info) = 0
 bytes_of (Queries info) = query_bytes * info.count
 bytes_of Encoder = 0
+bytes_of (BundleEncoder targets) = 0
 bytes_of CommandBuffer = 0
+bytes_of (Bundle info) = 0

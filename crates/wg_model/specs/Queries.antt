@@ -4,7 +4,7 @@ use Rattle.std.specs.Prelude.{ℕ, ◌+◌, ◌==◌, nat_lt, nat_le, Bool, true
 use Rattle.std.specs.List.{list_any}
 use Rattle.std.specs.Option.{option_map_or}
 use Rattle.wg_types.specs.Handles.{HandleValue}
-use Rattle.wg_types.specs.Commands.{Command, bracket, Act, begins, sets, runs, occludes, neither, act, OcclusionCall, begin_occlusion, end_occlusion}
+use Rattle.wg_types.specs.Commands.{Command, bracket, Act, begins, sets, runs, occludes, executes, neither, act, OcclusionCall, begin_occlusion, end_occlusion}
 use Rattle.wg_types.specs.declared.commands.Bracket.{Bracket}
 use Rattle.wg_types.specs.declared.commands.Bracket.TheVariants as brackets
 use Rattle.wg_types.specs.declared.handles.QueriesInfo.{QueriesInfo}
@@ -25,6 +25,7 @@ occlusion_by (begins begin) = None
 occlusion_by (sets setting) = None
 occlusion_by (runs running) = None
 occlusion_by (occludes call) = Some call
+occlusion_by (executes bundles) = None
 occlusion_by neither = None
 
 abbrev pub occlusion_call : Command → Option OcclusionCall

@@ -20,6 +20,7 @@ use Rattle.wg_types.specs.declared.mappings.MapMode.{MapMode}
 use Rattle.wg_types.specs.declared.mappings.MapMode.TheVariants.{Read as ReadMode, Write as WriteMode}
 use Rattle.wg_types.specs.declared.textures.TextureInfo.{TextureInfo}
 use Rattle.wg_types.specs.declared.textures.TextureSpot.{TextureSpot}
+use Rattle.wg_types.specs.declared.render.TargetInfo.{TargetInfo}
 use Rattle.wg_types.specs.declared.textures.ViewInfo.{ViewInfo}
 use Rattle.wg_rows.specs.Runs.{Bytes}
 use Rattle.wg_rows.specs.Uses.{Usages, Kind, Read, Both}
@@ -27,6 +28,7 @@ use Rattle.wg_orders.specs.Steps.{Step, StepPlace}
 use Rattle.wg_model.specs.Subresources.{has_no_texel}
 use Rattle.wg_model.specs.Touches.{Touch, range_touches, copied_to, touching, placed}
 use Rattle.wg_model.specs.Bound.{known_group}
+use Rattle.wg_model.specs.Bundles.{known_bundle, buffer_in, texture_in, query_set_in, in_bundle}
 use Rattle.wg_model.specs.Attachments.{attached_view}
 use Rattle.wg_model.specs.Walk.{DeedsOf}
 
@@ -64,9 +66,9 @@ host_touches buffer m = (Bytes buffer m.lo m.hi, (host_usage m.mode, host_kind m
 abbrev pub host_step : StepPlace → ℕ → Mapping → Option Step
 host_step place buffer m = if m.lo == m.hi then None else Some (touching place (host_name m.mode) (host_touches buffer m))
 
--- the steps of a recording, which are none where it has a verdict or an open pass
-abbrev pub StepsOf : StepPlace → ℕ → List (On × Command) → List Step
-StepsOf place device commands = map (placed place) (DeedsOf device commands)
+-- the steps of a recording, which are none where it has a verdict or an open pass, and none of a bundle encoder's
+abbrev pub StepsOf : StepPlace → ℕ → Option TargetInfo → List (On × Command) → List Step
+StepsOf place device targets commands = map (placed place) (DeedsOf device targets commands)
 
 -- the number of the buffer that is bound, if one is
 abbrev pub bound_buffer : BoundResource → List ℕ
@@ -91,13 +93,15 @@ in_view None = []
 in_view (Some view) = view.texture.number ∷ []
 
 -- What resources are reached through an object that a command names: the buffer, the texture or the query set that it is, the
--- texture of which it is a view, the buffers that it binds and the textures whose views it binds, or none.
+-- texture of which it is a view, the buffers that it binds and the textures whose views it binds, those that a bundle uses, or
+-- none.
 pub data Reaching : Type 0 where
   own_buffer : Reaching
   own_texture : Reaching
   own_queries : Reaching
   viewed_texture : Reaching
   bound_resources : Reaching
+  bundled_resources : Reaching
   no_resource : Reaching
 
 -- the same by what is wanted of the object
@@ -115,7 +119,9 @@ reaching wanted.RenderPipeline = no_resource
 reaching wanted.Queries = own_queries
 reaching wanted.Destroyable = no_resource
 reaching wanted.Encoder = no_resource
+reaching wanted.BundleEncoder = no_resource
 reaching wanted.CommandBuffer = no_resource
+reaching wanted.Bundle = bundled_resources
 reaching wanted.ComputePass = no_resource
 reaching wanted.RenderPass = no_resource
 reaching wanted.Pass = no_resource
@@ -131,6 +137,7 @@ buffers_by own_texture object = []
 buffers_by own_queries object = []
 buffers_by viewed_texture object = []
 buffers_by bound_resources object = in_group bound_buffer (known_group object)
+buffers_by bundled_resources object = in_bundle buffer_in (known_bundle object)
 buffers_by no_resource object = []
 
 abbrev pub buffers_as : Wanted → HandleValue → List ℕ
@@ -143,6 +150,7 @@ textures_by own_texture object = object.reference.number ∷ []
 textures_by own_queries object = []
 textures_by viewed_texture object = in_view (attached_view object)
 textures_by bound_resources object = in_group bound_texture (known_group object)
+textures_by bundled_resources object = in_bundle texture_in (known_bundle object)
 textures_by no_resource object = []
 
 abbrev pub textures_as : Wanted → HandleValue → List ℕ
@@ -155,6 +163,7 @@ query_sets_by own_texture object = []
 query_sets_by own_queries object = object.reference.number ∷ []
 query_sets_by viewed_texture object = []
 query_sets_by bound_resources object = []
+query_sets_by bundled_resources object = in_bundle query_set_in (known_bundle object)
 query_sets_by no_resource object = []
 
 abbrev pub query_sets_as : Wanted → HandleValue → List ℕ

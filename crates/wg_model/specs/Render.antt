@@ -1,12 +1,12 @@
 -- Render passes (WebGPU, "Render Passes" and "GPURenderCommandsMixin"): what is set, the rules of the commands, and what the
 -- whole pass touches. The commands of a pass so far stand newest first.
-use Rattle.std.specs.Prelude.{ℕ, ◌+◌, ◌*◌, ◌%◌, ◌==◌, nat_le, nat_lt, Bool, true, false, not, ◌&&◌, List, [], ◌∷◌, ◌++◌, Option, Some, None, is_some, is_none, option_and_then, slice_index_or, if◌then◌else◌}
+use Rattle.std.specs.Prelude.{ℕ, ◌+◌, ◌*◌, ◌%◌, ◌==◌, nat_le, nat_lt, Bool, true, false, not, ◌&&◌, ◌||◌, List, [], ◌∷◌, ◌++◌, Option, Some, None, is_some, is_none, option_and_then, slice_index_or, if◌then◌else◌}
 use Rattle.std.specs.List.{list_all, flat_map}
 use Rattle.std.specs.Option.{option_map_or, option_map, option_or}
 use Rattle.wg_types.specs.Handles.{HandleValue}
 use Rattle.wg_types.specs.Formats.{same_format}
 use Rattle.wg_types.specs.Vertex.{index_bytes}
-use Rattle.wg_types.specs.Commands.{Command, bracket, Act, begins, sets, runs, occludes, neither, act}
+use Rattle.wg_types.specs.Commands.{Command, bracket, Act, begins, sets, runs, occludes, executes, neither, act}
 use Rattle.wg_types.specs.Commands.{Setting, set_pipeline, set_group, set_vertex_buffer, set_index_buffer}
 use Rattle.wg_types.specs.Commands.{Running, dispatch, dispatch_indirect, draw, draw_indexed, draw_indirect, draw_indexed_indirect}
 use Rattle.wg_types.specs.declared.formats.Format.{Format}
@@ -29,9 +29,11 @@ use Rattle.wg_model.specs.Commands.{debug_rules, buffer_of, size_or_rest}
 use Rattle.wg_model.specs.Touches.{Touch, Doing, bytes_at, input_usage}
 use Rattle.wg_model.specs.Bound.{set_places, place_touches}
 use Rattle.wg_model.specs.Vertex.{draw_fits}
+use Rattle.wg_types.specs.declared.bundles.BundleInfo.{BundleInfo}
+use Rattle.wg_model.specs.Bundles.{known_bundle, executed_touches}
 use Rattle.wg_model.specs.Queries.{Occlusion, occlusion_of, occlusion_call, set_of_pass, occlusion_rules, pass_end_rules, query_touches}
 use Rattle.wg_model.specs.Attachments.{RenderBegin, targets_of, targets_touches}
-use Rattle.wg_model.specs.Settings.{Settings, settings, slot_after, group_given, pipeline_given, given_rules, end_rules, ready_rules, indirect_rules, indirect_touch}
+use Rattle.wg_model.specs.Settings.{Settings, settings, slot_after, group_given, pipeline_given, given_rules, unsets, end_rules, ready_rules, indirect_rules, indirect_touch}
 
 -- what a handle knows of a render pipeline, which of an invalid one is nothing
 abbrev pub desc_in : Info → Option RenderDesc
@@ -46,7 +48,9 @@ desc_in (info.Compute known) = None
 desc_in (info.Render known) = Some known.desc
 desc_in (info.Queries known) = None
 desc_in info.Encoder = None
+desc_in (info.BundleEncoder known) = None
 desc_in info.CommandBuffer = None
+desc_in (info.Bundle known) = None
 
 abbrev pub known_pipeline : HandleValue → Option RenderDesc
 known_pipeline handle = if handle.valid then desc_in handle.info else None
@@ -71,16 +75,17 @@ vertex_given_by (begins begin) = None
 vertex_given_by (sets setting) = setting_vertex setting
 vertex_given_by (runs running) = None
 vertex_given_by (occludes call) = None
+vertex_given_by (executes bundles) = None
 vertex_given_by neither = None
 
 -- the range that a command sets as a vertex buffer, if it sets one
 abbrev pub vertex_given : Command → Option (ℕ × ℕ)
 vertex_given command = vertex_given_by (act command)
 
--- the size of the range that is set as the vertex buffer of a slot: of the last
+-- the size of the range that is set as the vertex buffer of a slot: of the last, since bundles were executed
 abbrev pub vertex_set : List Command → ℕ → Option ℕ
 vertex_set [] at = None
-vertex_set (command ∷ earlier) at = slot_after (vertex_given command) at (vertex_set earlier at)
+vertex_set (command ∷ earlier) at = if unsets command then None else slot_after (vertex_given command) at (vertex_set earlier at)
 
 -- by slot
 abbrev pub ranges_set : List Command → List (Option ℕ)
@@ -107,18 +112,20 @@ index_given_by (begins begin) = None
 index_given_by (sets setting) = setting_index setting
 index_given_by (runs running) = None
 index_given_by (occludes call) = None
+index_given_by (executes bundles) = None
 index_given_by neither = None
 
 -- the range that a command sets as the index buffer, if it sets one
 abbrev pub index_given : Command → Option (IndexFormat × ℕ)
 index_given command = index_given_by (act command)
 
--- the index buffer that is set: the last
+-- the index buffer that is set: the last, since bundles were executed
 abbrev pub index_set : List Command → Option (IndexFormat × ℕ)
 index_set [] = None
-index_set (command ∷ earlier) = option_or (index_given command) (index_set earlier)
+index_set (command ∷ earlier) = if unsets command then None else option_or (index_given command) (index_set earlier)
 
--- What a command touches: all that is set counts, drawn or not, and what an indirect draw reads.
+-- What a command touches: all that is set counts, drawn or not, what an indirect draw reads, and what bundles touch that are
+-- executed.
 
 abbrev pub bound_group_touches : Option (ℕ × BoundGroup) → List Touch
 bound_group_touches None = []
@@ -149,6 +156,7 @@ input_touches_by (begins begin) = []
 input_touches_by (sets setting) = setting_touches setting
 input_touches_by (runs running) = running_touches running
 input_touches_by (occludes call) = []
+input_touches_by (executes bundles) = executed_touches bundles
 input_touches_by neither = []
 
 abbrev pub input_touches : Command → List Touch
@@ -157,10 +165,10 @@ input_touches command = input_touches_by (act command)
 abbrev pub command_touches : Option (ℕ × ℕ) → Command → List Touch
 command_touches queries command = bound_group_touches (group_given command) ++ (input_touches command ++ query_touches queries (occlusion_call command))
 
--- what a pass touches: its attachments, and then what its commands do
-abbrev pub render_touches : RenderBegin → List Command → List Touch
-render_touches begin [] = targets_touches begin
-render_touches begin (command ∷ earlier) = render_touches begin earlier ++ command_touches (set_of_pass begin.queries) command
+-- what is touched from a beginning on, and then by commands
+abbrev pub touches_over : Option (ℕ × ℕ) → List Touch → List Command → List Touch
+touches_over queries first [] = first
+touches_over queries first (command ∷ earlier) = touches_over queries first earlier ++ command_touches queries command
 
 -- What is set in a render pass: what is set in any pass, the sizes of the ranges that are set as vertex buffers by slot, the
 -- index buffer; to what it draws, its query set, if it has one, and the queries of that; and what it touches so far.
@@ -173,16 +181,24 @@ pub record RenderSet : Type 0 where
   pub occlusion : Occlusion
   pub touches : List Touch
 
-abbrev pub render_set : RenderBegin → List Command → RenderSet
-render_set begin earlier = record {
+abbrev pub drawing_set : TargetInfo → Option (ℕ × ℕ) → List Touch → List Command → RenderSet
+drawing_set targets queries first earlier = record {
   set = settings earlier;
   ranges = ranges_set earlier;
   index = index_set earlier;
-  targets = targets_of begin;
-  queries = set_of_pass begin.queries;
+  targets = targets;
+  queries = queries;
   occlusion = occlusion_of earlier;
-  touches = render_touches begin earlier;
+  touches = touches_over queries first earlier;
 }
+
+-- what a pass touches first are its attachments
+abbrev pub render_set : RenderBegin → List Command → RenderSet
+render_set begin earlier = drawing_set (targets_of begin) (set_of_pass begin.queries) (targets_touches begin) earlier
+
+-- Likewise what is set in a bundle, which has targets, but neither attachments nor queries.
+abbrev pub bundle_set : TargetInfo → List Command → RenderSet
+bundle_set targets earlier = drawing_set targets None [] earlier
 
 -- setPipeline: whether the formats of targets are those of a pass, where what is left out at the end does not count
 
@@ -212,6 +228,28 @@ pipeline_rules targets (Some desc) = (320, draws_to targets desc) ∷ ((321, opt
 abbrev pub pipeline_given_rules : TargetInfo → Option HandleValue → List Rule
 pipeline_given_rules targets None = []
 pipeline_given_rules targets (Some pipeline) = pipeline_rules targets (known_pipeline pipeline)
+
+-- executeBundles (WebGPU, "executeBundles"): whether a bundle draws to targets like those of the pass, and whether what the pass
+-- only reads it only reads as well
+
+abbrev pub bundle_fits : TargetInfo → BundleInfo → Bool
+bundle_fits targets bundle =
+    same_targets bundle.targets.colors targets.colors
+    && (same_option same_format bundle.targets.depth targets.depth
+    && bundle.targets.samples == targets.samples)
+
+abbrev pub bundle_spares : TargetInfo → BundleInfo → Bool
+bundle_spares targets bundle =
+    (not targets.depth_read_only || bundle.targets.depth_read_only)
+    && (not targets.stencil_read_only || bundle.targets.stencil_read_only)
+
+abbrev pub all_bundles : (BundleInfo → Bool) → List HandleValue → Bool
+all_bundles test bundles = list_all (λ bundle. option_map_or test (known_bundle bundle) true) bundles
+
+-- 370 the colors, the depth format and the samples of each bundle are those of the pass; 371 what the pass only reads each only
+-- reads
+abbrev pub execute_rules : TargetInfo → List HandleValue → List Rule
+execute_rules targets bundles = (370, all_bundles (bundle_fits targets) bundles) ∷ ((371, all_bundles (bundle_spares targets) bundles) ∷ [])
 
 -- how many vertex buffers may be set
 abbrev pub most_slots : ℕ
@@ -299,6 +337,7 @@ drawing_rules_by render (begins begin) = []
 drawing_rules_by render (sets setting) = setting_rules setting
 drawing_rules_by render (runs running) = running_rules render running
 drawing_rules_by render (occludes call) = occlusion_rules render.queries render.occlusion (Some call)
+drawing_rules_by render (executes bundles) = execute_rules render.targets bundles
 drawing_rules_by render neither = []
 
 abbrev pub drawing_rules : RenderSet → Command → List Rule

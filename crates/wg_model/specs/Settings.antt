@@ -1,9 +1,9 @@
 -- What is set in passes (WebGPU, "Programmable Passes"): the pipeline and the bind groups, with the rules that go by them, and
 -- how many debug groups are open. The commands of a pass so far stand newest first.
-use Rattle.std.specs.Prelude.{ℕ, ◌+◌, ◌-◌, ◌%◌, ◌==◌, nat_le, List, [], ◌∷◌, Option, Some, None, is_some, if◌then◌else◌}
+use Rattle.std.specs.Prelude.{ℕ, ◌+◌, ◌-◌, ◌%◌, ◌==◌, nat_le, Bool, true, false, List, [], ◌∷◌, Option, Some, None, is_some, if◌then◌else◌}
 use Rattle.std.specs.Option.{option_or}
 use Rattle.wg_types.specs.Handles.{HandleValue}
-use Rattle.wg_types.specs.Commands.{Command, bracket, Act, begins, sets, runs, occludes, neither, act}
+use Rattle.wg_types.specs.Commands.{Command, bracket, Act, begins, sets, runs, occludes, executes, neither, act}
 use Rattle.wg_types.specs.Commands.{Setting, set_pipeline, set_group, set_vertex_buffer, set_index_buffer}
 use Rattle.wg_types.specs.declared.commands.BoundGroup.{BoundGroup}
 use Rattle.wg_types.specs.declared.groups.GroupLayoutInfo.{GroupLayoutInfo}
@@ -45,16 +45,29 @@ pipeline_given_by (begins begin) = None
 pipeline_given_by (sets setting) = setting_pipeline setting
 pipeline_given_by (runs running) = None
 pipeline_given_by (occludes call) = None
+pipeline_given_by (executes bundles) = None
 pipeline_given_by neither = None
 
 -- the pipeline that a command sets, if it sets one
 abbrev pub pipeline_given : Command → Option HandleValue
 pipeline_given command = pipeline_given_by (act command)
 
--- the pipeline that is set: the last
+-- whether a command unsets all that is set: bundles that are executed do, also none
+abbrev pub unsets_by : Act HandleValue → Bool
+unsets_by (begins begin) = false
+unsets_by (sets setting) = false
+unsets_by (runs running) = false
+unsets_by (occludes call) = false
+unsets_by (executes bundles) = true
+unsets_by neither = false
+
+abbrev pub unsets : Command → Bool
+unsets command = unsets_by (act command)
+
+-- the pipeline that is set: the last, since bundles were executed
 abbrev pub pipeline_set : List Command → Option HandleValue
 pipeline_set [] = None
-pipeline_set (command ∷ earlier) = option_or (pipeline_given command) (pipeline_set earlier)
+pipeline_set (command ∷ earlier) = if unsets command then None else option_or (pipeline_given command) (pipeline_set earlier)
 
 -- what stands in a slot after one more command, which may put something into a slot
 abbrev pub slot_after : {X : Type 0} → Option (ℕ × X) → ℕ → Option X → Option X
@@ -73,16 +86,17 @@ group_given_by (begins begin) = None
 group_given_by (sets setting) = setting_group setting
 group_given_by (runs running) = None
 group_given_by (occludes call) = None
+group_given_by (executes bundles) = None
 group_given_by neither = None
 
 -- the bind group that a command sets, with its index, if it sets one
 abbrev pub group_given : Command → Option (ℕ × BoundGroup)
 group_given command = group_given_by (act command)
 
--- the group that is set at an index: the last
+-- the group that is set at an index: the last, since bundles were executed
 abbrev pub group_set : List Command → ℕ → Option BoundGroup
 group_set [] at = None
-group_set (command ∷ earlier) at = slot_after (group_given command) at (group_set earlier at)
+group_set (command ∷ earlier) at = if unsets command then None else slot_after (group_given command) at (group_set earlier at)
 
 -- the groups that are set, by index
 abbrev pub groups_set : List Command → List (Option BoundGroup)

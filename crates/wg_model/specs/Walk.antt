@@ -12,10 +12,14 @@ use Rattle.wg_types.specs.declared.wanted.Kind.TheVariants as kind
 use Rattle.wg_model.specs.Rules.{first_unmet}
 use Rattle.wg_model.specs.Commands.{named, common_rules, command_rules}
 use Rattle.wg_model.specs.Touches.{Doing, scope_in, deed_of, encoder_does}
-use Rattle.wg_model.specs.Settings.{Settings, depth_after, settings}
+use Rattle.wg_model.specs.Settings.{Settings, depth_after, debug_depth, settings}
 use Rattle.wg_model.specs.Compute.{compute_rules, compute_does}
 use Rattle.wg_model.specs.Attachments.{RenderBegin, begin_of, begun_rules}
-use Rattle.wg_model.specs.Render.{RenderSet, render_set, render_rules, render_does}
+use Rattle.wg_model.specs.Render.{RenderSet, render_set, bundle_set, render_rules, render_does}
+use Rattle.wg_model.specs.Bundles.{bundle_touches, references_within}
+use Rattle.wg_types.specs.declared.bundles.BundleInfo.{BundleInfo}
+use Rattle.wg_types.specs.declared.render.TargetInfo.{TargetInfo}
+use Rattle.wg_types.specs.declared.steps.StepName.TheVariants as name
 use Rattle.wg_model.specs.Scopes.{Use}
 use Rattle.wg_types.specs.declared.steps.Deed.{Deed}
 
@@ -61,6 +65,16 @@ rule_in device begin earlier command = rule_by device (begin_of begin) (bracket 
 abbrev pub pass_rule : ℕ → Command → List Command → Option ℕ
 pass_rule device begin [] = begun_rule device begin
 pass_rule device begin (command ∷ earlier) = option_or (pass_rule device begin earlier) (rule_in device begin earlier command)
+
+-- a bundle encoder is one place, on which commands stand as on a render pass that draws to its targets
+abbrev pub bundle_rule : ℕ → TargetInfo → List Command → Command → Option ℕ
+bundle_rule device targets earlier command =
+    option_or (first_unmet (common_rules device (named_on kind.BundleEncoder command))) (first_unmet (render_rules (bundle_set targets earlier) command))
+
+-- the rule that invalidated a bundle encoder first
+abbrev pub bundle_verdict : ℕ → TargetInfo → List Command → Option ℕ
+bundle_verdict device targets [] = None
+bundle_verdict device targets (command ∷ earlier) = option_or (bundle_verdict device targets earlier) (bundle_rule device targets earlier command)
 
 -- what a command of a pass completes, if it does: a step, which has a usage scope
 abbrev pub does_by : RenderBegin → Bracket → List Command → Command → Option Doing
@@ -153,8 +167,20 @@ abbrev pub verdict : ℕ → Kept → Option ℕ
 verdict device [] = None
 verdict device (kept ∷ older) = option_or (verdict device older) (given device (open_pass older) (encoder_depth older) kept.0 kept.1)
 
-abbrev pub Verdict : ℕ → List (On × Command) → Option ℕ
-Verdict device commands = verdict device (reverse commands)
+-- A recording of commands in order, that of a bundle encoder with its targets.
+
+-- the commands of a bundle, newest first, which all stand on its encoder
+abbrev pub bundled : List (On × Command) → List Command
+bundled commands = map (λ (kept : On × Command). kept.1) (reverse commands)
+
+abbrev pub Verdict : ℕ → Option TargetInfo → List (On × Command) → Option ℕ
+Verdict device None commands = verdict device (reverse commands)
+Verdict device (Some targets) commands = bundle_verdict device targets (bundled commands)
+
+-- whether a debug group of the encoder itself is open
+abbrev pub open_depth : Option TargetInfo → List (On × Command) → ℕ
+open_depth None commands = encoder_depth (reverse commands)
+open_depth (Some targets) commands = debug_depth (bundled commands)
 
 -- What commands do, in order, each with the step that it completes.
 abbrev pub does_within : Option PassSoFar → Command → Option Doing
@@ -185,10 +211,26 @@ abbrev pub usage_scopes : Kept → List (List Use)
 usage_scopes [] = []
 usage_scopes (kept ∷ older) = usage_scopes older ++ scopes_at (open_pass older) kept.0 kept.1
 
--- the scopes of a recording that has no verdict and no open pass
-abbrev pub ScopesOf : ℕ → List (On × Command) → List (List Use)
-ScopesOf device commands = if is_none (verdict device (reverse commands)) && is_none (open_pass (reverse commands)) then usage_scopes (reverse commands) else []
+-- the scopes of a recording that has no verdict and no open pass; all that is set in a bundle is one
+abbrev pub encoder_scopes : ℕ → Kept → List (List Use)
+encoder_scopes device kept = if is_none (verdict device kept) && is_none (open_pass kept) then usage_scopes kept else []
 
--- what a recording does that has no verdict and no open pass; another does nothing
-abbrev pub DeedsOf : ℕ → List (On × Command) → List Deed
-DeedsOf device commands = if is_none (verdict device (reverse commands)) && is_none (open_pass (reverse commands)) then deeds (reverse commands) else []
+abbrev pub bundle_scopes : ℕ → TargetInfo → List Command → List (List Use)
+bundle_scopes device targets earlier = if is_none (bundle_verdict device targets earlier) then scope_in (name.RenderPass, (bundle_set targets earlier).touches) ∷ [] else []
+
+abbrev pub ScopesOf : ℕ → Option TargetInfo → List (On × Command) → List (List Use)
+ScopesOf device None commands = encoder_scopes device (reverse commands)
+ScopesOf device (Some targets) commands = bundle_scopes device targets (bundled commands)
+
+-- what a recording does that has no verdict and no open pass; another does nothing, and neither does that of a bundle encoder
+abbrev pub encoder_deeds : ℕ → Kept → List Deed
+encoder_deeds device kept = if is_none (verdict device kept) && is_none (open_pass kept) then deeds kept else []
+
+abbrev pub DeedsOf : ℕ → Option TargetInfo → List (On × Command) → List Deed
+DeedsOf device None commands = encoder_deeds device (reverse commands)
+DeedsOf device (Some targets) commands = []
+
+-- what is known of the bundle that a recording makes
+abbrev pub bundle_made : TargetInfo → List (On × Command) → BundleInfo
+bundle_made targets commands =
+    record { targets = targets; named = references_within commands; touches = bundle_touches (bundle_set targets (bundled commands)).touches }

@@ -8,8 +8,9 @@ use Rattle.wg_types.specs.Wanted.{wanted_number}
 in_order : List Wanted
 in_order =
     wanted.Buffer ∷ wanted.Texture ∷ wanted.View ∷ wanted.Sampler ∷ wanted.GroupLayout ∷ wanted.PipelineLayout ∷ wanted.Group ∷
-    wanted.Pipeline ∷ wanted.ComputePipeline ∷ wanted.RenderPipeline ∷ wanted.Queries ∷ wanted.Destroyable ∷ wanted.Encoder ∷ wanted.CommandBuffer ∷
-    wanted.ComputePass ∷ wanted.RenderPass ∷ wanted.Pass ∷ wanted.Binding ∷ wanted.Drawing ∷ wanted.Recording ∷ wanted.Object ∷
+    wanted.Pipeline ∷ wanted.ComputePipeline ∷ wanted.RenderPipeline ∷ wanted.Queries ∷ wanted.Destroyable ∷ wanted.Encoder ∷ wanted.BundleEncoder ∷
+    wanted.CommandBuffer ∷ wanted.Bundle ∷ wanted.ComputePass ∷ wanted.RenderPass ∷ wanted.Pass ∷ wanted.Binding ∷ wanted.Drawing ∷
+    wanted.Recording ∷ wanted.Object ∷
     []
 
 with_number : ℕ → Wanted
@@ -30,7 +31,9 @@ numbered wanted.RenderPipeline = refl
 numbered wanted.Queries = refl
 numbered wanted.Destroyable = refl
 numbered wanted.Encoder = refl
+numbered wanted.BundleEncoder = refl
 numbered wanted.CommandBuffer = refl
+numbered wanted.Bundle = refl
 numbered wanted.ComputePass = refl
 numbered wanted.RenderPass = refl
 numbered wanted.Pass = refl

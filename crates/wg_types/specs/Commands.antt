@@ -12,7 +12,7 @@ use Rattle.wg_types.specs.Wanted.{is_wanted, within}
 use Rattle.wg_types.specs.declared.vertex.IndexFormat.{IndexFormat}
 use Rattle.wg_types.specs.declared.render.RenderBeginOf.{RenderBeginOf}
 pub use Rattle.wg_types.specs.declared.commands.CommandOf.{CommandOf}
-use Rattle.wg_types.specs.declared.commands.CommandOf.TheVariants.{BeginComputePass, BeginRenderPass, CopyBufferToBuffer, CopyBufferToTexture, CopyTextureToBuffer, CopyTextureToTexture, ClearBuffer, ResolveQuerySet, PushDebugGroup, PopDebugGroup, End, SetPipeline, SetBindGroup, Dispatch, DispatchIndirect, SetVertexBuffer, SetIndexBuffer, Draw, DrawIndexed, DrawIndirect, DrawIndexedIndirect, BeginOcclusionQuery, EndOcclusionQuery}
+use Rattle.wg_types.specs.declared.commands.CommandOf.TheVariants.{BeginComputePass, BeginRenderPass, CopyBufferToBuffer, CopyBufferToTexture, CopyTextureToBuffer, CopyTextureToTexture, ClearBuffer, ResolveQuerySet, PushDebugGroup, PopDebugGroup, End, SetPipeline, SetBindGroup, Dispatch, DispatchIndirect, SetVertexBuffer, SetIndexBuffer, Draw, DrawIndexed, DrawIndirect, DrawIndexedIndirect, BeginOcclusionQuery, EndOcclusionQuery, ExecuteBundles}
 use Rattle.wg_types.specs.declared.commands.Bracket.{Bracket}
 use Rattle.wg_types.specs.declared.commands.Bracket.TheVariants as brackets
 use Rattle.wg_types.specs.declared.commands.CommandPlace.{CommandPlace}
@@ -59,6 +59,7 @@ place_wanted (DrawIndirect buffer offset) = wanted.Drawing
 place_wanted (DrawIndexedIndirect buffer offset) = wanted.Drawing
 place_wanted (BeginOcclusionQuery index) = wanted.RenderPass
 place_wanted EndOcclusionQuery = wanted.RenderPass
+place_wanted (ExecuteBundles bundles) = wanted.RenderPass
 
 -- whether a command may stand on a place of a kind
 abbrev pub fits : {R : Type 0} → CommandOf R → CommandPlace → Bool
@@ -89,6 +90,7 @@ bracket (DrawIndirect buffer offset) = brackets.Neither
 bracket (DrawIndexedIndirect buffer offset) = brackets.Neither
 bracket (BeginOcclusionQuery index) = brackets.Neither
 bracket EndOcclusionQuery = brackets.Neither
+bracket (ExecuteBundles bundles) = brackets.Neither
 
 -- the kind of the pass that a command begins, if it begins one
 abbrev pub kind_begun_by : Bracket → Option Kind
@@ -148,12 +150,13 @@ pub data OcclusionCall : Type 0 where
   end_occlusion : OcclusionCall
 
 -- What a command is to the pass that it begins or on which it stands: what the render pass begins with, something that is set,
--- something that is dispatched or drawn, or a query's begin or end.
+-- something that is dispatched or drawn, a query's begin or end, or bundles that are executed.
 pub data Act (R : Type 0) : Type 0 where
   begins : (begin : RenderBeginOf R) → Act R
   sets : (setting : Setting R) → Act R
   runs : (running : Running R) → Act R
   occludes : (call : OcclusionCall) → Act R
+  executes : (bundles : List R) → Act R
   neither : Act R
 
 abbrev pub act : {R : Type 0} → CommandOf R → Act R
@@ -180,6 +183,7 @@ act (DrawIndirect buffer offset) = runs (draw_indirect buffer offset)
 act (DrawIndexedIndirect buffer offset) = runs (draw_indexed_indirect buffer offset)
 act (BeginOcclusionQuery index) = occludes (begin_occlusion index)
 act EndOcclusionQuery = occludes end_occlusion
+act (ExecuteBundles bundles) = executes bundles
 
 -- what the render pass begins with that a command begins, if it begins one
 abbrev pub begin_in : {R : Type 0} → Act R → Option (RenderBeginOf R)
@@ -187,6 +191,7 @@ begin_in (begins begin) = Some begin
 begin_in (sets setting) = None
 begin_in (runs running) = None
 begin_in (occludes call) = None
+begin_in (executes bundles) = None
 begin_in neither = None
 
 abbrev pub render_begun : {R : Type 0} → CommandOf R → Option (RenderBeginOf R)
@@ -217,6 +222,7 @@ named (DrawIndirect buffer offset) = (buffer, wanted.Buffer) ∷ []
 named (DrawIndexedIndirect buffer offset) = (buffer, wanted.Buffer) ∷ []
 named (BeginOcclusionQuery index) = []
 named EndOcclusionQuery = []
+named (ExecuteBundles bundles) = all_wanted wanted.Bundle bundles
 
 -- the same in a call on something of a kind, where a pipeline has to be one of such passes
 abbrev pub named_on : {R : Type 0} → Kind → CommandOf R → List (R × Wanted)
@@ -247,3 +253,4 @@ map_refs f (DrawIndirect buffer offset) = DrawIndirect (f buffer) offset
 map_refs f (DrawIndexedIndirect buffer offset) = DrawIndexedIndirect (f buffer) offset
 map_refs f (BeginOcclusionQuery index) = BeginOcclusionQuery index
 map_refs f EndOcclusionQuery = EndOcclusionQuery
+map_refs f (ExecuteBundles bundles) = ExecuteBundles (map f bundles)

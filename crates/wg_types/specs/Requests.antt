@@ -7,7 +7,7 @@ use Rattle.wg_types.specs.declared.wanted.Kind.TheVariants as kind
 use Rattle.wg_types.specs.declared.wanted.Wanted.{Wanted}
 use Rattle.wg_types.specs.declared.wanted.Wanted.TheVariants as wanted
 pub use Rattle.wg_types.specs.declared.requests.RequestOf.{RequestOf}
-use Rattle.wg_types.specs.declared.requests.RequestOf.TheVariants.{CreateBuffer, CreateTexture, CreateView, CreateSampler, CreateBindGroupLayout, CreatePipelineLayout, CreateBindGroup, CreateComputePipeline, CreateRenderPipeline, CreateQuerySet, CreateEncoder, Finish, Submit, WriteBuffer, WriteTexture, Destroy, Drop, Complete, PushErrorScope, PopErrorScope, Lose, WorkDone, MapAsync, Unmap}
+use Rattle.wg_types.specs.declared.requests.RequestOf.TheVariants.{CreateBuffer, CreateTexture, CreateView, CreateSampler, CreateBindGroupLayout, CreatePipelineLayout, CreateBindGroup, CreateComputePipeline, CreateRenderPipeline, CreateQuerySet, CreateEncoder, CreateBundleEncoder, Finish, FinishBundle, Submit, WriteBuffer, WriteTexture, Destroy, Drop, Complete, PushErrorScope, PopErrorScope, Lose, WorkDone, MapAsync, Unmap}
 
 -- the kind of the object that a call makes, if it makes one
 abbrev pub kind_made : {R : Type 0} → RequestOf R → Option Kind
@@ -22,7 +22,9 @@ kind_made (CreateComputePipeline layout iface) = Some kind.Compute
 kind_made (CreateRenderPipeline layout desc) = Some kind.Render
 kind_made (CreateQuerySet info) = Some kind.Queries
 kind_made CreateEncoder = Some kind.Encoder
+kind_made (CreateBundleEncoder targets) = Some kind.BundleEncoder
 kind_made (Finish encoder) = Some kind.CommandBuffer
+kind_made (FinishBundle encoder) = Some kind.Bundle
 kind_made (Submit buffers) = None
 kind_made (WriteBuffer buffer offset size) = None
 kind_made (WriteTexture texture spot layout size data_size) = None
@@ -49,7 +51,9 @@ named (CreateComputePipeline layout iface) = (layout, wanted.PipelineLayout) ∷
 named (CreateRenderPipeline layout desc) = (layout, wanted.PipelineLayout) ∷ []
 named (CreateQuerySet info) = []
 named CreateEncoder = []
+named (CreateBundleEncoder targets) = []
 named (Finish encoder) = (encoder, wanted.Encoder) ∷ []
+named (FinishBundle encoder) = (encoder, wanted.BundleEncoder) ∷ []
 named (Submit buffers) = all_wanted wanted.CommandBuffer buffers
 named (WriteBuffer buffer offset size) = (buffer, wanted.Buffer) ∷ []
 named (WriteTexture texture spot layout size data_size) = (texture, wanted.Texture) ∷ []
@@ -76,7 +80,9 @@ map_refs f (CreateComputePipeline layout iface) = CreateComputePipeline (f layou
 map_refs f (CreateRenderPipeline layout desc) = CreateRenderPipeline (f layout) desc
 map_refs f (CreateQuerySet info) = CreateQuerySet info
 map_refs f CreateEncoder = CreateEncoder
+map_refs f (CreateBundleEncoder targets) = CreateBundleEncoder targets
 map_refs f (Finish encoder) = Finish (f encoder)
+map_refs f (FinishBundle encoder) = FinishBundle (f encoder)
 map_refs f (Submit buffers) = Submit (map f buffers)
 map_refs f (WriteBuffer buffer offset size) = WriteBuffer (f buffer) offset size
 map_refs f (WriteTexture texture spot layout size data_size) = WriteTexture (f texture) spot layout size data_size

@@ -155,6 +155,9 @@ pub enum CommandOf<R> {
         index: u32,
     },
     EndOcclusionQuery,
+    ExecuteBundles {
+        bundles: Items<R>,
+    },
 }
 
 /// A command as its caller holds its objects.
@@ -207,9 +210,9 @@ impl<R> CommandOf<R> {
             | CommandOf::DrawIndexed { .. }
             | CommandOf::DrawIndirect { .. }
             | CommandOf::DrawIndexedIndirect { .. } => Wanted::Drawing,
-            CommandOf::BeginOcclusionQuery { .. } | CommandOf::EndOcclusionQuery => {
-                Wanted::RenderPass
-            }
+            CommandOf::BeginOcclusionQuery { .. }
+            | CommandOf::EndOcclusionQuery
+            | CommandOf::ExecuteBundles { .. } => Wanted::RenderPass,
             _ => Wanted::Encoder,
         }
     }
@@ -306,6 +309,9 @@ impl<R> CommandOf<R> {
                 buffer,
                 ..
             } => refs::two(asked, (queries, Wanted::Queries), (buffer, Wanted::Buffer)),
+            CommandOf::ExecuteBundles { bundles } => {
+                refs::each(asked, bundles.as_slice(), Wanted::Bundle)
+            }
             CommandOf::SetPipeline { pipeline } => asked.ask(pipeline, Wanted::Pipeline),
             CommandOf::SetBindGroup { group, .. } => asked.ask(group, Wanted::Group),
             _ => None,
@@ -380,6 +386,9 @@ impl<R> CommandOf<R> {
                 (queries, Wanted::Queries),
                 (buffer, Wanted::Buffer),
             ),
+            CommandOf::ExecuteBundles { bundles } => {
+                refs::gather_each(gather, found, bundles.as_slice(), Wanted::Bundle)
+            }
             CommandOf::SetPipeline { pipeline } => {
                 refs::gather_one(gather, found, pipeline, Wanted::Pipeline)
             }
@@ -578,6 +587,9 @@ impl<R> CommandOf<R> {
                 Ok(CommandOf::BeginOcclusionQuery { index: *index })
             }
             CommandOf::EndOcclusionQuery => Ok(CommandOf::EndOcclusionQuery),
+            CommandOf::ExecuteBundles { bundles } => Ok(CommandOf::ExecuteBundles {
+                bundles: refs::map_items(alloc, find, bundles.as_slice())?,
+            }),
         }
     }
 }

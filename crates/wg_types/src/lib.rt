@@ -2,6 +2,7 @@
 #![tactic(auto)]
 
 pub mod bindings;
+pub mod bundles;
 pub mod commands;
 pub mod formats;
 pub mod groups;

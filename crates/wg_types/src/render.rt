@@ -36,7 +36,7 @@ pub struct RenderDesc {
 /// To what a render pass or a bundle draws (WebGPU, "GPURenderPassLayout"): the formats of its color
 /// attachments, of its depth attachment, the count of samples, and whether depth and stencil are only
 /// read.
-#[derive(Drop)]
+#[derive(Clone, Drop)]
 pub struct TargetInfo {
     pub colors: Items<Option<Format>>,
     pub depth: Option<Format>,

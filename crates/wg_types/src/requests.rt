@@ -9,7 +9,7 @@ use crate::groups::{GroupLayoutInfo, Interface};
 use crate::handles::{BufferInfo, QueriesInfo};
 use crate::items::Items;
 use crate::refs::{self, Ask, Find};
-use crate::render::RenderDesc;
+use crate::render::{RenderDesc, TargetInfo};
 use crate::replies::Filter;
 use crate::shared::Shared;
 use crate::textures::{DataLayout, TextureInfo, TextureSpot, ViewAsked};
@@ -54,7 +54,13 @@ pub enum RequestOf<R> {
         info: QueriesInfo,
     },
     CreateEncoder,
+    CreateBundleEncoder {
+        targets: Shared<TargetInfo>,
+    },
     Finish {
+        encoder: R,
+    },
+    FinishBundle {
         encoder: R,
     },
     Submit {
@@ -115,7 +121,9 @@ impl<R> RequestOf<R> {
             RequestOf::CreateRenderPipeline { .. } => Some(Kind::Render),
             RequestOf::CreateQuerySet { .. } => Some(Kind::Queries),
             RequestOf::CreateEncoder => Some(Kind::Encoder),
+            RequestOf::CreateBundleEncoder { .. } => Some(Kind::BundleEncoder),
             RequestOf::Finish { .. } => Some(Kind::CommandBuffer),
+            RequestOf::FinishBundle { .. } => Some(Kind::Bundle),
             _ => None,
         }
     }
@@ -140,6 +148,7 @@ impl<R> RequestOf<R> {
                 asked.ask(layout, Wanted::PipelineLayout)
             }
             RequestOf::Finish { encoder } => asked.ask(encoder, Wanted::Encoder),
+            RequestOf::FinishBundle { encoder } => asked.ask(encoder, Wanted::BundleEncoder),
             RequestOf::Submit { buffers } => {
                 refs::each(asked, buffers.as_slice(), Wanted::CommandBuffer)
             }
@@ -193,7 +202,13 @@ impl<R> RequestOf<R> {
             }
             RequestOf::CreateQuerySet { info } => Ok(RequestOf::CreateQuerySet { info: *info }),
             RequestOf::CreateEncoder => Ok(RequestOf::CreateEncoder),
+            RequestOf::CreateBundleEncoder { targets } => Ok(RequestOf::CreateBundleEncoder {
+                targets: targets.share()?,
+            }),
             RequestOf::Finish { encoder } => Ok(RequestOf::Finish {
+                encoder: find.find(encoder)?,
+            }),
+            RequestOf::FinishBundle { encoder } => Ok(RequestOf::FinishBundle {
                 encoder: find.find(encoder)?,
             }),
             RequestOf::Submit { buffers } => Ok(RequestOf::Submit {
