@@ -22,7 +22,7 @@ use Rattle.wg_model.specs.TexelCopies.{whole_spot}
 use Rattle.wg_model.specs.Commands.{texture_of}
 use Rattle.wg_model.specs.Walk.{Kept, PassSoFar, open_pass, open_after, pass_after, pass_begun, begins, is_open, pass_does, does_within, does_at, doings, deeds, verdict}
 use Rattle.wg_model.specs.Commands.{size_or_rest}
-use Rattle.wg_model.specs.Touches.{Doing, placed, touching, step_of, target_kind, copied_to, copied_from, range_touches, unless, encoder_does}
+use Rattle.wg_model.specs.Touches.{Touch, Doing, placed, touching, step_of, target_kind, copied_to, copied_from, range_touches, unless, encoder_does}
 use Rattle.wg_model.specs.Bound.{Place, known_group, entry_places, places_in, place_of, kind_touch, resource_cells, place_touches, set_places, index_places, has_entries, layouts_places, bound_touches}
 use Rattle.wg_model.specs.Settings.{settings, group_set, groups_set, layouts_set, indirect_touch}
 use Rattle.wg_model.specs.Compute.{dispatch_touches, compute_does}
@@ -43,7 +43,7 @@ use Rattle.wg_rows.specs.Uses.{Usages, Kind, Write}
 use Rattle.wg_model.specs.Subresources.{level_runs, aspect_runs, view_runs, run_cells}
 use Rattle.wg_model.specs.Formats.{named_aspects}
 use Rattle.wg_model.specs.Textures.{layer_count}
-use Rattle.wg_model.specs.Recorded.{write_buffer_step, write_texture_step, host_name, host_touches, bound_buffer, bound_texture, in_group, in_view, textures_as, query_sets_as, buffers_of, textures_of, query_sets_of, numbers_by, resources, uses_resource}
+use Rattle.wg_model.specs.Recorded.{write_buffer_step, write_texture_step, host_name, host_touches, bound_buffer, bound_texture, in_group, in_view, textures_as, query_sets_as, buffers_of, textures_of, query_sets_of, numbers_by, resources, uses_resource, buffers_as}
 use Rattle.wg_types.specs.Commands.{is_begin, is_end}
 use Rattle.wg_types.specs.Handles.{HandleValue}
 use Rattle.wg_types.specs.Bindings.{entry_of}
@@ -230,6 +230,7 @@ set_bound n index at group offsets rest e h false = h
 group_spares : (n : ℕ) (earlier : List Command) (at : ℕ) → AreSparing n earlier → SparesBound n (group_set earlier at)
 group_spares n [] at each = tt
 group_spares n (SetBindGroup index group offsets ∷ earlier) at each = set_bound n index at group offsets (group_set earlier at) each.0 (group_spares n earlier at each.1) (index == at)
+group_spares n (ExecuteBundles bundles ∷ earlier) at each = tt
 group_spares n (_ ∷ earlier) at each = group_spares n earlier at each.1
 
 abbrev GroupsSpare : ℕ → List (Option BoundGroup) → Type 0
@@ -366,9 +367,9 @@ bundle_away n (touch ∷ touches) a b c =
     let sets = both_none n (query_set_in touch.cells) (of_touches query_set_in touches) c in
     (cells_away n touch.cells buffers.0 textures.0 sets.0, bundle_away n touches buffers.1 textures.1 sets.1)
 
-within_away : (n : ℕ) (known : Option BundleInfo) → AllOthers n (in_bundle buffer_in known) → AllOthers n (in_bundle texture_in known) → AllOthers n (in_bundle query_set_in known) → AreAway n (touches_within known)
-within_away n None a b c = tt
-within_away n (Some bundle) a b c = bundle_away n bundle.touches a b c
+bundled_away : (n : ℕ) (known : Option BundleInfo) → AllOthers n (in_bundle buffer_in known) → AllOthers n (in_bundle texture_in known) → AllOthers n (in_bundle query_set_in known) → AreAway n (touches_within known)
+bundled_away n None a b c = tt
+bundled_away n (Some bundle) a b c = bundle_away n bundle.touches a b c
 
 all_away : (n : ℕ) (bundles : List HandleValue) → AllOthers n (numbers_by buffers_as (all_wanted wanted.Bundle bundles)) → AllOthers n (numbers_by textures_as (all_wanted wanted.Bundle bundles)) → AllOthers n (numbers_by query_sets_as (all_wanted wanted.Bundle bundles)) → AreAway n (executed_touches bundles)
 all_away n [] a b c = tt
@@ -376,7 +377,7 @@ all_away n (bundle ∷ bundles) a b c =
     let buffers = both_none n (buffers_as wanted.Bundle bundle) (numbers_by buffers_as (all_wanted wanted.Bundle bundles)) a in
     let textures = both_none n (textures_as wanted.Bundle bundle) (numbers_by textures_as (all_wanted wanted.Bundle bundles)) b in
     let sets = both_none n (query_sets_as wanted.Bundle bundle) (numbers_by query_sets_as (all_wanted wanted.Bundle bundles)) c in
-    joined_away n (touches_within (known_bundle bundle)) (executed_touches bundles) (within_away n (known_bundle bundle) buffers.0 textures.0 sets.0) (all_away n bundles buffers.1 textures.1 sets.1)
+    joined_away n (touches_within (known_bundle bundle)) (executed_touches bundles) (bundled_away n (known_bundle bundle) buffers.0 textures.0 sets.0) (all_away n bundles buffers.1 textures.1 sets.1)
 
 executed_away : (n : ℕ) (bundles : List HandleValue) → SparesCommand n (ExecuteBundles bundles) → AreAway n (executed_touches bundles)
 executed_away n bundles e =

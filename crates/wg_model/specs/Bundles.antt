@@ -31,9 +31,11 @@ use Rattle.wg_model.specs.Touches.{Touch, deed_of, input_usage, constant_usage, 
 -- have color formats, and the depth format has depth or stencil; 176 some color is given, or depth; 177 there are 1 or 4 samples,
 -- and with 4 all formats allow that.
 abbrev pub bundle_target_rules : Limits → TargetInfo → List Rule
-bundle_target_rules limits targets =
-    (175, nat_le (length targets.colors) limits.max_color_attachments
-        && (list_all (passes is_color) targets.colors && option_map_or (λ (format : Format). not (is_color format)) targets.depth true))
+bundle_target_rules limits targets = (
+  175,
+  nat_le (length targets.colors) limits.max_color_attachments
+      && (list_all (passes is_color) targets.colors && option_map_or (λ (format : Format). not (is_color format)) targets.depth true),
+)
     ∷ ((176, list_any (λ (color : Option Format). is_some color) targets.colors || is_some targets.depth)
     ∷ ((177, samples_fit targets.samples targets.colors (option_map_or is_multisampled targets.depth true))
     ∷ []))

@@ -18,6 +18,7 @@ use Rattle.wg_model.specs.Attachments.{RenderBegin, begin_of, begun_rules}
 use Rattle.wg_model.specs.Render.{RenderSet, render_set, bundle_set, render_rules, render_does}
 use Rattle.wg_model.specs.Bundles.{bundle_touches, references_within}
 use Rattle.wg_types.specs.declared.bundles.BundleInfo.{BundleInfo}
+use Rattle.wg_types.specs.declared.bundles.BundleTouch.{BundleTouch}
 use Rattle.wg_types.specs.declared.render.TargetInfo.{TargetInfo}
 use Rattle.wg_types.specs.declared.steps.StepName.TheVariants as name
 use Rattle.wg_model.specs.Scopes.{Use}
@@ -230,7 +231,15 @@ abbrev pub DeedsOf : ℕ → Option TargetInfo → List (On × Command) → List
 DeedsOf device None commands = encoder_deeds device (reverse commands)
 DeedsOf device (Some targets) commands = []
 
--- what is known of the bundle that a recording makes
-abbrev pub bundle_made : TargetInfo → List (On × Command) → BundleInfo
-bundle_made targets commands =
-    record { targets = targets; named = references_within commands; touches = bundle_touches (bundle_set targets (bundled commands)).touches }
+-- What is known of the bundle that a recording makes: where some rule was unmet, not what it touches.
+abbrev pub touched_within : ℕ → TargetInfo → List Command → List BundleTouch
+touched_within device targets earlier = if is_none (bundle_verdict device targets earlier) then bundle_touches (bundle_set targets earlier).touches else []
+
+-- the targets of a recording that comes after the first of a bundle encoder, or of an encoder that is none
+abbrev pub no_targets : TargetInfo
+no_targets = record { colors = []; depth = None; samples = 1; depth_read_only = false; stencil_read_only = false }
+
+abbrev pub bundle_of : ℕ → Option TargetInfo → List (On × Command) → BundleInfo
+bundle_of device None commands = record { targets = no_targets; named = references_within commands; touches = [] }
+bundle_of device (Some targets) commands =
+    record { targets = targets; named = references_within commands; touches = touched_within device targets (bundled commands) }
