@@ -134,6 +134,11 @@ def groups(word):
     return CALLS.get(word, {}).get("groups", 0)
 
 
+def query(word):
+    """Whether the call `begins` or `ends` an occlusion query; None where it does neither."""
+    return CALLS.get(word, {}).get("query")
+
+
 def step_of(word):
     """The name of the step that the call makes, if it may make one."""
     return CALLS.get(word, {}).get("step")

@@ -103,29 +103,33 @@ class Cuts:
         return call not in gone and not call.is_late and (self.needed is None or call in self.needed)
 
     def opened(self, kept):
-        """What the first commands leave open: the pass with the number of its begin, or None; and by encoder and pass the numbers of the
-        commands that opened its debug groups."""
-        open_pass, groups = None, {}
+        """What the first commands leave open: the pass with the number of its begin, or None; by encoder and pass the numbers of the
+        commands that opened its debug groups; and whether an occlusion query is active in the pass."""
+        open_pass, groups, is_active = None, {}, False
         for number, call in enumerate(self.commands[:kept], 1):
             on = call.value.member("on").what
             if call.word in calls.BEGINS:
                 open_pass = open_pass or (call.gives, number)
             elif call.word == calls.END and open_pass and on == open_pass[0]:
-                open_pass = None
+                open_pass, is_active = None, False
             elif on == (open_pass[0] if open_pass else self.encoder.name):
                 opening = groups.setdefault(on, [])
                 if calls.groups(call.word) > 0:
                     opening.append(number)
                 elif calls.groups(call.word) < 0:
                     del opening[-1:]
-        return open_pass, groups
+                elif calls.query(call.word):
+                    is_active = calls.query(call.word) == "begins"
+        return open_pass, groups, is_active
 
     def closers(self, kept, closed):
-        """Calls that close what the first commands leave open: the pass with its debug groups (`pass`), the debug groups of the encoder (`groups`)."""
-        open_pass, groups = self.opened(kept)
+        """Calls that close what the first commands leave open: the pass with its debug groups and its query (`pass`), the debug groups of the encoder
+        (`groups`)."""
+        open_pass, groups, is_active = self.opened(kept)
         closing = []
         if "pass" in closed and open_pass:
             closing = [self.closer("popDebugGroup", open_pass[0])] * len(groups.get(open_pass[0], []))
+            closing += [self.closer("endOcclusionQuery", open_pass[0])] * is_active
             closing.append(self.closer(calls.END, open_pass[0]))
         if "groups" in closed:
             closing += [self.closer("popDebugGroup", self.encoder.name)] * len(groups.get(self.encoder.name, []))
@@ -182,7 +186,7 @@ def first(cuts, rule, closed):
 
 def opener(cuts, rule, closed):
     """The command that opens what is open to the end: with it, and not without it, a recording has the rule."""
-    open_pass, groups = cuts.opened(len(cuts.commands))
+    open_pass, groups, _ = cuts.opened(len(cuts.commands))
     opening = [open_pass[1]] if rule == PASS and open_pass else groups.get(cuts.encoder.name, []) if rule == GROUP else []
     is_it = opening and cuts.rule(opening[0], closed) == rule and cuts.rule(opening[0] - 1, closed) != rule
     return opening[0] if is_it else None

@@ -16,6 +16,8 @@ def call(word):
 
 def key(name):
     """The same of a key that a call does not have."""
+    if name in TABLE["keys otherwise"]:
+        return f"what WebGPU calls {name} is {TABLE['keys otherwise'][name]} here"
     return LACKING if name in TABLE["keys"] else None
 
 

@@ -30,8 +30,8 @@ class Call:
         return int(value.what) if value is not None and value.kind == "number" and value.what.isdigit() else otherwise
 
     def is_empty(self):
-        """Whether the call names a size that has nothing in it, as far as its text tells."""
-        size = self.value.member("size")
+        """Whether the call names a size that has nothing in it, or no query, as far as its text tells."""
+        size = self.value.member("size") or self.value.member("count")
         if size is None:
             return False
         if size.kind == "list":

@@ -174,7 +174,7 @@ class Verified:
             was = "never used before, and is of a texture" if before == "none" else f"last used as {before}"
             lines.append(f"a barrier stands before it: the part was {was}, and is used as {after} now")
         elif (theirs or "").startswith("bar "):
-            lines.append("no further barrier stands before it: a first use of a buffer has none, nor has what is used as before and only read")
+            lines.append("no further barrier stands before it: a first use of a buffer or query set has none, nor has what is used as before and only read")
         return lines
 
     def where(self, played):

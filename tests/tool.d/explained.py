@@ -210,3 +210,18 @@ def test_drawn():
             check(each in piece, f"explain of render passes does not say `{each}` of the call at {place}:\n{piece}")
     for words in ("renderPass, operation 1, of the call at 20:1\n         uses t color mip 0 layer 0 as attachment\n", "uses b as input\n         reads, and leaves unset, t color mip 0 layer 0\n"):
         check(words in told, f"explain of render passes does not say `{words}`:\n{told.partition('TRACE')[2]}")
+
+
+def test_queried():
+    """What explain says of query sets: which queries a step touches, which call a step is of, and the release."""
+    data = (TOP / "examples/occlusion-query.json").read_bytes()
+    trace = explain.explain(places.Text(data, "S"), data, asked)[0].partition("\nTRACE")[2]
+    for words in (
+        "step 0   clear of fresh memory, operation 1\n         uses seen as clear\n         writes seen query 1\n",
+        "barrier  seen: clear -> query-write\nstep 1   renderPass, operation 1, of the call at 12:5\n",
+        "         writes seen query 0\n",
+        "barrier  seen: query-write -> query-read\nstep 2   resolveQuerySet, operation 1, of the call at 18:5\n",
+        "         reads seen queries 0 to 1\n         writes results bytes 0 to 15\n",
+        "release  the memory of seen\n",
+    ):
+        check(words in trace, f"explain of occlusion-query does not say `{words}`:\n{trace}")

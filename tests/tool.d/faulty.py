@@ -16,9 +16,9 @@ def recorded(lane):
     """The numbers of the commands of the encoder that the last call of a lane finishes, and of its passes, without the late ones.
 
     And what they leave open, by the numbers of the commands that opened it: a list of the begin of the open pass, or of none, and of
-    the encoder and each pass its pushes of debug groups."""
+    the encoder and each pass its pushes of debug groups; and a list of the begin of the query that is active in the open pass."""
     on = lane[-1]["on"]
-    own, begun, ended, begin, pushes = [], {on}, set(), [], {}
+    own, begun, ended, begin, pushes, active = [], {on}, set(), [], {}, []
     for n, call in enumerate(lane[:-1]):
         place = call.get("on")
         if place not in begun - ended or call["do"] == "finish":
@@ -30,12 +30,16 @@ def recorded(lane):
             begin = begin or [n]
         elif call["do"] == "end" and is_here:
             ended.add(place)
-            begin = []
+            begin, active = [], []
+        elif call["do"] == "beginOcclusionQuery" and is_here:
+            active = [n]
+        elif call["do"] == "endOcclusionQuery" and is_here:
+            active = []
         elif call["do"] == "pushDebugGroup" and is_here:
             pushes.setdefault(place, []).append(n)
         elif call["do"] == "popDebugGroup" and is_here:
             pushes.get(place, [])[-1:] = []
-    return own, begin, pushes
+    return own, begin, pushes, active
 
 
 def taken_before(beside, call):
@@ -51,9 +55,11 @@ def rule_with(script, lane, kept):
     drops = [n for n, call in enumerate(lane) if call["do"] == "drop" and call["object"] in {lane[maker]["as"] for maker in makers}]
     left = {*makers, *drops, *own[:kept], len(lane) - 1}
     cut = [call for n, call in enumerate(lane) if n in left]
-    _, begin, pushes = recorded(cut)
+    _, begin, pushes, active = recorded(cut)
     for name in [cut[n]["as"] for n in begin] + [cut[-1]["on"]]:
-        closing = [{"do": "popDebugGroup", "on": name} for _ in pushes.get(name, [])] + [{"do": "end", "on": name}] * (name != cut[-1]["on"])
+        closing = [{"do": "popDebugGroup", "on": name} for _ in pushes.get(name, [])]
+        if name != cut[-1]["on"]:
+            closing += [{"do": "endOcclusionQuery", "on": name} for _ in active] + [{"do": "end", "on": name}]
         cut[-1:-1] = closing if kept is not None else []
     fault = reports.Report(asked.ask(json.dumps({**script, "phases": [[cut]]}).encode())[1].decode()).entries[-1].fault
     return fault[1] if fault else None, own
@@ -122,7 +128,7 @@ def test_command(where, script, call, beside, piece, number):
     lane = taken_before(beside, call)
     is_first = beside.script.places[call.value.member("on").what].finish is call
     if number in (182, 183):
-        _, begin, pushes = recorded(lane)
+        _, begin, pushes, _ = recorded(lane)
         expected = (begin if number == 182 else pushes[lane[-1]["on"]])[0]
     else:
         expected, rule = first_of(script, lane) if is_first else (None, number)

@@ -51,9 +51,9 @@ def test_calls():
         own = calls.keys_of(word).get("on")
         check(own is None or own.kinds() == kinds, f"tools/calls.json: `on` of {word} is not {calls.either(kinds)}, as docs/script.md says")
         check(own is None or calls.records(word) or calls.ends_encoder(word), f"tools/calls.json: {word} has `on`, and is neither recorded nor a finish")
-    said = re.search(r"The key `(\w+)` of a `(\w+)`, whatever it holds, and the key `(\w+)` of an object in its list `(\w+)` are not built yet", text)
-    key, word, inner, outer = said.groups() if said else [None] * 4
-    check(calls.unbuilt_keys(word) == [[key], [outer, inner]], f"tools/calls.json: not the keys of {word} that are not built yet in docs/script.md")
+    said = re.search(r"The key `(\w+)` of an object in the list `(\w+)` of a `(\w+)` is not built yet", text)
+    inner, outer, word = said.groups() if said else [None] * 3
+    check(calls.unbuilt_keys(word) == [[outer, inner]], f"tools/calls.json: not the keys of {word} that are not built yet in docs/script.md")
 
 
 def test_objects(*parts):

@@ -6,8 +6,11 @@ import functools
 import second
 from .making import RULES, listed
 
-# How a thing stands in a call, by the key of a list.
+# How a thing stands in a call, by the key of a list, and what it is called where it stands alone under a key that is no word for it.
 IN_LISTS = {"entries": "bound by entry {}", "colors": "among the colors", "depth": "the view of depth"}
+CALLED = {"on": "encoder", "queries": "query set"}
+# The calls that make what has memory.
+WITH_MEMORY = ("createBuffer", "createTexture", "createQuerySet")
 
 
 class Case:
@@ -46,6 +49,10 @@ class Case:
         """What a call made, with the line and column of that call."""
         return f"{self.name(thing)} ({self.place(thing)})"
 
+    def called(self, key):
+        """What a thing is called that stands under a key."""
+        return CALLED.get(key, key)
+
     def aspects(self, format):
         return listed(self.second.formats.aspects_of(format))
 
@@ -53,7 +60,7 @@ class Case:
         return self.history.objects[part[1]]
 
     def part(self, part):
-        """A part or a cell in words: a buffer, bytes of it, or a subresource of a texture."""
+        """A part or a cell in words: a buffer, bytes of it, or a subresource of a texture. No rule tells of queries by their cells."""
         named = self.named(self.object_of(part))
         if part[0] == "t":
             aspect, mip, layer = part[2:]
@@ -81,7 +88,7 @@ class Case:
             if key == "on" and self.is_of_command:
                 continue
             for number, thing in enumerate(value if type(value) is list else [value]):
-                many = IN_LISTS.get(key, f"item {{}} of {key}") if type(value) is list else f"the {key if key != 'on' else 'encoder'}"
+                many = IN_LISTS.get(key, f"item {{}} of {key}") if type(value) is list else f"the {self.called(key)}"
                 found.append((many.format(number), thing))
         return found
 
@@ -121,13 +128,13 @@ class Play:
         for one in played.uses["buffers"] if played.do == "submit" else []:
             self.submitted_by.setdefault(one, played)
         self.mapped_by.update((promise.uses["buffer"], promise) for promise, how in played.settled if how == "mapped")
-        if played.do in ("createBuffer", "createTexture") and played.is_valid:
+        if played.do in WITH_MEMORY and played.is_valid:
             bisect.insort(self.live, self.taken_by(played))
         for thing in played.released:
             del self.live[bisect.bisect_left(self.live, self.taken_by(thing))]
 
     def taken_by(self, thing):
-        """How much memory a buffer or texture takes, below 0, and its entry: what takes most has the least such pair."""
+        """How much memory a thing takes, below 0, and its entry: what takes most has the least such pair."""
         return -second.memory.bytes_of(thing.call), thing.entry
 
     def case(self, played):

@@ -30,7 +30,7 @@ def dropped_before(case, command):
     for key, thing in command.named():
         if case.history.was_dropped_before(thing, encoder):
             by = case.place(case.history.drop_of(thing))
-            said = f"{case.named(thing)}, which is the {key} of the {command.do} at {case.place(command)}, was dropped at {by}, before {case.named(encoder)} was made"
+            said = f"{case.named(thing)}, which is the {case.called(key)} of the {command.do} at {case.place(command)}, was dropped at {by}, before {case.named(encoder)} was made"
             values = {"object": thing.call["as"], "key": key, "command": case.place(command), "by": by, "encoder": encoder.call["as"]}
             return Cause(said, values, "Drop it after the encoder is made, or later.", about=command)
     return None
@@ -66,8 +66,8 @@ def named_twice(case):
     return Cause(f"{case.named(buffer)} stands in buffers twice, at {pair[0]} and {pair[1]}", {"object": buffer.call["as"], "at": list(pair)}, "Name it once.")
 
 
-def used(case, word):
-    """The buffers or textures that a submit uses, each with words for the command through which it does."""
+def used(case, *words):
+    """What a submit uses that some calls made, each with words for the command through which it does."""
     found = {}
     for commands in case.uses["buffers"]:
         for command in case.history.commands_of(commands):
@@ -75,7 +75,7 @@ def used(case, word):
                 for resource in case.second.history.resources_in(thing):
                     by = f"the {command.do} at {case.place(command)}" + ("" if thing is resource else f", through {case.named(thing)}")
                     found.setdefault(resource, f", which is used by {by},")
-    return [(thing, by) for thing, by in found.items() if thing.do == word]
+    return [(thing, by) for thing, by in found.items() if thing.do in words]
 
 
 @rule(192)
@@ -84,17 +84,17 @@ def buffers_at_rest(case):
 
 
 @rule(193)
-def textures_there(case):
-    return first(gone(case, texture, by) for texture, by in used(case, "createTexture"))
+def others_there(case):
+    return first(gone(case, thing, by) for thing, by in used(case, "createTexture", "createQuerySet"))
 
 
-def gone(case, texture, by=""):
-    if not case.history.is_destroyed(texture):
+def gone(case, thing, by=""):
+    if not case.history.is_destroyed(thing):
         return None
-    at = case.place(case.play.destroyed_by[texture])
+    at = case.place(case.play.destroyed_by[thing])
     return Cause(
-        f"{case.named(texture)}{by} was destroyed at {at}",
-        {"object": texture.call["as"], "state": "destroyed", "by": at},
+        f"{case.named(thing)}{by} was destroyed at {at}",
+        {"object": thing.call["as"], "state": "destroyed", "by": at},
         "Destroy it after its last use.",
     )
 

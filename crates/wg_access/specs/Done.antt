@@ -2,7 +2,7 @@
 -- that has one.
 use Rattle.std.specs.Prelude.{[], ◌∷◌, ◌++◌, Option, Some, None}
 use Rattle.std.specs.Option.{option_or}
-use Rattle.wg_model.specs.Touches.{Doing, uses_in, deed_of}
+use Rattle.wg_model.specs.Touches.{Doing, scope_in, deed_of}
 use Rattle.wg_model.specs.Scopes.{clash, first_clash}
 use Rattle.wg_model.specs.Walk.{Kept, usage_scopes, deeds}
 use Rattle.wg_access.specs.declared.done.Done.{Done}
@@ -12,10 +12,10 @@ abbrev pub done_by_encoder : Done → Option Doing → Done
 done_by_encoder done None = done
 done_by_encoder done (Some doing) = record done { deeds = done.deeds ++ deed_of doing ∷ [] }
 
--- what a command of a pass does is a step, whose uses are a usage scope
+-- what a command of a pass does is a step, which has a usage scope
 abbrev pub done_by_pass : Done → Option Doing → Done
 done_by_pass done None = done
-done_by_pass done (Some doing) = record { clash = option_or done.clash (clash (uses_in doing)); deeds = done.deeds ++ deed_of doing ∷ [] }
+done_by_pass done (Some doing) = record { clash = option_or done.clash (clash (scope_in doing)); deeds = done.deeds ++ deed_of doing ∷ [] }
 
 -- what the kept commands have done
 abbrev pub done_of : Kept → Done

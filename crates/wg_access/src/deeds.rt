@@ -1,12 +1,12 @@
-//! What the commands on an encoder do, a step each. A copy or a clear of nothing makes none.
+//! What the commands on an encoder do, a step each. A copy, a clear or a resolve of nothing makes none.
 ghost use Rattle.std.specs.Prelude.{◌≡◌, Some, IfOk};
 ghost use Rattle.std.specs.Option.{option_map};
-ghost use Rattle.wg_types.specs.declared.commands.CommandOf.TheVariants.{CopyBufferToBuffer, CopyBufferToTexture, CopyTextureToBuffer, CopyTextureToTexture, ClearBuffer};
+ghost use Rattle.wg_types.specs.declared.commands.CommandOf.TheVariants.{CopyBufferToBuffer, CopyBufferToTexture, CopyTextureToBuffer, CopyTextureToTexture, ClearBuffer, ResolveQuerySet};
 ghost use Rattle.wg_model.specs.Touches.{deed_of, encoder_does};
 
 use crate::touches::{
     buffer_to_buffer_touches, buffer_to_texture_touches, end_of, range_touches,
-    texture_to_buffer_touches, texture_to_texture_touches,
+    resolve_set_touches, texture_to_buffer_touches, texture_to_texture_touches,
 };
 use crate::touching::deed_of;
 use std::alloc::Global;
@@ -137,8 +137,29 @@ fn clear_buffer(
     one_deed(alloc, StepName::ClearBuffer, touches)
 }
 
-/// What a command on an encoder does, if it makes a step. A range of bytes or layers that ends past
-/// every number, which no command has that meets its rules, is answered as want of memory.
+/// What a resolve of queries does.
+#[tactic(auto, unfolding(wg_model::specs::Touches::encoder_does))]
+fn resolve_query_set(
+    alloc: Global,
+    queries: &Handle,
+    first: u32,
+    count: u32,
+    buffer: &Handle,
+    offset: u64,
+) -> Result<Option<Deed>, NoMemory>
+    ensures { IfOk result (λ deed. deed ≡ option_map deed_of (encoder_does (ResolveQuerySet queries.now first count buffer.now offset))) }
+{
+    if count == 0 {
+        return Ok(None);
+    }
+    let from = (queries.reference().number, first);
+    let to = (buffer.reference().number, offset);
+    let touches = resolve_set_touches(alloc, from, count, to)?;
+    one_deed(alloc, StepName::ResolveQuerySet, touches)
+}
+
+/// What a command on an encoder does, if it makes a step. A range of bytes, layers or queries that ends
+/// past every number, which no command has that meets its rules, is answered as want of memory.
 #[tactic(auto, unfolding(wg_model::specs::Touches::encoder_does))]
 pub fn encoder_deed(alloc: Global, command: &Command) -> Result<Option<Deed>, NoMemory>
     ensures { IfOk result (λ deed. deed ≡ option_map deed_of (encoder_does command.now)) }
@@ -185,6 +206,13 @@ pub fn encoder_deed(alloc: Global, command: &Command) -> Result<Option<Deed>, No
             offset,
             size,
         } => return clear_buffer(alloc, buffer, *offset, *size),
+        Command::ResolveQuerySet {
+            queries,
+            first,
+            count,
+            buffer,
+            offset,
+        } => return resolve_query_set(alloc, queries, *first, *count, buffer, *offset),
         _ => return Ok(None),
     }
 }

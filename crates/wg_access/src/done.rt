@@ -1,11 +1,13 @@
 //! What the kept commands of a recorder have done.
-ghost use Rattle.std.specs.Prelude.{◌≡◌, Some, None, is_some, true, [], OnOk, OnErr};
+ghost use Rattle.std.specs.Prelude.{◌≡◌, Some, None, is_some, true, [], IfOk, OnOk, OnErr};
 ghost use Rattle.std.specs.Option.{option_or};
-ghost use Rattle.wg_model.specs.Touches.{Doing, deed_of, encoder_does};
+ghost use Rattle.wg_types.specs.declared.steps.StepName.{StepName};
+ghost use Rattle.wg_model.specs.Scopes.{clash};
+ghost use Rattle.wg_model.specs.Touches.{scope_in, deed_of, encoder_does};
 ghost use Rattle.wg_access.specs.Done.{done_by_encoder, done_by_pass, done_of};
 
 use crate::deeds::encoder_deed;
-use crate::touching::deed_of;
+use crate::touching::{all_in_scope, deed_of, touches_in_scope, uses_of};
 use std::alloc::Global;
 use wg_scopes::clash_in;
 use wg_types::NoMemory;
@@ -32,6 +34,20 @@ fn first_part(a: Option<Part>, b: Option<Part>) -> Option<Part>
     b
 }
 
+/// The least clashing part of the usage scope of a step that does this and touches these. Where nothing of a
+/// query set is touched, the scope has the step's own uses.
+#[tactic(auto, unfolding(wg_model::specs::Scopes::clash), using(crate::proofs::Adding::all_clash))]
+fn scope_clash(alloc: Global, deed: &Deed, touches: &[Touch]) -> Result<Option<Part>, NoMemory>
+    ensures { (name : StepName) → deed.now ≡ deed_of (name, touches.now) → IfOk result (λ found. found ≡ clash (scope_in (name, touches.now))) }
+{
+    if all_in_scope(touches) {
+        return Ok(clash_in(deed.uses.as_slice()));
+    }
+    let scoped = touches_in_scope(alloc, touches)?;
+    let uses = uses_of(alloc, scoped.as_slice())?;
+    Ok(clash_in(uses.as_slice()))
+}
+
 impl Done {
     /// Nothing is done.
     pub fn new(alloc: Global) -> Done
@@ -43,25 +59,16 @@ impl Done {
         }
     }
 
-    /// Adds what a step of a pass does, whose uses are a usage scope.
-    #[tactic(auto, using(crate::proofs::Adding::deed_added))]
-    fn add_deed(&mut self, deed: Deed) -> Result<(), NoMemory>
-        ensures ok { (doing : Doing) → deed ≡ deed_of doing → OnOk result (self.new ≡ done_by_pass self.old (Some doing)) }
-        ensures err { OnErr result (self.new ≡ self.old) }
-    {
-        let found = clash_in(deed.uses.as_slice());
-        self.deeds.push(deed)?;
-        self.clash = first_part(self.clash, found);
-        Ok(())
-    }
-
     /// Adds a step of a pass that touches these.
     pub fn add(&mut self, alloc: Global, name: StepName, touches: &[Touch]) -> Result<(), NoMemory>
         ensures ok { OnOk result (self.new ≡ done_by_pass self.old (Some (name, touches.now))) }
         ensures err { OnErr result (self.new ≡ self.old) }
     {
         let deed = deed_of(alloc, name, touches)?;
-        self.add_deed(deed)
+        let found = scope_clash(alloc, &deed, touches)?;
+        self.deeds.push(deed)?;
+        self.clash = first_part(self.clash, found);
+        Ok(())
     }
 
     /// Adds the step of a command on the encoder, if it makes one, unless some rule is unmet.

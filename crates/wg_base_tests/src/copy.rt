@@ -5,7 +5,7 @@ use wg_copy::{check, check_write_buffer, check_write_texture};
 use wg_types::NoMemory;
 use wg_types::commands::Command;
 use wg_types::formats::Format;
-use wg_types::handles::{BufferInfo, Handle, Info, ObjRef};
+use wg_types::handles::{BufferInfo, Handle, Info, ObjRef, QueriesInfo};
 use wg_types::textures::{AspectWord, DataLayout, TextureDim, TextureInfo, TextureSpot};
 
 /// The greatest multiple of 4 that has 64 bits.
@@ -85,4 +85,42 @@ fn rule_from(alloc: Global, bytes: u64) -> Result<Option<u16>, NoMemory> {
 fn copies_past_every_number_fit_nothing(rt: HostRuntime) {
     assert!(rt; rule_from(rt.alloc(), BYTES) == Ok(None));
     assert!(rt; rule_from(rt.alloc(), BYTES - 1) == Ok(Some(262)));
+}
+
+/// The rule of a resolve from the first to the other, which are dropped here.
+fn rule_of_resolve(
+    queries: Handle,
+    first: u32,
+    count: u32,
+    buffer: Handle,
+    offset: u64,
+) -> Option<u16> {
+    check(&Command::ResolveQuerySet {
+        queries,
+        first,
+        count,
+        buffer,
+        offset,
+    })
+}
+
+/// The rule of a resolve from a set of as many queries as can be said to a buffer of as many bytes.
+fn rule_to(alloc: Global, first: u32, count: u32, offset: u64) -> Result<Option<u16>, NoMemory> {
+    let set = QueriesInfo { count: u32::MAX };
+    let target = BufferInfo {
+        size: u64::MAX,
+        usage: 512,
+        mapped: false,
+    };
+    let queries = object(alloc, 7, Info::Queries(set))?;
+    let buffer = object(alloc, 3, Info::Buffer(target))?;
+    Ok(rule_of_resolve(queries, first, count, buffer, offset))
+}
+
+#[test]
+fn resolves_past_every_number_fit_nothing(rt: HostRuntime) {
+    let last = u32::MAX - 1;
+    assert!(rt; rule_to(rt.alloc(), last, 1, GREATEST - 252) == Ok(None));
+    assert!(rt; rule_to(rt.alloc(), last, u32::MAX, 0) == Ok(Some(281)));
+    assert!(rt; rule_to(rt.alloc(), 0, 32, GREATEST - 252) == Ok(Some(283)));
 }

@@ -1,7 +1,8 @@
 //! What no script reaches: how formats are sampled and stored and what they take of memory, levels past
-//! the last, layouts of more bytes than 64 bits can say, and textures of as many.
-use wg_formats::{end_layer, extent, required, texture_bytes};
+//! the last, layouts of more bytes than 64 bits can say, textures of as many, and query sets past the limit.
+use wg_formats::{bytes_of, end_layer, extent, required, texture_bytes};
 use wg_types::formats::{Format, SampleType, StorageAccesses};
+use wg_types::handles::{Info, QueriesInfo};
 use wg_types::textures::{DataLayout, TextureDim, TextureInfo};
 
 /// The accesses as storage: none, reads and writes apart, and both at once too.
@@ -81,4 +82,10 @@ fn levels_add_up(rt: HostRuntime) {
     };
     let bytes = [texture_bytes(&texture), texture_bytes(&vast)];
     assert!(rt; bytes == [Some((16 + 4 + 1) * 4), None]);
+}
+
+#[test]
+fn queries_take_eight_bytes_each(rt: HostRuntime) {
+    let info = Info::Queries(QueriesInfo { count: u32::MAX });
+    assert!(rt; bytes_of(&info) == Some(34359738360));
 }

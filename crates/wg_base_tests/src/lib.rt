@@ -31,6 +31,8 @@ mod num;
 #[cfg(test)]
 mod pipes;
 #[cfg(test)]
+mod queries;
+#[cfg(test)]
 mod queue;
 #[cfg(test)]
 mod rows;

@@ -24,7 +24,7 @@ use Rattle.wg_types.specs.declared.replies.Answer.{Answer}
 use Rattle.wg_types.specs.declared.replies.Answer.TheVariants.{Made}
 use Rattle.wg_types.specs.declared.replies.Reply.{Reply}
 use Rattle.wg_types.specs.declared.requests.RequestOf.{RequestOf}
-use Rattle.wg_types.specs.declared.requests.RequestOf.TheVariants.{CreateBuffer, CreateTexture, CreateView, CreateSampler, CreateBindGroupLayout, CreatePipelineLayout, CreateBindGroup, CreateComputePipeline, CreateRenderPipeline, CreateEncoder, Finish, Submit, WriteBuffer, WriteTexture, Destroy, Drop, Complete, PushErrorScope, PopErrorScope, Lose, WorkDone, MapAsync, Unmap}
+use Rattle.wg_types.specs.declared.requests.RequestOf.TheVariants.{CreateBuffer, CreateTexture, CreateView, CreateSampler, CreateBindGroupLayout, CreatePipelineLayout, CreateBindGroup, CreateComputePipeline, CreateRenderPipeline, CreateQuerySet, CreateEncoder, Finish, Submit, WriteBuffer, WriteTexture, Destroy, Drop, Complete, PushErrorScope, PopErrorScope, Lose, WorkDone, MapAsync, Unmap}
 use Rattle.wg_model.specs.Rules.{Rule, AreMet, first_unmet}
 use Rattle.wg_model.specs.Equality.{same_bool}
 use Rattle.wg_model.specs.Layouts.{pipeline_layout_rules}
@@ -237,6 +237,7 @@ known_same setup entry past (CreateRenderPipeline layout desc) if_own ruled =
     info_is_made (known_in past) (CreateRenderPipeline layout desc)
     (all_told setup entry past useds if_own (first_stand setup past ((layout.reference, wanted.PipelineLayout) ∷ []) useds
     (render_pipeline_rules setup.limits (render_made (λ r. r) (known_in past) layout.reference desc).layout_info.layouts_info desc) refl ruled))
+known_same setup entry past (CreateQuerySet made) if_own ruled = refl
 known_same setup entry past CreateEncoder if_own ruled = refl
 known_same setup entry past (Finish encoder) if_own ruled = refl
 known_same setup entry past (Submit buffers) if_own ruled = refl
@@ -273,6 +274,7 @@ kin known (CreatePipelineLayout layouts) = record { making = refl; makes = refl;
 kin known (CreateBindGroup layout entries) = record { making = refl; makes = refl; kind = refl }
 kin known (CreateComputePipeline layout iface) = record { making = refl; makes = refl; kind = refl }
 kin known (CreateRenderPipeline layout desc) = record { making = refl; makes = refl; kind = refl }
+kin known (CreateQuerySet made) = record { making = refl; makes = refl; kind = refl }
 kin known CreateEncoder = record { making = refl; makes = refl; kind = refl }
 kin known (Finish encoder) = record { making = refl; makes = refl; kind = refl }
 kin known (Submit buffers) = record { making = refl; makes = refl; kind = refl }

@@ -11,7 +11,7 @@ use Rattle.wg_types.specs.Bindings.{map_entry}
 use Rattle.wg_types.specs.declared.replies.Answer.{Answer}
 use Rattle.wg_types.specs.declared.replies.Answer.TheVariants.{Made, Queued, Promised, Plain, BadCompletion}
 use Rattle.wg_types.specs.declared.requests.RequestOf.{RequestOf}
-use Rattle.wg_types.specs.declared.requests.RequestOf.TheVariants.{CreateBuffer, CreateTexture, CreateView, CreateSampler, CreateBindGroupLayout, CreatePipelineLayout, CreateBindGroup, CreateComputePipeline, CreateRenderPipeline, CreateEncoder, Finish, Submit, WriteBuffer, WriteTexture, Destroy, Drop, Complete, PushErrorScope, PopErrorScope, Lose, WorkDone, MapAsync, Unmap}
+use Rattle.wg_types.specs.declared.requests.RequestOf.TheVariants.{CreateBuffer, CreateTexture, CreateView, CreateSampler, CreateBindGroupLayout, CreatePipelineLayout, CreateBindGroup, CreateComputePipeline, CreateRenderPipeline, CreateQuerySet, CreateEncoder, Finish, Submit, WriteBuffer, WriteTexture, Destroy, Drop, Complete, PushErrorScope, PopErrorScope, Lose, WorkDone, MapAsync, Unmap}
 use Rattle.wg_model.specs.Commands.{texture_of, no_texture, size_or_rest}
 use Rattle.wg_model.specs.Making.{view_made, pipeline_layout_made, group_made, compute_made, render_made}
 use Rattle.wg_model.specs.Views.{completed_view}
@@ -47,6 +47,7 @@ event_asked (CreatePipelineLayout layouts) = event.CreatePipelineLayout (map ref
 event_asked (CreateBindGroup layout entries) = event.CreateBindGroup layout.reference (map (map_entry reference_of) entries)
 event_asked (CreateComputePipeline layout iface) = event.CreateComputePipeline layout.reference iface
 event_asked (CreateRenderPipeline layout desc) = event.CreateRenderPipeline layout.reference desc
+event_asked (CreateQuerySet known) = event.CreateQuerySet known
 event_asked CreateEncoder = event.CreateEncoder
 event_asked (Finish encoder) = event.Finish encoder.reference (record { device = encoder.reference.device; commands = [] })
 event_asked (Submit buffers) = event.Submit (map reference_of buffers)
@@ -74,6 +75,7 @@ info_asked (CreatePipelineLayout layouts) = Some (info.PipelineLayout (pipeline_
 info_asked (CreateBindGroup layout entries) = Some (info.Group (group_made reference_of known_by layout entries))
 info_asked (CreateComputePipeline layout iface) = Some (info.Compute (compute_made reference_of known_by layout iface))
 info_asked (CreateRenderPipeline layout desc) = Some (info.Render (render_made reference_of known_by layout desc))
+info_asked (CreateQuerySet known) = Some (info.Queries known)
 info_asked CreateEncoder = Some info.Encoder
 info_asked (Finish encoder) = Some info.CommandBuffer
 info_asked (Submit buffers) = None

@@ -88,6 +88,7 @@ fn making_asked(alloc: Global, request: &RequestOf<Handle>) -> Result<Event, NoM
             layout: layout.reference(),
             desc: desc.share()?,
         }),
+        RequestOf::CreateQuerySet { info } => Ok(Event::CreateQuerySet { info: *info }),
         RequestOf::CreateEncoder => Ok(Event::CreateEncoder),
         RequestOf::Finish { encoder } => {
             let encoder = encoder.reference();
@@ -150,6 +151,7 @@ pub fn event_asked(alloc: Global, request: &RequestOf<Handle>) -> Result<Event, 
         | RequestOf::CreateBindGroup { .. }
         | RequestOf::CreateComputePipeline { .. }
         | RequestOf::CreateRenderPipeline { .. }
+        | RequestOf::CreateQuerySet { .. }
         | RequestOf::CreateEncoder
         | RequestOf::Finish { .. } => making_asked(alloc, request),
         RequestOf::Submit { .. } | RequestOf::WriteBuffer { .. } | RequestOf::WriteTexture { .. } =>

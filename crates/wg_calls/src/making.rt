@@ -1,5 +1,5 @@
 //! What calls of a device make.
-ghost use Rattle.std.specs.Prelude.{◌≡◌, IfOk, Some, option_copied};
+ghost use Rattle.std.specs.Prelude.{◌≡◌, IfOk, Some};
 ghost use Rattle.std.specs.Arc.{arc_value};
 ghost use Rattle.wg_calls.specs.Calls.{known_by, info_asked, handle_of, opened_for};
 
@@ -61,6 +61,7 @@ pub fn info_asked(alloc: Global, request: &RequestOf<Handle>) -> Result<Option<I
             let info = render_made(alloc, &References, &Infos, layout, desc)?;
             Ok(Some(Info::Render(info)))
         }
+        RequestOf::CreateQuerySet { info } => Ok(Some(Info::Queries(*info))),
         RequestOf::CreateEncoder => Ok(Some(Info::Encoder)),
         RequestOf::Finish { .. } => Ok(Some(Info::CommandBuffer)),
         RequestOf::Submit { .. }

@@ -1,7 +1,8 @@
-//! The rules of copies, of clears and of queue writes.
+//! The rules of copies, of clears, of resolving query sets and of queue writes.
 #![tactic(auto)]
 
 mod buffers;
+mod queries;
 mod texels;
 
 ghost use Rattle.std.specs.Prelude.{◌≡◌};
@@ -15,9 +16,9 @@ pub use texels::check_write_texture;
 use wg_formats::{buffer_of, same_reference, size_or_rest, texture_of, whole_spot};
 use wg_types::commands::Command;
 
-/// The first unmet rule of a command (WebGPU, "Copy Commands" and "Clear Commands"), but for those on
-/// the objects that it names and those that look at the commands before it. A command that is neither
-/// a copy nor a clear has none.
+/// The first unmet rule of a command (WebGPU, "Copy Commands", "Clear Commands" and "Queries"), but for
+/// those on the objects that it names and those that look at the commands before it. A command that
+/// neither copies, clears nor resolves has none.
 pub fn check(command: &Command) -> Option<u16>
     ensures { result ≡ first_unmet (own_rules command.now) }
 {
@@ -80,6 +81,13 @@ pub fn check(command: &Command) -> Option<u16>
             let size = size_or_rest(buffer, *offset, *size);
             return buffers::check_clear(buffer, *offset, size);
         }
+        Command::ResolveQuerySet {
+            queries,
+            first,
+            count,
+            buffer,
+            offset,
+        } => return queries::check_resolve(queries, *first, *count, buffer, *offset),
         Command::BeginComputePass
         | Command::BeginRenderPass { .. }
         | Command::PushDebugGroup
@@ -94,6 +102,8 @@ pub fn check(command: &Command) -> Option<u16>
         | Command::Draw { .. }
         | Command::DrawIndexed { .. }
         | Command::DrawIndirect { .. }
-        | Command::DrawIndexedIndirect { .. } => return None,
+        | Command::DrawIndexedIndirect { .. }
+        | Command::BeginOcclusionQuery { .. }
+        | Command::EndOcclusionQuery => return None,
     }
 }

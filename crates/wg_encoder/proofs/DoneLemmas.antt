@@ -3,7 +3,7 @@ use Rattle.std.proofs.Common.{◌≡◌, List, [], ◌∷◌, ◌++◌, map, Opt
 use Rattle.std.specs.Option.{option_to_list, option_or}
 use Rattle.wg_types.specs.declared.steps.Deed.{Deed}
 use Rattle.wg_types.specs.declared.parts.Part.{Part}
-use Rattle.wg_model.specs.Touches.{Doing, uses_in, deed_of}
+use Rattle.wg_model.specs.Touches.{Doing, scope_in, deed_of}
 use Rattle.wg_model.specs.Scopes.{Use, clash, first_clash}
 use Rattle.wg_access.specs.declared.done.Done.{Done}
 use Rattle.wg_access.specs.Done.{done_by_encoder, done_by_pass}
@@ -35,6 +35,6 @@ pub after_encoder : (scopes : List (List Use)) (done : List Doing) (doing : Opti
 after_encoder scopes done None = after_nothing scopes done
 after_encoder scopes done (Some doing) = ap₂ done_with (ap first_clash (append-nil scopes)) (map-append deed_of done (doing ∷ []))
 
-pub after_pass : (scopes : List (List Use)) (done : List Doing) (doing : Option Doing) → done_with (first_clash (scopes ++ map uses_in (option_to_list doing))) (map deed_of (done ++ option_to_list doing)) ≡ done_by_pass (done_with (first_clash scopes) (map deed_of done)) doing
+pub after_pass : (scopes : List (List Use)) (done : List Doing) (doing : Option Doing) → done_with (first_clash (scopes ++ map scope_in (option_to_list doing))) (map deed_of (done ++ option_to_list doing)) ≡ done_by_pass (done_with (first_clash scopes) (map deed_of done)) doing
 after_pass scopes done None = after_nothing scopes done
-after_pass scopes done (Some doing) = ap₂ done_with (first_clash-append scopes (uses_in doing ∷ []) ∙ ap (option_or (first_clash scopes)) (or_none (clash (uses_in doing)))) (map-append deed_of done (doing ∷ []))
+after_pass scopes done (Some doing) = ap₂ done_with (first_clash-append scopes (scope_in doing ∷ []) ∙ ap (option_or (first_clash scopes)) (or_none (clash (scope_in doing)))) (map-append deed_of done (doing ∷ []))

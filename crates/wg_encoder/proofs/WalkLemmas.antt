@@ -16,7 +16,7 @@ use Rattle.wg_model.specs.Rules.{first_unmet}
 use Rattle.wg_model.specs.Commands.{command_rules}
 use Rattle.wg_model.specs.Settings.{depth_after}
 use Rattle.std.specs.Option.{option_to_list, option_or}
-use Rattle.wg_model.specs.Touches.{uses_in, deed_of, encoder_does}
+use Rattle.wg_model.specs.Touches.{scope_in, deed_of, encoder_does}
 use Rattle.wg_model.specs.Scopes.{first_clash}
 use Rattle.wg_model.specs.Walk.{Kept, PassSoFar, pass_rule, pass_does, begins, open_pass, is_open, has_ended, encoder_depth, verdict, doings, deeds, usage_scopes}
 use Rattle.wg_access.specs.Done.{done_by_encoder, done_by_pass, done_of}
@@ -139,7 +139,7 @@ open_some : (opened : Option PassSoFar) (pass : ℕ) → is_open opened pass ≡
 open_some None pass h = absurd (cc)
 open_some (Some q) pass h = (q, refl)
 
-done_after : (device : ℕ) (kept : Kept) (q : PassSoFar) (command : Command) (walk : Walk) (old new : Opened) (after : Done) (rule : Option ℕ) → IsWalkOf device kept walk → open_pass kept ≡ Some q → IsOpenOf device (Some q) (Some old) → IsNext device command old new walk.done after rule → verdict device kept ≡ None → pass_rule device q.begin (command ∷ q.earlier) ≡ None → after ≡ record { clash = first_clash (usage_scopes kept ++ map uses_in (option_to_list (pass_does q.begin q.earlier command))); deeds = map deed_of (doings kept ++ option_to_list (pass_does q.begin q.earlier command)) }
+done_after : (device : ℕ) (kept : Kept) (q : PassSoFar) (command : Command) (walk : Walk) (old new : Opened) (after : Done) (rule : Option ℕ) → IsWalkOf device kept walk → open_pass kept ≡ Some q → IsOpenOf device (Some q) (Some old) → IsNext device command old new walk.done after rule → verdict device kept ≡ None → pass_rule device q.begin (command ∷ q.earlier) ≡ None → after ≡ record { clash = first_clash (usage_scopes kept ++ map scope_in (option_to_list (pass_does q.begin q.earlier command))); deeds = map deed_of (doings kept ++ option_to_list (pass_does q.begin q.earlier command)) }
 done_after device kept q command walk old new after rule m e o next v r =
     (next.taken q.begin q.earlier o.1).done_is r
     ∙ (ap (λ done. done_by_pass done (pass_does q.begin q.earlier command)) (m.done_is v (rw e (or_first _ _ r)))

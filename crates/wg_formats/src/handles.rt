@@ -1,13 +1,13 @@
 //! What handles know of their objects, what is known of a view, and where copies of whole textures begin.
 ghost use Rattle.std.specs.Prelude.{◌≡◌};
 ghost use Rattle.wg_model.specs.TexelCopies.{whole_spot};
-ghost use Rattle.wg_model.specs.Commands.{buffer_of, buffer_or_none, no_buffer, texture_of, texture_or_none, no_texture, rest_of, size_or_rest};
+ghost use Rattle.wg_model.specs.Commands.{buffer_of, buffer_or_none, no_buffer, texture_of, texture_or_none, no_texture, queries_of, queries_or_none, no_queries, rest_of, size_or_rest};
 ghost use Rattle.wg_model.specs.Equality.{same_reference};
 ghost use Rattle.wg_model.specs.Making.{no_view};
 ghost use Rattle.wg_model.specs.Views.{view_info};
 
 use wg_types::formats::Format;
-use wg_types::handles::{BufferInfo, Handle, Info, ObjRef};
+use wg_types::handles::{BufferInfo, Handle, Info, ObjRef, QueriesInfo};
 use wg_types::textures::{
     AspectWord, TextureDim, TextureInfo, TextureSpot, ViewDesc, ViewDim, ViewInfo,
 };
@@ -54,6 +54,24 @@ pub fn texture_of(texture: &Handle) -> TextureInfo
     match texture.info() {
         Info::Texture(info) => *info,
         _ => no_texture(),
+    }
+}
+
+/// Stands for what is known of a query set where an object is none.
+fn no_queries() -> QueriesInfo
+    ensures { result ≡ no_queries }
+{
+    QueriesInfo { count: 0 }
+}
+
+/// What a handle of a query set knows of it (WebGPU, "Queries"); there are no queries where it is of
+/// another kind.
+pub fn queries_of(queries: &Handle) -> QueriesInfo
+    ensures { result ≡ queries_of queries.now }
+{
+    match queries.info() {
+        Info::Queries(info) => *info,
+        _ => no_queries(),
     }
 }
 

@@ -1,5 +1,6 @@
-//! Texture formats, extents of mip levels, the layout of texels in bytes, what handles know of buffers and textures,
-//! what is known of a view, when bindings are of one kind, and what resources take of a budget of bytes.
+//! Texture formats, extents of mip levels, the layout of texels in bytes, what handles know of buffers, textures
+//! and query sets, what is known of a view, when bindings are of one kind, and what resources take of a budget of
+//! bytes.
 #![tactic(auto)]
 
 mod aspects;
@@ -18,8 +19,8 @@ pub use extents::{
     covers_all, end_layer, extent, first_layer, has_no_texel, layer_count, spot_fits,
 };
 pub use handles::{
-    buffer_of, no_buffer, no_texture, no_view, same_reference, size_or_rest, texture_of, view_info,
-    whole_spot,
+    buffer_of, no_buffer, no_texture, no_view, queries_of, same_reference, size_or_rest,
+    texture_of, view_info, whole_spot,
 };
 pub use layout::{bytes_fit, required};
 pub use memory::{bytes_of, texture_bytes};

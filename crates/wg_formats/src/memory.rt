@@ -34,7 +34,8 @@ pub fn texture_bytes(info: &TextureInfo) -> Option<u64>
 }
 
 /// How many bytes an object takes of the budget: a buffer its size, a texture those of all its mip
-/// levels, and what is no resource none; `None` where no 64-bit number holds that.
+/// levels, a query set those of the results of its queries, and what is no resource none; `None` where no
+/// 64-bit number holds that.
 pub fn bytes_of(info: &Info) -> Option<u64>
     ensures some { IfSome result (λ bytes. bytes ≡ bytes_of info.now) }
     ensures none { IfNone result (2 ^ 64 ≤ bytes_of info.now) }
@@ -42,6 +43,7 @@ pub fn bytes_of(info: &Info) -> Option<u64>
     match info {
         Info::Buffer(info) => Some(info.size),
         Info::Texture(info) => texture_bytes(info),
+        Info::Queries(info) => Some(8 * u64::from(info.count)),
         Info::View(_)
         | Info::Sampler(_)
         | Info::GroupLayout(_)

@@ -12,7 +12,7 @@ use Rattle.wg_types.specs.declared.commands.On.{On}
 use Rattle.wg_types.specs.Commands.{Command}
 use Rattle.wg_types.specs.declared.textures.TextureSpot.{TextureSpot}
 use Rattle.wg_types.specs.declared.textures.DataLayout.{DataLayout}
-use Rattle.wg_model.specs.Recorded.{buffers_of, textures_of, resources, any_named, any_resource, uses_resource}
+use Rattle.wg_model.specs.Recorded.{buffers_of, textures_of, query_sets_of, resources, any_named, any_resource, uses_resource}
 use Rattle.wg_history.specs.Loss.{is_lost}
 use Rattle.wg_model.proofs.Sparing.{or_first}
 use Rattle.wg_history.proofs.Runs.{newest, others}
@@ -75,14 +75,31 @@ any_either : {X : Type 0} (p q r : X → Bool) → ((x : X) → r x ≡ p x || q
 any_either p q r is [] = refl
 any_either p q r is (x ∷ xs) = ap₂ ◌||◌ (is x) (any_either p q r is xs) ∙ swap_heads (p x) (list_any p xs) (q x) (list_any q xs)
 
--- A resource is a buffer or a texture.
-pub any_resource_is : (test : ℕ → Bool) (commands : List (On × Command)) → any_resource test commands ≡ any_named buffers_of test commands || any_named textures_of test commands
-any_resource_is test commands = any_either (λ kept. list_any test (buffers_of kept.1)) (λ kept. list_any test (textures_of kept.1)) (λ kept. list_any test (resources kept.1)) (λ kept. list_any-append test (buffers_of kept.1) (textures_of kept.1)) commands
+-- A resource is a buffer, a texture or a query set.
+any_more_is : (test : ℕ → Bool) (commands : List (On × Command)) → any_named (λ command. textures_of command ++ query_sets_of command) test commands ≡ any_named textures_of test commands || any_named query_sets_of test commands
+any_more_is test commands = any_either (λ kept. list_any test (textures_of kept.1)) (λ kept. list_any test (query_sets_of kept.1)) (λ kept. list_any test (textures_of kept.1 ++ query_sets_of kept.1)) (λ kept. list_any-append test (textures_of kept.1) (query_sets_of kept.1)) commands
 
-any_destroyed_is : (setup : Setup) (past : Past) (buffers : List ObjRef) → any_used resources (is_destroyed setup past) past buffers ≡ any_used buffers_of (is_destroyed setup past) past buffers || any_used textures_of (is_destroyed setup past) past buffers
+pub any_resource_is : (test : ℕ → Bool) (commands : List (On × Command)) → any_resource test commands ≡ any_named buffers_of test commands || (any_named textures_of test commands || any_named query_sets_of test commands)
+any_resource_is test commands =
+    any_either (λ kept. list_any test (buffers_of kept.1)) (λ kept. list_any test (textures_of kept.1 ++ query_sets_of kept.1)) (λ kept. list_any test (resources kept.1))
+    (λ kept. list_any-append test (buffers_of kept.1) (textures_of kept.1 ++ query_sets_of kept.1)) commands
+    ∙ ap (λ b. any_named buffers_of test commands || b) (any_more_is test commands)
+
+-- whether one that command buffers use is destroyed, of each
+abbrev uses_destroyed : (Command → List ℕ) → Setup → Past → List ObjRef → Bool
+uses_destroyed names setup past buffers = any_used names (is_destroyed setup past) past buffers
+
+any_destroyed_is : (setup : Setup) (past : Past) (buffers : List ObjRef)
+    → uses_destroyed resources setup past buffers ≡ uses_destroyed buffers_of setup past buffers || (uses_destroyed textures_of setup past buffers || uses_destroyed query_sets_of setup past buffers)
 any_destroyed_is setup past buffers =
-    any_either (λ buffer. any_named buffers_of (is_destroyed setup past) (commands_at past buffer.number)) (λ buffer. any_named textures_of (is_destroyed setup past) (commands_at past buffer.number)) (λ buffer. any_resource (is_destroyed setup past) (commands_at past buffer.number))
-    (λ buffer. any_resource_is (is_destroyed setup past) (commands_at past buffer.number)) buffers
+    any_either (λ buffer. any_named buffers_of test (commands_at past buffer.number)) (λ buffer. any_named textures_of test (commands_at past buffer.number) || any_named query_sets_of test (commands_at past buffer.number))
+    (λ buffer. any_resource test (commands_at past buffer.number)) (λ buffer. any_resource_is test (commands_at past buffer.number)) buffers
+    ∙ ap (λ b. uses_destroyed buffers_of setup past buffers || b)
+    (any_either (λ buffer. any_named textures_of test (commands_at past buffer.number)) (λ buffer. any_named query_sets_of test (commands_at past buffer.number))
+    (λ buffer. any_named textures_of test (commands_at past buffer.number) || any_named query_sets_of test (commands_at past buffer.number)) (λ buffer. refl) buffers)
+  where
+    test : ℕ → Bool
+    test = is_destroyed setup past
 
 -- Where no buffer is busy, none is destroyed.
 buffers_stand : (setup : Setup) (past : Past) (buffers : List ObjRef) → any_used buffers_of (is_busy setup past) past buffers ≡ false → any_used buffers_of (is_destroyed setup past) past buffers ≡ false
@@ -104,7 +121,9 @@ unfolding submit_rule
 submit_stands setup past buffers n run e lt gone =
     let all : AreMet (submit_list setup past buffers) = all_met (submit_list setup past buffers) e in
     let met : AreMet (together_rules setup past buffers) = met_after (listed_rules setup past buffers) (together_rules setup past buffers) all in
-    let spared : any_used resources (is_destroyed setup past) past buffers ≡ false = any_destroyed_is setup past buffers ∙ ap₂ ◌||◌ (buffers_stand setup past buffers (not_true (any_used buffers_of (is_busy setup past) past buffers) met.1.1.0)) (not_true (any_used textures_of (is_destroyed setup past) past buffers) met.1.1.1.0) in
+    let idle : any_used buffers_of (is_busy setup past) past buffers ≡ false = not_true (any_used buffers_of (is_busy setup past) past buffers) met.1.1.0 in
+    let others = not_true (uses_destroyed textures_of setup past buffers || uses_destroyed query_sets_of setup past buffers) met.1.1.1.0 in
+    let spared : any_used resources (is_destroyed setup past) past buffers ≡ false = any_destroyed_is setup past buffers ∙ ap₂ ◌||◌ (buffers_stand setup past buffers idle) others in
     by_use (submit_uses past buffers n) refl spared (met_before (listed_rules setup past buffers) (together_rules setup past buffers) all) (not_true (list_any (λ buffer. is_consumed setup past buffer.number) buffers) met.0)
   where
     by_use : (b : Bool) → submit_uses past buffers n ≡ b → any_used resources (is_destroyed setup past) past buffers ≡ false → AreMet (listed_rules setup past buffers) → list_any (λ buffer. is_consumed setup past buffer.number) buffers ≡ false → b ≡ false

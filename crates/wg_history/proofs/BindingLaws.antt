@@ -1,14 +1,11 @@
 -- The tests of what is bound, and of infos, tell whether they are equal.
-use Rattle.std.proofs.Common.{◌≡◌, ℕ, ◌==◌, Bool, true, false, ◌&&◌, List, [], ◌∷◌, Option, Some, None, refl, ap, ap₂, ◌∙◌, if◌then◌else◌}
+use Rattle.std.proofs.Common.{◌≡◌, ℕ, ◌==◌, Bool, List, [], ◌∷◌, Option, Some, None, refl, ap, ap₂, ◌∙◌, if◌then◌else◌}
 use Rattle.std.specs.Prelude.{Decides}
 use Rattle.std.proofs.lemmas.Bool.{and_parts, and_from}
 use Rattle.std.proofs.lemmas.Bool.Decides.{Decides-and, Decides-like}
 use Rattle.wg_types.specs.Formats.{same_format}
 use Rattle.wg_types.specs.Textures.{same_view}
 use Rattle.wg_types.specs.declared.handles.ObjRef.{ObjRef}
-use Rattle.wg_types.specs.declared.handles.BufferInfo.{BufferInfo}
-use Rattle.wg_types.specs.declared.textures.ViewInfo.{ViewInfo}
-use Rattle.wg_types.specs.declared.textures.ViewDim.{ViewDim}
 use Rattle.wg_types.specs.declared.formats.Format.{Format}
 use Rattle.wg_types.specs.declared.formats.SampleType.{SampleType}
 use Rattle.wg_types.specs.declared.formats.SampleType.TheVariants as sample_type
@@ -30,7 +27,6 @@ use Rattle.wg_types.specs.declared.bindings.BoundEntry.{BoundEntry}
 use Rattle.wg_types.specs.declared.groups.GroupLayoutInfo.{GroupLayoutInfo}
 use Rattle.wg_types.specs.declared.groups.PipelineLayoutInfo.{PipelineLayoutInfo}
 use Rattle.wg_types.specs.declared.groups.GroupInfo.{GroupInfo}
-use Rattle.wg_types.specs.declared.groups.Interface.{Interface}
 use Rattle.wg_types.specs.declared.groups.ComputeInfo.{ComputeInfo}
 use Rattle.wg_types.specs.declared.groups.RenderInfo.{RenderInfo}
 use Rattle.wg_types.specs.declared.render.DepthState.{DepthState}
@@ -41,10 +37,10 @@ use Rattle.wg_types.specs.declared.vertex.VertexStep.{VertexStep}
 use Rattle.wg_types.specs.declared.vertex.VertexStep.TheVariants as vertex_step
 use Rattle.wg_types.specs.declared.vertex.VertexAttribute.{VertexAttribute}
 use Rattle.wg_types.specs.declared.vertex.VertexBuffer.{VertexBuffer}
-use Rattle.wg_types.specs.declared.handles.Info.TheVariants.{Buffer, Texture, View, Sampler, GroupLayout, PipelineLayout, Group, Compute, Render, Encoder, CommandBuffer}
+use Rattle.wg_types.specs.declared.handles.Info.TheVariants.{Buffer, Texture, View, Sampler, GroupLayout, PipelineLayout, Group, Compute, Render, Queries, Encoder, CommandBuffer}
 use Rattle.wg_model.specs.Equality.{same_bool, same_list, same_reference, same_buffer, sample_number, buffer_binding_number, sampler_number, access_number, stage_number, same_view_dim, same_sample, same_buffer_binding, same_sampler, same_access, same_stage, same_binding_kind, same_layout_entry, same_iface_entry, same_bound_resource, same_bound_entry, same_group_layout, same_pipeline_layout, same_group, same_compute, vertex_format_number, vertex_step_number, same_attribute, same_vertex_buffer, same_option, same_depth_state, same_render_desc, same_render}
 use Rattle.wg_history.specs.Infos.{SameInfoIs}
-use Rattle.wg_history.proofs.InfoLaws.{numbers_tell, words_tell, formats_tell, view_dims_tell, bools_tell, buffers_tell, textures_tell, references_tell, views_tell}
+use Rattle.wg_history.proofs.InfoLaws.{numbers_tell, words_tell, formats_tell, view_dims_tell, bools_tell, buffers_tell, queries_tell, textures_tell, references_tell, views_tell}
 
 -- Lists, where their items are told apart.
 lists_tell : {X : Type 0} (same : X → X → Bool) → ((x y : X) → Decides (same x y) (x ≡ y)) → (xs ys : List X) → Decides (same_list same xs ys) (xs ≡ ys)
@@ -317,6 +313,7 @@ infos_tell (PipelineLayout a) (PipelineLayout b) = let d = pipeline_layouts_tell
 infos_tell (Group a) (Group b) = let d = groups_tell a b in (λ e. ap Group (d.0 e), λ e. d.1 (cc))
 infos_tell (Compute a) (Compute b) = let d = computes_tell a b in (λ e. ap Compute (d.0 e), λ e. d.1 (cc))
 infos_tell (Render a) (Render b) = let d = renders_tell a b in (λ e. ap Render (d.0 e), λ e. d.1 (cc))
+infos_tell (Queries a) (Queries b) = let d = queries_tell a b in (λ e. ap Queries (d.0 e), λ e. d.1 (cc))
 infos_tell Encoder Encoder = (λ e. refl, λ e. refl)
 infos_tell CommandBuffer CommandBuffer = (λ e. refl, λ e. refl)
 infos_tell _ _ = (λ e. absurd (cc), λ e. absurd (cc))

@@ -1,5 +1,5 @@
 -- What is held, and that it is held no more from some entry on.
-use Rattle.std.proofs.Common.{◌≡◌, ◌⊎◌, ℕ, zero, suc, ◌+◌, ◌<◌, ◌≤◌, List, [], ◌∷◌, map, Bool, true, false, not, ◌&&◌, ◌||◌, ◌==◌, nat_lt, Option, Some, None, is_some, is_none, option_and_then, refl, ap, ap₂, sym, ◌∙◌, arith, if◌then◌else◌, true≢false, inl, inr}
+use Rattle.std.proofs.Common.{◌≡◌, ◌⊎◌, ℕ, zero, suc, ◌+◌, ◌<◌, ◌≤◌, List, [], ◌∷◌, map, Bool, true, false, not, ◌&&◌, ◌||◌, ◌==◌, nat_lt, Option, Some, None, is_some, is_none, refl, ap, ap₂, sym, ◌∙◌, arith, if◌then◌else◌, true≢false, inl, inr}
 use Rattle.std.specs.List.{list_any}
 use Rattle.std.specs.Option.{option_map_or}
 use Rattle.std.proofs.lemmas.Bool.{and_parts, and_from, or_cases, or_left, or_right, eqb-true, ltb-true, cases_lt}
@@ -16,8 +16,8 @@ use Rattle.wg_model.specs.Holding.{is_among, any_below, is_named_in, is_awaited_
 use Rattle.wg_model.proofs.Unmet.{all_met}
 use Rattle.wg_model.proofs.Holding.{below_from, below_to, held_within, held_cases, root_held, referred_held}
 use Rattle.wg_history.specs.Entries.{Setup, Event, Finish, Drop, effects_of, recorded_by, Entry, Past}
-use Rattle.wg_history.specs.Objects.{ObjRef, is_making, count, maker, info_at, is_own, is_any, is_valid, is_made_valid, is_encoder, commands_at}
-use Rattle.wg_history.specs.Rules.{drop_list, drops, dropped_at, is_dropped, is_consumed, consumes, has_finished, ends_encoder, is_genuine, may_name, any_barred, encoder_rules, recording_rules, finish_rule, listed_rules}
+use Rattle.wg_history.specs.Objects.{is_making, count, info_at, is_own, is_any, is_valid, is_made_valid, is_encoder, commands_at}
+use Rattle.wg_history.specs.Rules.{drop_list, drops, dropped_at, is_dropped, is_consumed, consumes, has_finished, ends_encoder, is_genuine, may_name, any_barred, encoder_rules, recording_rules, finish_rule}
 use Rattle.wg_history.specs.Held.{refers_made, refers_at, is_submittable, names_at, is_open, holds_of, is_held}
 use Rattle.wg_history.specs.Loss.{is_lost}
 use Rattle.wg_history.specs.FirstRules.{first_rule}

@@ -1,4 +1,4 @@
--- The tests of buffers, textures and views tell whether they are equal.
+-- The tests of buffers, query sets, textures and views tell whether they are equal.
 use Rattle.std.proofs.Common.{◌≡◌, ℕ, ◌==◌, Bool, true, false, ◌&&◌, List, refl, sym, ap, ◌∙◌, eqb-true, eq-eqb, if◌then◌else◌, bytes_eq}
 use Rattle.std.specs.Prelude.{Decides}
 use Rattle.std.proofs.lemmas.Bool.Decides.{Decides-and, Decides-like}
@@ -17,7 +17,9 @@ use Rattle.wg_types.specs.declared.textures.TextureInfo.{TextureInfo}
 use Rattle.wg_types.specs.declared.textures.ViewInfo.{ViewInfo}
 use Rattle.wg_types.specs.declared.handles.ObjRef.{ObjRef}
 use Rattle.wg_types.specs.declared.handles.BufferInfo.{BufferInfo}
+use Rattle.wg_types.specs.declared.handles.QueriesInfo.{QueriesInfo}
 use Rattle.wg_model.specs.Equality.{same_bool, same_reference, same_buffer}
+use Rattle.wg_history.specs.Infos.{same_queries}
 
 -- Numbers, and words by their numbers.
 pub numbers_tell : (a b : ℕ) → Decides (a == b) (a ≡ b)
@@ -100,6 +102,13 @@ buffers_tell a b =
     (Decides-and (a.size == b.size && a.usage == b.usage) (same_bool a.mapped b.mapped)
     (Decides-and (a.size == b.size) (a.usage == b.usage) (numbers_tell a.size b.size) (numbers_tell a.usage b.usage))
     (bools_tell a.mapped b.mapped))
+
+-- Query sets.
+abbrev queries_made : ℕ → QueriesInfo
+queries_made count = record { count = count }
+
+pub queries_tell : (a b : QueriesInfo) → Decides (same_queries a b) (a ≡ b)
+queries_tell a b = Decides-like (a.count == b.count) (λ e. ap queries_made e) (λ e. ap (λ (x : QueriesInfo). x.count) e) (numbers_tell a.count b.count)
 
 -- Textures.
 abbrev texture_made : List ℕ → ℕ → Format → TextureDim → ℕ → ℕ → TextureInfo

@@ -4,7 +4,7 @@ use Rattle.std.specs.List.{sum_by}
 use Rattle.std.specs.Option.{option_map, option_map_or, option_to_list}
 use Rattle.std.proofs.lemmas.List.Sums.{sum_by-append, sum_by-cons}
 use Rattle.wg_types.specs.declared.steps.Sort.{Sort}
-use Rattle.wg_history.specs.Entries.{Setup, Event, CreateBuffer, CreateTexture, Entry, Past}
+use Rattle.wg_history.specs.Entries.{Setup, Event, CreateBuffer, CreateTexture, CreateQuerySet, Entry, Past}
 use Rattle.wg_history.specs.Objects.{is_making, count, is_made_valid, sort_made, resource_at}
 use Rattle.wg_history.specs.Releases.{is_due, is_released, freed_at, freed_below, freed}
 use Rattle.wg_history.specs.Budget.{bytes_made, bytes_at, is_live, live_below, live_bytes}
@@ -52,6 +52,7 @@ live_upto setup entry older (suc m) le =
 sorted : (event : Event) → (if is_some (sort_made event) then bytes_made event else 0) ≡ bytes_made event
 sorted (CreateBuffer info) = refl
 sorted (CreateTexture info) = refl
+sorted (CreateQuerySet info) = refl
 sorted _ = refl
 
 unmade : (entry : Entry) → is_making entry.event ≡ false → made_bytes entry ≡ 0
@@ -60,6 +61,7 @@ unmade entry making = ap (λ n. if is_made_valid entry.reply.answer then n else 
     by_event : (event : Event) → is_making event ≡ false → bytes_made event ≡ 0
     by_event (CreateBuffer info) e = absurd (true≢false e)
     by_event (CreateTexture info) e = absurd (true≢false e)
+    by_event (CreateQuerySet info) e = absurd (true≢false e)
     by_event _ e = refl
 
     by_valid : (b : Bool) → ◌≡◌ {A = ℕ} (if b then 0 else 0) 0

@@ -12,7 +12,7 @@ use Rattle.wg_types.specs.declared.commands.On.{On}
 use Rattle.wg_types.specs.Commands.{Command}
 use Rattle.wg_types.specs.declared.handles.ObjRef.{ObjRef}
 use Rattle.wg_types.specs.declared.handles.Info.{Info}
-use Rattle.wg_types.specs.declared.handles.Info.TheVariants.{Texture}
+use Rattle.wg_types.specs.declared.handles.Info.TheVariants.{Queries, Texture}
 use Rattle.wg_types.specs.declared.mappings.Mapping.{Mapping}
 use Rattle.wg_types.specs.declared.replies.Answer.{Answer}
 use Rattle.wg_types.specs.declared.replies.How.TheVariants.{Mapped, Aborted, Rejected}
@@ -21,7 +21,8 @@ use Rattle.wg_types.specs.declared.replies.Settlement.{Settlement}
 use Rattle.wg_types.specs.declared.textures.TextureSpot.{TextureSpot}
 use Rattle.wg_types.specs.declared.textures.DataLayout.{DataLayout}
 use Rattle.wg_model.specs.ErrorScopes.{pop_how}
-use Rattle.wg_model.specs.Recorded.{buffers_of, textures_of, any_named, uses_resource}
+use Rattle.wg_model.specs.Commands.{is_queries}
+use Rattle.wg_model.specs.Recorded.{buffers_of, textures_of, query_sets_of, any_named, uses_resource}
 use Rattle.wg_model.specs.Rules.{AreMet}
 use Rattle.wg_model.proofs.Sparing.{or_first}
 use Rattle.wg_model.proofs.Unmet.{all_met}
@@ -41,8 +42,8 @@ use Rattle.wg_history.proofs.Waits.{any_filter, any_unsettled, any_both}
 use Rattle.wg_history.proofs.Destroyed.{own_of_other, keeps_of, mapped_none}
 use Rattle.wg_history.proofs.Mappings.{keeps_free, one_free, free_if, free_unless, free_work, pop_free, keeps_later, due_in, due_now, mapped_due, refused_leaves, refused_pends, unborn_pends, pending_new}
 use Rattle.wg_history.proofs.Makers.{info_stays}
-use Rattle.wg_history.proofs.Viewing.{is_texture_at, own_known}
-use Rattle.wg_history.proofs.TextureUses.{used_textures}
+use Rattle.wg_history.proofs.Viewing.{is_kind_at, own_known}
+use Rattle.wg_history.proofs.UsedKinds.{used_textures, used_query_sets}
 
 -- What waits of a buffer is one.
 
@@ -288,35 +289,44 @@ pending_unmapped setup (entry ∷ older) n run pends = unmapped_next setup entry
 pub pending_is_unmapped : PendingIsUnmapped
 pending_is_unmapped setup history n run pends = pending_unmapped setup (reverse history) n run pends
 
--- No map of a texture is pending.
+-- No map is pending of what is no buffer, as a texture or a query set.
 
-buffer_only : (o : Option Info) → option_map_or is_buffer o false ≡ true → option_map_or is_texture_info o false ≡ true → ⊥
-buffer_only None its other = true≢false (sym its)
-buffer_only (Some (Texture known)) its other = true≢false (sym its)
-buffer_only (Some _) its other = true≢false (sym other)
+abbrev IsApart : (Info → Bool) → Type 0
+IsApart kind = (o : Option Info) → option_map_or is_buffer o false ≡ true → option_map_or kind o false ≡ true → ⊥
 
-texture_refused : (setup : Setup) (past : Past) (buffer : ObjRef) (mode offset size n : ℕ) → is_texture_at past n ≡ true → buffer.number ≡ n → is_none (map_async_rule setup past buffer mode offset size) ≡ false
+textures_apart : IsApart is_texture_info
+textures_apart None its other = true≢false (sym its)
+textures_apart (Some (Texture known)) its other = true≢false (sym its)
+textures_apart (Some _) its other = true≢false (sym other)
+
+queries_apart : IsApart is_queries
+queries_apart None its other = true≢false (sym its)
+queries_apart (Some (Queries known)) its other = true≢false (sym its)
+queries_apart (Some _) its other = true≢false (sym other)
+
+other_refused : (setup : Setup) (past : Past) (kind : Info → Bool) (buffer : ObjRef) (mode offset size n : ℕ) → IsApart kind → is_kind_at kind past n ≡ true → buffer.number ≡ n → is_none (map_async_rule setup past buffer mode offset size) ≡ false
 unfolding map_async_rule
-texture_refused setup past buffer mode offset size n its same = by_rule (is_none (map_async_rule setup past buffer mode offset size)) refl
+other_refused setup past kind buffer mode offset size n apart its same = by_rule (is_none (map_async_rule setup past buffer mode offset size)) refl
   where
     by_rule : (b : Bool) → is_none (map_async_rule setup past buffer mode offset size) ≡ b → b ≡ false
-    by_rule true met = absurd (buffer_only (info_at past buffer.number) (own_known setup past is_buffer buffer (all_met (map_async_list setup past buffer mode offset size) met).0) (ap (is_texture_at past) same ∙ its))
+    by_rule true met = absurd (apart (info_at past buffer.number) (own_known setup past is_buffer buffer (all_met (map_async_list setup past buffer mode offset size) met).0) (ap (is_kind_at kind past) same ∙ its))
     by_rule false unmet = refl
 
-texture_next : (setup : Setup) (entry : Entry) (older : Past) (n : ℕ) → IsRun setup (entry ∷ older) → is_texture_at (entry ∷ older) n ≡ true → (is_texture_at older n ≡ true → is_pending older n ≡ false) → is_pending (entry ∷ older) n ≡ false
-texture_next setup entry older n run its before =
+other_next : (setup : Setup) (entry : Entry) (older : Past) (kind : Info → Bool) (n : ℕ) → IsApart kind → IsRun setup (entry ∷ older) → is_kind_at kind (entry ∷ older) n ≡ true → (is_kind_at kind older n ≡ true → is_pending older n ≡ false)
+    → is_pending (entry ∷ older) n ≡ false
+other_next setup entry older kind n apart run its before =
     ap (λ (reply : Reply). list_any (is_map_of n) (unsettled reply.settled (awaiting older ++ promised older (effects_of entry.event).form))) (newest setup entry older run)
     ∙ by_number (cases_lt n (count older))
   where
     by_number : (n < count older) ⊎ (count older ≤ n) → list_any (is_map_of n) (unsettled (reply_to setup older entry.event).settled (awaiting older ++ promised older (effects_of entry.event).form)) ≡ false
     by_number (inl lt) =
-        let was : is_texture_at older n ≡ true = sym (ap (λ (o : Option Info). option_map_or is_texture_info o false) (info_stays older entry n lt)) ∙ its in
-        refused_pends setup older entry.event n (before was) (λ buffer mode offset size same. texture_refused setup older buffer mode offset size n was same)
+        let was : is_kind_at kind older n ≡ true = sym (ap (λ (o : Option Info). option_map_or kind o false) (info_stays older entry n lt)) ∙ its in
+        refused_pends setup older entry.event n (before was) (λ buffer mode offset size same. other_refused setup older kind buffer mode offset size n apart was same)
     by_number (inr le) = unborn_pends setup older entry.event n (pending_new setup older n (others setup entry older run) le) le
 
-texture_unpending : (setup : Setup) (past : Past) (n : ℕ) → IsRun setup past → is_texture_at past n ≡ true → is_pending past n ≡ false
-texture_unpending setup [] n run its = refl
-texture_unpending setup (entry ∷ older) n run its = texture_next setup entry older n run its (texture_unpending setup older n (others setup entry older run))
+other_unpending : (setup : Setup) (past : Past) (kind : Info → Bool) (n : ℕ) → IsApart kind → IsRun setup past → is_kind_at kind past n ≡ true → is_pending past n ≡ false
+other_unpending setup [] kind n apart run its = refl
+other_unpending setup (entry ∷ older) kind n apart run its = other_next setup entry older kind n apart run its (other_unpending setup older kind n apart (others setup entry older run))
 
 -- No operation uses a buffer of which a map is pending.
 
@@ -328,9 +338,12 @@ commands_spare setup past b n run kept pends valid idle = by_use (uses_resource 
         (λ kept in_command. any_grows (is_busy setup past) (λ r. r == n) (λ r same. ap (is_busy setup past) (eqb-true r n same) ∙ pending_busy setup past n pends) (buffers_of kept.1) in_command) (commands_at past b)
 
     by_use : (u : Bool) → uses_resource (commands_at past b) n ≡ u → u ≡ false
-    by_use true used = absurd (elim (or_cases (any_named buffers_of (λ r. r == n) (commands_at past b)) (any_named textures_of (λ r. r == n) (commands_at past b)) (sym (any_resource_is (λ r. r == n) (commands_at past b)) ∙ used)) [
+    by_use true used = absurd (elim (or_cases (any_named buffers_of (λ r. r == n) (commands_at past b)) (any_named textures_of (λ r. r == n) (commands_at past b) || any_named query_sets_of (λ r. r == n) (commands_at past b)) (sym (any_resource_is (λ r. r == n) (commands_at past b)) ∙ used)) [
       | inl buffers ↦ true≢false (sym (grows buffers) ∙ idle)
-      | inr textures ↦ true≢false (sym pends ∙ texture_unpending setup past n run (used_textures setup past b n run kept valid textures))
+      | inr more ↦ elim (or_cases (any_named textures_of (λ r. r == n) (commands_at past b)) (any_named query_sets_of (λ r. r == n) (commands_at past b)) more) [
+        | inl textures ↦ true≢false (sym pends ∙ other_unpending setup past is_texture_info n textures_apart run (used_textures setup past b n run kept valid textures))
+        | inr queries ↦ true≢false (sym pends ∙ other_unpending setup past is_queries n queries_apart run (used_query_sets setup past b n run kept valid queries))
+      ]
     ])
     by_use false used = refl
 
@@ -352,7 +365,7 @@ write_idle : (setup : Setup) (past : Past) (buffer : ObjRef) (offset size : ℕ)
 unfolding write_buffer_rule
 write_idle setup past buffer offset size e = not_true (is_busy setup past buffer.number) (all_met (write_buffer_list setup past buffer offset size) e).1.1.1.1.1.1.0
 
-written_texture : (setup : Setup) (past : Past) (texture : ObjRef) (spot : TextureSpot) (layout : DataLayout) (size : List ℕ) (data_size : ℕ) → is_none (write_texture_rule setup past texture spot layout size data_size) ≡ true → is_texture_at past texture.number ≡ true
+written_texture : (setup : Setup) (past : Past) (texture : ObjRef) (spot : TextureSpot) (layout : DataLayout) (size : List ℕ) (data_size : ℕ) → is_none (write_texture_rule setup past texture spot layout size data_size) ≡ true → is_kind_at is_texture_info past texture.number ≡ true
 unfolding write_texture_rule
 written_texture setup past texture spot layout size data_size e = own_known setup past is_texture_info texture (all_met (write_texture_list setup past texture spot layout size data_size) e).0
 
@@ -369,7 +382,7 @@ uses_none setup past (WriteBuffer buffer offset size) n run kept pends = by_same
 uses_none setup past (WriteTexture texture spot layout size data_size) n run kept pends = by_same (texture.number == n) refl
   where
     by_rule : (b : Bool) → is_none (write_texture_rule setup past texture spot layout size data_size) ≡ b → texture.number ≡ n → b ≡ false
-    by_rule true met same = absurd (true≢false (sym pends ∙ (ap (is_pending past) (sym same) ∙ texture_unpending setup past texture.number run (written_texture setup past texture spot layout size data_size met))))
+    by_rule true met same = absurd (true≢false (sym pends ∙ (ap (is_pending past) (sym same) ∙ other_unpending setup past is_texture_info texture.number textures_apart run (written_texture setup past texture spot layout size data_size met))))
     by_rule false met same = refl
 
     by_same : (b : Bool) → (texture.number == n) ≡ b → (if b then unwrap_or (op_of (reply_to setup past (WriteTexture texture spot layout size data_size)).answer) 0 else 0) ≡ 0

@@ -28,7 +28,7 @@ use Rattle.wg_model.specs.Bound.{group_in, known_group}
 use Rattle.wg_model.specs.Attachments.{view_in, attached_view}
 use Rattle.wg_model.specs.Holding.{is_among}
 use Rattle.wg_model.specs.Making.{known_view, bound_resource, bound_entry, group_made}
-use Rattle.wg_model.specs.Recorded.{bound_buffer, bound_texture, in_group, in_view, buffers_as, textures_as, names_resource, names_by, names_within, resources, uses_resource}
+use Rattle.wg_model.specs.Recorded.{bound_buffer, bound_texture, in_group, in_view, buffers_as, textures_as, query_sets_as, names_resource, names_by, names_within, resources, uses_resource}
 use Rattle.wg_model.proofs.Unmet.{all_met}
 use Rattle.wg_model.proofs.NamedLemmas.{any_resources}
 use Rattle.wg_model.proofs.Sparing.{or_first}
@@ -275,10 +275,17 @@ object_textures setup past handle wanted.View n run genuine among = view_texture
 object_textures setup past handle wanted.Group n run genuine among = group_textures setup past handle n run genuine among
 object_textures setup past handle _ n run genuine among = absurd (true≢false (sym among))
 
+object_query_sets : (past : Past) (handle : HandleValue) (asked : Wanted) (n : ℕ) → is_among (query_sets_as asked handle) n ≡ true → Reached past (handle.reference.number ∷ []) n
+object_query_sets past handle wanted.Queries n among = Named among
+object_query_sets past handle _ n among = absurd (true≢false (sym among))
+
 object_reaches : (setup : Setup) (past : Past) (object : HandleValue × Wanted) (n : ℕ) → IsRun setup past → is_genuine setup past object.0 ≡ true → names_resource (λ r. r == n) object ≡ true → Reached past (object.0.reference.number ∷ []) n
-object_reaches setup past object n run genuine among = elim (or_cases (names_by buffers_as (λ r. r == n) object) (names_by textures_as (λ r. r == n) object) among) [
+object_reaches setup past object n run genuine among = elim (or_cases (names_by buffers_as (λ r. r == n) object) (names_by textures_as (λ r. r == n) object || names_by query_sets_as (λ r. r == n) object) among) [
   | inl buffers ↦ object_buffers setup past object.0 object.1 n genuine buffers
-  | inr textures ↦ object_textures setup past object.0 object.1 n run genuine textures
+  | inr others ↦ elim (or_cases (names_by textures_as (λ r. r == n) object) (names_by query_sets_as (λ r. r == n) object) others) [
+    | inl textures ↦ object_textures setup past object.0 object.1 n run genuine textures
+    | inr queries ↦ object_query_sets past object.0 object.1 n queries
+  ]
 ]
 
 -- what the objects that commands name give, where none is barred

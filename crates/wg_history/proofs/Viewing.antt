@@ -16,12 +16,19 @@ use Rattle.wg_history.specs.Answers.{answer_by, IsRun}
 use Rattle.wg_history.proofs.Runs.{newest, others}
 use Rattle.wg_history.proofs.Makers.{info_stays, known_below, made_met}
 
--- whether object n was made and is a texture
+-- whether object n was made and is of a kind that passes the test
+abbrev pub is_kind_at : (Info → Bool) → Past → ℕ → Bool
+is_kind_at kind past n = option_map_or kind (info_at past n) false
+
+pub kind_later : (kind : Info → Bool) (entry : Entry) (older : Past) (n : ℕ) → is_kind_at kind older n ≡ true → is_kind_at kind (entry ∷ older) n ≡ true
+kind_later kind entry older n e = ap (λ (o : Option Info). option_map_or kind o false) (info_stays older entry n (known_below older kind n e)) ∙ e
+
+-- whether it is a texture
 abbrev pub is_texture_at : Past → ℕ → Bool
-is_texture_at past n = option_map_or is_texture_info (info_at past n) false
+is_texture_at past n = is_kind_at is_texture_info past n
 
 pub texture_later : (entry : Entry) (older : Past) (n : ℕ) → is_texture_at older n ≡ true → is_texture_at (entry ∷ older) n ≡ true
-texture_later entry older n e = ap (λ (o : Option Info). option_map_or is_texture_info o false) (info_stays older entry n (known_below older is_texture_info n e)) ∙ e
+texture_later entry older n e = kind_later is_texture_info entry older n e
 
 pub own_known : (setup : Setup) (past : Past) (kind : Info → Bool) (object : ObjRef) → is_own setup past kind object ≡ true → option_map_or kind (info_at past object.number) false ≡ true
 own_known setup past kind object own = (and_parts (object.device == setup.serial) (option_map_or kind (info_at past object.number) false) own).1

@@ -1,24 +1,22 @@
 -- Where the walk over recorded commands finds no rule unmet and no pass open, each command met the rules on the objects that it
--- names: so none names an object as a texture whose handle is of another kind.
+-- names: so none names an object as something whose handle is of another kind.
 use Rattle.std.proofs.Common.{◌≡◌, ℕ, ◌+◌, ◌<◌, List, [], ◌∷◌, ◌++◌, map, Bool, true, false, ◌&&◌, ◌||◌, ◌==◌, Option, Some, None, is_none, refl, ap, sym, ◌∙◌, arith, if◌then◌else◌, true≢false, inl, inr}
 use Rattle.std.specs.Option.{option_or}
 use Rattle.std.proofs.lemmas.Bool.{and_parts, eq-eqb, eqb-true, cases_lt}
 use Rattle.wg_types.specs.Handles.{HandleValue}
 use Rattle.wg_types.specs.Kinds.{kind_of}
-use Rattle.wg_types.specs.Wanted.{admits, within}
+use Rattle.wg_types.specs.Wanted.{admits, pipelines_on, within}
 use Rattle.wg_types.specs.Commands.{Command, named, named_on, bracket, begins_pass_by, is_begin, is_end}
 use Rattle.wg_types.specs.declared.commands.On.{On}
 use Rattle.wg_types.specs.declared.commands.On.TheVariants.{Encoder, Pass}
 use Rattle.wg_types.specs.declared.commands.Bracket.{Bracket}
 use Rattle.wg_types.specs.declared.commands.Bracket.TheVariants as brackets
-use Rattle.wg_types.specs.declared.handles.Info.{Info}
-use Rattle.wg_types.specs.declared.handles.Info.TheVariants.{Texture}
 use Rattle.wg_types.specs.declared.wanted.Kind.{Kind}
 use Rattle.wg_types.specs.declared.wanted.Kind.TheVariants as kind
 use Rattle.wg_types.specs.declared.wanted.Wanted.{Wanted}
 use Rattle.wg_types.specs.declared.wanted.Wanted.TheVariants as wanted
 use Rattle.wg_model.specs.Rules.{Rule, AreMet, first_unmet}
-use Rattle.wg_model.specs.Commands.{is_texture_info, common_rules, own_rules, debug_rules, command_rules}
+use Rattle.wg_model.specs.Commands.{common_rules, own_rules, debug_rules, command_rules}
 use Rattle.wg_model.specs.Compute.{compute_rules}
 use Rattle.wg_model.specs.Settings.{settings}
 use Rattle.wg_model.specs.Attachments.{RenderBegin, begin_of, begun_rules}
@@ -30,9 +28,9 @@ use Rattle.wg_encoder.specs.Walked.{open_rule}
 use Rattle.wg_history.specs.MapLaws.{StandsOn, AllStand}
 use Rattle.wg_history.proofs.Tests.{met_before}
 
--- An object that is named as a texture is one, as far as its handle tells.
+-- An object that is named is of the kind that is wanted, as far as its handle tells.
 abbrev pub Fits : HandleValue × Wanted → Type 0
-Fits object = object.1 ≡ wanted.Texture → is_texture_info object.0.info ≡ true
+Fits object = admits object.1 (kind_of object.0.info) ≡ true
 
 abbrev pub AllFit : List (HandleValue × Wanted) → Type 0
 AllFit [] = Unit {0}
@@ -42,21 +40,33 @@ abbrev pub EachFits : Kept → Type 0
 EachFits [] = Unit {0}
 EachFits (kept ∷ older) = AllFit (named kept.1) × EachFits older
 
-texture_kind : (info : Info) → admits wanted.Texture (kind_of info) ≡ true → is_texture_info info ≡ true
-texture_kind (Texture known) e = refl
-texture_kind _ e = absurd (true≢false (sym e))
-
--- on the encoder, and in a pass
+-- on the encoder
 named_fit : (device : ℕ) (objects : List (HandleValue × Wanted)) → AreMet (common_rules device objects) → AllFit objects
 named_fit device [] met = tt
 named_fit device (object ∷ objects) met =
-    (λ same. texture_kind object.0.info (ap (λ asked. admits asked (kind_of object.0.info)) (sym same) ∙ (and_parts (object.0.reference.device == device) _ met.0).1), named_fit device objects met.1.1)
+    ((and_parts (object.0.reference.device == device) _ met.0).1, named_fit device objects met.1.1)
 
-placed_fit : (device : ℕ) (place : Kind) → within place wanted.Texture ≡ wanted.Texture → (objects : List (HandleValue × Wanted))
+-- and in a pass, of which the pipelines are pipelines
+abbrev ArePipelines : Kind → Type 0
+ArePipelines place = (k : Kind) → admits (pipelines_on place) k ≡ true → admits wanted.Pipeline k ≡ true
+
+compute_pipelines : ArePipelines kind.ComputePass
+compute_pipelines kind.Compute e = refl
+compute_pipelines _ e = absurd (true≢false (sym e))
+
+render_pipelines : ArePipelines kind.RenderPass
+render_pipelines kind.Render e = refl
+render_pipelines _ e = absurd (true≢false (sym e))
+
+fits_within : (place : Kind) → ArePipelines place → (asked : Wanted) (k : Kind) → admits (within place asked) k ≡ true → admits asked k ≡ true
+fits_within place pipelines wanted.Pipeline k e = pipelines k e
+fits_within place pipelines _ k e = e
+
+placed_fit : (device : ℕ) (place : Kind) → ArePipelines place → (objects : List (HandleValue × Wanted))
     → AreMet (common_rules device (map (λ (object : HandleValue × Wanted). (object.0, within place object.1)) objects)) → AllFit objects
-placed_fit device place stays [] met = tt
-placed_fit device place stays (object ∷ objects) met =
-    (λ same. texture_kind object.0.info (ap (λ asked. admits asked (kind_of object.0.info)) (sym (ap (within place) same ∙ stays)) ∙ (and_parts (object.0.reference.device == device) _ met.0).1), placed_fit device place stays objects met.1.1)
+placed_fit device place pipelines [] met = tt
+placed_fit device place pipelines (object ∷ objects) met =
+    (fits_within place pipelines object.1 (kind_of object.0.info) (and_parts (object.0.reference.device == device) _ met.0).1, placed_fit device place pipelines objects met.1.1)
 
 both_none : (first second : Option ℕ) → option_or first second ≡ None → (first ≡ None) × (second ≡ None)
 both_none None second e = (refl, e)
@@ -140,9 +150,9 @@ takes device older (Pass pass) none stands = stands_open device older none pass 
 
 rule_fits : (device : ℕ) (begin : RenderBegin) (by : Bracket) (earlier : List Command) (command : Command) → begins_pass_by by ≡ true → rule_by device begin by earlier command ≡ None → AllFit (named command)
 rule_fits device begin brackets.BeginComputePass earlier command b e =
-    placed_fit device kind.ComputePass refl (named command) (met_none (common_rules device (named_on kind.ComputePass command)) (both_none (first_unmet (common_rules device (named_on kind.ComputePass command))) (first_unmet (compute_rules (settings earlier) command)) e).0)
+    placed_fit device kind.ComputePass compute_pipelines (named command) (met_none (common_rules device (named_on kind.ComputePass command)) (both_none (first_unmet (common_rules device (named_on kind.ComputePass command))) (first_unmet (compute_rules (settings earlier) command)) e).0)
 rule_fits device begin brackets.BeginRenderPass earlier command b e =
-    placed_fit device kind.RenderPass refl (named command) (met_none (common_rules device (named_on kind.RenderPass command)) (both_none (first_unmet (common_rules device (named_on kind.RenderPass command))) (first_unmet (render_rules (render_set begin earlier) command)) e).0)
+    placed_fit device kind.RenderPass render_pipelines (named command) (met_none (common_rules device (named_on kind.RenderPass command)) (both_none (first_unmet (common_rules device (named_on kind.RenderPass command))) (first_unmet (render_rules (render_set begin earlier) command)) e).0)
 rule_fits device begin brackets.EndPass earlier command b e = absurd (true≢false (sym b))
 rule_fits device begin brackets.PushGroup earlier command b e = absurd (true≢false (sym b))
 rule_fits device begin brackets.PopGroup earlier command b e = absurd (true≢false (sym b))

@@ -1,7 +1,6 @@
 -- How many bytes of the budget are taken.
 use Rattle.std.specs.Prelude.{ℕ, zero, suc, ◌+◌, Bool, not, ◌&&◌, is_some, if◌then◌else◌}
 use Rattle.std.specs.Option.{option_map_or}
-use Rattle.wg_model.specs.Commands.{no_texture}
 use Rattle.wg_model.specs.Memory.{bytes_of}
 use Rattle.wg_history.specs.Entries.{Setup, Event, Past}
 use Rattle.wg_history.specs.Objects.{count, maker, info_made, unknown, resource_at}

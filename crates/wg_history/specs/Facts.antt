@@ -1,8 +1,9 @@
 -- What is known of an object, under its kind: the words of single kinds are read off this one table.
 use Rattle.std.specs.Prelude.{Option, Some, None}
 use Rattle.wg_types.specs.declared.handles.Info.{Info}
-use Rattle.wg_types.specs.declared.handles.Info.TheVariants.{Buffer, Texture, View, Sampler, GroupLayout, PipelineLayout, Group, Compute, Render, Encoder, CommandBuffer}
+use Rattle.wg_types.specs.declared.handles.Info.TheVariants.{Buffer, Texture, View, Sampler, GroupLayout, PipelineLayout, Group, Compute, Render, Queries, Encoder, CommandBuffer}
 use Rattle.wg_types.specs.declared.handles.BufferInfo.{BufferInfo}
+use Rattle.wg_types.specs.declared.handles.QueriesInfo.{QueriesInfo}
 use Rattle.wg_types.specs.declared.textures.TextureInfo.{TextureInfo}
 use Rattle.wg_types.specs.declared.textures.ViewInfo.{ViewInfo}
 use Rattle.wg_types.specs.declared.bindings.SamplerKind.{SamplerKind}
@@ -23,6 +24,7 @@ pub record Facts : Type 0 where
   pub group : Option GroupInfo
   pub compute : Option ComputeInfo
   pub render : Option RenderInfo
+  pub queries : Option QueriesInfo
 
 abbrev pub no_facts : Facts
 no_facts = record {
@@ -35,6 +37,7 @@ no_facts = record {
   group = None;
   compute = None;
   render = None;
+  queries = None;
 }
 
 abbrev pub facts_of : Info → Facts
@@ -47,5 +50,6 @@ facts_of (PipelineLayout known) = record no_facts { pipeline_layout = Some known
 facts_of (Group known) = record no_facts { group = Some known }
 facts_of (Compute known) = record no_facts { compute = Some known }
 facts_of (Render known) = record no_facts { render = Some known }
+facts_of (Queries known) = record no_facts { queries = Some known }
 facts_of Encoder = no_facts
 facts_of CommandBuffer = no_facts

@@ -1,12 +1,15 @@
--- The first unmet rule of each event. Those of buffers and textures that are made end by the budget.
+-- The first unmet rule of each event. Those of buffers, textures and query sets that are made end by the budget.
 use Rattle.std.specs.Prelude.{ℕ, ◌+◌, nat_le, List, [], ◌∷◌, ◌++◌, Option, Some, None}
 use Rattle.wg_types.specs.declared.handles.BufferInfo.{BufferInfo}
+use Rattle.wg_types.specs.declared.handles.QueriesInfo.{QueriesInfo}
+use Rattle.wg_types.specs.declared.handles.Info.TheVariants.{Queries}
 use Rattle.wg_types.specs.declared.textures.TextureInfo.{TextureInfo}
 use Rattle.wg_model.specs.Rules.{Rule, first_unmet}
 use Rattle.wg_model.specs.Buffers.{create_buffer_rules}
 use Rattle.wg_model.specs.Textures.{create_texture_rules}
-use Rattle.wg_model.specs.Memory.{texture_bytes}
-use Rattle.wg_history.specs.Entries.{Setup, Event, CreateBuffer, CreateTexture, CreateView, CreateSampler, CreateBindGroupLayout, CreatePipelineLayout, CreateBindGroup, CreateComputePipeline, CreateRenderPipeline, CreateEncoder, Finish, Late, Submit, WriteBuffer, WriteTexture, Destroy, Drop, Complete, PushErrorScope, PopErrorScope, Lose, WorkDone, MapAsync, Unmap, Past}
+use Rattle.wg_model.specs.Queries.{create_queries_rules}
+use Rattle.wg_model.specs.Memory.{texture_bytes, bytes_of}
+use Rattle.wg_history.specs.Entries.{Setup, Event, CreateBuffer, CreateTexture, CreateView, CreateSampler, CreateBindGroupLayout, CreatePipelineLayout, CreateBindGroup, CreateComputePipeline, CreateRenderPipeline, CreateQuerySet, CreateEncoder, Finish, Late, Submit, WriteBuffer, WriteTexture, Destroy, Drop, Complete, PushErrorScope, PopErrorScope, Lose, WorkDone, MapAsync, Unmap, Past}
 use Rattle.wg_history.specs.Rules.{create_view_rule, destroy_rule, drop_rule, unmap_rule, map_async_rule, write_buffer_rule, write_texture_rule, finish_rule, submit_rule}
 use Rattle.wg_history.specs.GroupRules.{create_bind_group_layout_rule, create_pipeline_layout_rule, create_bind_group_rule, create_compute_pipeline_rule, create_render_pipeline_rule}
 use Rattle.wg_history.specs.Budget.{live_bytes}
@@ -23,6 +26,10 @@ create_buffer_rule setup past info = first_unmet (create_buffer_rules setup.limi
 unfoldable pub create_texture_rule : Setup → Past → TextureInfo → Option ℕ
 create_texture_rule setup past info = first_unmet (create_texture_rules setup.limits info ++ budget_rules setup past (texture_bytes info))
 
+-- createQuerySet
+unfoldable pub create_query_set_rule : Setup → Past → QueriesInfo → Option ℕ
+create_query_set_rule setup past info = first_unmet (create_queries_rules setup.limits info ++ budget_rules setup past (bytes_of (Queries info)))
+
 -- The first unmet rule of an event that comes after a past. An event that meets all its rules is met. A recording call that
 -- came after the end of its encoder or pass always has rule 14.
 abbrev pub first_rule : Setup → Past → Event → Option ℕ
@@ -35,6 +42,7 @@ first_rule setup past (CreatePipelineLayout layouts) = create_pipeline_layout_ru
 first_rule setup past (CreateBindGroup layout entries) = create_bind_group_rule setup past layout entries
 first_rule setup past (CreateComputePipeline layout iface) = create_compute_pipeline_rule setup past layout iface
 first_rule setup past (CreateRenderPipeline layout desc) = create_render_pipeline_rule setup past layout desc
+first_rule setup past (CreateQuerySet info) = create_query_set_rule setup past info
 first_rule setup past CreateEncoder = None
 first_rule setup past (Finish encoder recording) = finish_rule setup past encoder recording
 first_rule setup past (Late encoder) = Some 14

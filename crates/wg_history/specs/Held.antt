@@ -4,7 +4,7 @@ use Rattle.std.specs.Option.{option_map_or}
 use Rattle.wg_model.specs.Holding.{Holds, is_among, is_held_in}
 use Rattle.wg_model.specs.Recorded.{names_within}
 use Rattle.wg_types.specs.declared.handles.Info.{Info}
-use Rattle.wg_types.specs.declared.handles.Info.TheVariants.{Buffer, Texture, View, Sampler, GroupLayout, PipelineLayout, Group, Compute, Render, Encoder, CommandBuffer}
+use Rattle.wg_types.specs.declared.handles.Info.TheVariants.{Buffer, Texture, View, Sampler, GroupLayout, PipelineLayout, Group, Compute, Render, Queries, Encoder, CommandBuffer}
 use Rattle.wg_types.specs.declared.bindings.BoundResource.{BoundResource}
 use Rattle.wg_types.specs.declared.bindings.BoundResource.TheVariants.{Buffer as BoundBuffer, View as BoundView, Sampler as BoundSampler}
 use Rattle.wg_types.specs.declared.bindings.BoundEntry.{BoundEntry}
@@ -31,6 +31,7 @@ refers_of (PipelineLayout info) = map (λ (layout : ObjRef). layout.number) info
 refers_of (Group info) = info.layout.number ∷ map (λ (entry : BoundEntry). resource_number entry.resource) info.entries
 refers_of (Compute info) = info.layout.number ∷ []
 refers_of (Render info) = info.layout.number ∷ []
+refers_of (Queries info) = []
 refers_of Encoder = []
 refers_of CommandBuffer = []
 

@@ -38,7 +38,7 @@ abbrev pub IsLast : Past → Awaited → Type 0
 IsLast past (mapping buffer last m) = last ≡ last_use past buffer
 IsLast past (work ops) = Unit {0}
 
--- It is so in a run of recordings that recorders kept: the commands of one that is accepted name no buffer as a texture, so no
+-- It is so in a run of recordings that recorders kept: the commands of one that is accepted name no buffer as a texture or a query set, so no
 -- submit or write that meets its rules uses a buffer while a map of it is pending.
 abbrev pub MapsWaitForLast : Type 0
 MapsWaitForLast = (setup : Setup) (history : List Entry) → Run setup history → AreRecorded (reverse history)

@@ -16,7 +16,7 @@ use Rattle.wg_model.specs.TexelCopies.{write_texture_rules}
 use Rattle.wg_model.specs.Commands.{named, no_buffer}
 use Rattle.wg_model.specs.Scopes.{first_clash}
 use Rattle.wg_model.specs.Walk.{Verdict, ScopesOf, open_pass, encoder_depth}
-use Rattle.wg_model.specs.Recorded.{buffers_of, textures_of, any_named}
+use Rattle.wg_model.specs.Recorded.{buffers_of, textures_of, query_sets_of, any_named}
 use Rattle.wg_encoder.specs.Recorders.{RecordingValue}
 use Rattle.wg_history.specs.Entries.{Setup, Event, effects_of, submitted, Entry, Past}
 use Rattle.wg_history.specs.Objects.{ObjRef, BufferInfo, is_making, count, info_made, unknown, is_made_valid, is_own, is_valid, info_at, is_any, is_buffer, is_texture_info, is_encoder, is_command_buffer, has_memory, as_buffer, buffer_at, texture_or_none_at, commands_at}
@@ -66,8 +66,8 @@ create_view_list setup past texture desc =
 unfoldable pub create_view_rule : Setup → Past → ObjRef → ViewDesc → Option ℕ
 create_view_rule setup past texture desc = first_unmet (create_view_list setup past texture desc)
 
--- destroy (WebGPU, "Buffer Destruction" and "Texture Destruction"): 10 the object is a resource of this device, valid or
--- not; 11 it is not dropped
+-- destroy (WebGPU, "Buffer Destruction", "Texture Destruction" and "Query Set Destruction"): 10 the object is a resource of this
+-- device, valid or not; 11 it is not dropped
 unfoldable pub destroy_rule : Setup → Past → ObjRef → Option ℕ
 destroy_rule setup past object = first_unmet ((10, is_own setup past has_memory object) ∷ ((11, not (is_dropped setup past object.number)) ∷ []))
 
@@ -262,13 +262,13 @@ abbrev pub any_used : (Command → List ℕ) → (ℕ → Bool) → Past → Lis
 any_used names test past buffers = list_any (λ buffer. any_named names test (commands_at past buffer.number)) buffers
 
 -- and those on all of them: 190 none was consumed; 191 none is named twice; 192 no buffer that they use is mapped, pending or
--- destroyed; 193 no texture that they use is destroyed.
+-- destroyed; 193 no texture or query set that they use is destroyed.
 abbrev pub together_rules : Setup → Past → List ObjRef → List Rule
 together_rules setup past buffers =
     (190, not (list_any (λ buffer. is_consumed setup past buffer.number) buffers))
     ∷ ((191, are_distinct buffers)
     ∷ ((192, not (any_used buffers_of (is_busy setup past) past buffers))
-    ∷ ((193, not (any_used textures_of (is_destroyed setup past) past buffers))
+    ∷ ((193, not (any_used textures_of (is_destroyed setup past) past buffers || any_used query_sets_of (is_destroyed setup past) past buffers))
     ∷ [])))
 
 -- submit

@@ -9,7 +9,7 @@ use Rattle.wg_types.specs.declared.steps.StepName.TheVariants as name
 use Rattle.wg_types.specs.declared.commands.On.{On}
 use Rattle.wg_types.specs.declared.commands.On.TheVariants.{Encoder, Pass}
 use Rattle.wg_types.specs.Commands.{Command}
-use Rattle.wg_types.specs.declared.commands.CommandOf.TheVariants.{BeginComputePass, BeginRenderPass, CopyBufferToBuffer, CopyBufferToTexture, CopyTextureToBuffer, CopyTextureToTexture, ClearBuffer, SetBindGroup, Dispatch, DispatchIndirect, SetVertexBuffer, SetIndexBuffer, DrawIndirect, DrawIndexedIndirect}
+use Rattle.wg_types.specs.declared.commands.CommandOf.TheVariants.{BeginComputePass, BeginRenderPass, CopyBufferToBuffer, CopyBufferToTexture, CopyTextureToBuffer, CopyTextureToTexture, ClearBuffer, ResolveQuerySet, SetBindGroup, Dispatch, DispatchIndirect, SetVertexBuffer, SetIndexBuffer, DrawIndirect, DrawIndexedIndirect, BeginOcclusionQuery}
 use Rattle.wg_types.specs.declared.mappings.Mapping.{Mapping}
 use Rattle.wg_types.specs.declared.textures.TextureInfo.{TextureInfo}
 use Rattle.wg_types.specs.declared.textures.TextureSpot.{TextureSpot}
@@ -28,6 +28,7 @@ use Rattle.wg_model.specs.Settings.{settings, group_set, groups_set, layouts_set
 use Rattle.wg_model.specs.Compute.{dispatch_touches, compute_does}
 use Rattle.wg_model.specs.Attachments.{RenderBegin, ColorTarget, DepthTarget, attached_view, view_parts, attach_kind, attached, attachment_usage, resolve_touches, color_touches, depth_touch, depth_touches, targets_touches}
 use Rattle.wg_model.specs.Render.{RenderSet, render_set, render_touches, command_touches, bound_group_touches, render_does, render_does_by}
+use Rattle.wg_model.specs.Queries.{set_of_pass, query_begun_touches}
 use Rattle.wg_types.specs.Render.{color_named, depth_named, targets_named}
 use Rattle.wg_types.specs.Refs.{maybe_wanted}
 use Rattle.wg_types.specs.Commands.{bracket}
@@ -39,7 +40,7 @@ use Rattle.wg_rows.specs.Uses.{Usages, Kind, Write}
 use Rattle.wg_model.specs.Subresources.{level_runs, aspect_runs, view_runs, run_cells}
 use Rattle.wg_model.specs.Formats.{named_aspects}
 use Rattle.wg_model.specs.Textures.{layer_count}
-use Rattle.wg_model.specs.Recorded.{write_buffer_step, write_texture_step, host_name, host_touches, bound_buffer, bound_texture, in_group, in_view, buffers_as, textures_as, numbers_by, resources, uses_resource}
+use Rattle.wg_model.specs.Recorded.{write_buffer_step, write_texture_step, host_name, host_touches, bound_buffer, bound_texture, in_group, in_view, textures_as, query_sets_as, buffers_of, textures_of, query_sets_of, numbers_by, resources, uses_resource}
 use Rattle.wg_types.specs.Commands.{is_begin, is_end}
 use Rattle.wg_types.specs.Handles.{HandleValue}
 use Rattle.wg_types.specs.Bindings.{entry_of}
@@ -120,6 +121,9 @@ encoder_away (CopyTextureToTexture source source_mip source_origin target target
     let others : AreTwo n source.reference.number target.reference.number = two_others n source.reference.number target.reference.number e in
     if_away (has_no_texel size) n _ (joined_away n (copied_from source.reference.number (texture_of source) from size) (copied_to target.reference.number (texture_of target) to size) (copied_from_away n source.reference.number (texture_of source) from size others.0) (copied_to_away n target.reference.number (texture_of target) to size others.1))
 encoder_away (ClearBuffer buffer offset size) n e = if_away (size_or_rest buffer offset size == 0) n _ (or_first (buffer.reference.number == n) false e, tt)
+encoder_away (ResolveQuerySet queries first count buffer offset) n e =
+    let others : AreTwo n buffer.reference.number queries.reference.number = two_others n buffer.reference.number queries.reference.number e in
+    if_away (count == 0) n _ (others.1, (others.0, tt))
 encoder_away _ n e = tt
 
 -- Views of other textures.
@@ -215,8 +219,9 @@ AreSparing n earlier = EachRow (SparesCommand n) earlier
 
 set_bound : (n index at : ℕ) (group : HandleValue) (offsets : List ℕ) (rest : Option BoundGroup) → SparesCommand n (SetBindGroup index group offsets) → SparesBound n rest → (b : Bool) → SparesBound n (if b then Some (record { group = group; offsets = offsets }) else rest)
 set_bound n index at group offsets rest e h true =
-    let both = both_none n (in_group bound_buffer (known_group group) ++ []) (in_group bound_texture (known_group group) ++ []) e in
-    info_away n (known_group group) offsets (both_none n (in_group bound_buffer (known_group group)) [] both.0).0 (both_none n (in_group bound_texture (known_group group)) [] both.1).0
+    let both = both_none n (in_group bound_buffer (known_group group) ++ []) ((in_group bound_texture (known_group group) ++ []) ++ []) e in
+    let textures = both_none n (in_group bound_texture (known_group group) ++ []) [] both.1 in
+    info_away n (known_group group) offsets (both_none n (in_group bound_buffer (known_group group)) [] both.0).0 (both_none n (in_group bound_texture (known_group group)) [] textures.0).0
 set_bound n index at group offsets rest e h false = h
 
 group_spares : (n : ℕ) (earlier : List Command) (at : ℕ) → AreSparing n earlier → SparesBound n (group_set earlier at)
@@ -304,24 +309,54 @@ depth_away n (Some target) e = depth_parts_away n target (view_parts target.view
 targets_away : (n : ℕ) (begin : RenderBegin) → SparesCommand n (BeginRenderPass begin) → AreAway n (targets_touches begin)
 unfolding targets_touches
 targets_away n begin e =
-    let views = (both_none n (numbers_by buffers_as (targets_named begin)) (numbers_by textures_as (targets_named begin)) e).1 in
-    let both = views_parted n (flat_map color_named begin.colors) (depth_named begin.depth) views in
+    let rest = (both_none n (buffers_of (BeginRenderPass begin)) (textures_of (BeginRenderPass begin) ++ query_sets_of (BeginRenderPass begin)) e).1 in
+    let views = (both_none n (textures_of (BeginRenderPass begin)) (query_sets_of (BeginRenderPass begin)) rest).0 in
+    let named = (views_parted n (targets_named begin) (maybe_wanted wanted.Queries begin.queries) views).0 in
+    let both = views_parted n (flat_map color_named begin.colors) (depth_named begin.depth) named in
     joined_away n (flat_map color_touches begin.colors) (depth_touches begin.depth) (colors_away n begin.colors both.0) (depth_away n begin.depth both.1)
 
+-- The query set of a pass is another.
+abbrev SparesSet : ℕ → Option (ℕ × ℕ) → Type 0
+SparesSet n None = Unit {0}
+SparesSet n (Some set) = set.0 == n ≡ false
+
+abbrev SparesSets : ℕ → List (HandleValue × Wanted) → Type 0
+SparesSets n objects = list_any (λ r. r == n) (numbers_by query_sets_as objects) ≡ false
+
+-- no object before the last is a query set
+sets_last : (n : ℕ) (xs ys : List (HandleValue × Wanted)) → SparesSets n (xs ++ ys) → SparesSets n ys
+sets_last n [] ys e = e
+sets_last n (x ∷ xs) ys e = sets_last n xs ys (both_none n (query_sets_as x.1 x.0) (numbers_by query_sets_as (xs ++ ys)) e).1
+
+given_away : (n : ℕ) (queries : Option HandleValue) → SparesSets n (maybe_wanted wanted.Queries queries) → SparesSet n (set_of_pass queries)
+given_away n None e = tt
+given_away n (Some queries) e = or_first (queries.reference.number == n) false e
+
+set_away : (n : ℕ) (begin : RenderBegin) → SparesCommand n (BeginRenderPass begin) → SparesSet n (set_of_pass begin.queries)
+set_away n begin e =
+    let rest = (both_none n (buffers_of (BeginRenderPass begin)) (textures_of (BeginRenderPass begin) ++ query_sets_of (BeginRenderPass begin)) e).1 in
+    let sets = (both_none n (textures_of (BeginRenderPass begin)) (query_sets_of (BeginRenderPass begin)) rest).1 in
+    given_away n begin.queries (sets_last n (targets_named begin) (maybe_wanted wanted.Queries begin.queries) sets)
+
+query_away : (n : ℕ) (queries : Option (ℕ × ℕ)) (index : ℕ) → SparesSet n queries → AreAway n (query_begun_touches queries index)
+query_away n None index e = tt
+query_away n (Some set) index e = (e, tt)
+
 -- What commands of a render pass touch.
-command_away : (n : ℕ) (command : Command) → SparesCommand n command → AreAway n (command_touches command)
-command_away n (SetBindGroup index group offsets) e =
+command_away : (n : ℕ) (queries : Option (ℕ × ℕ)) (command : Command) → SparesSet n queries → SparesCommand n command → AreAway n (command_touches queries command)
+command_away n queries (SetBindGroup index group offsets) q e =
     joined_away n (bound_group_touches (Some (index, record { group = group; offsets = offsets }))) []
     (places_away n (set_places (Some (record { group = group; offsets = offsets }))) (set_bound n index index group offsets None e tt true)) tt
-command_away n (SetVertexBuffer slot buffer offset size) e = (or_first (buffer.reference.number == n) false e, tt)
-command_away n (SetIndexBuffer buffer format offset size) e = (or_first (buffer.reference.number == n) false e, tt)
-command_away n (DrawIndirect buffer offset) e = (or_first (buffer.reference.number == n) false e, tt)
-command_away n (DrawIndexedIndirect buffer offset) e = (or_first (buffer.reference.number == n) false e, tt)
-command_away n _ e = tt
+command_away n queries (SetVertexBuffer slot buffer offset size) q e = (or_first (buffer.reference.number == n) false e, tt)
+command_away n queries (SetIndexBuffer buffer format offset size) q e = (or_first (buffer.reference.number == n) false e, tt)
+command_away n queries (DrawIndirect buffer offset) q e = (or_first (buffer.reference.number == n) false e, tt)
+command_away n queries (DrawIndexedIndirect buffer offset) q e = (or_first (buffer.reference.number == n) false e, tt)
+command_away n queries (BeginOcclusionQuery index) q e = query_away n queries index q
+command_away n queries _ q e = tt
 
 render_away : (n : ℕ) (begin : RenderBegin) (earlier : List Command) → SparesCommand n (BeginRenderPass begin) → AreSparing n earlier → AreAway n (render_touches begin earlier)
 render_away n begin [] b each = targets_away n begin b
-render_away n begin (command ∷ earlier) b each = joined_away n (render_touches begin earlier) (command_touches command) (render_away n begin earlier b each.1) (command_away n command each.0)
+render_away n begin (command ∷ earlier) b each = joined_away n (render_touches begin earlier) (command_touches (set_of_pass begin.queries) command) (render_away n begin earlier b each.1) (command_away n (set_of_pass begin.queries) command (set_away n begin b) each.0)
 
 end_away : (n : ℕ) (render : RenderSet) (b : Bracket) → AreAway n render.touches → AllAway n (option_to_list (render_does_by render b))
 end_away n render brackets.EndPass away = (away, tt)

@@ -1,12 +1,12 @@
 -- The steps of queue writes and of recorded commands are as the table of uses has them.
-use Rattle.std.proofs.Common.{◌≡◌, ℕ, zero, suc, Bool, true, false, ◌==◌, ◌&&◌, List, [], ◌∷◌, ◌++◌, map, Option, Some, None, is_none, option_to_list, refl, ap, sym, ◌∙◌, subst, slice_get, reverse, if◌then◌else◌}
+use Rattle.std.proofs.Common.{◌≡◌, ℕ, ◌*◌, zero, suc, Bool, true, false, ◌==◌, ◌&&◌, List, [], ◌∷◌, ◌++◌, map, Option, Some, None, is_none, option_to_list, refl, ap, sym, ◌∙◌, subst, slice_get, reverse, if◌then◌else◌}
 use Rattle.std.specs.List.{flat_map}
 use Rattle.wg_types.specs.declared.steps.QueueWrite.TheVariants.{Buffer as BufferWrite, Texture as TextureWrite}
 use Rattle.wg_types.specs.declared.steps.StepName.TheVariants as name
 use Rattle.wg_types.specs.declared.commands.On.{On}
 use Rattle.wg_types.specs.declared.commands.On.TheVariants.{Encoder, Pass}
 use Rattle.wg_types.specs.Commands.{Command}
-use Rattle.wg_types.specs.declared.commands.CommandOf.TheVariants.{BeginComputePass, BeginRenderPass, CopyBufferToBuffer, CopyBufferToTexture, CopyTextureToBuffer, CopyTextureToTexture, ClearBuffer, SetBindGroup, Dispatch, DispatchIndirect, SetVertexBuffer, SetIndexBuffer, DrawIndirect, DrawIndexedIndirect}
+use Rattle.wg_types.specs.declared.commands.CommandOf.TheVariants.{BeginComputePass, BeginRenderPass, CopyBufferToBuffer, CopyBufferToTexture, CopyTextureToBuffer, CopyTextureToTexture, ClearBuffer, ResolveQuerySet, SetBindGroup, Dispatch, DispatchIndirect, SetVertexBuffer, SetIndexBuffer, DrawIndirect, DrawIndexedIndirect, BeginOcclusionQuery, BeginOcclusionQuery}
 use Rattle.wg_types.specs.declared.mappings.Mapping.{Mapping}
 use Rattle.wg_types.specs.declared.mappings.MapMode.{MapMode}
 use Rattle.wg_types.specs.declared.mappings.MapMode.TheVariants.{Read as ReadMode, Write as WriteMode}
@@ -19,10 +19,10 @@ use Rattle.wg_orders.specs.Steps.{Step, StepPlace}
 use Rattle.wg_model.specs.Formats.{texel_to}
 use Rattle.wg_model.specs.Subresources.{copied_cells, has_no_texel}
 use Rattle.wg_model.specs.TexelCopies.{whole_spot}
-use Rattle.wg_model.specs.Commands.{texture_of}
+use Rattle.wg_model.specs.Commands.{texture_of, query_bytes}
 use Rattle.wg_model.specs.Walk.{Kept, PassSoFar, open_pass, is_open, pass_does, does_within, does_at, doings, deeds, verdict}
 use Rattle.wg_model.specs.Commands.{size_or_rest}
-use Rattle.wg_model.specs.Touches.{Touch, Doing, deed_of, placed, touching, step_of, read_cells, written_cells, bytes_at, target_kind, copied_to, copied_from, layout_bytes, range_touches, buffer_to_buffer_touches, buffer_to_texture_touches, texture_to_buffer_touches, texture_to_texture_touches, unless, encoder_does}
+use Rattle.wg_model.specs.Touches.{Touch, Doing, deed_of, placed, touching, step_of, read_cells, written_cells, bytes_at, target_kind, copied_to, copied_from, layout_bytes, range_touches, buffer_to_buffer_touches, buffer_to_texture_touches, texture_to_buffer_touches, texture_to_texture_touches, unless, encoder_does, resolve_set_touches}
 use Rattle.wg_types.specs.declared.groups.GroupLayoutInfo.{GroupLayoutInfo}
 use Rattle.wg_types.specs.declared.bindings.BufferBinding.{BufferBinding}
 use Rattle.wg_types.specs.declared.bindings.BufferBinding.TheVariants.{Uniform, Storage, ReadOnlyStorage}
@@ -38,6 +38,7 @@ use Rattle.wg_model.specs.Settings.{Settings, settings, layouts_set, indirect_to
 use Rattle.wg_model.specs.Compute.{compute_does, dispatch_touches}
 use Rattle.wg_model.specs.Attachments.{RenderBegin, ColorTarget, DepthTarget, view_parts, attach_kind, attached, attachment_usage, resolve_touches, color_touches, aspect_how, depth_how, run_aspect, depth_touch, depth_touches, targets_touches}
 use Rattle.wg_model.specs.Render.{RenderSet, render_set, render_touches, command_touches, bound_group_touches, render_does, render_does_by}
+use Rattle.wg_model.specs.Queries.{set_of_pass, query_begun_touches}
 use Rattle.wg_types.specs.Handles.{HandleValue}
 use Rattle.wg_types.specs.declared.parts.Aspect.{Aspect}
 use Rattle.wg_types.specs.declared.parts.Aspect.TheVariants as aspect
@@ -79,6 +80,9 @@ to_buffer_proper buffer layout texture info spot size = (λ e. refl, copied_from
 
 textures_proper : (source : ℕ) (from_info : TextureInfo) (from : TextureSpot) (target : ℕ) (to_info : TextureInfo) (to : TextureSpot) (size : List ℕ) → AreProper (texture_to_texture_touches source from_info from target to_info to size)
 textures_proper source from_info from target to_info to size = joined_proper (copied_from source from_info from size) (copied_to target to_info to size) (copied_from_proper source from_info from size) (copied_to_proper target to_info to size)
+
+resolved_proper : (queries first count buffer offset : ℕ) → AreProper (resolve_set_touches queries first count buffer offset)
+resolved_proper queries first count buffer offset = (λ e. absurd (cc), range_proper buffer offset (query_bytes * count))
 
 pub write_own : (place : StepPlace) (object offset size : ℕ) → IsOwnStep (write_buffer_step place object offset size)
 write_own place object offset size = touching_own place name.WriteBuffer (range_touches object offset size) refl (range_proper object offset size)
@@ -132,6 +136,7 @@ encoder_own (CopyBufferToTexture buffer layout texture spot size) = unless_own (
 encoder_own (CopyTextureToBuffer buffer layout texture spot size) = unless_own (has_no_texel size) _ (refl, to_buffer_proper buffer.reference.number layout texture.reference.number (texture_of texture) spot size)
 encoder_own (CopyTextureToTexture source source_mip source_origin target target_mip target_origin size) = unless_own (has_no_texel size) _ (refl, textures_proper source.reference.number (texture_of source) (whole_spot source_mip source_origin) target.reference.number (texture_of target) (whole_spot target_mip target_origin) size)
 encoder_own (ClearBuffer buffer offset size) = unless_own (size_or_rest buffer offset size == 0) _ (refl, range_proper buffer.reference.number offset (size_or_rest buffer offset size))
+encoder_own (ResolveQuerySet queries first count buffer offset) = unless_own (count == 0) _ (refl, resolved_proper queries.reference.number first count buffer.reference.number offset)
 encoder_own _ = tt
 
 -- What groups touch.
@@ -208,17 +213,22 @@ unfolding targets_touches
 targets_own begin = joined_proper (flat_map color_touches begin.colors) (depth_touches begin.depth) (colors_own begin.colors) (depth_own begin.depth)
 
 -- What render passes touch.
-command_own : (command : Command) → AreProper (command_touches command)
-command_own (SetBindGroup index group offsets) = joined_proper (bound_group_touches (Some (index, record { group = group; offsets = offsets }))) [] (places_own (set_places (Some (record { group = group; offsets = offsets })))) tt
-command_own (SetVertexBuffer slot buffer offset size) = (λ e. absurd (cc), tt)
-command_own (SetIndexBuffer buffer format offset size) = (λ e. absurd (cc), tt)
-command_own (DrawIndirect buffer offset) = (λ e. absurd (cc), tt)
-command_own (DrawIndexedIndirect buffer offset) = (λ e. absurd (cc), tt)
-command_own _ = tt
+query_own : (queries : Option (ℕ × ℕ)) (index : ℕ) → AreProper (query_begun_touches queries index)
+query_own None index = tt
+query_own (Some set) index = (λ e. refl, tt)
+
+command_own : (queries : Option (ℕ × ℕ)) (command : Command) → AreProper (command_touches queries command)
+command_own queries (SetBindGroup index group offsets) = joined_proper (bound_group_touches (Some (index, record { group = group; offsets = offsets }))) [] (places_own (set_places (Some (record { group = group; offsets = offsets })))) tt
+command_own queries (SetVertexBuffer slot buffer offset size) = (λ e. absurd (cc), tt)
+command_own queries (SetIndexBuffer buffer format offset size) = (λ e. absurd (cc), tt)
+command_own queries (DrawIndirect buffer offset) = (λ e. absurd (cc), tt)
+command_own queries (DrawIndexedIndirect buffer offset) = (λ e. absurd (cc), tt)
+command_own queries (BeginOcclusionQuery index) = query_own queries index
+command_own queries _ = tt
 
 touches_own : (begin : RenderBegin) (earlier : List Command) → AreProper (render_touches begin earlier)
 touches_own begin [] = targets_own begin
-touches_own begin (command ∷ earlier) = joined_proper (render_touches begin earlier) (command_touches command) (touches_own begin earlier) (command_own command)
+touches_own begin (command ∷ earlier) = joined_proper (render_touches begin earlier) (command_touches (set_of_pass begin.queries) command) (touches_own begin earlier) (command_own (set_of_pass begin.queries) command)
 
 render_own : (render : RenderSet) (b : Bracket) → AreProper render.touches → AreOwn (option_to_list (render_does_by render b))
 render_own render brackets.EndPass proper = ((refl, proper), tt)

@@ -1,9 +1,10 @@
 -- What is set after one more command.
-use Rattle.std.proofs.Common.{◌≡◌, ◌∙◌, List, ◌∷◌, ◌++◌, [], Option, None, ℕ, refl, ap, append-nil}
+use Rattle.std.proofs.Common.{◌≡◌, ◌∙◌, List, ◌∷◌, ◌++◌, [], Option, Some, None, ℕ, true, false, refl, ap, sym, append-nil}
 use Rattle.wg_types.specs.Commands.{Command}
 use Rattle.wg_types.specs.declared.commands.BoundGroup.{BoundGroup}
-use Rattle.wg_types.specs.declared.commands.CommandOf.TheVariants.{End}
+use Rattle.wg_types.specs.declared.commands.CommandOf.TheVariants.{End, BeginOcclusionQuery, EndOcclusionQuery}
 use Rattle.wg_model.specs.Touches.{Touch}
+use Rattle.wg_model.specs.Queries.{Occlusion, query_written, query_begun_touches}
 use Rattle.wg_model.specs.Attachments.{RenderBegin}
 use Rattle.wg_model.specs.Render.{RenderSet, render_set}
 use Rattle.wg_compute.proofs.Slots.{slots_unset}
@@ -14,12 +15,37 @@ use Rattle.wg_render.specs.After.{render_after}
 pub render_grows : (begin : RenderBegin) (earlier : List Command) (command : Command) → render_after (render_set begin earlier) command ≡ render_set begin (command ∷ earlier)
 render_grows begin earlier command = refl
 
-abbrev changed : RenderSet → List (Option BoundGroup) → List (Option ℕ) → List Touch → RenderSet
-changed render groups ranges touches = record render { set = record render.set { groups = groups }; ranges = ranges; touches = touches }
+abbrev changed : RenderSet → List (Option BoundGroup) → List (Option ℕ) → Occlusion → List Touch → RenderSet
+changed render groups ranges occlusion touches = record render { set = record render.set { groups = groups }; ranges = ranges; occlusion = occlusion; touches = touches }
+
+-- What puts nothing into a slot leaves the slots.
+unset : (render : RenderSet) (occlusion : Occlusion) (touches : List Touch) → changed render (slots_after None 0 render.set.groups) (slots_after None 0 render.ranges) occlusion touches ≡ record render { occlusion = occlusion; touches = touches }
+unset render occlusion touches =
+    ap (λ groups. changed render groups (slots_after None 0 render.ranges) occlusion touches) (slots_unset 0 render.set.groups)
+    ∙ ap (λ ranges. changed render render.set.groups ranges occlusion touches) (slots_unset 0 render.ranges)
 
 -- An end sets nothing and touches nothing of its own.
 pub after_end : (render : RenderSet) → render_after render End ≡ render
-after_end render =
-    ap (λ groups. changed render groups (slots_after None 0 render.ranges) (render.touches ++ [])) (slots_unset 0 render.set.groups)
-    ∙ (ap (λ ranges. changed render render.set.groups ranges (render.touches ++ [])) (slots_unset 0 render.ranges)
-    ∙ ap (changed render render.set.groups render.ranges) (append-nil render.touches))
+after_end render = unset render render.occlusion (render.touches ++ []) ∙ ap (λ touches. record render { touches = touches }) (append-nil render.touches)
+
+-- The end of a query ends it, and nothing else.
+pub after_query_ended : (render : RenderSet) → render_after render EndOcclusionQuery ≡ record render { occlusion = record render.occlusion { active = false } }
+after_query_ended render =
+    unset render (record render.occlusion { active = false }) (render.touches ++ [])
+    ∙ ap (λ touches. record render { occlusion = record render.occlusion { active = false }; touches = touches }) (append-nil render.touches)
+
+abbrev begun : RenderSet → ℕ → List Touch → RenderSet
+begun render index touches = record render { occlusion = record { begun = render.occlusion.begun ++ index ∷ []; active = true }; touches = touches }
+
+-- The begin of a query begins it, and writes it in the query set of the pass, if there is one.
+pub after_begun : (known render : RenderSet) (set : ℕ × ℕ) (index : ℕ) → known ≡ render → known.queries ≡ Some set → begun known index (known.touches ++ query_written set.0 index ∷ []) ≡ render_after render (BeginOcclusionQuery index)
+after_begun known render set index same e =
+    ap (λ queries. begun known index (known.touches ++ query_begun_touches queries index)) (sym e)
+    ∙ (sym (unset known (record { begun = known.occlusion.begun ++ index ∷ []; active = true }) (known.touches ++ query_begun_touches known.queries index))
+    ∙ ap (λ r. render_after r (BeginOcclusionQuery index)) same)
+
+pub after_none_begun : (render : RenderSet) (index : ℕ) → render.queries ≡ None → render_after render (BeginOcclusionQuery index) ≡ begun render index render.touches
+after_none_begun render index e =
+    unset render (record { begun = render.occlusion.begun ++ index ∷ []; active = true }) (render.touches ++ query_begun_touches render.queries index)
+    ∙ (ap (λ queries. begun render index (render.touches ++ query_begun_touches queries index)) e
+    ∙ ap (begun render index) (append-nil render.touches))

@@ -2,8 +2,17 @@
 use Rattle.std.specs.Prelude.{◌++◌}
 use Rattle.std.specs.Option.{option_or}
 use Rattle.wg_types.specs.Commands.{Command}
+use Rattle.wg_model.specs.Queries.{Occlusion, occlusion_call, begun_after, active_after}
 use Rattle.wg_model.specs.Render.{RenderSet, vertex_given, index_given, command_touches}
 use Rattle.wg_compute.specs.After.{slots_after, settings_after}
+
+-- the queries of the pass after one more command
+abbrev pub occlusion_after : Occlusion → Command → Occlusion
+occlusion_after queries command =
+    record {
+      begun = begun_after queries.begun (occlusion_call command);
+      active = active_after queries.active (occlusion_call command);
+    }
 
 -- what is set after one more command
 abbrev pub render_after : RenderSet → Command → RenderSet
@@ -13,5 +22,7 @@ render_after render command =
       ranges = slots_after (vertex_given command) 0 render.ranges;
       index = option_or (index_given command) render.index;
       targets = render.targets;
-      touches = render.touches ++ command_touches command;
+      queries = render.queries;
+      occlusion = occlusion_after render.occlusion command;
+      touches = render.touches ++ command_touches render.queries command;
     }

@@ -6,6 +6,7 @@ mod attachments;
 mod draws;
 mod given;
 mod pipelines;
+mod queries;
 mod state;
 mod targets;
 mod touches;

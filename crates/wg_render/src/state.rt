@@ -2,7 +2,9 @@
 ghost use Rattle.std.specs.Prelude.{◌≡◌, ◌+◌, IfOk, OnOk, OnErr};
 ghost use Rattle.std.specs.Option.{option_or};
 ghost use Rattle.wg_model.specs.Rules.{first_unmet};
+ghost use Rattle.wg_types.specs.declared.commands.CommandOf.TheVariants.{BeginOcclusionQuery};
 ghost use Rattle.wg_model.specs.Vertex.{draw_fits};
+ghost use Rattle.wg_model.specs.Queries.{occlusion_call, occlusion_rules};
 ghost use Rattle.wg_model.specs.Render.{buffers_wanted, are_set, draw_rules, draw_indexed_rules, draw_indirect_rules, draw_indexed_indirect_rules, drawing_rules, render_rules, render_does};
 ghost use Rattle.wg_access.specs.Done.{done_by_pass};
 ghost use Rattle.wg_compute.specs.After.{slots_after};
@@ -11,14 +13,16 @@ ghost use Rattle.wg_render.specs.After.{render_after};
 use crate::draws::{MOST_SLOTS, are_set, check_index, check_vertex, indices_fit};
 use crate::given::{index_given, vertex_given};
 use crate::pipelines::{buffers_wanted, check_pipeline};
+use crate::queries::{check_pass_end, count_given, set_of_pass};
 use crate::targets::{targets_of, targets_touches};
-use crate::touches::{DRAW_BYTES, DRAW_INDEXED_BYTES, command_touches};
+use crate::touches::{DRAW_BYTES, DRAW_INDEXED_BYTES, command_touches, query_written};
 use crate::views::RenderBegin;
 use std::alloc::Global;
 use std::marker::Model;
 use wg_access::Done;
 use wg_compute::{Settings, check_end, check_given, check_group, check_indirect, pipeline_given};
 use wg_formats::size_or_rest;
+use wg_queries::Occlusion;
 use wg_types::NoMemory;
 use wg_types::commands::Command;
 use wg_types::handles::Handle;
@@ -27,13 +31,16 @@ use wg_types::steps::{StepName, Touch};
 use wg_types::vertex::IndexFormat;
 
 /// What is set in a render pass: what is set in any pass, the sizes of the ranges that are set as vertex
-/// buffers by slot, and the index buffer; to what the pass draws, and what it touches so far.
+/// buffers by slot, and the index buffer; to what the pass draws, the number of its query set and how many
+/// queries that has, if the pass has one, and the queries of it; and what the pass touches so far.
 #[derive(Drop)]
 pub struct RenderState {
     set: Settings,
     ranges: [Option<u64>; 8],
     index: Option<(IndexFormat, u64)>,
     targets: TargetInfo,
+    queries: Option<(u64, u32)>,
+    occlusion: Occlusion,
     touches: Vec<Touch>,
 }
 
@@ -43,7 +50,7 @@ impl Model for RenderState {
 
     ghost Value = { RenderSet };
 
-    ghost view = { λ s. record { set = s.set; ranges = s.ranges; index = s.index; targets = s.targets; touches = s.touches.items } };
+    ghost view = { λ s. record { set = s.set; ranges = s.ranges; index = s.index; targets = s.targets; queries = s.queries; occlusion = s.occlusion; touches = s.touches.items } };
 
     ghost invariant = { λ s. length s.ranges ≡ 8 };
 }
@@ -52,7 +59,7 @@ impl RenderState {
     ghost use Rattle.wg_model.specs.Render.{render_set};
     ghost use Rattle.std.specs.Prelude.{[]};
 
-    /// Nothing is set but the attachments.
+    /// Nothing is set but the attachments and the query set, and no query was begun.
     pub fn new(alloc: Global, begin: &RenderBegin) -> Result<RenderState, NoMemory>
         ensures { IfOk result (λ state. state ≡ render_set begin.now []) }
     {
@@ -63,6 +70,8 @@ impl RenderState {
             ranges: [None; 8],
             index: None,
             targets,
+            queries: set_of_pass(&begin.queries),
+            occlusion: Occlusion::new(alloc),
             touches: touches.into_vec(),
         })
     }
@@ -169,7 +178,22 @@ impl RenderState {
         None
     }
 
-    /// The first unmet rule of what draws, or sets a vertex buffer or the index buffer.
+    /// The first unmet rule of what begins or ends a query.
+    fn query_rule(&self, command: &Command) -> Option<u16>
+        ensures { result ≡ first_unmet (occlusion_rules self.now.queries self.now.occlusion (occlusion_call command.now)) }
+    {
+        match command {
+            Command::BeginOcclusionQuery { index } => {
+                let count = count_given(self.queries);
+                self.occlusion.check_begin(count, *index)
+            }
+            Command::EndOcclusionQuery => self.occlusion.check_end(),
+            _ => None,
+        }
+    }
+
+    /// The first unmet rule of what draws, sets a vertex buffer or the index buffer, or begins or ends a
+    /// query.
     fn drawing_rule(&self, command: &Command) -> Option<u16>
         ensures { result ≡ first_unmet (drawing_rules self.now command.now) }
     {
@@ -207,7 +231,7 @@ impl RenderState {
             Command::DrawIndexedIndirect { buffer, offset } => {
                 self.check_draw_indexed_indirect(buffer, *offset)
             }
-            _ => None,
+            _ => self.query_rule(command),
         }
     }
 
@@ -221,6 +245,9 @@ impl RenderState {
             return Some(rule);
         }
         if let Some(rule) = check_end(self.set.depth(), command) {
+            return Some(rule);
+        }
+        if let Some(rule) = check_pass_end(self.occlusion.is_active(), command) {
             return Some(rule);
         }
         if let Some(rule) = check_pipeline(&self.targets, pipeline_given(command)) {
@@ -252,12 +279,12 @@ impl RenderState {
         }
     }
 
-    /// Takes what a command sets, and adds what it touches.
+    /// Takes what a command sets, and adds what it touches; the queries stay.
     fn add(&mut self, alloc: Global, command: &Command) -> Result<(), NoMemory>
-        ensures set { OnOk result (self.new ≡ render_after self.old command.now) }
+        ensures set { OnOk result (self.new ≡ record (render_after self.old command.now) { occlusion = self.old.occlusion }) }
         ensures unchanged { OnErr result (self.new ≡ self.old) }
     {
-        let more = command_touches(alloc, command)?;
+        let more = command_touches(alloc, self.queries, command)?;
         let more = more.as_slice();
         self.touches.reserve(more.len())?;
         self.set.take(command)?;
@@ -268,10 +295,26 @@ impl RenderState {
         Ok(())
     }
 
+    /// Takes the begin of a query, which is written.
+    #[tactic(auto, using(crate::proofs::Grown::after_none_begun))]
+    fn add_query(&mut self, index: u32) -> Result<(), NoMemory>
+        ensures set { OnOk result (self.new ≡ render_after self.old (BeginOcclusionQuery index)) }
+        ensures unchanged { OnErr result (self.new ≡ self.old) }
+    {
+        let Some((object, _)) = self.queries else {
+            return self.occlusion.note_begun(index);
+        };
+        let touch = query_written(object, index)?;
+        self.touches.reserve(1)?;
+        self.occlusion.note_begun(index)?;
+        self.touches.push_reserved(touch);
+        Ok(())
+    }
+
     /// Takes a command no rule of which is unmet, and adds the step of the whole pass to what is done
     /// where the command ends it. Ranges that end past every number, which such commands don't have, are
     /// answered as want of memory.
-    #[tactic(auto, unfolding(wg_model::specs::Render::render_does), using(crate::proofs::Grown::after_end))]
+    #[tactic(auto, unfolding(wg_model::specs::Render::render_does), using(crate::proofs::Grown::after_end, crate::proofs::Grown::after_query_ended))]
     pub fn take(
         &mut self,
         done: &mut Done,
@@ -286,6 +329,11 @@ impl RenderState {
         match command {
             Command::End => {
                 return done.add(alloc, StepName::RenderPass, self.touches.as_slice());
+            }
+            Command::BeginOcclusionQuery { index } => return self.add_query(*index),
+            Command::EndOcclusionQuery => {
+                self.occlusion.note_ended();
+                return Ok(());
             }
             _ => return self.add(alloc, command),
         }

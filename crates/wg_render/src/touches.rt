@@ -1,6 +1,7 @@
 //! What the commands of render passes touch.
 ghost use Rattle.std.specs.Prelude.{◌≡◌, ◌++◌, Some, IfOk, OnOk};
 ghost use Rattle.wg_model.specs.Commands.{size_or_rest};
+ghost use Rattle.wg_model.specs.Queries.{occlusion_call, query_written, query_touches};
 ghost use Rattle.wg_model.specs.Render.{bound_group_touches, input_touch, input_touches, command_touches};
 
 use std::alloc::Global;
@@ -11,7 +12,9 @@ use wg_types::NoMemory;
 use wg_types::commands::{BoundGroup, Command};
 use wg_types::handles::Handle;
 use wg_types::items::Items;
+use wg_types::parts::{Cells, Kind};
 use wg_types::steps::{Touch, Touches};
+use wg_types::usages::Usages;
 
 /// How many bytes an indirect draw reads.
 pub const DRAW_BYTES: u64 = 16;
@@ -69,15 +72,57 @@ fn push_inputs(touches: &mut Touches, command: &Command) -> Result<(), NoMemory>
     Ok(())
 }
 
-/// What a command touches: all that is set counts, drawn or not (WebGPU, "Resource Usages"). Ranges that
-/// end past every number, which no command has whose rules are met, are answered as want of memory.
-pub fn command_touches(alloc: Global, command: &Command) -> Result<Touches, NoMemory>
-    ensures { IfOk result (λ touches. touches ≡ command_touches command.now) }
+/// A query that is begun, which is written. There is no set with one whose index is the last number, and
+/// that is answered as want of memory.
+pub fn query_written(object: u64, index: u32) -> Result<Touch, NoMemory>
+    ensures { IfOk result (λ touch. touch ≡ query_written object index) }
+{
+    match index.checked_add(1) {
+        Some(hi) => {
+            let cells = Cells::Queries {
+                object,
+                lo: index,
+                hi,
+            };
+            return Ok((cells, (Usages::QUERY_WRITE, Kind::Write)));
+        }
+        None => return Err(NoMemory),
+    }
+}
+
+/// Adds the query that a command begins, of the query set of its pass.
+fn push_query(
+    touches: &mut Touches,
+    queries: Option<(u64, u32)>,
+    command: &Command,
+) -> Result<(), NoMemory>
+    ensures { OnOk result (touches.new ≡ touches.old ++ query_touches queries (occlusion_call command.now)) }
+{
+    let Command::BeginOcclusionQuery { index } = command else {
+        return Ok(());
+    };
+    let Some((object, _)) = queries else {
+        return Ok(());
+    };
+    touches.push(query_written(object, *index)?)?;
+    Ok(())
+}
+
+/// What a command touches in a pass that has this query set, or none: all that is set counts, drawn or
+/// not (WebGPU, "Resource Usages"). Ranges that end past every number, which no command has whose rules
+/// are met, are answered as want of memory.
+pub fn command_touches(
+    alloc: Global,
+    queries: Option<(u64, u32)>,
+    command: &Command,
+) -> Result<Touches, NoMemory>
+    ensures { IfOk result (λ touches. touches ≡ command_touches queries command.now) }
 {
     let mut touches = match group_given(command) {
         Some(given) => group_touches(alloc, &given)?,
         None => Items::new(alloc),
     };
     push_inputs(&mut touches, command)?;
+    push_query(&mut touches, queries, command)?;
     Ok(touches)
 }

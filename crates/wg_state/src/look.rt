@@ -1,8 +1,8 @@
 //! What a history says of its objects.
-ghost use Rattle.std.specs.Prelude.{◌≡◌, ◌≤◌, ◌==◌, reverse, option_copied, length, is_some, IfSome, Some, None, not, true, false, ◌&&◌, if◌then◌else◌};
+ghost use Rattle.std.specs.Prelude.{◌≡◌, ◌==◌, reverse, option_copied, is_some, IfSome, Some, None, false, if◌then◌else◌};
 ghost use Rattle.std.specs.Option.{option_map_or};
 ghost use Rattle.wg_history.specs.Infos.{same_kind, same_info};
-ghost use Rattle.wg_history.specs.Objects.{info_at, buffer_at, texture_at, texture_or_none_at, commands_at, deeds_at, is_valid, is_own, is_any, is_buffer, is_texture_info, is_encoder, is_command_buffer, has_memory};
+ghost use Rattle.wg_history.specs.Objects.{info_at, buffer_at, texture_at, texture_or_none_at, commands_at, deeds_at, is_own, is_any, is_buffer, is_texture_info, is_encoder, is_command_buffer, has_memory};
 ghost use Rattle.wg_history.specs.Rules.{is_genuine};
 ghost use Rattle.wg_types.specs.Wanted.{admits};
 ghost use Rattle.wg_types.specs.Kinds.{kind_of};

@@ -1,15 +1,14 @@
 //! What an entry says of how buffers are mapped.
-ghost use Rattle.std.specs.Prelude.{◌≡◌, ◌+◌, ◌<◌, ◌≤◌, ◌^◌, nat_le, length, reverse, true, false, [], Some, unwrap_or};
+ghost use Rattle.std.specs.Prelude.{◌≡◌, ◌+◌, ◌<◌, ◌≤◌, nat_le, reverse, true, false, [], Some, unwrap_or};
 ghost use Rattle.wg_model.specs.Commands.{no_buffer};
 ghost use Rattle.wg_history.specs.Entries.{effects_of};
-ghost use Rattle.wg_history.specs.Objects.{count, buffer_at, made_info};
+ghost use Rattle.wg_history.specs.Objects.{buffer_at, made_info};
 ghost use Rattle.wg_history.specs.Operations.{last_use};
 ghost use Rattle.wg_history.specs.Loss.{asked_mapping};
 ghost use Rattle.wg_history.specs.Rules.{mapped_with, is_mapped_how};
 ghost use Rattle.wg_life.specs.Lives.{row_at};
-ghost use Rattle.wg_maps.specs.Mappings.{state_of};
 ghost use Rattle.wg_state.specs.Rows.{AreDropsOf};
-ghost use Rattle.wg_state.specs.Mapped.{is_mapping, made_in, keeps_map, with_asked_map, with_completed_maps, unmapped_by, unmapped_in, lost_in, maps_after, FitsIn, IsFree};
+ghost use Rattle.wg_state.specs.Mapped.{is_mapping, made_in, with_asked_map, with_completed_maps, unmapped_by, unmapped_in, lost_in, maps_after, FitsIn, IsFree};
 
 use crate::book::Book;
 use crate::infos::as_buffer;

@@ -2,11 +2,11 @@
 ghost use Rattle.std.specs.Prelude.{◌≡◌, ◌+◌, ◌≤◌, ◌<◌, ◌==◌, reverse, length, false, is_some, IfSome};
 ghost use Rattle.std.specs.List.{list_any};
 ghost use Rattle.wg_history.specs.Objects.{count, is_making};
-ghost use Rattle.wg_history.specs.Operations.{op_of, is_used, use_by};
+ghost use Rattle.wg_history.specs.Operations.{op_of, use_by};
 ghost use Rattle.wg_history.specs.Rules.{destroys, ends_encoder};
 ghost use Rattle.wg_holders.specs.Holders.{mark_at, with_ended, with_consumed, Marks};
 ghost use Rattle.wg_life.specs.Lives.{with_destroyed, with_last, with_use, Notes};
-ghost use Rattle.wg_state.specs.Rows.{noted, marked, drop_marked, is_listed_as, some_listed_as, is_at, AreUsed, AreDropsOf, CanAdd, links_of, grown, grown_holdings, destroyed_by, dropped_by, ended_by};
+ghost use Rattle.wg_state.specs.Rows.{noted, marked, drop_marked, is_listed_as, some_listed_as, AreUsed, AreDropsOf, CanAdd, links_of, grown, grown_holdings, destroyed_by, dropped_by, ended_by};
 
 use crate::book::Book;
 use crate::look;

@@ -114,6 +114,7 @@ impl Gather<Handle, Used> for Resources {
         match wanted {
             Wanted::Buffer => push_used(found, object, Sort::Buffer),
             Wanted::Texture => push_used(found, object, Sort::Texture),
+            Wanted::Queries => push_used(found, object, Sort::Queries),
             Wanted::View => push_view(found, object),
             Wanted::Group => push_group(found, object),
             Wanted::Sampler
@@ -126,6 +127,7 @@ impl Gather<Handle, Used> for Resources {
             | Wanted::Encoder
             | Wanted::CommandBuffer
             | Wanted::ComputePass
+            | Wanted::RenderPass
             | Wanted::Pass
             | Wanted::Binding
             | Wanted::Drawing

@@ -109,3 +109,27 @@ fn a_dispatch_has_a_usage_scope(rt: HostRuntime) {
     let clash = Part::Buffer { object: 7 };
     assert!(rt; dispatched(rt.alloc()) == Ok((Some(clash), 1)));
 }
+
+/// The clash of a render pass that uses a buffer as a constant and as this too, and writes a query of a set.
+fn queried(alloc: Global, usage: Usages) -> Result<Option<Part>, NoMemory> {
+    let query = Cells::Queries {
+        object: 5,
+        lo: 2,
+        hi: 3,
+    };
+    let touches = [
+        (bytes(7, 0, 16), (Usages::CONSTANT, Kind::Read)),
+        (query, (Usages::QUERY_WRITE, Kind::Write)),
+        (bytes(7, 16, 32), (usage, Kind::Read)),
+    ];
+    let mut done = Done::new(alloc);
+    done.add(alloc, StepName::RenderPass, touches.as_slice())?;
+    Ok(done.clash)
+}
+
+#[test]
+fn a_usage_scope_has_no_query_set(rt: HostRuntime) {
+    let clash = Part::Buffer { object: 7 };
+    assert!(rt; queried(rt.alloc(), Usages::INPUT) == Ok(None));
+    assert!(rt; queried(rt.alloc(), Usages::STORAGE) == Ok(Some(clash)));
+}

@@ -91,16 +91,16 @@ bracket (BeginOcclusionQuery index) = brackets.Neither
 bracket EndOcclusionQuery = brackets.Neither
 
 -- the kind of the pass that a command begins, if it begins one
-abbrev pub kind_begin_in : Bracket → Option Kind
-kind_begin_in brackets.BeginComputePass = Some kind.ComputePass
-kind_begin_in brackets.BeginRenderPass = Some kind.RenderPass
-kind_begin_in brackets.EndPass = None
-kind_begin_in brackets.PushGroup = None
-kind_begin_in brackets.PopGroup = None
-kind_begin_in brackets.Neither = None
+abbrev pub kind_begun_by : Bracket → Option Kind
+kind_begun_by brackets.BeginComputePass = Some kind.ComputePass
+kind_begun_by brackets.BeginRenderPass = Some kind.RenderPass
+kind_begun_by brackets.EndPass = None
+kind_begun_by brackets.PushGroup = None
+kind_begun_by brackets.PopGroup = None
+kind_begun_by brackets.Neither = None
 
 abbrev pub kind_begun : {R : Type 0} → CommandOf R → Option Kind
-kind_begun command = kind_begin_in (bracket command)
+kind_begun command = kind_begun_by (bracket command)
 
 -- whether a command begins a pass
 abbrev pub begins_pass_by : Bracket → Bool

@@ -210,14 +210,7 @@ impl<R> CommandOf<R> {
             CommandOf::BeginOcclusionQuery { .. } | CommandOf::EndOcclusionQuery => {
                 Wanted::RenderPass
             }
-            CommandOf::BeginComputePass
-            | CommandOf::BeginRenderPass { .. }
-            | CommandOf::CopyBufferToBuffer { .. }
-            | CommandOf::CopyBufferToTexture { .. }
-            | CommandOf::CopyTextureToBuffer { .. }
-            | CommandOf::CopyTextureToTexture { .. }
-            | CommandOf::ClearBuffer { .. }
-            | CommandOf::ResolveQuerySet { .. } => Wanted::Encoder,
+            _ => Wanted::Encoder,
         }
     }
 
@@ -239,27 +232,10 @@ impl<R> CommandOf<R> {
         match self {
             CommandOf::BeginComputePass => Bracket::BeginComputePass,
             CommandOf::BeginRenderPass { .. } => Bracket::BeginRenderPass,
-            CommandOf::CopyBufferToBuffer { .. }
-            | CommandOf::CopyBufferToTexture { .. }
-            | CommandOf::CopyTextureToBuffer { .. }
-            | CommandOf::CopyTextureToTexture { .. }
-            | CommandOf::ClearBuffer { .. }
-            | CommandOf::ResolveQuerySet { .. }
-            | CommandOf::SetPipeline { .. }
-            | CommandOf::SetBindGroup { .. }
-            | CommandOf::Dispatch { .. }
-            | CommandOf::DispatchIndirect { .. }
-            | CommandOf::SetVertexBuffer { .. }
-            | CommandOf::SetIndexBuffer { .. }
-            | CommandOf::Draw { .. }
-            | CommandOf::DrawIndexed { .. }
-            | CommandOf::DrawIndirect { .. }
-            | CommandOf::DrawIndexedIndirect { .. }
-            | CommandOf::BeginOcclusionQuery { .. }
-            | CommandOf::EndOcclusionQuery => Bracket::Neither,
             CommandOf::PushDebugGroup => Bracket::PushGroup,
             CommandOf::PopDebugGroup => Bracket::PopGroup,
             CommandOf::End => Bracket::EndPass,
+            _ => Bracket::Neither,
         }
     }
 
@@ -332,15 +308,7 @@ impl<R> CommandOf<R> {
             } => refs::two(asked, (queries, Wanted::Queries), (buffer, Wanted::Buffer)),
             CommandOf::SetPipeline { pipeline } => asked.ask(pipeline, Wanted::Pipeline),
             CommandOf::SetBindGroup { group, .. } => asked.ask(group, Wanted::Group),
-            CommandOf::BeginComputePass
-            | CommandOf::PushDebugGroup
-            | CommandOf::PopDebugGroup
-            | CommandOf::End
-            | CommandOf::Dispatch { .. }
-            | CommandOf::Draw { .. }
-            | CommandOf::DrawIndexed { .. }
-            | CommandOf::BeginOcclusionQuery { .. }
-            | CommandOf::EndOcclusionQuery => None,
+            _ => None,
         }
     }
 
@@ -418,15 +386,7 @@ impl<R> CommandOf<R> {
             CommandOf::SetBindGroup { group, .. } => {
                 refs::gather_one(gather, found, group, Wanted::Group)
             }
-            CommandOf::BeginComputePass
-            | CommandOf::PushDebugGroup
-            | CommandOf::PopDebugGroup
-            | CommandOf::End
-            | CommandOf::Dispatch { .. }
-            | CommandOf::Draw { .. }
-            | CommandOf::DrawIndexed { .. }
-            | CommandOf::BeginOcclusionQuery { .. }
-            | CommandOf::EndOcclusionQuery => Ok(()),
+            _ => Ok(()),
         }
     }
 

@@ -116,18 +116,7 @@ impl<R> RequestOf<R> {
             RequestOf::CreateQuerySet { .. } => Some(Kind::Queries),
             RequestOf::CreateEncoder => Some(Kind::Encoder),
             RequestOf::Finish { .. } => Some(Kind::CommandBuffer),
-            RequestOf::Submit { .. }
-            | RequestOf::WriteBuffer { .. }
-            | RequestOf::WriteTexture { .. }
-            | RequestOf::Destroy { .. }
-            | RequestOf::Drop { .. }
-            | RequestOf::Complete { .. }
-            | RequestOf::PushErrorScope { .. }
-            | RequestOf::PopErrorScope
-            | RequestOf::Lose
-            | RequestOf::WorkDone
-            | RequestOf::MapAsync { .. }
-            | RequestOf::Unmap { .. } => None,
+            _ => None,
         }
     }
 
@@ -160,17 +149,7 @@ impl<R> RequestOf<R> {
             RequestOf::WriteTexture { texture, .. } => asked.ask(texture, Wanted::Texture),
             RequestOf::Destroy { object } => asked.ask(object, Wanted::Destroyable),
             RequestOf::Drop { object } => asked.ask(object, Wanted::Object),
-            RequestOf::CreateBuffer { .. }
-            | RequestOf::CreateTexture { .. }
-            | RequestOf::CreateSampler { .. }
-            | RequestOf::CreateBindGroupLayout { .. }
-            | RequestOf::CreateQuerySet { .. }
-            | RequestOf::CreateEncoder
-            | RequestOf::Complete { .. }
-            | RequestOf::PushErrorScope { .. }
-            | RequestOf::PopErrorScope
-            | RequestOf::Lose
-            | RequestOf::WorkDone => None,
+            _ => None,
         }
     }
 
