@@ -94,7 +94,7 @@ def of_call(random, top, calls):
     if at is not None:
         call = dict(calls[at])
         calls[at] = call
-        if random.random() < 0.12:
+        if random.random() < 0.18:
             calls[at] = random.choice([automatic, sliced])(random, call)
             return top
         if random.random() < 0.8 and spoil_object(random, call):
