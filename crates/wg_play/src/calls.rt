@@ -67,6 +67,7 @@ pub fn ended_by(request: &RequestOf<u32>) -> Option<u32>
         | RequestOf::CreateBindGroup { .. }
         | RequestOf::CreateComputePipeline { .. }
         | RequestOf::CreateRenderPipeline { .. }
+        | RequestOf::CreateQuerySet { .. }
         | RequestOf::CreateEncoder
         | RequestOf::Submit { .. }
         | RequestOf::WriteBuffer { .. }
