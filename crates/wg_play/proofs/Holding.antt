@@ -7,7 +7,7 @@ use Rattle.std.proofs.lemmas.List.{append-nil, length-append}
 use Rattle.std.proofs.lemmas.List.Elements.{All-head, All-tail, Contains-append_cases}
 use Rattle.wg_types.specs.Handles.{HandleValue}
 use Rattle.wg_types.specs.Kinds.{kind_of}
-use Rattle.wg_types.specs.Commands.{Command, bracket, kind_begin_in, kind_begun}
+use Rattle.wg_types.specs.Commands.{Command, bracket, kind_begun_by, kind_begun}
 use Rattle.wg_types.specs.declared.commands.Bracket.{Bracket}
 use Rattle.wg_types.specs.declared.commands.Bracket.TheVariants as brackets
 use Rattle.wg_types.specs.declared.commands.On.{On}
@@ -92,7 +92,7 @@ call_stands serial sight (Ask request made) answer place k was =
 
 -- ---- what a call makes
 
-pass_kind : (b : Bracket) (k : Kind) → kind_begin_in b ≡ Some k → is_pass k ≡ true
+pass_kind : (b : Bracket) (k : Kind) → kind_begun_by b ≡ Some k → is_pass k ≡ true
 pass_kind brackets.BeginComputePass k e = let same : kinds.ComputePass ≡ k = cc (e) in ap is_pass (sym same)
 pass_kind brackets.BeginRenderPass k e = let same : kinds.RenderPass ≡ k = cc (e) in ap is_pass (sym same)
 pass_kind brackets.EndPass k e = absurd (cc)

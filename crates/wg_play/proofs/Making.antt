@@ -16,7 +16,7 @@ use Rattle.wg_types.specs.declared.commands.On.TheVariants.{Encoder}
 use Rattle.wg_types.specs.declared.commands.Bracket.{Bracket}
 use Rattle.wg_types.specs.declared.commands.Bracket.TheVariants as brackets
 use Rattle.wg_types.specs.declared.commands.CommandOf.{CommandOf}
-use Rattle.wg_types.specs.Commands.{Command, map_refs, bracket, kind_begin_in, kind_begun, is_begin}
+use Rattle.wg_types.specs.Commands.{Command, map_refs, bracket, kind_begun_by, kind_begun, is_begin}
 use Rattle.wg_types.specs.Requests.{kind_made}
 use Rattle.wg_types.specs.declared.requests.RequestOf.{RequestOf}
 use Rattle.wg_types.specs.declared.requests.RequestOf.TheVariants.{CreateBuffer, CreateTexture, CreateView, CreateSampler, CreateBindGroupLayout, CreatePipelineLayout, CreateBindGroup, CreateComputePipeline, CreateRenderPipeline, CreateQuerySet, CreateEncoder, Finish, Submit, WriteBuffer, WriteTexture, Destroy, Drop, Complete, PushErrorScope, PopErrorScope, Lose, WorkDone, MapAsync, Unmap}
@@ -47,7 +47,7 @@ begun_length objects encoder command (Some slot) None e = rw e refl
 begun_length objects encoder command (Some slot) (Some k) e = rw e refl
 
 pub begun_mapped : (f : ℕ → HandleValue) (command : CommandOf ℕ) → kind_begun (map_refs f command) ≡ kind_begun command
-begun_mapped f command = ap kind_begin_in (bracket_mapped f command)
+begun_mapped f command = ap kind_begun_by (bracket_mapped f command)
 
 pub call_length : (serial : ℕ) (sight : Sight) (call : BoundCall) (answer : Answer) → Answers call answer
     → length (after_call serial sight (call, answer)).own ≡ length sight.own + length (made_by call)
@@ -101,7 +101,7 @@ pub same_kind : (slot on : ℕ) (found : Option Kind) (k : Kind) → made_as (So
 same_kind slot on None k e = absurd (cc)
 same_kind slot on (Some x) k e = let same : (slot, x) ≡ (on, k) = cc in ap (λ (m : ℕ × Kind). Some m.1) same
 
-pub no_encoder : (b : Bracket) (slot on : ℕ) → made_as (Some slot) (kind_begin_in b) ≡ Some (on, kind.Encoder) → ⊥
+pub no_encoder : (b : Bracket) (slot on : ℕ) → made_as (Some slot) (kind_begun_by b) ≡ Some (on, kind.Encoder) → ⊥
 no_encoder brackets.BeginComputePass slot on e = let same : Some kind.ComputePass ≡ Some kind.Encoder = same_kind slot on (Some kind.ComputePass) kind.Encoder e in cc
 no_encoder brackets.BeginRenderPass slot on e = let same : Some kind.RenderPass ≡ Some kind.Encoder = same_kind slot on (Some kind.RenderPass) kind.Encoder e in cc
 no_encoder brackets.EndPass slot on e = cc

@@ -9,7 +9,7 @@ use Rattle.wg_types.specs.declared.commands.Bracket.{Bracket}
 use Rattle.wg_types.specs.declared.commands.Bracket.TheVariants as brackets
 use Rattle.wg_types.specs.declared.commands.CommandOf.{CommandOf}
 use Rattle.wg_types.specs.declared.commands.CommandOf.TheVariants.{BeginComputePass, BeginRenderPass, CopyBufferToBuffer, CopyBufferToTexture, CopyTextureToBuffer, CopyTextureToTexture, ClearBuffer, ResolveQuerySet, PushDebugGroup, PopDebugGroup, End, SetPipeline, SetBindGroup, Dispatch, DispatchIndirect, SetVertexBuffer, SetIndexBuffer, Draw, DrawIndexed, DrawIndirect, DrawIndexedIndirect, BeginOcclusionQuery, EndOcclusionQuery}
-use Rattle.wg_types.specs.Commands.{map_refs, bracket, place_wanted, kind_begin_in, kind_begun, begins_pass_by}
+use Rattle.wg_types.specs.Commands.{map_refs, bracket, place_wanted, kind_begun_by, kind_begun, begins_pass_by}
 use Rattle.wg_names.specs.Uses.{wants_own}
 use Rattle.wg_names.proofs.BoundLemmas.{place_own}
 use Rattle.wg_play.specs.Found.{is_pass}
@@ -67,7 +67,7 @@ place_of_begin (DrawIndexedIndirect buffer offset) k e = absurd (cc)
 place_of_begin (BeginOcclusionQuery index) k e = absurd (cc)
 place_of_begin EndOcclusionQuery k e = absurd (cc)
 
-pub begins_by : (b : Bracket) (k : Kind) → kind_begin_in b ≡ Some k → begins_pass_by b ≡ true
+pub begins_by : (b : Bracket) (k : Kind) → kind_begun_by b ≡ Some k → begins_pass_by b ≡ true
 begins_by brackets.BeginComputePass k e = refl
 begins_by brackets.BeginRenderPass k e = refl
 begins_by brackets.EndPass k e = absurd (cc)
