@@ -51,7 +51,7 @@ pub emptied_after : {X : Type 0} (given : Option (ℕ × X)) (at : ℕ) (slots :
 emptied_after given at [] = refl
 emptied_after given at (slot ∷ slots) = ap (λ rest. None ∷ rest) (emptied_after given (at + 1) slots)
 
--- Nothing is in slots that are emptied.
+-- Nothing is in slots that are emptied, as in the four of the groups.
 pub all_emptied : {X : Type 0} (slots : List (Option X)) → emptied true slots ≡ replicate (length slots) None
 all_emptied [] = refl
 all_emptied (slot ∷ slots) = ap (λ rest. None ∷ rest) (all_emptied slots)
