@@ -32,12 +32,13 @@ GROUP_LAYOUTS = ("names", ("bind group layout",))
 PIPELINE_LAYOUT = ("name", ("pipeline layout",))
 GROUP = ("name", ("bind group",))
 PIPELINE = ("name", ("compute pipeline", "render pipeline"))
-RESOURCE = ("name", ("buffer", "texture"))
+QUERIES = ("name", ("query set",))
+RESOURCE = ("name", ("buffer", "texture", "query set"))
 OBJECT = (
     "name",
     (
         "buffer", "texture", "view", "sampler", "bind group layout", "pipeline layout", "bind group", "compute pipeline", "render pipeline",
-        "encoder", "command buffer",
+        "query set", "encoder", "command buffer",
     ),
 )
 COMMAND_BUFFERS = ("names", ("command buffer",))
@@ -159,6 +160,7 @@ CALLS = {
         ("layout", PIPELINE_LAYOUT, NEEDED), ("iface", RENDER_IFACE_ENTRIES, ()), ("buffers", VERTEX_BUFFERS, ()), ("targets", TARGETS, ()),
         ("depth", DEPTH_STATE, None), ("samples", WORD32, 1), AS,
     ],
+    "createQuerySet": [("count", WORD32, NEEDED), AS],
     "createEncoder": [AS],
     "finish": [ON, AS],
     "submit": [("buffers", COMMAND_BUFFERS, NEEDED)],
@@ -184,8 +186,12 @@ CALLS = {
         ("targetMip", WORD32, 0), ("targetOrigin", THREE, ORIGIN), ("size", THREE, NEEDED),
     ],
     "clearBuffer": [ON, ("buffer", BUFFER, NEEDED), ("offset", WHOLE, 0), ("size", WHOLE, None)],
+    "resolveQuerySet": [
+        ON, ("queries", QUERIES, NEEDED), ("first", WORD32, NEEDED), ("count", WORD32, NEEDED), ("buffer", BUFFER, NEEDED),
+        ("offset", WHOLE, NEEDED),
+    ],
     "beginComputePass": [ON, AS],
-    "beginRenderPass": [ON, ("colors", COLORS, NEEDED), ("depth", DEPTH, None), AS],
+    "beginRenderPass": [ON, ("colors", COLORS, NEEDED), ("depth", DEPTH, None), ("queries", QUERIES, None), AS],
     "setPipeline": [ON_PASS, ("pipeline", PIPELINE, NEEDED)],
     "setBindGroup": [ON_PASS, ("index", WORD32, NEEDED), ("group", GROUP, NEEDED), ("offsets", WORDS32, ())],
     "dispatch": [ON_COMPUTE, ("x", WORD32, NEEDED), ("y", WORD32, 1), ("z", WORD32, 1)],
@@ -202,22 +208,22 @@ CALLS = {
     ],
     "drawIndirect": [ON_RENDER, ("buffer", BUFFER, NEEDED), ("offset", WHOLE, NEEDED)],
     "drawIndexedIndirect": [ON_RENDER, ("buffer", BUFFER, NEEDED), ("offset", WHOLE, NEEDED)],
+    "beginOcclusionQuery": [ON_RENDER, ("index", WORD32, NEEDED)],
+    "endOcclusionQuery": [ON_RENDER],
     "end": [ON_PASS],
     "pushDebugGroup": [ON_EITHER],
     "popDebugGroup": [ON_EITHER],
 }
 
 # The calls that are known and not built yet.
-UNBUILT = set("""
-    createQuerySet createBundleEncoder finishBundle resolveQuerySet beginOcclusionQuery endOcclusionQuery executeBundles createCanvas
-    configureCanvas currentTexture present
-""".split())
+UNBUILT = set("createBundleEncoder finishBundle executeBundles createCanvas configureCanvas currentTexture present".split())
 
 # The calls that record a command on an encoder, or on a pass of it.
 RECORDING = {
-    "copyBufferToBuffer", "copyBufferToTexture", "copyTextureToBuffer", "copyTextureToTexture", "clearBuffer", "beginComputePass",
-    "beginRenderPass", "setPipeline", "setBindGroup", "dispatch", "dispatchIndirect", "setVertexBuffer", "setIndexBuffer", "draw",
-    "drawIndexed", "drawIndirect", "drawIndexedIndirect", "end", "pushDebugGroup", "popDebugGroup",
+    "copyBufferToBuffer", "copyBufferToTexture", "copyTextureToBuffer", "copyTextureToTexture", "clearBuffer", "resolveQuerySet",
+    "beginComputePass", "beginRenderPass", "setPipeline", "setBindGroup", "dispatch", "dispatchIndirect", "setVertexBuffer", "setIndexBuffer",
+    "draw", "drawIndexed", "drawIndirect", "drawIndexedIndirect", "beginOcclusionQuery", "endOcclusionQuery", "end", "pushDebugGroup",
+    "popDebugGroup",
 }
 BEGINS = {"beginComputePass", "beginRenderPass"}
 DISPATCHES = {"dispatch", "dispatchIndirect"}
@@ -234,9 +240,12 @@ WAITING = {"mapAsync", "workDone"}
 MADE = {
     "createBuffer": "buffer", "createTexture": "texture", "createView": "view", "createSampler": "sampler",
     "createBindGroupLayout": "bind group layout", "createPipelineLayout": "pipeline layout", "createBindGroup": "bind group",
-    "createComputePipeline": "compute pipeline", "createRenderPipeline": "render pipeline", "createEncoder": "encoder",
-    "finish": "command buffer",
+    "createComputePipeline": "compute pipeline", "createRenderPipeline": "render pipeline", "createQuerySet": "query set",
+    "createEncoder": "encoder", "finish": "command buffer",
 }
+
+# The calls whose objects take memory: they are destroyed and released.
+RESOURCES = {"createBuffer", "createTexture", "createQuerySet"}
 
 # What the name stands for that a call gives. A pass is no object.
 GIVEN = {**MADE, "beginComputePass": "compute pass", "beginRenderPass": "render pass"}

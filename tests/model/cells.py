@@ -1,23 +1,23 @@
 """Parts and cells, and what a step touches.
 
-A part is `("b", N)` or `("t", N, aspect, mip, layer)`. A cell is such a subresource, or a run of the bytes of a buffer,
-`("b", N, low, high)`. Aspects are kept by their place in the printed order, so that parts and cells are printed sorted. A touch
-is a cell, with the usage of its part and the kind of its access.
+A part is `("b", N)`, `("q", N)` or `("t", N, aspect, mip, layer)`. A cell is such a subresource, or a run of the bytes of a buffer
+or of the queries of a set, `("b", N, low, high)` or `("q", N, low, high)`. Aspects are kept by their place in the printed order, so that
+parts and cells are printed sorted. A touch is a cell, with the usage of its part and the kind of its access.
 """
 
 from . import formats
 
 
 def part_of(cell):
-    """A byte lies in its buffer, and a subresource is a part itself."""
-    return cell[:2] if cell[0] == "b" else cell
+    """A byte lies in its buffer, a query in its set, and a subresource is a part itself."""
+    return cell if cell[0] == "t" else cell[:2]
 
 
 def do_meet(one, other):
-    """Two cells have something in common: a byte, or they are one subresource."""
-    if one[0] == "b":
-        return one[:2] == other[:2] and one[2] < other[3] and other[2] < one[3]
-    return one == other
+    """Two cells have something in common: a byte or a query, or they are one subresource."""
+    if one[0] == "t":
+        return one == other
+    return one[:2] == other[:2] and one[2] < other[3] and other[2] < one[3]
 
 
 def in_buffer(buffer, offset, size, usage, kind):
@@ -31,7 +31,12 @@ def set_in_buffer(buffer, offset, size, usage, kind):
 
 
 def is_empty(cell):
-    return cell[0] == "b" and cell[2] == cell[3]
+    return cell[0] != "t" and cell[2] == cell[3]
+
+
+def in_queries(query_set, first, count, usage, kind):
+    """Some queries of a set, one after another; none are nothing."""
+    return [(("q", query_set.made, first, first + count), usage, kind)] if count > 0 else []
 
 
 def in_texture(texture, cells, usage, kind):

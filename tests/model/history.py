@@ -9,7 +9,7 @@ import collections
 from . import maps
 from . import passes
 from . import scopes
-from .calls import WAITING, name_keys, names_in
+from .calls import RESOURCES, WAITING, name_keys, names_in
 from .lives import Lives
 
 
@@ -56,7 +56,8 @@ class Played:
         return found
 
     def named(self):
-        """The objects that a command names, with their keys: all but what it stands on. A begin of a render pass names its views."""
+        """The objects that a command names, with their keys: all but what it stands on. A begin of a render pass names its views and its
+        query set."""
         found = []
         for key, value in self.uses.items():
             if key != "on":
@@ -70,8 +71,9 @@ def encoder_of(place):
 
 
 def resources_in(thing):
-    """The buffers and textures that one names who names an object: it itself, the texture of a view, or what a bind group binds."""
-    if thing.do in ("createBuffer", "createTexture"):
+    """The buffers, textures and query sets that one names who names an object: it itself, the texture of a view, or what a bind group
+    binds."""
+    if thing.do in RESOURCES:
         return [thing]
     if thing.do == "createView":
         return [thing.uses["texture"]]
@@ -144,11 +146,15 @@ class History:
                 del self.pending[promise.uses["buffer"]]
 
     def uses_of(self, call):
-        """The objects that the names of a call stand for, key by key; of an object, and of a list of names or of objects, a list."""
+        """The objects that the names of a call stand for, key by key; of an object, and of a list of names or of objects, a list. Where a
+        name is left out there is none of its key."""
         uses = {}
         for key, sort in name_keys(call["do"]):
             found = [self.names[name] for name, _ in names_in(sort, call[key])]
-            uses[key] = found[0] if sort[0] == "name" else found
+            if sort[0] != "name":
+                uses[key] = found
+            elif found:
+                uses[key] = found[0]
         return uses
 
     def entries(self):
@@ -226,7 +232,7 @@ class History:
 
     def used_by(self, played):
         """What an operation uses: a write its target, also where its size is 0; a submit what its commands name, with the textures of the
-        views that they attach, and what is bound in the groups that they set."""
+        views that they attach, and what is bound in the groups that they set. A query set is used also where no query of it is begun."""
         if played.do == "submit":
             return self.resources_of(played.uses["buffers"])
         return [played.uses["buffer" if played.do == "writeBuffer" else "texture"]]
@@ -239,8 +245,8 @@ class History:
         return [thing for one in command_buffers for thing in self.named[one]]
 
     def resources_of(self, command_buffers):
-        """The buffers and textures that the commands of some command buffers name, themselves, through a view that they attach, or
-        through a bind group, whether or not a step comes of it."""
+        """The buffers, textures and query sets that the commands of some command buffers name, themselves, through a view that they
+        attach, or through a bind group, whether or not a step comes of it."""
         return [found for thing in dict.fromkeys(self.named_by(command_buffers)) for found in resources_in(thing)]
 
     def live_bytes(self):

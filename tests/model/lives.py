@@ -8,13 +8,14 @@ let go, or for which an operation is complete now.
 import collections
 
 from . import memory
+from .calls import RESOURCES
 
 # The calls that make an object which refers to all that they name.
 REFERRING = {"createView", "createPipelineLayout", "createBindGroup", "createComputePipeline", "createRenderPipeline"}
 
 
 class Lives:
-    """The buffers and textures that are live, and what holds what, after the entries of a history so far."""
+    """The buffers, textures and query sets that are live, and what holds what, after the entries of a history so far."""
 
     def __init__(self, history):
         self.history = history
@@ -27,7 +28,7 @@ class Lives:
 
     def follow(self, played):
         """Notes an entry that the history has, and answers with what it gives back, in the order of numbers."""
-        if played.do in ("createBuffer", "createTexture") and played.is_valid:
+        if played.do in RESOURCES and played.is_valid:
             self.kept.add(played)
             self.bytes += memory.bytes_of(played.call)
         if played.do == "createEncoder":
@@ -49,7 +50,7 @@ class Lives:
         return thing.referred() if thing.do in REFERRING else []
 
     def looked_at(self, played):
-        """The buffers and textures that an entry may let go, and those whose last operation it makes complete."""
+        """The buffers, textures and query sets that an entry may let go, and those whose last operation it makes complete."""
         history = self.history
         if played.do == "destroy" and played.is_met:
             yield played.uses["object"]
@@ -72,8 +73,8 @@ class Lives:
             yield from self.reached(self.under_encoders.popleft())
 
     def reached(self, thing):
-        """The buffers and textures that an object is, or holds, itself or through others."""
-        if thing.do in ("createBuffer", "createTexture"):
+        """The buffers, textures and query sets that an object is, or holds, itself or through others."""
+        if thing.do in RESOURCES:
             return [thing]
         return [found for held in dict.fromkeys(self.held_by(thing)) for found in self.reached(held)]
 
@@ -98,7 +99,7 @@ class Lives:
         return oldest is not None and oldest.entry < self.history.drop_of(thing).entry
 
     def is_due(self, thing):
-        """A valid buffer or texture is due where it is destroyed or not held, and every operation that uses it is complete. One that waits for
+        """A valid buffer, texture or query set is due where it is destroyed or not held, and every operation that uses it is complete. One that waits for
         its last operation is noted."""
         if thing not in self.kept or not self.history.is_destroyed(thing) and self.is_held(thing):
             return False

@@ -1,10 +1,13 @@
-"""The bytes that a buffer or a texture takes of the budget of its device."""
+"""The bytes that a buffer, a texture or a query set takes of the budget of its device."""
 
 from . import formats
+from . import queries
 
 
 def bytes_of(call):
-    """Those of what a createBuffer or createTexture makes that meets its own rules."""
+    """Those of what a createBuffer, createTexture or createQuerySet makes that meets its own rules."""
+    if call["do"] == "createQuerySet":
+        return call["count"] * queries.BYTES
     return call["size"] if call["do"] == "createBuffer" else texture_bytes(call)
 
 

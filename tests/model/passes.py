@@ -5,6 +5,7 @@ import collections
 from . import attachments
 from . import bound_groups
 from . import draws
+from . import queries
 from .calls import BEGINS, DISPATCHES, DRAWS
 from .cells import part_of
 from .draws import INDIRECT_BYTES
@@ -43,7 +44,8 @@ class Walk:
 
 
 class Settings:
-    """What is set of a pass after some of its commands, each as the command that set it last, and how many of its debug groups are open."""
+    """What is set of a pass after some of its commands, each as the command that set it last, how many of its debug groups are open, which
+    queries were begun in it, and whether one is active."""
 
     def __init__(self):
         self.pipeline = None
@@ -51,6 +53,8 @@ class Settings:
         self.vertex_buffers = {}
         self.index_buffer = None
         self.open_groups = 0
+        self.begun = set()
+        self.is_active = False
 
     def take(self, command):
         self.open_groups = groups_after(self.open_groups, command)
@@ -62,6 +66,11 @@ class Settings:
             self.vertex_buffers[command.call["slot"]] = command
         elif command.do == "setIndexBuffer":
             self.index_buffer = command
+        elif command.do == "beginOcclusionQuery":
+            self.begun.add(command.call["index"])
+            self.is_active = True
+        elif command.do == "endOcclusionQuery":
+            self.is_active = False
 
 
 def groups_after(count, command):
@@ -108,6 +117,11 @@ def command_rules(command, settings):
         yield 285, "open group of a pass", settings.open_groups > 0
     elif command.do == "end":
         yield 310, "groups are closed", settings.open_groups == 0
+        yield 311, "no query is active", not settings.is_active
+    elif command.do == "beginOcclusionQuery":
+        yield from queries.begin_rules(uses["on"].uses.get("queries"), call["index"], settings)
+    elif command.do == "endOcclusionQuery":
+        yield 364, "a query is active", settings.is_active
 
 
 def work_rules(command, settings):
@@ -136,13 +150,13 @@ def touches_of_dispatch(dispatch, settings):
 
 
 def touches_of_pass(begin, commands):
-    """What a render pass touches: what is attached, and all that its commands set, whatever comes of it, and the numbers of its
-    indirect draws."""
+    """What a render pass touches: what is attached, and all that its commands set, whatever comes of it, the numbers of its indirect draws,
+    and the queries that are begun in it. Of a query set of which none is begun nothing is."""
     touches = attachments.touches(begin)
     for command in commands:
         if command.do == "setBindGroup":
             touches += [touch for _, found in bound_groups.touched(command) for touch in found]
-        touches += draws.touches_of_range(command) + draws.touches_of_indirect(command)
+        touches += draws.touches_of_range(command) + draws.touches_of_indirect(command) + queries.touches_of_begun(begin, command)
     return touches
 
 
@@ -159,13 +173,15 @@ def scopes_of(commands):
 
 
 def scope_rules(commands):
-    """Rule 184: the usage scope of each dispatch and of each render pass is compatible. The commands are those of an encoder that no
-    rule invalidated."""
+    """Rule 184: the usage scope of each dispatch and of each render pass is compatible, in which query sets are not looked at. The commands
+    are those of an encoder that no rule invalidated."""
     for _, touches in scopes_of(commands):
         uses = {}
         for cell, usage, _ in touches or []:
             uses.setdefault(part_of(cell), set()).add(usage)
         for part, usages in uses.items():
+            if part[0] == "q":
+                continue
             what = "buffer" if part[0] == "b" else "subresource"
             are_alike = usages <= READ_TOGETHER or usages in ({"storage"}, {"attachment"})
             yield 184, f"{what}, {' and '.join(sorted(usages))}", are_alike

@@ -7,6 +7,7 @@ on. A pass keeps the first rule of its begin and its own commands, and hands it 
 from . import buffers
 from . import copies
 from . import passes
+from . import queries
 from .calls import BEGINS
 from .rules import first_unmet
 
@@ -54,6 +55,8 @@ def own_rules(command, open_groups):
     elif command.do == "clearBuffer":
         buffer = uses["buffer"]
         yield from buffers.clear_rules(buffer.call, call["offset"], clear_size(command))
+    elif command.do == "resolveQuerySet":
+        yield from queries.resolve_rules(call, uses["queries"].call, uses["buffer"].call)
     elif command.do == "popDebugGroup":
         yield 285, "open group", open_groups > 0
 

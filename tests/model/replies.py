@@ -10,6 +10,7 @@ from . import memory
 from . import passes
 from . import pipelines
 from . import promises
+from . import queries
 from . import recording
 from . import scopes
 from . import textures
@@ -102,6 +103,8 @@ def rules_of(history, played):
         return making_rules(history, call, buffers.create_rules(call))
     if played.do == "createTexture":
         return making_rules(history, call, textures.create_rules(call))
+    if played.do == "createQuerySet":
+        return making_rules(history, call, queries.create_rules(call))
     if played.do == "createView":
         texture = uses["texture"]
         view = textures.view_of(call, texture.call, texture.is_valid)
@@ -200,8 +203,9 @@ def submit_rules(history, command_buffers):
     used, how = dict.fromkeys(history.resources_of(command_buffers)), ways_of(history.named_by(command_buffers))
     yield from used_rules(history, [thing for thing in used if thing.do == "createBuffer"], how)
     for thing in used:
-        if thing.do == "createTexture":
-            yield 193, f"destroyed texture{how[thing]}", not history.is_destroyed(thing)
+        if thing.do != "createBuffer":
+            what = "texture" if thing.do == "createTexture" else "query set"
+            yield 193, f"destroyed {what}{how[thing]}", not history.is_destroyed(thing)
 
 
 def used_rules(history, used, how):
@@ -213,7 +217,7 @@ def used_rules(history, used, how):
 
 
 def ways_of(named):
-    """Of each buffer and texture a word for the counts, where no command names it itself."""
+    """Of each buffer, texture and query set a word for the counts, where no command names it itself."""
     ways = collections.defaultdict(lambda: " in a bind group")
     ways.update((one.uses["texture"], " that is attached") for one in named if one.do == "createView")
     ways.update((one, "") for one in named)

@@ -9,6 +9,9 @@ from .formats import ASPECTS
 from .steps import USAGES
 from .traces import trace_of
 
+# The letter of what is released, by the call that made it.
+LETTERS = {"createBuffer": "b", "createTexture": "t", "createQuerySet": "q"}
+
 
 def report(history):
     lines = ["history"] + [entry_line(played) for played in history.entries()]
@@ -45,7 +48,7 @@ def trace_lines(items):
             lines += [(text, item) for text in texts]
             bars, count = [], count + 1
         else:
-            lines.append((f"free {'b' if item[1].do == 'createBuffer' else 't'} {item[1].made}", item))
+            lines.append((f"free {LETTERS[item[1].do]} {item[1].made}", item))
     return lines
 
 
@@ -58,10 +61,10 @@ def step_lines(number, step):
 
 
 def place_of(thing):
-    """A part or cell as a row: what it is of, and its first and last place. A whole buffer has no place."""
-    if thing[0] == "b":
+    """A part or cell as a row: what it is of, and its first and last place. A whole buffer or query set has no place."""
+    if thing[0] != "t":
         low, high = thing[2:] or (0, 0)
-        return (thing[1], "b"), low, high
+        return (thing[1], thing[0]), low, high
     return (thing[1], "t", *thing[2:4]), thing[4], thing[4] + 1
 
 
@@ -84,12 +87,12 @@ def set_text(usages):
 
 def part_text(place):
     (number, sort, *_), _, _ = place
-    return f"b {number}" if sort == "b" else cell_text(place)
+    return cell_text(place) if sort == "t" else f"{sort} {number}"
 
 
 def cell_text(place):
     (number, sort, *rest), low, high = place
-    if sort == "b":
-        return f"b {number} {low} {high}"
+    if sort != "t":
+        return f"{sort} {number} {low} {high}"
     aspect, mip = rest
     return f"t {number} {ASPECTS[aspect]} {mip} {low} {high}"

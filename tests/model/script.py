@@ -84,7 +84,6 @@ def read_call(place, call):
     if do in ("createComputePipeline", "createRenderPipeline"):
         ask(13, "auto", call.get("layout") != "auto", place)
     if do == "beginRenderPass":
-        ask(13, "queries", "queries" not in call, place)
         ask(13, "depthSlice", not has_depth_slice(call.get("colors")), place)
     keys = CALLS[do]
     ask(7, "unknown key", set(call) <= {"do"} | {key for key, _, _ in keys}, place)

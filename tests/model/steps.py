@@ -3,14 +3,15 @@
 from . import copies
 from . import formats
 from . import passes
+from . import queries
 from . import recording
 from .cells import in_buffer, in_texture, is_empty, part_of
 from .maps import host_accesses
 
-# Usages in printed order, as far as steps of today use them.
+# Usages in printed order.
 USAGES = (
-    "input", "constant", "storage", "storage-read", "attachment", "attachment-read", "copy-src", "copy-dst", "host-read", "host-write",
-    "clear",
+    "input", "constant", "storage", "storage-read", "attachment", "attachment-read", "copy-src", "copy-dst", "query-write", "query-read",
+    "host-read", "host-write", "clear",
 )
 
 # The accesses that read what is there, those that write, and of the latter those that leave it unset.
@@ -63,8 +64,8 @@ def host_steps(entry, name, buffer, mapping):
 
 
 def command_steps(commands, at):
-    """The steps of recorded commands. A dispatch makes one whatever it touches, and so does a render pass as a whole; a copy or clear
-    of size 0 makes none, nor do others."""
+    """The steps of recorded commands. A dispatch makes one whatever it touches, and so does a render pass as a whole; a copy, clear
+    or resolve of size 0 makes none, nor do others."""
     steps = []
     for command, in_scope in passes.scopes_of(commands):
         touches = touches_of(command) if in_scope is None else in_scope
@@ -99,6 +100,8 @@ def touches_of(command):
         return texture_to_buffer(command)
     if command.do == "copyTextureToTexture":
         return texture_to_texture(command)
+    if command.do == "resolveQuerySet":
+        return queries.touches_of_resolve(command)
     return []
 
 

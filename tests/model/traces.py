@@ -9,8 +9,8 @@ import collections
 
 from .steps import Step, groups_of
 
-# The usages that only read, as far as steps of today use them.
-ONLY_READ = {"input", "constant", "storage-read", "attachment-read", "copy-src", "host-read"}
+# The usages that only read.
+ONLY_READ = {"input", "constant", "storage-read", "attachment-read", "copy-src", "query-read", "host-read"}
 
 
 def trace_of(history):
@@ -24,7 +24,8 @@ def trace_of(history):
 
 
 class Cells:
-    """A set of cells: of each buffer the runs of bytes that are in it, in order and with gaps between them, and subresources."""
+    """A set of cells: of each buffer and query set the runs of bytes or queries that are in it, in order and with gaps between them,
+    and subresources."""
 
     def __init__(self):
         self.runs = collections.defaultdict(lambda: ([], []))
@@ -35,7 +36,7 @@ class Cells:
         if cell[0] == "t":
             self.subresources.add(cell)
             return
-        lows, highs = self.runs[cell[1]]
+        lows, highs = self.runs[cell[:2]]
         first, last = bisect.bisect_left(highs, cell[2]), bisect.bisect_right(lows, cell[3])
         low, high = min([cell[2], *lows[first:last][:1]]), max([cell[3], *highs[first:last][-1:]])
         lows[first:last], highs[first:last] = [low], [high]
@@ -45,7 +46,7 @@ class Cells:
         if cell[0] == "t":
             self.subresources.discard(cell)
             return
-        lows, highs = self.runs[cell[1]]
+        lows, highs = self.runs[cell[:2]]
         first, last = bisect.bisect_right(highs, cell[2]), bisect.bisect_left(lows, cell[3])
         left = [(low, high) for low, high in ((min([cell[2], *lows[first:last]]), cell[2]), (cell[3], max([cell[3], *highs[first:last]]))) if low < high]
         lows[first:last], highs[first:last] = [low for low, _ in left], [high for _, high in left]
@@ -54,11 +55,11 @@ class Cells:
         """The pieces of a cell that are not in the set."""
         if cell[0] == "t":
             return [] if cell in self.subresources else [cell]
-        lows, highs = self.runs[cell[1]]
+        lows, highs = self.runs[cell[:2]]
         first, last = bisect.bisect_right(highs, cell[2]), bisect.bisect_left(lows, cell[3])
         ends = [cell[2], *highs[first:last]]
         begins = [*lows[first:last], cell[3]]
-        return [("b", cell[1], low, high) for low, high in zip(ends, begins) if low < high]
+        return [(*cell[:2], low, high) for low, high in zip(ends, begins) if low < high]
 
 
 class Trace:
@@ -94,7 +95,7 @@ def add_group(trace, group):
 
 def add_clear(trace, cells, at):
     """A clear uses its parts as `clear` and writes its cells; one of no cells is no step."""
-    runs = [("b", number, low, high) for number, (lows, highs) in cells.runs.items() for low, high in zip(lows, highs)]
+    runs = [(*part, low, high) for part, (lows, highs) in cells.runs.items() for low, high in zip(lows, highs)]
     found = runs + list(cells.subresources)
     if found:
         add_step(trace, Step(at, "clear", [(cell, "clear", "write") for cell in found]))
@@ -102,11 +103,11 @@ def add_clear(trace, cells, at):
 
 def add_step(trace, step):
     """Before a step stands a barrier on each part that it uses, but where its set is the last one and only reads, and but at
-    the first use of a buffer."""
+    the first use of a buffer or a query set."""
     for part, usages in sorted(step.uses.items()):
         last = trace.last_sets.get(part)
-        is_first_of_buffer = last is None and part[0] == "b"
-        if not is_first_of_buffer and not (last == usages and usages <= ONLY_READ):
+        is_first_of_no_texture = last is None and part[0] != "t"
+        if not is_first_of_no_texture and not (last == usages and usages <= ONLY_READ):
             trace.items.append(("bar", part, last, usages))
     trace.items.append(("step", step))
     trace.last_sets.update(step.uses)

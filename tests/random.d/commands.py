@@ -3,6 +3,7 @@
 Each function adds a call to the world, with the objects that it needs. Where `good` is false one value of it is spoiled.
 """
 
+from querying import resolve_queries
 from regions import TEXELS, bytes_of, layout, region, spoil_layout, spoil_spot
 from resources import ASPECTS, COLOR_FORMATS, DEPTH_FORMATS, ONE_SAMPLE_FORMATS
 
@@ -297,8 +298,8 @@ def to_buffer(world, encoder, good):
     copy_texels(world, encoder, good, "copyTextureToBuffer")
 
 
-COMMANDS = [copy_buffer, to_texture, to_buffer, copy_texture, clear_buffer, debug_group]
-WEIGHTS = [4, 5, 5, 7, 3, 2]
+COMMANDS = [copy_buffer, to_texture, to_buffer, copy_texture, clear_buffer, debug_group, resolve_queries]
+WEIGHTS = [4, 5, 5, 7, 3, 2, 3]
 
 
 def command(world, encoder, good):

@@ -276,7 +276,7 @@ def chain(world):
 
 
 def destroy(world):
-    things = [thing for thing in world.buffers + world.textures if not thing.destroyed]
+    things = [thing for thing in world.resources() if not thing.destroyed]
     if things:
         world.destroy(world.random.choice(things[-8:]))
 

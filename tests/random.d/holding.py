@@ -1,13 +1,14 @@
-"""Scripts on what holds a buffer or texture that was dropped, and on what the budget has room for.
+"""Scripts on what holds a buffer, texture or query set that was dropped, and on what the budget has room for.
 
-Buffers and textures are small, and so is the budget: much is out of memory until something is given back.
+Buffers, textures and query sets are small, and so is the budget: much is out of memory until something is given back.
 """
 
+from querying import BYTES, MOST_QUERIES, QUERY_RESOLVE
 from regions import TEXELS, extent
 from world import World
 from worlds import complete, last_before_loss, scope
 
-BUDGETS = [16, 60, 150, 150, 400, 400, 2000, 2**53 - 1]
+BUDGETS = [7, 8, 16, 60, 150, 150, 400, 400, 2000, 2**53 - 1]
 COLORS = ["r8unorm", "rg8unorm", "rgba8unorm", "r32uint", "rgba16float", "rgba32float"]
 OTHERS = ["depth16unorm", "depth24plus", "depth24plus-stencil8", "depth32float", "stencil8"]
 
@@ -30,16 +31,29 @@ def taken(world, thing, size):
 
     This is a guess: what is held or in use takes its memory longer than that.
     """
-    live = sum(other.size for other in world.buffers + world.textures if other is not thing and other.good and not other.destroyed and not other.dropped)
     thing.size = size
-    thing.good = thing.good and live + size <= world.budget
+    thing.good = thing.good and size <= room(world, thing)
+
+
+def room(world, thing=None):
+    """What the budget has room for beside all that takes memory and is another one than a thing, by that guess."""
+    others = [other for other in world.resources() if other is not thing and other.good and not other.destroyed and not other.dropped]
+    return world.budget - sum(other.size for other in others)
 
 
 def buffer(world):
     size = world.random.choice([0, 4, 4, 8, 8, 16, 24, 60])
-    usage = world.random.choice([12, 12, 12, 12, 9, 6])
+    usage = world.random.choice([12, 12, 12, 12 | QUERY_RESOLVE, 9, 6])
     thing = world.buffer(not world.has_fault(), size=size, usage=usage, mapped=world.random.random() < 0.06)
     taken(world, thing, thing.call["size"])
+
+
+def query_set(world):
+    """A set of few queries, often of as many as there is room for, or of one more."""
+    random, most = world.random, max(room(world), 0) // BYTES
+    count = random.choice([0, 1, 1, 2, 3, most, most, most + 1, most + 1])
+    thing = world.query_set(not world.has_fault(), count=count if count <= MOST_QUERIES else random.choice([1, 2, MOST_QUERIES]))
+    taken(world, thing, BYTES * thing.call["count"])
 
 
 def texture(world):
@@ -100,8 +114,10 @@ def record(world):
     for _ in range(random.choice([1, 1, 2])):
         one, other = chosen(world, world.buffers, on.made_at), chosen(world, world.buffers, on.made_at)
         image, second = chosen(world, world.textures, on.made_at), chosen(world, world.textures, on.made_at)
-        kind = random.randrange(7)
-        if kind == 6:
+        kind = random.randrange(8)
+        if kind == 7:
+            resolve(world, on)
+        elif kind == 6:
             attach(world, on)
         elif kind == 0 and None not in (one, other) and one is not other:
             copy = {"do": "copyBufferToBuffer", "on": on.name, "source": one.name, "sourceOffset": 0, "target": other.name, "targetOffset": 0}
@@ -119,8 +135,20 @@ def record(world):
         world.add({"do": random.choice(["pushDebugGroup", "popDebugGroup"]), "on": on.name})
 
 
+def resolve(world, on):
+    """A resolve of all queries of a set, or of none, to a buffer that may be too short for them."""
+    found = chosen(world, world.query_sets, on.made_at)
+    target = chosen(world, [thing for thing in world.buffers if thing.call["usage"] & QUERY_RESOLVE], on.made_at)
+    if None not in (found, target):
+        count = world.random.choice([0, min(found.call["count"], target.call["size"] // BYTES)])
+        if found.call["count"] == 0 and not world.has_fault():
+            return
+        call = {"do": "resolveQuerySet", "on": on.name, "queries": found.name, "first": 0, "count": count, "buffer": target.name, "offset": 0}
+        world.add(call)
+
+
 def attach(world, on):
-    """A render pass of one view, which holds a texture through it."""
+    """A render pass of one view, which holds a texture through it, and at times of a query set, of which a query is begun or not."""
     random = world.random
     found = chosen(world, [view for view in world.views if view.texture.call["usage"] & 16], on.made_at)
     if found is None:
@@ -131,8 +159,14 @@ def attach(world, on):
         aspects = [aspect for aspect in ("depth", "stencil") if aspect in found.texture.call["format"]]
         keys = {f"{aspect}{key}": word for aspect in aspects for key, word in (("Load", load), ("Store", store))}
         begin.update(colors=[], depth={"view": found.name} | keys)
-    world.add(begin)
-    world.add({"do": "end", "on": name})
+    queries = chosen(world, world.query_sets, on.made_at)
+    calls = []
+    if queries is not None and random.random() < 0.5:
+        begin["queries"] = queries.name
+        if queries.call["count"] > 0 and random.random() < 0.5:
+            calls = [{"do": "beginOcclusionQuery", "index": queries.call["count"] - 1}, {"do": "endOcclusionQuery"}]
+    for call in [begin, *[call | {"on": name} for call in [*calls, {"do": "end"}]]]:
+        world.add(call)
 
 
 def whole(image):
@@ -151,17 +185,17 @@ def submit(world):
 
 
 def drop(world):
-    """Of everything, that is not dropped as a rule; buffers and textures more often than the rest."""
+    """Of everything, that is not dropped as a rule; what takes memory more often than the rest."""
     random = world.random
     kept = [thing for thing in world.everything() if not thing.dropped or world.has_fault()]
-    resources = [thing for thing in kept if thing in world.buffers or thing in world.textures]
+    resources = [thing for thing in kept if thing in world.resources()]
     things = resources if resources and random.random() < 0.5 else kept
     if things:
         world.drop(random.choice(things[-12:]))
 
 
 def destroy(world):
-    found = chosen(world, world.buffers + world.textures, len(world.calls))
+    found = chosen(world, world.resources(), len(world.calls))
     if found is not None:
         world.destroy(found)
 
@@ -184,5 +218,5 @@ def mapping(world):
         world.random.choice([world.unmap, world.unmap, world.destroy])(world.random.choice(mapped))
 
 
-ACTS = [buffer, texture, view, World.encoder, record, finish, submit, drop, destroy, complete, write, mapping, scope]
-WEIGHTS = [6, 4, 4, 3, 7, 4, 4, 10, 2, 4, 3, 2, 1]
+ACTS = [buffer, texture, query_set, view, World.encoder, record, finish, submit, drop, destroy, complete, write, mapping, scope]
+WEIGHTS = [6, 4, 3, 4, 3, 8, 4, 4, 10, 2, 4, 3, 2, 1]

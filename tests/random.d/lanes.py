@@ -10,11 +10,13 @@ import holding
 import passing
 import worlds
 from dispatching import kit, pool
+from querying import resolve_queries
 from targets import target_pool
 from world import World
 
 LISTS = [
-    "buffers", "textures", "views", "samplers", "group_layouts", "pipeline_layouts", "groups", "pipelines", "render_pipelines", "command_buffers",
+    "buffers", "textures", "views", "samplers", "group_layouts", "pipeline_layouts", "groups", "pipelines", "render_pipelines", "query_sets",
+    "command_buffers",
 ]
 ACTS = {
     "mixed": (worlds.ACTS, worlds.ACT_WEIGHTS),
@@ -73,6 +75,8 @@ def first_lane(world):
         world.buffer(usage=world.random.choice([12, 12, 9, 6, 8]), size=world.random.choice([8, 16, 64]))
     if world.sort in ("mixed", "holders"):
         world.texture(usage=3)
+    if world.random.random() < 0.5:
+        world.query_set(count=world.random.choice([1, 2, 4]))
     for _ in range(world.random.randint(0, 3)):
         act(world)
     return taken(world)
@@ -89,7 +93,7 @@ def act(world):
 def together(world):
     """What lanes do to one object: all choose among the same few."""
     random = world.random
-    things = world.buffers[:3] + world.textures[:1]
+    things = world.buffers[:3] + world.textures[:1] + world.query_sets[:1]
     ready = [thing for thing in world.command_buffers if thing.good]
     kind = random.randrange(7)
     if kind == 0 and things:
@@ -102,6 +106,10 @@ def together(world):
         world.map(random.choice(world.buffers[:3]), True, {"mode": random.choice([1, 2]), "size": 4})
     elif kind == 4 and world.buffers[:3]:
         world.unmap(random.choice(world.buffers[:3]))
+    elif kind == 5 and world.query_sets:
+        encoder = world.encoder()
+        resolve_queries(world, encoder, True)
+        world.submit([world.finish(encoder)])
     elif world.buffers[:3]:
         encoder, buffer = world.encoder(), random.choice(world.buffers[:3])
         world.add({"do": "clearBuffer", "on": encoder.name, "buffer": buffer.name, "offset": 4 * random.randrange(3), "size": 4})

@@ -6,15 +6,13 @@ import worlds
 from json_forms import Pairs, Raw, text_of
 
 WORD_LIMIT, WHOLE_LIMIT = 2**32 - 1, 2**53 - 1
-UNBUILT = """
-createQuerySet createBundleEncoder finishBundle resolveQuerySet beginOcclusionQuery endOcclusionQuery executeBundles createCanvas
-configureCanvas currentTexture present
-""".split()
+UNBUILT = "createBundleEncoder finishBundle executeBundles createCanvas configureCanvas currentTexture present".split()
 UNKNOWN = ["", "createbuffer", "CreateBuffer", "createBuffer ", "getBindGroupLayout", "setViewport", "copy", "createBuffer\0", "é", "Lose", "onSubmittedWorkDone"]
-NAME_KEYS = {"buffer", "texture", "source", "target", "on", "object", "layout", "view", "resolve", "sampler", "pipeline", "group"}
+NAME_KEYS = {"buffer", "texture", "source", "target", "on", "object", "layout", "view", "resolve", "sampler", "pipeline", "group", "queries"}
+QUERY_WORDS = ["createQuerySet", "resolveQuerySet", "beginOcclusionQuery", "endOcclusionQuery"]
 PASS_WORDS = [
     "beginComputePass", "setPipeline", "setBindGroup", "dispatch", "dispatchIndirect", "end", "createRenderPipeline", "beginRenderPass",
-    "beginRenderPass", "setVertexBuffer", "setIndexBuffer", "draw", "drawIndexed", "drawIndirect", "drawIndexedIndirect",
+    "beginRenderPass", "setVertexBuffer", "setIndexBuffer", "draw", "drawIndexed", "drawIndirect", "drawIndexedIndirect", *QUERY_WORDS,
 ]
 NUMBERS = [
     "0", "1", "-1", "-0", "1.0", "1.5", "1e3", "1E3", "1e-3", "0e400", "0.0e999999", "4294967295", "4294967296", "9007199254740991",
@@ -33,10 +31,11 @@ GOOD_NAMES = ["a" * 64, "_", "0", "9" * 64, "Z_z9", "do", "as"]
 
 def malformed(random):
     """The bytes of a script with one or two faults, the first of which is what the answer tells."""
-    length, kind = random.choice([3, 12, 30]), random.choices(["bound", "passes", "renders", "others"], [5, 3, 6, 4])[0]
-    has_objects = kind in ("bound", "renders")
-    if kind in ("passes", "renders"):
-        calls = (passing.passes if kind == "passes" else passing.rendering)(random, 1)[1]
+    length, kind = random.choice([3, 12, 30]), random.choices(["bound", "passes", "renders", "queries", "others"], [5, 3, 5, 3, 4])[0]
+    has_objects = kind in ("bound", "renders", "queries")
+    if kind in ("passes", "renders", "queries"):
+        renders, queries = {"passes": (0.1, 0.2), "renders": (0.85, 0.2), "queries": (0.9, 0.9)}[kind]
+        calls = passing.passes(random, 1, renders, queries)[1]
     else:
         calls = grouping.groups(random)[1][:length] if kind == "bound" else worlds.mixed(random, length)
     top = {"budget": random.choice([0, 1, 1000000, WHOLE_LIMIT]), "phases": [[calls]]}
@@ -95,8 +94,8 @@ def of_call(random, top, calls):
     if at is not None:
         call = dict(calls[at])
         calls[at] = call
-        if random.random() < 0.12:
-            calls[at] = random.choice([automatic, queried])(random, call)
+        if random.random() < 0.18:
+            calls[at] = random.choice([automatic, sliced])(random, call)
             return top
         if random.random() < 0.8 and spoil_object(random, call):
             return top
@@ -183,7 +182,7 @@ MORE_KEYS = [
     "binding", "visibility", "group", "type", "dynamic", "minSize", "sample", "multi", "access", "buffer", "offset", "view", "sampler", "do",
     "on", "index", "offsets", "x", "w", "pipeline", "timestampWrites", "stage", "stride", "step", "attributes", "location", "targets", "depth",
     "samples", "colors", "resolve", "load", "store", "depthLoad", "depthReadOnly", "stencilStore", "slot", "vertices", "firstIndex", "depthWrite",
-    "depthSlice", "queries", "baseVertex",
+    "depthSlice", "queries", "queries", "baseVertex", "first", "count", "index", "occlusionQuerySet", "querySet", "queryIndex",
 ]
 WRONG_WORDS = [
     "Filtering", "filtering", "nonfiltering", "storage", "readonly-storage", "write", "read-write", "sampled", "unfilterable", "sint", "auto",
@@ -242,8 +241,9 @@ def automatic(random, call):
     return made | random.choice([{}, {}, {"x": 1}, {"as": None}, {"layout": ["auto"]}, {"layout": "Auto"}])
 
 
-def queried(random, call):
-    """A begin of a render pass with a key that is not built yet, or with that in another place, and something else wrong or not."""
+def sliced(random, call):
+    """A begin of a render pass with a key that is not built yet, or with that in another place, and something else wrong or not; `queries` stands
+    behind what else the begin has."""
     color, colors = {"view": "v", "load": "load", "store": "store"}, [None]
     slice = {"depthSlice": random.choice([0, None, "x"])}
     places = [

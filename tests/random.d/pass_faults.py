@@ -3,6 +3,7 @@ from its begin to its end, on an encoder of some name; what it needs is made bef
 
 from dispatching import INDIRECT, STEP, buffers_in, dynamic_of, named, near_group, new_layout, pick, size_of
 from grouping import usable
+from querying import some_set
 from targets import begin
 
 GREATEST_32, GREATEST_53 = 2**32 - 1, 2**53 - 1
@@ -227,6 +228,8 @@ def on_encoder(world, encoder, on, calls):
         copy = {"buffer": buffer, "texture": image, "size": nothing}
         others = [copy | {"do": "copyBufferToTexture"}, copy | {"do": "copyTextureToBuffer"}]
         others.append({"do": "copyTextureToTexture", "source": image, "target": image, "size": nothing})
+    if random.random() < world.queries / 2:
+        others = [{"do": "resolveQuerySet", "queries": some_set(world).name, "first": 0, "count": random.choice([0, 1]), "buffer": buffer, "offset": 0}]
     calls.insert(random.randint(1, len(calls) - 1), random.choice(others) | {"on": encoder})
 
 

@@ -14,6 +14,7 @@ from dispatching import (
 from grouping import drop_all, usable
 from pass_faults import places, some_begin, spoil
 from pipelining import render_pipelines
+from querying import resolve_queries, some_set
 from regions import TEXELS, extent
 from render_faults import spoil_render
 from rendering import PAST, bare_calls, render_calls
@@ -25,15 +26,15 @@ from worlds import complete, last_before_loss, maps, scope, work_done
 BUDGETS = [2**53 - 1] * 16 + [40_000, 4_000]
 
 
-def passes(random, longest=10, renders=0.1):
-    """A budget, and calls; so many of the passes are render passes."""
+def passes(random, longest=10, renders=0.1, queries=0.2):
+    """A budget, and calls; so many of the passes are render passes, and so many of these have a query set."""
     world = World(random, random.choice([0.05, 0.3, 0.6] if renders < 0.5 else [0.02, 0.05, 0.3, 0.5]))
-    world.renders = renders
+    world.renders, world.queries = renders, queries
     pool(world)
     if random.random() < 3 * renders:
         target_pool(world)
     kit(world)
-    acts = ACTS + RENDER_ACTS if renders > 0.5 else ACTS
+    acts = ACTS + (RENDER_ACTS if renders > 0.5 else []) + (QUERY_ACTS if queries > 0.5 else [])
     count = random.randint(min(3, longest), longest)
     last = last_before_loss(random, count, 0.12)
     for act in range(count):
@@ -42,7 +43,7 @@ def passes(random, longest=10, renders=0.1):
         if act == 0 and random.random() < 0.7:
             without_faults(world)
         else:
-            random.choices(acts, (WEIGHTS + RENDER_WEIGHTS)[:len(acts)])[0](world)
+            random.choices(acts, (WEIGHTS + RENDER_WEIGHTS + QUERY_WEIGHTS)[:len(acts)])[0](world)
     if random.random() < 0.5:
         drop_all(world)
         world.complete(world.issued)
@@ -52,6 +53,11 @@ def passes(random, longest=10, renders=0.1):
 def rendering(random, longest=10):
     """The same, mostly of render passes."""
     return passes(random, longest, 0.85)
+
+
+def queries(random):
+    """The same, with a query set in most of the passes, and resolves between them."""
+    return passes(random, 10, 0.9, 0.8)
 
 
 class Plan:
@@ -174,6 +180,7 @@ def late_on_pass(world, on, is_render):
     if is_render:
         calls += [{"do": "draw", "vertices": 1}, {"do": "drawIndexed", "indices": 1}, {"do": "setVertexBuffer", "slot": 9, "buffer": buffer}]
         calls += [{"do": word, "buffer": buffer, "offset": 1} for word in ("drawIndirect", "drawIndexedIndirect")]
+        calls += [{"do": "beginOcclusionQuery", "index": random.choice([0, 1])}, {"do": "endOcclusionQuery"}]
         calls.append({"do": "setIndexBuffer", "buffer": buffer, "format": "uint32", "offset": 1})
     else:
         calls += [{"do": "dispatch", "x": 1}, {"do": "dispatchIndirect", "buffer": buffer, "offset": 1}]
@@ -190,7 +197,10 @@ def outside(world, plan):
     for _ in range(random.choice([0, 0, 1, 1, 2])):
         good = not world.has_fault() or random.random() < (0.8 if world.renders < 0.5 else 0.95)
         kept, world.calls = world.calls, []
-        random.choice([clear_buffer, copy_buffer, image_copy, image_copy] if good else [clear_buffer, copy_buffer])(world, encoder, good)
+        if random.random() < world.queries:
+            resolve_queries(world, encoder, good)
+        else:
+            random.choice([clear_buffer, copy_buffer, image_copy, image_copy] if good else [clear_buffer, copy_buffer])(world, encoder, good)
         added, world.calls = world.calls, kept
         world.calls += [call for call in added if "on" not in call]
         plan.calls += [call for call in added if "on" in call]
@@ -249,7 +259,7 @@ def planned(world):
         outside(world, plan)
     if world.has_fault() and world.random.random() < 0.12 and places(plan.calls, "end"):
         end_gone(world.random, plan)
-    everything = world.buffers + world.textures + world.views + world.groups + world.pipelines + world.render_pipelines
+    everything = world.resources() + world.views + world.groups + world.pipelines + world.render_pipelines
     names = {name for call in plan.calls for name in names_in(call)}
     plan.named = [thing for thing in everything if thing.name in names]
     behind = {cell[1] for thing in plan.named for _, cells in getattr(thing, "bound", []) for cell in cells}
@@ -298,7 +308,7 @@ def let_go(world, plans):
     things = [thing for thing in world.buffers + world.textures if thing.name in names]
     things += [thing for thing in world.views if getattr(thing, "texture", None) in things and thing is not one] + [one]
     for thing in random.sample(things, len(things)):
-        if thing in world.buffers + world.textures and not thing.dropped and not thing.destroyed and random.random() < 0.15:
+        if thing in world.resources() and not thing.dropped and not thing.destroyed and random.random() < 0.15:
             world.destroy(thing)
         if not thing.dropped and random.random() < 0.9:
             world.drop(thing)
@@ -379,6 +389,9 @@ def between(world, plans):
         if thing.mapped and random.random() < 0.7:
             world.unmap(thing)
     bound = list(dict.fromkeys(thing for plan in plans for thing in plan.bound if not thing.destroyed))
+    sets = [thing for thing in world.query_sets if not thing.destroyed and any(thing in plan.named for plan in plans)]
+    if sets and random.random() < 0.08:
+        world.destroy(random.choice(sets))
     if bound and random.random() < 0.08:
         for thing in random.sample(bound, min(len(bound), random.choice([1, 2]))):
             world.destroy(thing)
@@ -397,6 +410,9 @@ def late(world, plan):
     kind = random.randrange(3)
     if kind == 0:
         calls = [{"do": "pushDebugGroup"}, {"do": "clearBuffer", "buffer": world.buffers[0].name}]
+        if random.random() < world.queries:
+            resolve = {"do": "resolveQuerySet", "queries": some_set(world).name, "first": 0, "count": 1}
+            calls = [resolve | {"buffer": world.buffers[0].name, "offset": 0}]
         world.add(random.choice(calls) | {"on": plan.encoder})
     elif kind == 1:
         for call in late_on_pass(world, *random.choice(begun)):
@@ -426,6 +442,19 @@ def spoiled(world):
             world.add(call)
         made = world.finish(thing)
         if random.random() < 0.1:
+            world.submit([made])
+
+
+def resolves(world):
+    """A few encoders of a resolve or two, half of them with a fault."""
+    random = world.random
+    for _ in range(random.choice([1, 2, 3, 4])):
+        encoder, good = world.encoder(), random.random() < 0.4
+        for number in range(random.choice([1, 1, 2])):
+            resolve_queries(world, encoder, good or number > 0)
+        encoder.good = good
+        made = world.finish(encoder)
+        if random.random() < (0.8 if good else 0.1):
             world.submit([made])
 
 
@@ -459,14 +488,16 @@ def write(world):
 
 def more(world):
     """More of what there is, so that later work has it new."""
-    if world.random.random() < world.renders:
+    if world.random.random() < world.queries / 2:
+        world.query_set(not world.has_fault())
+    elif world.random.random() < world.renders:
         world.random.choice([pool_buffer, pool_target, multisampled_pool, target_pool])(world)
     else:
         world.random.choice([pool_buffer, pool_texture, kit])(world)
 
 
 def destroy(world):
-    things = [thing for thing in world.buffers + world.textures if not thing.destroyed]
+    things = [thing for thing in world.resources() if not thing.destroyed]
     if len(things) > 2:
         world.destroy(world.random.choice(things))
 
@@ -492,3 +523,7 @@ WEIGHTS = [40, 2, 4, 3, 5, 1, 3, 4, 4, 1, 3, 1]
 # In scripts that are mostly of render passes these come besides.
 RENDER_ACTS = [spoiled, render_pipelines]
 RENDER_WEIGHTS = [25, 10]
+
+# And in those of query sets these.
+QUERY_ACTS = [resolves]
+QUERY_WEIGHTS = [12]

@@ -10,6 +10,7 @@ from pass_faults import (
     GREATEST_32, GREATEST_53, OFFSET_FAULTS, SETTING_FAULTS, WORK, change_call, dead_pass, first_or_any, no_group, no_pipeline, on_encoder,
     other_index, other_layout, places, pop_too_many, push_too_many, shuffled, some_call,
 )
+from query_faults import QUERY_FAULTS
 from resources import COLOR_FORMATS, DEPTH_FORMATS
 from targets import ASPECTS_OF, FOUR_COLORS, MOST_COLORS, LOADS, STORES
 
@@ -474,6 +475,7 @@ ORDER_FAULTS = [pop_too_many, push_too_many, dead_pass, dead_pass, dead_pass, de
 FAULTS = (
     BEGIN_FAULTS * 3 + [wrong_color, wrong_depth, wrong_loads, wrong_size, attached_twice, attached_twice, wrong_resolve, wrong_resolve] * 2
     + SETTING_FAULTS + OFFSET_FAULTS + VERTEX_FAULTS * 3 + INDEX_FAULTS * 3 + DRAW_FAULTS * 2 + PIPELINE_FAULTS * 2 + ORDER_FAULTS * 2
+    + QUERY_FAULTS
 )
 
 
@@ -489,7 +491,9 @@ def spoil_render(world, encoder, on, calls):
 def faults(world, encoder, on, calls):
     """One fault as a rule, at times two or three, often of one call, so that the order of rules shows."""
     random, kind = world.random, world.random.random()
-    if kind < 0.12:
+    if random.random() < world.queries / 2:
+        several = random.sample(QUERY_FAULTS, random.choice([1, 1, 2]))
+    elif kind < 0.12:
         several = random.sample(BEGIN_FAULTS, 2)
     elif kind < 0.22:
         several = random.sample(random.choice([VERTEX_FAULTS, INDEX_FAULTS]), random.choice([2, 3]))

@@ -1,4 +1,4 @@
-"""Render passes: settings and draws in any order that is good, on what is attached; and the few that are bare."""
+"""Render passes: settings and draws in any order that is good, on what is attached, with queries among them; and the few that are bare."""
 
 from bindings import is_written
 from dispatching import bound_by, new_layout, set_call
@@ -6,6 +6,7 @@ from drawing import (
     INDIRECT_BYTES, VERTEX, counts_for, draw_call, end_of, index_call, indirect_call, joins, new_render_pipeline, parts_of_group, size_set,
     some_index_range, some_range, some_render_pipeline, stray_settings, vertex_call,
 )
+from querying import with_queries
 from targets import begin
 
 DRAWS = ["draw", "drawIndexed", "drawIndirect", "drawIndexedIndirect"]
@@ -43,6 +44,8 @@ def render_calls(world, encoder, on, wanted, counts=(0, 1, 1, 1, 2, 2, 3)):
             calls += stray_settings(world, on, target, draw.is_any, list(range(len(pipeline.vertex), 8)), free, now) + added
             calls += [one_draw(world, on, target, pipeline, now, draw) for _ in range(random.choice([1, 1, 1, 2]))]
     calls += stray_settings(world, on, target, wanted == "scope", list(range(8)), list(range(4)), now)
+    if random.random() < world.queries:
+        with_queries(world, target.begin, on, calls)
     return [target.begin, *calls, {"do": "end", "on": on}], target.clashes
 
 
@@ -118,11 +121,13 @@ def bare_calls(world, encoder, on):
     """A pass of no draw, or of draws by a pipeline that asks for nothing."""
     random = world.random
     target = begin(world, encoder, on)
-    calls = [target.begin]
+    calls = []
     if random.random() < 0.6:
         layouts = random.choice([[], [new_layout(world, [])]])
         pipeline = new_render_pipeline(world, layouts, target.formats, target.depth, target.samples, target.read_only)
         calls.append({"do": "setPipeline", "on": on, "pipeline": pipeline.name})
         if not pipeline.vertex:
             calls.append(draw_call(world, on, "draw", pipeline, {}))
-    return [*calls, {"do": "end", "on": on}]
+    if random.random() < world.queries:
+        with_queries(world, target.begin, on, calls)
+    return [target.begin, *calls, {"do": "end", "on": on}]

@@ -1,4 +1,4 @@
-"""Buffers, textures and views: good ones, often with a rule just met, and ways to leave one rule unmet by one."""
+"""Buffers, textures, views and query sets: good ones, often with a rule just met, and ways to leave one rule unmet by one."""
 
 import copy
 
@@ -11,6 +11,7 @@ STORAGE_FORMATS = ["rgba8unorm", "r32uint", "r32float", "rgba16float", "rgba32fl
 SAMPLED_FORMATS = ["rgba8unorm", "rgba8unorm-srgb", "bgra8unorm", "rgba16float"] + DEPTH_FORMATS
 ONE_SAMPLE_FORMATS = ["r8unorm", "rg8unorm", "r32uint", "r32float", "rgba32float"]
 LIMITS = {"1d": [8192, 1, 1], "2d": [8192, 8192, 256], "3d": [2048, 2048, 2048]}
+MOST_QUERIES = 4096
 ASPECTS = ["all", "depth-only", "stencil-only"]
 VIEW_DIMS = ["1d", "2d", "2d-array", "cube", "cube-array", "3d"]
 
@@ -172,4 +173,15 @@ VIEW_FAULTS = [
     lambda random, call, texture: call.update(dim="cube-array", layers=6, baseLayer=0),
     lambda random, call, texture: call.update(baseMip=2**32 - 1, mips=2**32 - 1),
     lambda random, call, texture: call.update(baseLayer=2**32 - 1, layers=random.choice([1, 2**32 - 1])),
+]
+
+
+def good_query_set(random):
+    """Few queries as a rule; now and then none, or as many as there may be."""
+    return {"do": "createQuerySet", "count": random.choice([1, 2, 2, 2, 3, 3, 4, 5, 8, 33, 0, MOST_QUERIES - 1, MOST_QUERIES])}
+
+
+QUERY_SET_FAULTS = [
+    lambda random, call: call.update(count=MOST_QUERIES + 1),
+    lambda random, call: call.update(count=random.choice([MOST_QUERIES + 1, 2 * MOST_QUERIES, 2**16, 2**29, 2**31, 2**32 - 1])),
 ]

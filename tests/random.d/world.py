@@ -1,6 +1,6 @@
 """What a script that is being made has so far: its calls, and its objects as the maker takes them to be."""
 
-from resources import BUFFER_FAULTS, TEXTURE_FAULTS, VIEW_FAULTS, good_buffer, good_texture, good_view
+from resources import BUFFER_FAULTS, QUERY_SET_FAULTS, TEXTURE_FAULTS, VIEW_FAULTS, good_buffer, good_query_set, good_texture, good_view
 
 LETTERS = "abcdefghijklmnopqrstuvwxyzABCDEFGHIJKLMNOPQRSTUVWXYZ0123456789_"
 
@@ -31,6 +31,7 @@ class World:
     def __init__(self, random, fault=0.05):
         self.random = random
         self.fault = fault
+        self.queries = 0.2  # How many of the render passes have a query set, and how often queries are resolved beside them.
         self.calls = []
         self.names = 0
         self.issued = 0
@@ -46,6 +47,7 @@ class World:
         self.groups = []
         self.pipelines = []
         self.render_pipelines = []
+        self.query_sets = []
         self.encoders = []
         self.command_buffers = []
 
@@ -108,6 +110,15 @@ class World:
         self.views.append(thing)
         return thing
 
+    def query_set(self, good=True, **wanted):
+        """Makes a query set, with some count as it is wanted."""
+        call = good_query_set(self.random) | wanted
+        if not good:
+            self.spoil(QUERY_SET_FAULTS, call)
+        thing = self.make("u", call, good)
+        self.query_sets.append(thing)
+        return thing
+
     def encoder(self):
         thing = self.make("e", {"do": "createEncoder"}, True)
         self.encoders.append(thing)
@@ -153,7 +164,11 @@ class World:
 
     def everything(self):
         bound = self.samplers + self.group_layouts + self.pipeline_layouts + self.groups + self.pipelines + self.render_pipelines
-        return self.buffers + self.textures + self.views + bound + self.encoders + self.command_buffers
+        return self.resources() + self.views + bound + self.encoders + self.command_buffers
+
+    def resources(self):
+        """What takes memory."""
+        return self.buffers + self.textures + self.query_sets
 
     def complete(self, number):
         self.add({"do": "complete", "op": number})

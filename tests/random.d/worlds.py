@@ -19,7 +19,7 @@ def borders(random):
             scope(world)
         kind = random.randrange(12)
         if kind == 0:
-            world.buffer(not world.has_fault())
+            random.choice([world.buffer, world.buffer, world.query_set])(not world.has_fault())
         elif kind == 1:
             world.view(world.texture(not world.has_fault()))
         elif kind == 2:
@@ -77,13 +77,15 @@ def long(random):
 
 
 def make(world):
-    kind = world.random.randrange(4)
-    if kind == 0:
+    kind = world.random.randrange(9)
+    if kind < 2:
         world.buffer(not world.has_fault())
-    elif kind == 1:
+    elif kind < 4:
         world.texture(not world.has_fault())
-    elif kind == 2:
+    elif kind < 6:
         world.encoder()
+    elif kind == 6:
+        world.query_set(not world.has_fault())
     elif world.textures:
         texture = world.random.choice(world.textures) if world.random.random() < 0.2 else world.some(world.textures)
         world.view(texture, not world.has_fault())
@@ -167,7 +169,7 @@ def work_done(world):
 
 
 def destroy(world):
-    things = world.buffers + world.textures
+    things = world.resources()
     if things:
         world.destroy(world.random.choice(things) if world.random.random() < 0.15 else world.some(things))
 
@@ -187,8 +189,12 @@ def random_use(world):
 def drop_and_use(world):
     """A call on something that was dropped just before, or on an invalid one that was."""
     random, good = world.random, not world.has_fault()
-    kind = random.randrange(5)
-    if kind < 2:
+    kind = random.randrange(6)
+    if kind == 5:
+        queries = world.query_set(good)
+        world.drop(queries)
+        random.choice([world.destroy, world.drop])(queries)
+    elif kind < 2:
         buffer = world.buffer(good)
         world.drop(buffer)
         random.choice([world.destroy, world.unmap, world.drop, lambda thing: write_buffer(world, True, thing), lambda thing: world.map(thing, True, {"mode": 1})])(buffer)
@@ -203,9 +209,9 @@ def drop_and_use(world):
         world.drop(encoder)
         world.finish(encoder)
     else:
-        before = len(world.buffers)
+        before = world.resources()
         command(world, world.encoder(), True)
-        for thing in world.buffers[before:]:
+        for thing in [thing for thing in world.buffers + world.query_sets if thing not in before]:
             world.drop(thing)
         command_buffer = world.finish(world.encoders[-1])
         world.drop(random.choice([command_buffer, world.encoders[-1]]))
@@ -240,7 +246,7 @@ def destroyed_before_submit(world):
     command(world, encoder, True)
     named = {value for call in world.calls[seen:] for value in call.values() if isinstance(value, str)}
     command_buffer = world.finish(encoder)
-    for thing in world.buffers + world.textures:
+    for thing in world.resources():
         if thing.name in named and world.random.random() < 0.6:
             world.destroy(thing)
     world.submit([command_buffer])

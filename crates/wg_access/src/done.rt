@@ -1,9 +1,10 @@
 //! What the kept commands of a recorder have done.
-ghost use Rattle.std.specs.Prelude.{◌≡◌, Some, None, is_some, true, [], IfOk, OnOk, OnErr};
+ghost use Rattle.std.specs.Prelude.{◌≡◌, Some, None, is_some, true, [], map, IfOk, OnOk, OnErr};
+ghost use Rattle.std.specs.List.{filter};
 ghost use Rattle.std.specs.Option.{option_or};
 ghost use Rattle.wg_types.specs.declared.steps.StepName.{StepName};
 ghost use Rattle.wg_model.specs.Scopes.{clash};
-ghost use Rattle.wg_model.specs.Touches.{scope_in, deed_of, encoder_does};
+ghost use Rattle.wg_model.specs.Touches.{use_of, in_scope, scope_in, deed_of, encoder_does};
 ghost use Rattle.wg_access.specs.Done.{done_by_encoder, done_by_pass, done_of};
 
 use crate::deeds::encoder_deed;
@@ -34,6 +35,16 @@ fn first_part(a: Option<Part>, b: Option<Part>) -> Option<Part>
     b
 }
 
+/// The least clashing part of the usage scope of what touches these (WebGPU, "Usage Scope Validation").
+#[tactic(auto, unfolding(wg_model::specs::Scopes::clash))]
+pub fn scope_of(alloc: Global, touches: &[Touch]) -> Result<Option<Part>, NoMemory>
+    ensures { IfOk result (λ found. found ≡ clash (map use_of (filter in_scope touches.now))) }
+{
+    let scoped = touches_in_scope(alloc, touches)?;
+    let uses = uses_of(alloc, scoped.as_slice())?;
+    Ok(clash_in(uses.as_slice()))
+}
+
 /// The least clashing part of the usage scope of a step that does this and touches these. Where nothing of a
 /// query set is touched, the scope has the step's own uses.
 #[tactic(auto, unfolding(wg_model::specs::Scopes::clash), using(crate::proofs::Adding::all_clash))]
@@ -43,9 +54,7 @@ fn scope_clash(alloc: Global, deed: &Deed, touches: &[Touch]) -> Result<Option<P
     if all_in_scope(touches) {
         return Ok(clash_in(deed.uses.as_slice()));
     }
-    let scoped = touches_in_scope(alloc, touches)?;
-    let uses = uses_of(alloc, scoped.as_slice())?;
-    Ok(clash_in(uses.as_slice()))
+    scope_of(alloc, touches)
 }
 
 impl Done {

@@ -1,7 +1,8 @@
 //! What commands do, as deeds, and the steps of queue writes, host accesses and deeds, with uses and
-//! accesses as they are printed.
+//! accesses as they are printed; what bundles touch; usage scopes.
 #![tactic(auto)]
 
+mod bundled;
 mod deeds;
 mod done;
 mod touches;
@@ -10,6 +11,7 @@ mod touching;
 ghost use Rattle.std.specs.Prelude.{◌≡◌, ℕ, List, Some, Option, map, slice_get, IfOk, IfSome};
 ghost use Rattle.wg_types.specs.Commands.{Command};
 ghost use Rattle.wg_types.specs.declared.commands.On.{On};
+ghost use Rattle.wg_types.specs.declared.render.TargetInfo.{TargetInfo};
 ghost use Rattle.wg_orders.specs.Steps.{Step};
 ghost use Rattle.wg_model.specs.Touches.{placed, touching};
 ghost use Rattle.wg_model.specs.Recorded.{write_step, host_usage, host_kind, host_name, host_touches, host_step};
@@ -17,8 +19,9 @@ ghost use Rattle.wg_model.specs.StepLaws.{IsOwnStep};
 ghost use Rattle.wg_model.specs.Walk.{DeedsOf};
 ghost use Rattle.wg_access.specs.Ranges.{IsInRange};
 
+pub use bundled::{bundle_touch, bundle_touches};
 pub use deeds::encoder_deed;
-pub use done::Done;
+pub use done::{Done, scope_of};
 use std::alloc::Global;
 use touches::{copied_to, range_touches};
 pub use touching::deed_of;
@@ -81,7 +84,7 @@ fn all_copied(alloc: Global, deeds: &[Deed], place: StepPlace) -> Result<Steps, 
 pub fn steps(alloc: Global, deeds: &[Deed], place: StepPlace) -> Result<Steps, NoMemory>
     ensures steps { IfOk result (λ steps. steps ≡ map (placed place) deeds.now) }
     // Where recorded commands did it, each is as the table of uses has it, as the theorem on orders asks.
-    ensures declared { (device : ℕ) (commands : List (On × Command)) → deeds.now ≡ DeedsOf device commands → IfOk result (λ steps. (k : ℕ) (s : Step) → slice_get steps k ≡ Some s → IsOwnStep s) }
+    ensures declared { (device : ℕ) (targets : Option TargetInfo) (commands : List (On × Command)) → deeds.now ≡ DeedsOf device targets commands → IfOk result (λ steps. (k : ℕ) (s : Step) → slice_get steps k ≡ Some s → IsOwnStep s) }
 {
     let steps = all_copied(alloc, deeds, place)?;
     Ok(steps)

@@ -1,10 +1,10 @@
 -- What stands in slots after one more command.
-use Rattle.std.proofs.Common.{◌≡◌, ◌≢◌, ◌<◌, ◌≤◌, ◌+◌, ℕ, zero, suc, List, [], ◌∷◌, Option, Some, None, length, refl, ap, ap₂, sym, ◌∙◌, arith}
+use Rattle.std.proofs.Common.{◌≡◌, ◌≢◌, ◌<◌, ◌≤◌, ◌+◌, ℕ, zero, suc, true, false, List, [], ◌∷◌, Option, Some, None, length, replicate, refl, ap, ap₂, sym, ◌∙◌, arith}
 use Rattle.std.specs.Prelude.{slice_set}
 use Rattle.std.proofs.lemmas.Bool.Decides.{nat_tests}
 use Rattle.wg_types.specs.Commands.{Command}
 use Rattle.wg_model.specs.Settings.{slot_after, settings}
-use Rattle.wg_compute.specs.After.{slots_after, settings_after}
+use Rattle.wg_compute.specs.After.{slots_after, emptied, settings_after}
 
 -- Nothing is put into a slot.
 pub slots_unset : {X : Type 0} (at : ℕ) (slots : List (Option X)) → slots_after None at slots ≡ slots
@@ -40,6 +40,24 @@ slots_past_from x n at (slot ∷ slots) past = ap₂ (λ s rest. s ∷ rest) (ot
 
 pub slots_past : {X : Type 0} (x : X) (n : ℕ) (slots : List (Option X)) → length slots ≤ n → slots_after (Some (n, x)) 0 slots ≡ slots
 slots_past x n slots past = slots_past_from x n 0 slots (omega arith)
+
+-- No slot is emptied.
+pub none_emptied : {X : Type 0} (slots : List (Option X)) → emptied false slots ≡ slots
+none_emptied [] = refl
+none_emptied (slot ∷ slots) = ap (λ rest. slot ∷ rest) (none_emptied slots)
+
+-- All are, whatever is put into them before.
+pub emptied_after : {X : Type 0} (given : Option (ℕ × X)) (at : ℕ) (slots : List (Option X)) → emptied true (slots_after given at slots) ≡ emptied true slots
+emptied_after given at [] = refl
+emptied_after given at (slot ∷ slots) = ap (λ rest. None ∷ rest) (emptied_after given (at + 1) slots)
+
+-- Nothing is in slots that are emptied, as in the four of the groups.
+pub all_emptied : {X : Type 0} (slots : List (Option X)) → emptied true slots ≡ replicate (length slots) None
+all_emptied [] = refl
+all_emptied (slot ∷ slots) = ap (λ rest. None ∷ rest) (all_emptied slots)
+
+pub four_emptied : {X : Type 0} (slots : List (Option X)) → length slots ≡ 4 → emptied true slots ≡ None ∷ (None ∷ (None ∷ (None ∷ [])))
+four_emptied slots four = all_emptied slots ∙ ap (λ n. replicate n None) four
 
 -- What a command does to what is set is what makes up what is set.
 pub settings_grow : (earlier : List Command) (command : Command) → settings_after (settings earlier) command ≡ settings (command ∷ earlier)

@@ -1,7 +1,7 @@
-//! What a command sets in any pass: the pipeline, or a bind group.
+//! What a command sets in any pass: the pipeline, or a bind group; and whether it unsets all.
 ghost use Rattle.std.specs.Prelude.{◌≡◌, option_copied};
 ghost use Rattle.wg_model.specs.Rules.{first_unmet};
-ghost use Rattle.wg_model.specs.Settings.{pipeline_given, group_given, given_rules};
+ghost use Rattle.wg_model.specs.Settings.{pipeline_given, unsets, group_given, given_rules};
 
 use std::marker::Model;
 use wg_layouts::{check_set, known_group};
@@ -34,6 +34,16 @@ pub fn pipeline_given(command: &Command) -> Option<&Handle>
     match command {
         Command::SetPipeline { pipeline } => Some(pipeline),
         _ => None,
+    }
+}
+
+/// Whether a command unsets all that is set, which bundles that are executed do (WebGPU, "executeBundles").
+pub fn unsets(command: &Command) -> bool
+    ensures { result ≡ unsets command.now }
+{
+    match command {
+        Command::ExecuteBundles { .. } => true,
+        _ => false,
     }
 }
 

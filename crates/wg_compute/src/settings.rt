@@ -1,12 +1,12 @@
 //! What is set in any pass.
-ghost use Rattle.std.specs.Prelude.{◌≡◌, option_copied, IfOk, OnOk, OnErr};
+ghost use Rattle.std.specs.Prelude.{◌≡◌, None, true, option_copied, IfOk, OnOk, OnErr};
 ghost use Rattle.std.specs.Option.{option_or};
 ghost use Rattle.wg_model.specs.Rules.{first_unmet};
 ghost use Rattle.wg_model.specs.Settings.{layouts_set, ready_rules};
-ghost use Rattle.wg_compute.specs.After.{slots_after, settings_after};
+ghost use Rattle.wg_compute.specs.After.{slots_after, emptied, settings_after};
 
 use crate::brackets::depth_after;
-use crate::given::{GroupGiven, group_given, pipeline_given};
+use crate::given::{GroupGiven, group_given, pipeline_given, unsets};
 use std::marker::Model;
 use wg_layouts::{check_bound, layouts_in};
 use wg_types::NoMemory;
@@ -112,12 +112,27 @@ impl Settings {
         Ok(())
     }
 
-    /// Takes what a command sets in any pass.
+    /// Unsets the pipeline and the groups.
+    #[tactic(auto, using(crate::proofs::Slots::four_emptied))]
+    fn unset(&mut self)
+        ensures { self.new ≡ record self.old { pipeline = None; groups = emptied true self.old.groups } }
+    {
+        self.pipeline = None;
+        self.groups = [None, None, None, None];
+    }
+
+    /// Takes what a command sets or unsets in any pass.
+    #[tactic(auto, using(crate::proofs::Slots::none_emptied, crate::proofs::Slots::emptied_after))]
     pub fn take(&mut self, command: &Command) -> Result<(), NoMemory>
         ensures set { OnOk result (self.new ≡ settings_after self.old command.now) }
         ensures unchanged { OnErr result (self.new ≡ self.old) }
     {
         let depth = depth_after(self.depth, command)?;
+        if unsets(command) {
+            self.unset();
+            self.depth = depth;
+            return Ok(());
+        }
         let pipeline = shared(pipeline_given(command))?;
         self.set_group(group_given(command))?;
         self.set_pipeline(pipeline);

@@ -116,7 +116,7 @@ impl ComputeState {
 
     /// Takes a command no rule of which is unmet, and adds the step that it completes to what is done.
     /// Ranges that end past every number, which such commands don't have, are answered as want of memory.
-    #[tactic(auto, unfolding(wg_model::specs::Compute::compute_does), using(crate::proofs::Slots::slots_unset))]
+    #[tactic(auto, unfolding(wg_model::specs::Compute::compute_does), using(crate::proofs::Slots::slots_unset, crate::proofs::Slots::none_emptied))]
     pub fn take(
         &mut self,
         done: &mut Done,

@@ -104,6 +104,7 @@ pub fn check(command: &Command) -> Option<u16>
         | Command::DrawIndirect { .. }
         | Command::DrawIndexedIndirect { .. }
         | Command::BeginOcclusionQuery { .. }
-        | Command::EndOcclusionQuery => return None,
+        | Command::EndOcclusionQuery
+        | Command::ExecuteBundles { .. } => return None,
     }
 }

@@ -1,15 +1,15 @@
 //! The first unmet rule of each event.
-ghost use Rattle.std.specs.Prelude.{◌≡◌, ◌==◌, ◌&&◌, ◌+◌, ◌^◌, ◌<◌, reverse, [], Some, IsNone, IfOk, IfSome};
+ghost use Rattle.std.specs.Prelude.{◌≡◌, ◌==◌, ◌&&◌, ◌+◌, ◌*◌, ◌^◌, ◌<◌, reverse, [], Some, IsNone, IfOk, IfSome};
 ghost use Rattle.std.specs.List.{list_any};
 ghost use Rattle.wg_model.specs.Rules.{first_unmet};
 ghost use Rattle.wg_core.specs.Plans.{use_rules, IsMapInRange};
 ghost use Rattle.wg_state.specs.Uses.{uses_of, is_sort, is_used_as};
 ghost use Rattle.wg_history.specs.Objects.{is_own, is_command_buffer, made_info};
-ghost use Rattle.wg_model.specs.Commands.{no_texture};
+ghost use Rattle.wg_model.specs.Commands.{no_texture, query_bytes};
 ghost use Rattle.wg_access.specs.Ranges.{IsInRange};
 ghost use Rattle.wg_history.specs.Entries.{effects_of, submitted, written};
 ghost use Rattle.wg_history.specs.Rules.{is_busy, map_async_rule, unmap_rule, create_view_rule, write_buffer_rule, write_texture_rule, destroy_rule, drop_rule, destroys, is_destroyed, finish_rule, ends_encoder, has_finished, consumes, is_consumed, are_distinct, listed_rules, submit_rule};
-ghost use Rattle.wg_history.specs.FirstRules.{first_rule, create_buffer_rule, create_texture_rule};
+ghost use Rattle.wg_history.specs.FirstRules.{first_rule, create_buffer_rule, create_texture_rule, create_query_set_rule};
 ghost use Rattle.wg_history.specs.Budget.{bytes_made};
 ghost use Rattle.wg_model.specs.Memory.{texture_bytes};
 
@@ -22,9 +22,10 @@ use wg_encoder::Recording;
 use wg_formats::texture_bytes;
 use wg_history::NoMemory;
 use wg_history::events::Event;
+use wg_queries::check_create as check_queries;
 use wg_state::{State, Used};
 use wg_textures::{check_create as check_texture, check_view};
-use wg_types::handles::{BufferInfo, Info, ObjRef};
+use wg_types::handles::{BufferInfo, Info, ObjRef, QueriesInfo};
 use wg_types::steps::Sort;
 use wg_types::textures::{DataLayout, TextureInfo, TextureSpot, ViewDesc};
 
@@ -63,6 +64,22 @@ fn create_texture(state: &State, info: &TextureInfo) -> Option<u16>
     None
 }
 
+/// The first unmet rule of a createQuerySet (WebGPU, "QuerySet Creation"): rule 13, where the budget has no
+/// room for it, is the last.
+#[tactic(auto, unfolding(wg_history::specs::FirstRules::create_query_set_rule))]
+fn create_query_set(state: &State, info: &QueriesInfo) -> Option<u16>
+    ensures rule { result ≡ create_query_set_rule state.now.setup (reverse state.now.history) info.now }
+    ensures bytes { IsNone result → query_bytes * info.now.count < 2 ^ 64 }
+{
+    if let Some(rule) = check_queries(info, &state.setup().limits) {
+        return Some(rule);
+    }
+    if !state.fits(8 * u64::from(info.count)) {
+        return Some(13);
+    }
+    None
+}
+
 /// The first unmet rule of a createView (WebGPU, "Texture View Creation").
 #[tactic(auto, unfolding(wg_history::specs::Rules::create_view_rule))]
 fn create_view(state: &State, texture: ObjRef, desc: &ViewDesc) -> Option<u16>
@@ -80,7 +97,8 @@ fn create_view(state: &State, texture: ObjRef, desc: &ViewDesc) -> Option<u16>
     check_view(&info, desc)
 }
 
-/// The first unmet rule of a destroy (WebGPU, "Buffer Destruction" and "Texture Destruction").
+/// The first unmet rule of a destroy (WebGPU, "Buffer Destruction", "Texture Destruction" and "Query Set
+/// Destruction").
 #[tactic(auto, unfolding(wg_history::specs::Rules::destroy_rule))]
 fn destroy(state: &State, object: ObjRef) -> Option<u16>
     ensures { result ≡ destroy_rule state.now.setup (reverse state.now.history) object }
@@ -284,12 +302,12 @@ fn any_busy(state: &State, uses: &[Used]) -> bool
     false
 }
 
-/// Whether a texture is used that is destroyed.
-fn any_destroyed(state: &State, uses: &[Used]) -> bool
-    ensures { result ≡ list_any (is_used_as Sort.Texture (is_destroyed state.now.setup (reverse state.now.history))) uses.now }
+/// Whether a resource of a sort is used that is destroyed.
+fn any_destroyed(state: &State, sort: Sort, uses: &[Used]) -> bool
+    ensures { result ≡ list_any (is_used_as sort (is_destroyed state.now.setup (reverse state.now.history))) uses.now }
 {
     for used in uses {
-        if is_sort(Sort::Texture, used.sort) && state.is_destroyed(used.number) {
+        if is_sort(sort, used.sort) && state.is_destroyed(used.number) {
             return true;
         }
     }
@@ -339,7 +357,7 @@ fn check_uses(state: &State, uses: &[Used]) -> Option<u16>
     if any_busy(state, uses) {
         return Some(192);
     }
-    if any_destroyed(state, uses) {
+    if any_destroyed(state, Sort::Texture, uses) || any_destroyed(state, Sort::Queries, uses) {
         return Some(193);
     }
     None
@@ -397,6 +415,7 @@ pub fn first_rule(
         Event::CreateRenderPipeline { layout, desc } => {
             group_rules::create_render_pipeline(state, *layout, desc, made)
         }
+        Event::CreateQuerySet { info } => create_query_set(state, info),
         Event::Finish { encoder, recording } => finish(state, *encoder, recording),
         Event::Late { .. } => Some(14),
         Event::Submit { buffers } => return submit(alloc, state, buffers.as_slice()),

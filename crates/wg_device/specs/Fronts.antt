@@ -37,9 +37,8 @@ IsSoundIn lock pass = IsSound history_of (λ c. c.setup) Run lock pass
 abbrev pub CanCall : Lock → DevicePass → Type 0
 CanCall lock pass = IsPassOf lock pass × (calls_of pass < 2 ^ 40)
 
--- A call was made with the pass, or was not for want of memory: it is of this device, and has its number and its calls, with at
--- most one more, and has seen a history that begins with what it had seen. A call that memory was wanting for counts only where it
--- had its turn.
+-- A pass after a call, which was made or was not for want of memory. It is of this device and has its number, its calls are as many
+-- as they were or one more, it is sound if it was, and the history that it has seen begins with what it had seen.
 pub record HasCalled (lock : Lock) (old new : DevicePass) : Type 0 where
   pub of : IsPassOf lock new
   pub number : number_of new ≡ number_of old

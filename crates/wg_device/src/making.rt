@@ -14,7 +14,7 @@ use wg_encoder::Recorder;
 use wg_entry::NoMemory;
 use wg_types::bindings::{GroupEntryOf, IfaceEntry, LayoutEntry, SamplerKind};
 use wg_types::groups::{GroupLayoutInfo, Interface};
-use wg_types::handles::{BufferInfo, Handle};
+use wg_types::handles::{BufferInfo, Handle, QueriesInfo};
 use wg_types::items::Items;
 use wg_types::render::RenderDesc;
 use wg_types::replies::Reply;
@@ -209,6 +209,26 @@ impl Device {
         let layout = layout.share()?;
         let desc = Shared::new(self.alloc, desc)?;
         self.make_of(rt, pass, RequestOf::CreateRenderPipeline { layout, desc })
+    }
+
+    /// Makes a query set of so many occlusion queries (WebGPU, "QuerySet Creation"). More than the limit are
+    /// a validation error, rule 170; those for which the budget has no room are out of memory, rule 13.
+    #[tactic(auto, using(crate::proofs::Calling::none_named))]
+    pub fn create_query_set(
+        &self,
+        rt: &impl Wait,
+        pass: &mut DevicePass,
+        count: u32,
+    ) -> Result<(Handle, Reply), NoMemory>
+        requires { CanCall self.now.lock pass.old }
+        ensures called { HasCalled self.now.lock pass.old pass.new }
+        ensures done { IfOk result (λ t. IsAct self.now.lock pass.old pass.new (Event.CreateQuerySet (record { count = count })) t.1) }
+        ensures handle { IfOk result (λ t. IsHandleOf self.now.lock (request.CreateQuerySet (record { count = count })) t.1 t.0) }
+        ensures genuine { IfOk result (λ t. IsGenuineIn self.now.lock pass.new t.0) }
+        ensures refused { IfErr result (λ _. HasNotMade self.now.lock pass.old pass.new) }
+    {
+        let info = QueriesInfo { count };
+        self.make_of(rt, pass, RequestOf::CreateQuerySet { info })
     }
 
     /// Makes an encoder (WebGPU, "createCommandEncoder"), with a recorder that is open for it.

@@ -143,7 +143,7 @@ impl Device {
         self.send(rt, pass, Event::WorkDone)
     }
 
-    /// Destroys a resource (WebGPU, "destroy" of a buffer or a texture).
+    /// Destroys a resource (WebGPU, "destroy" of a buffer, a texture or a query set).
     pub fn destroy(
         &self,
         rt: &impl Wait,

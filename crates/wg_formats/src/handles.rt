@@ -1,11 +1,13 @@
 //! What handles know of their objects, what is known of a view, and where copies of whole textures begin.
-ghost use Rattle.std.specs.Prelude.{◌≡◌};
+ghost use Rattle.std.specs.Prelude.{◌≡◌, option_copied};
 ghost use Rattle.wg_model.specs.TexelCopies.{whole_spot};
 ghost use Rattle.wg_model.specs.Commands.{buffer_of, buffer_or_none, no_buffer, texture_of, texture_or_none, no_texture, queries_of, queries_or_none, no_queries, rest_of, size_or_rest};
+ghost use Rattle.wg_model.specs.Bundles.{known_bundle};
 ghost use Rattle.wg_model.specs.Equality.{same_reference};
 ghost use Rattle.wg_model.specs.Making.{no_view};
 ghost use Rattle.wg_model.specs.Views.{view_info};
 
+use wg_types::bundles::BundleInfo;
 use wg_types::formats::Format;
 use wg_types::handles::{BufferInfo, Handle, Info, ObjRef, QueriesInfo};
 use wg_types::textures::{
@@ -72,6 +74,19 @@ pub fn queries_of(queries: &Handle) -> QueriesInfo
     match queries.info() {
         Info::Queries(info) => *info,
         _ => no_queries(),
+    }
+}
+
+/// What a handle knows of a bundle (WebGPU, "GPURenderBundle"), which of an invalid one is nothing.
+pub fn known_bundle(handle: &Handle) -> Option<&BundleInfo>
+    ensures { option_copied result ≡ known_bundle handle.now }
+{
+    if !handle.valid() {
+        return None;
+    }
+    match handle.info() {
+        Info::Bundle(bundle) => Some(bundle.get()),
+        _ => None,
     }
 }
 

@@ -1,5 +1,5 @@
-//! Texture formats, extents of mip levels, the layout of texels in bytes, what handles know of buffers, textures
-//! and query sets, what is known of a view, when bindings are of one kind, and what resources take of a budget of
+//! Texture formats, extents of mip levels, the layout of texels in bytes, what handles know of buffers, textures,
+//! query sets and bundles, what is known of a view, when bindings are of one kind, and what resources take of a budget of
 //! bytes.
 #![tactic(auto)]
 
@@ -19,8 +19,8 @@ pub use extents::{
     covers_all, end_layer, extent, first_layer, has_no_texel, layer_count, spot_fits,
 };
 pub use handles::{
-    buffer_of, no_buffer, no_texture, no_view, queries_of, same_reference, size_or_rest,
-    texture_of, view_info, whole_spot,
+    buffer_of, known_bundle, no_buffer, no_texture, no_view, queries_of, same_reference,
+    size_or_rest, texture_of, view_info, whole_spot,
 };
 pub use layout::{bytes_fit, required};
 pub use memory::{bytes_of, texture_bytes};

@@ -52,6 +52,8 @@ pub fn bytes_of(info: &Info) -> Option<u64>
         | Info::Compute(_)
         | Info::Render(_)
         | Info::Encoder
-        | Info::CommandBuffer => Some(0),
+        | Info::BundleEncoder(_)
+        | Info::CommandBuffer
+        | Info::Bundle(_) => Some(0),
     }
 }

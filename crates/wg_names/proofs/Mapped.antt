@@ -10,7 +10,7 @@ use Rattle.wg_types.specs.declared.wanted.Wanted.{Wanted}
 use Rattle.wg_types.specs.declared.wanted.Wanted.TheVariants as wanted
 use Rattle.wg_types.specs.Wanted.{within}
 use Rattle.wg_types.specs.Refs.{all_wanted, maybe_wanted}
-use Rattle.wg_types.specs.Render.{color_named, depth_named, targets_named, map_color, map_depth, map_begin}
+use Rattle.wg_types.specs.Render.{color_named, depth_named, targets_named, begin_named, map_color, map_depth, map_begin}
 use Rattle.wg_types.specs.declared.render.ColorTargetOf.{ColorTargetOf}
 use Rattle.wg_types.specs.declared.render.DepthTargetOf.{DepthTargetOf}
 use Rattle.wg_types.specs.declared.render.RenderBeginOf.{RenderBeginOf}
@@ -38,14 +38,16 @@ other f x = (f x.0, x.1)
 
 -- ---- a call
 
--- the views of attachments
-resolve_mapped : {R S : Type 0} (f : R → S) (resolve : Option R) → maybe_wanted wanted.View (option_map f resolve) ≡ map (other f) (maybe_wanted wanted.View resolve)
-resolve_mapped f None = refl
-resolve_mapped f (Some view) = refl
+-- an object that may be left out
+maybe_mapped : {R S : Type 0} (f : R → S) (want : Wanted) (x : Option R) → maybe_wanted want (option_map f x) ≡ map (other f) (maybe_wanted want x)
+maybe_mapped f want None = refl
+maybe_mapped f want (Some x) = refl
+
+-- the views of attachments, and the query set after them
 
 color_mapped : {R S : Type 0} (f : R → S) (color : Option (ColorTargetOf R)) → color_named (option_map (map_color f) color) ≡ map (other f) (color_named color)
 color_mapped f None = refl
-color_mapped f (Some target) = ap (λ rest. (f target.view, wanted.View) ∷ rest) (resolve_mapped f target.resolve)
+color_mapped f (Some target) = ap (λ rest. (f target.view, wanted.View) ∷ rest) (maybe_mapped f wanted.View target.resolve)
 
 colors_mapped : {R S : Type 0} (f : R → S) (colors : List (Option (ColorTargetOf R))) → flat_map color_named (map (option_map (map_color f)) colors) ≡ map (other f) (flat_map color_named colors)
 colors_mapped f [] = refl
@@ -55,8 +57,11 @@ depth_mapped : {R S : Type 0} (f : R → S) (depth : Option (DepthTargetOf R)) �
 depth_mapped f None = refl
 depth_mapped f (Some target) = refl
 
-begin_mapped : {R S : Type 0} (f : R → S) (begin : RenderBeginOf R) → targets_named (map_begin f begin) ≡ map (other f) (targets_named begin)
-begin_mapped f begin = ap₂ (λ a b. a ++ b) (colors_mapped f begin.colors) (depth_mapped f begin.depth) ∙ sym (map-append (other f) (flat_map color_named begin.colors) (depth_named begin.depth))
+targets_mapped : {R S : Type 0} (f : R → S) (begin : RenderBeginOf R) → targets_named (map_begin f begin) ≡ map (other f) (targets_named begin)
+targets_mapped f begin = ap₂ (λ a b. a ++ b) (colors_mapped f begin.colors) (depth_mapped f begin.depth) ∙ sym (map-append (other f) (flat_map color_named begin.colors) (depth_named begin.depth))
+
+begin_mapped : {R S : Type 0} (f : R → S) (begin : RenderBeginOf R) → begin_named (map_begin f begin) ≡ map (other f) (begin_named begin)
+begin_mapped f begin = ap₂ (λ a b. a ++ b) (targets_mapped f begin) (maybe_mapped f wanted.Queries begin.queries) ∙ sym (map-append (other f) (targets_named begin) (maybe_wanted wanted.Queries begin.queries))
 
 command_named : {R S : Type 0} (f : R → S) (command : CommandOf R) → named (map_refs f command) ≡ map (other f) (named command)
 command_named f command = grind (arith, begin_mapped)

@@ -145,6 +145,7 @@ fn wants_own(wanted: Wanted) -> bool
     match wanted {
         Wanted::Encoder
         | Wanted::ComputePass
+        | Wanted::RenderPass
         | Wanted::Pass
         | Wanted::Binding
         | Wanted::Drawing
@@ -159,6 +160,7 @@ fn wants_own(wanted: Wanted) -> bool
         | Wanted::Pipeline
         | Wanted::ComputePipeline
         | Wanted::RenderPipeline
+        | Wanted::Queries
         | Wanted::Destroyable
         | Wanted::CommandBuffer
         | Wanted::Object => false,

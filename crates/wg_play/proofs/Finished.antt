@@ -17,7 +17,7 @@ use Rattle.wg_types.specs.declared.commands.CommandOf.{CommandOf}
 use Rattle.wg_types.specs.Requests.{named as asked_of}
 use Rattle.wg_types.specs.declared.replies.Answer.{Answer}
 use Rattle.wg_types.specs.declared.requests.RequestOf.{RequestOf}
-use Rattle.wg_types.specs.declared.requests.RequestOf.TheVariants.{CreateBuffer, CreateTexture, CreateView, CreateSampler, CreateBindGroupLayout, CreatePipelineLayout, CreateBindGroup, CreateComputePipeline, CreateRenderPipeline, CreateEncoder, Finish, Submit, WriteBuffer, WriteTexture, Destroy, Drop, Complete, PushErrorScope, PopErrorScope, Lose, WorkDone, MapAsync, Unmap}
+use Rattle.wg_types.specs.declared.requests.RequestOf.TheVariants.{CreateBuffer, CreateTexture, CreateView, CreateSampler, CreateBindGroupLayout, CreatePipelineLayout, CreateBindGroup, CreateComputePipeline, CreateRenderPipeline, CreateQuerySet, CreateEncoder, Finish, Submit, WriteBuffer, WriteTexture, Destroy, Drop, Complete, PushErrorScope, PopErrorScope, Lose, WorkDone, MapAsync, Unmap}
 use Rattle.wg_encoder.specs.Recorders.{RecorderValue, has_taken}
 use Rattle.wg_script.specs.CallOf.{BoundCall}
 use Rattle.wg_script.specs.declared.calls.CallOf.TheVariants.{Record, Ask}
@@ -56,6 +56,7 @@ finish_found made ours (CreatePipelineLayout layouts) encoder all e = absurd (cc
 finish_found made ours (CreateBindGroup layout entries) encoder all e = absurd (cc)
 finish_found made ours (CreateComputePipeline layout iface) encoder all e = absurd (cc)
 finish_found made ours (CreateRenderPipeline layout desc) encoder all e = absurd (cc)
+finish_found made ours (CreateQuerySet known) encoder all e = absurd (cc)
 finish_found made ours CreateEncoder encoder all e = absurd (cc)
 finish_found made ours (Submit buffers) encoder all e = absurd (cc)
 finish_found made ours (WriteBuffer buffer offset size) encoder all e = absurd (cc)

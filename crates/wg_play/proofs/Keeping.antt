@@ -16,7 +16,7 @@ use Rattle.wg_types.specs.declared.handles.Info.{Info}
 use Rattle.wg_types.specs.declared.handles.Info.TheVariants as info
 use Rattle.wg_types.specs.declared.handles.ObjRef.{ObjRef}
 use Rattle.wg_types.specs.declared.requests.RequestOf.{RequestOf}
-use Rattle.wg_types.specs.declared.requests.RequestOf.TheVariants.{CreateBuffer, CreateTexture, CreateView, CreateSampler, CreateBindGroupLayout, CreatePipelineLayout, CreateBindGroup, CreateComputePipeline, CreateRenderPipeline, CreateEncoder, Finish, Submit, WriteBuffer, WriteTexture, Destroy, Drop, Complete, PushErrorScope, PopErrorScope, Lose, WorkDone, MapAsync, Unmap}
+use Rattle.wg_types.specs.declared.requests.RequestOf.TheVariants.{CreateBuffer, CreateTexture, CreateView, CreateSampler, CreateBindGroupLayout, CreatePipelineLayout, CreateBindGroup, CreateComputePipeline, CreateRenderPipeline, CreateQuerySet, CreateEncoder, Finish, Submit, WriteBuffer, WriteTexture, Destroy, Drop, Complete, PushErrorScope, PopErrorScope, Lose, WorkDone, MapAsync, Unmap}
 use Rattle.wg_types.specs.declared.wanted.Kind.{Kind}
 use Rattle.wg_types.specs.declared.wanted.Wanted.{Wanted}
 use Rattle.wg_types.specs.declared.wanted.Wanted.TheVariants as wanted
@@ -152,6 +152,7 @@ module _ (setup : Setup) (past : Past) where
     named_if_own (CreateBindGroup layout entries) = All-cons UsedIfOwn (f layout, wanted.GroupLayout) (entries_named (map (map_entry f) entries)) (each layout) (entries_if_own entries)
     named_if_own (CreateComputePipeline layout iface) = one_if_own layout wanted.PipelineLayout
     named_if_own (CreateRenderPipeline layout desc) = one_if_own layout wanted.PipelineLayout
+    named_if_own (CreateQuerySet known) = All-nil UsedIfOwn
     named_if_own CreateEncoder = All-nil UsedIfOwn
     named_if_own (Finish encoder) = one_if_own encoder wanted.Encoder
     named_if_own (Submit buffers) = wanted_if_own wanted.CommandBuffer buffers
@@ -209,6 +210,7 @@ sent sight (CreatePipelineLayout layouts) = inl refl
 sent sight (CreateBindGroup layout entries) = inl refl
 sent sight (CreateComputePipeline layout iface) = inl refl
 sent sight (CreateRenderPipeline layout desc) = inl refl
+sent sight (CreateQuerySet known) = inl refl
 sent sight CreateEncoder = inl refl
 sent sight (Finish encoder) = finish_sent sight encoder
 sent sight (Submit buffers) = inl refl

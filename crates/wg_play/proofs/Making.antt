@@ -19,7 +19,7 @@ use Rattle.wg_types.specs.declared.commands.CommandOf.{CommandOf}
 use Rattle.wg_types.specs.Commands.{Command, map_refs, bracket, kind_begun_by, kind_begun, is_begin}
 use Rattle.wg_types.specs.Requests.{kind_made}
 use Rattle.wg_types.specs.declared.requests.RequestOf.{RequestOf}
-use Rattle.wg_types.specs.declared.requests.RequestOf.TheVariants.{CreateBuffer, CreateTexture, CreateView, CreateSampler, CreateBindGroupLayout, CreatePipelineLayout, CreateBindGroup, CreateComputePipeline, CreateRenderPipeline, CreateEncoder, Finish, Submit, WriteBuffer, WriteTexture, Destroy, Drop, Complete, PushErrorScope, PopErrorScope, Lose, WorkDone, MapAsync, Unmap}
+use Rattle.wg_types.specs.declared.requests.RequestOf.TheVariants.{CreateBuffer, CreateTexture, CreateView, CreateSampler, CreateBindGroupLayout, CreatePipelineLayout, CreateBindGroup, CreateComputePipeline, CreateRenderPipeline, CreateQuerySet, CreateEncoder, Finish, Submit, WriteBuffer, WriteTexture, Destroy, Drop, Complete, PushErrorScope, PopErrorScope, Lose, WorkDone, MapAsync, Unmap}
 use Rattle.wg_encoder.specs.Recorders.{RecorderValue, has_taken}
 use Rattle.wg_calls.specs.Calls.{opened_for}
 use Rattle.wg_script.specs.CallOf.{BoundCall}
@@ -86,6 +86,7 @@ encoder_known reference (info.PipelineLayout known) e = absurd (cc)
 encoder_known reference (info.Group known) e = absurd (cc)
 encoder_known reference (info.Compute known) e = absurd (cc)
 encoder_known reference (info.Render known) e = absurd (cc)
+encoder_known reference (info.Queries known) e = absurd (cc)
 encoder_known reference info.CommandBuffer e = absurd (cc)
 
 encoder_new : (objects : List Object) (handle : Option HandleValue) (on : ℕ) → Fits handle (Some (on, kind.Encoder)) → Fresh (with_kept objects handle) (length objects)
@@ -129,6 +130,7 @@ no_pass_made (CreatePipelineLayout layouts) = refl
 no_pass_made (CreateBindGroup layout entries) = refl
 no_pass_made (CreateComputePipeline layout iface) = refl
 no_pass_made (CreateRenderPipeline layout desc) = refl
+no_pass_made (CreateQuerySet known) = refl
 no_pass_made CreateEncoder = refl
 no_pass_made (Finish encoder) = refl
 no_pass_made (Submit buffers) = refl

@@ -9,7 +9,7 @@ use Rattle.wg_types.specs.declared.replies.Answer.{Answer}
 use Rattle.wg_types.specs.declared.replies.Answer.TheVariants.{Plain}
 use Rattle.wg_types.specs.declared.replies.Reply.{Reply}
 use Rattle.wg_types.specs.declared.requests.RequestOf.{RequestOf}
-use Rattle.wg_types.specs.declared.requests.RequestOf.TheVariants.{CreateBuffer, CreateTexture, CreateView, CreateSampler, CreateBindGroupLayout, CreatePipelineLayout, CreateBindGroup, CreateComputePipeline, CreateRenderPipeline, CreateEncoder, Finish, Submit, WriteBuffer, WriteTexture, Destroy, Drop, Complete, PushErrorScope, PopErrorScope, Lose, WorkDone, MapAsync, Unmap}
+use Rattle.wg_types.specs.declared.requests.RequestOf.TheVariants.{CreateBuffer, CreateTexture, CreateView, CreateSampler, CreateBindGroupLayout, CreatePipelineLayout, CreateBindGroup, CreateComputePipeline, CreateRenderPipeline, CreateQuerySet, CreateEncoder, Finish, Submit, WriteBuffer, WriteTexture, Destroy, Drop, Complete, PushErrorScope, PopErrorScope, Lose, WorkDone, MapAsync, Unmap}
 use Rattle.wg_types.specs.declared.wanted.Kind.{Kind}
 use Rattle.wg_encoder.specs.Recorders.{RecorderValue}
 use Rattle.wg_calls.specs.Calls.{finish_of}
@@ -58,6 +58,7 @@ sent_makes sight (CreatePipelineLayout layouts) k e = refl
 sent_makes sight (CreateBindGroup layout entries) k e = refl
 sent_makes sight (CreateComputePipeline layout iface) k e = refl
 sent_makes sight (CreateRenderPipeline layout desc) k e = refl
+sent_makes sight (CreateQuerySet known) k e = refl
 sent_makes sight CreateEncoder k e = refl
 sent_makes sight (Finish encoder) k e = by_recorder (recorder_at sight.own (place_in sight encoder)) _ refl
 sent_makes sight (Submit buffers) k e = absurd (cc)

@@ -8,7 +8,7 @@ use Rattle.wg_types.specs.Wanted.{admits}
 use Rattle.wg_types.specs.declared.commands.Bracket.{Bracket}
 use Rattle.wg_types.specs.declared.commands.Bracket.TheVariants as brackets
 use Rattle.wg_types.specs.declared.commands.CommandOf.{CommandOf}
-use Rattle.wg_types.specs.declared.commands.CommandOf.TheVariants.{BeginComputePass, BeginRenderPass, CopyBufferToBuffer, CopyBufferToTexture, CopyTextureToBuffer, CopyTextureToTexture, ClearBuffer, PushDebugGroup, PopDebugGroup, End, SetPipeline, SetBindGroup, Dispatch, DispatchIndirect, SetVertexBuffer, SetIndexBuffer, Draw, DrawIndexed, DrawIndirect, DrawIndexedIndirect}
+use Rattle.wg_types.specs.declared.commands.CommandOf.TheVariants.{BeginComputePass, BeginRenderPass, CopyBufferToBuffer, CopyBufferToTexture, CopyTextureToBuffer, CopyTextureToTexture, ClearBuffer, ResolveQuerySet, PushDebugGroup, PopDebugGroup, End, SetPipeline, SetBindGroup, Dispatch, DispatchIndirect, SetVertexBuffer, SetIndexBuffer, Draw, DrawIndexed, DrawIndirect, DrawIndexedIndirect, BeginOcclusionQuery, EndOcclusionQuery}
 use Rattle.wg_types.specs.Commands.{map_refs, bracket, place_wanted, kind_begun_by, kind_begun, begins_pass_by}
 use Rattle.wg_names.specs.Uses.{wants_own}
 use Rattle.wg_names.proofs.BoundLemmas.{place_own}
@@ -24,6 +24,7 @@ bracket_mapped f (CopyBufferToTexture buffer layout texture spot size) = refl
 bracket_mapped f (CopyTextureToBuffer buffer layout texture spot size) = refl
 bracket_mapped f (CopyTextureToTexture source source_mip source_origin target target_mip target_origin size) = refl
 bracket_mapped f (ClearBuffer buffer offset size) = refl
+bracket_mapped f (ResolveQuerySet queries first count buffer offset) = refl
 bracket_mapped f PushDebugGroup = refl
 bracket_mapped f PopDebugGroup = refl
 bracket_mapped f End = refl
@@ -37,6 +38,8 @@ bracket_mapped f (Draw vertices instances first_vertex first_instance) = refl
 bracket_mapped f (DrawIndexed indices instances first_index first_instance) = refl
 bracket_mapped f (DrawIndirect buffer offset) = refl
 bracket_mapped f (DrawIndexedIndirect buffer offset) = refl
+bracket_mapped f (BeginOcclusionQuery index) = refl
+bracket_mapped f EndOcclusionQuery = refl
 
 -- it stands on an encoder
 pub place_of_begin : {R : Type 0} (command : CommandOf R) (k : Kind) → kind_begun command ≡ Some k → place_wanted command ≡ wanted.Encoder
@@ -47,6 +50,7 @@ place_of_begin (CopyBufferToTexture buffer layout texture spot size) k e = refl
 place_of_begin (CopyTextureToBuffer buffer layout texture spot size) k e = refl
 place_of_begin (CopyTextureToTexture source source_mip source_origin target target_mip target_origin size) k e = refl
 place_of_begin (ClearBuffer buffer offset size) k e = refl
+place_of_begin (ResolveQuerySet queries first count buffer offset) k e = refl
 place_of_begin PushDebugGroup k e = absurd (cc)
 place_of_begin PopDebugGroup k e = absurd (cc)
 place_of_begin End k e = absurd (cc)
@@ -60,6 +64,8 @@ place_of_begin (Draw vertices instances first_vertex first_instance) k e = absur
 place_of_begin (DrawIndexed indices instances first_index first_instance) k e = absurd (cc)
 place_of_begin (DrawIndirect buffer offset) k e = absurd (cc)
 place_of_begin (DrawIndexedIndirect buffer offset) k e = absurd (cc)
+place_of_begin (BeginOcclusionQuery index) k e = absurd (cc)
+place_of_begin EndOcclusionQuery k e = absurd (cc)
 
 pub begins_by : (b : Bracket) (k : Kind) → kind_begun_by b ≡ Some k → begins_pass_by b ≡ true
 begins_by brackets.BeginComputePass k e = refl
@@ -82,6 +88,7 @@ EncoderOrPass k = (k ≡ kind.Encoder) ⊎ (is_pass k ≡ true)
 admitted : (w : Wanted) (k : Kind) → wants_own w ≡ true → admits w k ≡ true → EncoderOrPass k
 admitted wanted.Encoder kind.Encoder p e = inl refl
 admitted wanted.ComputePass kind.ComputePass p e = inr refl
+admitted wanted.RenderPass kind.RenderPass p e = inr refl
 admitted wanted.Pass kind.ComputePass p e = inr refl
 admitted wanted.Pass kind.RenderPass p e = inr refl
 admitted wanted.Binding kind.ComputePass p e = inr refl
@@ -92,6 +99,7 @@ admitted wanted.Recording kind.ComputePass p e = inr refl
 admitted wanted.Recording kind.RenderPass p e = inr refl
 admitted wanted.Encoder _ p e = absurd (cc)
 admitted wanted.ComputePass _ p e = absurd (cc)
+admitted wanted.RenderPass _ p e = absurd (cc)
 admitted wanted.Pass _ p e = absurd (cc)
 admitted wanted.Binding _ p e = absurd (cc)
 admitted wanted.Drawing _ p e = absurd (cc)

@@ -9,7 +9,7 @@ use Rattle.wg_types.specs.declared.commands.On.{On}
 use Rattle.wg_types.specs.declared.commands.On.TheVariants.{Encoder, Pass}
 use Rattle.wg_types.specs.Commands.{Command, kind_begun}
 use Rattle.wg_types.specs.declared.requests.RequestOf.{RequestOf}
-use Rattle.wg_types.specs.declared.requests.RequestOf.TheVariants.{CreateBuffer, CreateTexture, CreateView, CreateSampler, CreateBindGroupLayout, CreatePipelineLayout, CreateBindGroup, CreateComputePipeline, CreateRenderPipeline, CreateEncoder, Finish, Submit, WriteBuffer, WriteTexture, Destroy, Drop, Complete, PushErrorScope, PopErrorScope, Lose, WorkDone, MapAsync, Unmap}
+use Rattle.wg_types.specs.declared.requests.RequestOf.TheVariants.{CreateBuffer, CreateTexture, CreateView, CreateSampler, CreateBindGroupLayout, CreatePipelineLayout, CreateBindGroup, CreateComputePipeline, CreateRenderPipeline, CreateQuerySet, CreateEncoder, Finish, Submit, WriteBuffer, WriteTexture, Destroy, Drop, Complete, PushErrorScope, PopErrorScope, Lose, WorkDone, MapAsync, Unmap}
 use Rattle.wg_encoder.specs.Recorders.{RecorderValue, is_late, recorded}
 use Rattle.wg_calls.specs.Calls.{opened_for, taken_out}
 use Rattle.wg_play.specs.declared.objects.Object.{Object}
@@ -99,6 +99,7 @@ ended_by (CreatePipelineLayout layouts) = None
 ended_by (CreateBindGroup layout entries) = None
 ended_by (CreateComputePipeline layout iface) = None
 ended_by (CreateRenderPipeline layout desc) = None
+ended_by (CreateQuerySet known) = None
 ended_by CreateEncoder = None
 ended_by (Submit buffers) = None
 ended_by (WriteBuffer buffer offset size) = None
@@ -125,6 +126,7 @@ recorder_for encoder (info.PipelineLayout known) = None
 recorder_for encoder (info.Group known) = None
 recorder_for encoder (info.Compute known) = None
 recorder_for encoder (info.Render known) = None
+recorder_for encoder (info.Queries known) = None
 recorder_for encoder info.CommandBuffer = None
 
 -- an object that was made, an encoder with a recorder that has kept nothing

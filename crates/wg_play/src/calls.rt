@@ -58,28 +58,7 @@ pub fn ended_by(request: &RequestOf<u32>) -> Option<u32>
 {
     match request {
         RequestOf::Finish { encoder } => Some(*encoder),
-        RequestOf::CreateBuffer { .. }
-        | RequestOf::CreateTexture { .. }
-        | RequestOf::CreateView { .. }
-        | RequestOf::CreateSampler { .. }
-        | RequestOf::CreateBindGroupLayout { .. }
-        | RequestOf::CreatePipelineLayout { .. }
-        | RequestOf::CreateBindGroup { .. }
-        | RequestOf::CreateComputePipeline { .. }
-        | RequestOf::CreateRenderPipeline { .. }
-        | RequestOf::CreateEncoder
-        | RequestOf::Submit { .. }
-        | RequestOf::WriteBuffer { .. }
-        | RequestOf::WriteTexture { .. }
-        | RequestOf::Destroy { .. }
-        | RequestOf::Drop { .. }
-        | RequestOf::Complete { .. }
-        | RequestOf::PushErrorScope { .. }
-        | RequestOf::PopErrorScope
-        | RequestOf::Lose
-        | RequestOf::WorkDone
-        | RequestOf::MapAsync { .. }
-        | RequestOf::Unmap { .. } => None,
+        _ => None,
     }
 }
 

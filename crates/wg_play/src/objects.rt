@@ -186,6 +186,7 @@ fn recorder_of(alloc: Global, handle: &Handle) -> Option<Recorder>
         | Info::Group(_)
         | Info::Compute(_)
         | Info::Render(_)
+        | Info::Queries(_)
         | Info::CommandBuffer => None,
     }
 }

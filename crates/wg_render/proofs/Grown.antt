@@ -1,28 +1,39 @@
 -- What is set after one more command.
-use Rattle.std.proofs.Common.{◌≡◌, ◌∙◌, List, ◌∷◌, ◌++◌, [], Option, Some, None, ℕ, true, false, refl, ap, sym, append-nil}
+use Rattle.std.proofs.Common.{◌≡◌, ◌∙◌, List, ◌∷◌, ◌++◌, [], Option, Some, None, ℕ, true, false, refl, ap, sym, append-nil, length, replicate}
 use Rattle.wg_types.specs.Commands.{Command}
 use Rattle.wg_types.specs.declared.commands.BoundGroup.{BoundGroup}
 use Rattle.wg_types.specs.declared.commands.CommandOf.TheVariants.{End, BeginOcclusionQuery, EndOcclusionQuery}
 use Rattle.wg_model.specs.Touches.{Touch}
 use Rattle.wg_model.specs.Queries.{Occlusion, query_written, query_begun_touches}
 use Rattle.wg_model.specs.Attachments.{RenderBegin}
-use Rattle.wg_model.specs.Render.{RenderSet, render_set}
-use Rattle.wg_compute.proofs.Slots.{slots_unset}
-use Rattle.wg_compute.specs.After.{slots_after}
+use Rattle.wg_types.specs.declared.render.TargetInfo.{TargetInfo}
+use Rattle.wg_model.specs.Render.{RenderSet, render_set, bundle_set}
+use Rattle.wg_compute.proofs.Slots.{slots_unset, none_emptied, all_emptied}
+use Rattle.wg_compute.specs.After.{slots_after, emptied}
 use Rattle.wg_render.specs.After.{render_after}
 
 -- What a command does to what is set is what makes up what is set.
 pub render_grows : (begin : RenderBegin) (earlier : List Command) (command : Command) → render_after (render_set begin earlier) command ≡ render_set begin (command ∷ earlier)
 render_grows begin earlier command = refl
 
+pub bundle_grows : (targets : TargetInfo) (earlier : List Command) (command : Command) → render_after (bundle_set targets earlier) command ≡ bundle_set targets (command ∷ earlier)
+bundle_grows targets earlier command = refl
+
+-- Nothing is in eight slots that are emptied.
+pub eight_emptied : {X : Type 0} (slots : List (Option X)) → length slots ≡ 8 → emptied true slots ≡ None ∷ (None ∷ (None ∷ (None ∷ (None ∷ (None ∷ (None ∷ (None ∷ [])))))))
+eight_emptied slots eight = all_emptied slots ∙ ap (λ n. replicate n None) eight
+
 abbrev changed : RenderSet → List (Option BoundGroup) → List (Option ℕ) → Occlusion → List Touch → RenderSet
 changed render groups ranges occlusion touches = record render { set = record render.set { groups = groups }; ranges = ranges; occlusion = occlusion; touches = touches }
 
--- What puts nothing into a slot leaves the slots.
-unset : (render : RenderSet) (occlusion : Occlusion) (touches : List Touch) → changed render (slots_after None 0 render.set.groups) (slots_after None 0 render.ranges) occlusion touches ≡ record render { occlusion = occlusion; touches = touches }
+-- What puts nothing into a slot, and empties none, leaves the slots.
+slots_stay : {X : Type 0} (slots : List (Option X)) → emptied false (slots_after None 0 slots) ≡ slots
+slots_stay slots = none_emptied (slots_after None 0 slots) ∙ slots_unset 0 slots
+
+unset : (render : RenderSet) (occlusion : Occlusion) (touches : List Touch) → changed render (emptied false (slots_after None 0 render.set.groups)) (emptied false (slots_after None 0 render.ranges)) occlusion touches ≡ record render { occlusion = occlusion; touches = touches }
 unset render occlusion touches =
-    ap (λ groups. changed render groups (slots_after None 0 render.ranges) occlusion touches) (slots_unset 0 render.set.groups)
-    ∙ ap (λ ranges. changed render render.set.groups ranges occlusion touches) (slots_unset 0 render.ranges)
+    ap (λ groups. changed render groups (emptied false (slots_after None 0 render.ranges)) occlusion touches) (slots_stay render.set.groups)
+    ∙ ap (λ ranges. changed render render.set.groups ranges occlusion touches) (slots_stay render.ranges)
 
 -- An end sets nothing and touches nothing of its own.
 pub after_end : (render : RenderSet) → render_after render End ≡ render

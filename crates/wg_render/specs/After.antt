@@ -1,10 +1,11 @@
--- What a command does to what is set in a render pass.
-use Rattle.std.specs.Prelude.{◌++◌}
+-- What a command does to what is set in a render pass or a bundle.
+use Rattle.std.specs.Prelude.{◌++◌, None, if◌then◌else◌}
 use Rattle.std.specs.Option.{option_or}
 use Rattle.wg_types.specs.Commands.{Command}
+use Rattle.wg_model.specs.Settings.{unsets}
 use Rattle.wg_model.specs.Queries.{Occlusion, occlusion_call, begun_after, active_after}
 use Rattle.wg_model.specs.Render.{RenderSet, vertex_given, index_given, command_touches}
-use Rattle.wg_compute.specs.After.{slots_after, settings_after}
+use Rattle.wg_compute.specs.After.{slots_after, emptied, settings_after}
 
 -- the queries of the pass after one more command
 abbrev pub occlusion_after : Occlusion → Command → Occlusion
@@ -19,8 +20,8 @@ abbrev pub render_after : RenderSet → Command → RenderSet
 render_after render command =
     record {
       set = settings_after render.set command;
-      ranges = slots_after (vertex_given command) 0 render.ranges;
-      index = option_or (index_given command) render.index;
+      ranges = emptied (unsets command) (slots_after (vertex_given command) 0 render.ranges);
+      index = if unsets command then None else option_or (index_given command) render.index;
       targets = render.targets;
       queries = render.queries;
       occlusion = occlusion_after render.occlusion command;

@@ -1,8 +1,9 @@
-//! Render passes: the rules of their begin and of their commands, what is set in one, and what a whole
-//! pass touches.
+//! Render passes and render bundles: the rules of the begin of a pass and of commands, what is set, and
+//! what a whole pass or bundle touches.
 #![tactic(auto)]
 
 mod attachments;
+mod bundles;
 mod draws;
 mod given;
 mod pipelines;

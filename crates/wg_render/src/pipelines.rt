@@ -47,7 +47,7 @@ pub fn buffers_wanted(set: &Settings) -> &[VertexBuffer]
 }
 
 /// Whether two formats are left out, or are the same.
-fn same_target(a: Option<Format>, b: Option<Format>) -> bool
+pub fn same_target(a: Option<Format>, b: Option<Format>) -> bool
     ensures { result ≡ same_option same_format a b }
 {
     match (a, b) {
@@ -66,7 +66,7 @@ fn none_given(targets: &[Option<Format>]) -> bool
 
 /// Whether targets have the same formats, where what is left out at the end does not count.
 #[tactic(auto, using(crate::proofs::SameTargets::same_as_none))]
-fn same_targets(targets: &[Option<Format>], others: &[Option<Format>]) -> bool
+pub fn same_targets(targets: &[Option<Format>], others: &[Option<Format>]) -> bool
     ensures { result ≡ same_targets targets.now others.now }
 {
     let mut rest = others;

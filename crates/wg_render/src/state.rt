@@ -1,5 +1,6 @@
-//! Render passes: what is set in one, the rules of their commands, and the step of a whole pass.
-ghost use Rattle.std.specs.Prelude.{◌≡◌, ◌+◌, IfOk, OnOk, OnErr};
+//! Render passes and bundles: what is set in one, the rules of their commands, and the step of a whole
+//! pass.
+ghost use Rattle.std.specs.Prelude.{◌≡◌, ◌+◌, None, if◌then◌else◌, IfOk, OnOk, OnErr};
 ghost use Rattle.std.specs.Option.{option_or};
 ghost use Rattle.wg_model.specs.Rules.{first_unmet};
 ghost use Rattle.wg_types.specs.declared.commands.CommandOf.TheVariants.{BeginOcclusionQuery};
@@ -7,9 +8,10 @@ ghost use Rattle.wg_model.specs.Vertex.{draw_fits};
 ghost use Rattle.wg_model.specs.Queries.{occlusion_call, occlusion_rules};
 ghost use Rattle.wg_model.specs.Render.{buffers_wanted, are_set, draw_rules, draw_indexed_rules, draw_indirect_rules, draw_indexed_indirect_rules, drawing_rules, render_rules, render_does};
 ghost use Rattle.wg_access.specs.Done.{done_by_pass};
-ghost use Rattle.wg_compute.specs.After.{slots_after};
+ghost use Rattle.wg_compute.specs.After.{slots_after, emptied};
 ghost use Rattle.wg_render.specs.After.{render_after};
 
+use crate::bundles::check_bundles;
 use crate::draws::{MOST_SLOTS, are_set, check_index, check_vertex, indices_fit};
 use crate::given::{index_given, vertex_given};
 use crate::pipelines::{buffers_wanted, check_pipeline};
@@ -20,7 +22,9 @@ use crate::views::RenderBegin;
 use std::alloc::Global;
 use std::marker::Model;
 use wg_access::Done;
-use wg_compute::{Settings, check_end, check_given, check_group, check_indirect, pipeline_given};
+use wg_compute::{
+    Settings, check_end, check_given, check_group, check_indirect, pipeline_given, unsets,
+};
 use wg_formats::size_or_rest;
 use wg_queries::Occlusion;
 use wg_types::NoMemory;
@@ -30,9 +34,9 @@ use wg_types::render::TargetInfo;
 use wg_types::steps::{StepName, Touch};
 use wg_types::vertex::IndexFormat;
 
-/// What is set in a render pass: what is set in any pass, the sizes of the ranges that are set as vertex
-/// buffers by slot, and the index buffer; to what the pass draws, the number of its query set and how many
-/// queries that has, if the pass has one, and the queries of it; and what the pass touches so far.
+/// What is set in a render pass or in a bundle: what is set in any pass, the sizes of the ranges that are
+/// set as vertex buffers by slot, and the index buffer; to what is drawn, the number of the pass's query set
+/// and how many queries that has, if there is one, and the queries of it; and what is touched so far.
 #[derive(Drop)]
 pub struct RenderState {
     set: Settings,
@@ -56,7 +60,7 @@ impl Model for RenderState {
 }
 
 impl RenderState {
-    ghost use Rattle.wg_model.specs.Render.{render_set};
+    ghost use Rattle.wg_model.specs.Render.{render_set, bundle_set};
     ghost use Rattle.std.specs.Prelude.{[]};
 
     /// Nothing is set but the attachments and the query set, and no query was begun.
@@ -74,6 +78,37 @@ impl RenderState {
             occlusion: Occlusion::new(alloc),
             touches: touches.into_vec(),
         })
+    }
+
+    /// Nothing is set in a bundle that draws to these (WebGPU, "GPURenderBundleEncoder"). It has neither
+    /// attachments nor queries.
+    pub fn bundle(alloc: Global, targets: &TargetInfo) -> Result<RenderState, NoMemory>
+        ensures { IfOk result (λ state. state ≡ bundle_set targets.now []) }
+    {
+        let targets = targets.clone()?;
+        Ok(RenderState {
+            set: Settings::new(),
+            ranges: [None; 8],
+            index: None,
+            targets,
+            queries: None,
+            occlusion: Occlusion::new(alloc),
+            touches: Vec::new(alloc),
+        })
+    }
+
+    /// How many debug groups are open.
+    pub fn depth(&self) -> u64
+        ensures { result ≡ self.now.set.depth }
+    {
+        self.set.depth()
+    }
+
+    /// What is touched so far.
+    pub fn touches(&self) -> &[Touch]
+        ensures { result.now ≡ self.now.touches }
+    {
+        self.touches.as_slice()
     }
 
     /// Whether each vertex buffer of the pipeline is set.
@@ -192,8 +227,8 @@ impl RenderState {
         }
     }
 
-    /// The first unmet rule of what draws, sets a vertex buffer or the index buffer, or begins or ends a
-    /// query.
+    /// The first unmet rule of what draws, sets a vertex buffer or the index buffer, executes bundles, or
+    /// begins or ends a query.
     fn drawing_rule(&self, command: &Command) -> Option<u16>
         ensures { result ≡ first_unmet (drawing_rules self.now command.now) }
     {
@@ -231,6 +266,7 @@ impl RenderState {
             Command::DrawIndexedIndirect { buffer, offset } => {
                 self.check_draw_indexed_indirect(buffer, *offset)
             }
+            Command::ExecuteBundles { bundles } => check_bundles(&self.targets, bundles.as_slice()),
             _ => self.query_rule(command),
         }
     }
@@ -279,7 +315,18 @@ impl RenderState {
         }
     }
 
-    /// Takes what a command sets, and adds what it touches; the queries stay.
+    /// Unsets the vertex buffers and the index buffer, where all is unset.
+    #[tactic(auto, using(wg_compute::proofs::Slots::none_emptied, crate::proofs::Grown::eight_emptied))]
+    fn unset(&mut self, all: bool)
+        ensures { self.new ≡ record self.old { ranges = emptied all self.old.ranges; index = (if all then None else self.old.index) } }
+    {
+        if all {
+            self.ranges = [None; 8];
+            self.index = None;
+        }
+    }
+
+    /// Takes what a command sets or unsets, and adds what it touches; the queries stay.
     fn add(&mut self, alloc: Global, command: &Command) -> Result<(), NoMemory>
         ensures set { OnOk result (self.new ≡ record (render_after self.old command.now) { occlusion = self.old.occlusion }) }
         ensures unchanged { OnErr result (self.new ≡ self.old) }
@@ -292,6 +339,7 @@ impl RenderState {
         self.touches.extend_from_slice(more)?;
         self.set_range(vertex_given(command));
         self.set_index(index_given(command));
+        self.unset(unsets(command));
         Ok(())
     }
 

@@ -1,9 +1,10 @@
-//! What the commands of render passes touch.
+//! What the commands of render passes and of bundles touch.
 ghost use Rattle.std.specs.Prelude.{◌≡◌, ◌++◌, Some, IfOk, OnOk};
 ghost use Rattle.wg_model.specs.Commands.{size_or_rest};
 ghost use Rattle.wg_model.specs.Queries.{occlusion_call, query_written, query_touches};
 ghost use Rattle.wg_model.specs.Render.{bound_group_touches, input_touch, input_touches, command_touches};
 
+use crate::bundles::push_bundles;
 use std::alloc::Global;
 use wg_compute::{GroupGiven, group_given, indirect_touch};
 use wg_formats::size_or_rest;
@@ -45,7 +46,8 @@ fn input_touch(buffer: &Handle, offset: u64, size: Option<u64>) -> Result<Touch,
     indirect_touch(buffer, offset, size_or_rest(buffer, offset, size))
 }
 
-/// Adds what a command reads of vertex, index and indirect buffers.
+/// Adds what a command reads of vertex, index and indirect buffers, and what bundles touch that it
+/// executes.
 fn push_inputs(touches: &mut Touches, command: &Command) -> Result<(), NoMemory>
     ensures { OnOk result (touches.new ≡ touches.old ++ input_touches command.now) }
 {
@@ -66,6 +68,7 @@ fn push_inputs(touches: &mut Touches, command: &Command) -> Result<(), NoMemory>
         Command::DrawIndexedIndirect { buffer, offset } => {
             indirect_touch(buffer, *offset, DRAW_INDEXED_BYTES)?
         }
+        Command::ExecuteBundles { bundles } => return push_bundles(touches, bundles.as_slice()),
         _ => return Ok(()),
     };
     touches.push(touch)?;

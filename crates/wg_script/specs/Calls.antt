@@ -1,6 +1,6 @@
 -- Which call an object is, or the first script rule that it breaks: for each call that is built, its
 -- keys, and what each holds, in the order in which they are read. Calls on textures, bindings, compute
--- passes and rendering have definitions of their own.
+-- passes, rendering and queries have definitions of their own.
 use Rattle.std.specs.Prelude.{ℕ, List, [], ◌∷◌, false, codes, Option, Some, None, option_and_then, Result, Err}
 use Rattle.serde_json.specs.Data.{Data}
 use Rattle.serde_json.specs.Find.{get, as_str}
@@ -10,13 +10,13 @@ use Rattle.wg_script.specs.Words.{word_at}
 use Rattle.wg_script.specs.Readers.{Reader, gives, need, may, ◌▹◌, read_by}
 use Rattle.wg_script.specs.TextureCalls.{create_texture_of, create_view_of, write_texture_of, copy_buffer_to_texture_of, copy_texture_to_buffer_of, copy_texture_to_texture_of}
 use Rattle.wg_script.specs.BindingCalls.{create_sampler_of, create_group_layout_of, create_pipeline_layout_of, create_group_of, create_compute_of}
-use Rattle.wg_script.specs.PassCalls.{begin_compute_pass_of, end_of, set_pipeline_of, set_bind_group_of, dispatch_of, dispatch_indirect_of}
+use Rattle.wg_script.specs.PassCalls.{bare_of, begin_compute_pass_of, end_of, set_pipeline_of, set_bind_group_of, dispatch_of, dispatch_indirect_of}
 use Rattle.wg_script.specs.RenderCalls.{create_render_of, begin_render_pass_of, set_vertex_buffer_of, set_index_buffer_of, draw_of, draw_indexed_of, draw_indirect_of, draw_indexed_indirect_of}
+use Rattle.wg_script.specs.QueryCalls.{create_queries_of, resolve_queries_of, begin_occlusion_of, end_occlusion_of}
 use Rattle.wg_types.specs.Words.{word_of}
 use Rattle.wg_types.specs.declared.words.Word.{Word}
 use Rattle.wg_types.specs.declared.words.Word.TheVariants as word
 use Rattle.wg_script.specs.CallOf.{Call}
-use Rattle.wg_types.specs.declared.commands.CommandOf.{CommandOf}
 use Rattle.wg_types.specs.declared.commands.CommandOf.TheVariants.{CopyBufferToBuffer, ClearBuffer, PushDebugGroup, PopDebugGroup}
 use Rattle.wg_types.specs.declared.replies.Filter.{Filter}
 use Rattle.wg_types.specs.declared.replies.Filter.TheVariants as filter
@@ -142,10 +142,6 @@ clear_buffer_keys = gives (λ on buffer offset size. recording on (ClearBuffer b
 unfoldable pub clear_buffer_of : Data → Result Call ℕ
 clear_buffer_of d = read_by clear_buffer_keys d
 
--- what is recorded with no other key than what it stands on
-abbrev pub bare_of : CommandOf (List ℕ) → Data → Result Call ℕ
-bare_of command d = read_by (gives (λ on. recording on command) ▹ need (codes "on") name_at) d
-
 -- pushDebugGroup
 unfoldable pub push_debug_group_of : Data → Result Call ℕ
 push_debug_group_of d = bare_of PushDebugGroup d
@@ -167,6 +163,7 @@ call_as word.CreatePipelineLayout d = create_pipeline_layout_of d
 call_as word.CreateBindGroup d = create_group_of d
 call_as word.CreateComputePipeline d = create_compute_of d
 call_as word.CreateRenderPipeline d = create_render_of d
+call_as word.CreateQuerySet d = create_queries_of d
 call_as word.CreateEncoder d = create_encoder_of d
 call_as word.Finish d = finish_of d
 call_as word.Submit d = submit_of d
@@ -186,6 +183,7 @@ call_as word.CopyBufferToTexture d = copy_buffer_to_texture_of d
 call_as word.CopyTextureToBuffer d = copy_texture_to_buffer_of d
 call_as word.CopyTextureToTexture d = copy_texture_to_texture_of d
 call_as word.ClearBuffer d = clear_buffer_of d
+call_as word.ResolveQuerySet d = resolve_queries_of d
 call_as word.PushDebugGroup d = push_debug_group_of d
 call_as word.PopDebugGroup d = pop_debug_group_of d
 call_as word.BeginComputePass d = begin_compute_pass_of d
@@ -201,12 +199,10 @@ call_as word.Draw d = draw_of d
 call_as word.DrawIndexed d = draw_indexed_of d
 call_as word.DrawIndirect d = draw_indirect_of d
 call_as word.DrawIndexedIndirect d = draw_indexed_indirect_of d
-call_as word.CreateQuerySet d = Err 13
+call_as word.BeginOcclusionQuery d = begin_occlusion_of d
+call_as word.EndOcclusionQuery d = end_occlusion_of d
 call_as word.CreateBundleEncoder d = Err 13
 call_as word.FinishBundle d = Err 13
-call_as word.ResolveQuerySet d = Err 13
-call_as word.BeginOcclusionQuery d = Err 13
-call_as word.EndOcclusionQuery d = Err 13
 call_as word.ExecuteBundles d = Err 13
 call_as word.CreateCanvas d = Err 13
 call_as word.ConfigureCanvas d = Err 13

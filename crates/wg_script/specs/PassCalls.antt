@@ -1,7 +1,10 @@
 -- The calls on compute passes: for each its keys, and what each holds, in the order in which they are read.
-use Rattle.std.specs.Prelude.{ℕ, codes, Result}
+use Rattle.std.specs.Prelude.{ℕ, List, codes, Result, Ok}
 use Rattle.serde_json.specs.Data.{Data}
+use Rattle.wg_types.specs.declared.commands.CommandOf.{CommandOf}
 use Rattle.wg_types.specs.declared.commands.CommandOf.TheVariants.{BeginComputePass, End, SetPipeline, SetBindGroup, Dispatch, DispatchIndirect}
+use Rattle.wg_script.specs.declared.pass_calls.IndirectCall.{IndirectCall}
+use Rattle.wg_script.specs.Giving.{◌>>=◌}
 use Rattle.wg_script.specs.Values.{whole, whole_at, whole_or, most_whole, most_short, name_at}
 use Rattle.wg_script.specs.Lists.{list_or_empty}
 use Rattle.wg_script.specs.CallOf.{Call}
@@ -17,12 +20,13 @@ begin_compute_pass_keys = gives (λ on made. beginning on BeginComputePass made)
 unfoldable pub begin_compute_pass_of : Data → Result Call ℕ
 begin_compute_pass_of d = read_by begin_compute_pass_keys d
 
--- end
-abbrev pub end_keys : Reader Call
-end_keys = gives (λ on. recording on End) ▹ need (codes "on") name_at
+-- what is recorded with no other key than what it stands on
+abbrev pub bare_of : CommandOf (List ℕ) → Data → Result Call ℕ
+bare_of command d = read_by (gives (λ on. recording on command) ▹ need (codes "on") name_at) d
 
+-- end
 unfoldable pub end_of : Data → Result Call ℕ
-end_of d = read_by end_keys d
+end_of d = bare_of End d
 
 -- setPipeline
 abbrev pub set_pipeline_keys : Reader Call
@@ -55,12 +59,16 @@ dispatch_keys = gives (λ on x y z. recording on (Dispatch x y z))
 unfoldable pub dispatch_of : Data → Result Call ℕ
 dispatch_of d = read_by dispatch_keys d
 
--- dispatchIndirect
-abbrev pub dispatch_indirect_keys : Reader Call
-dispatch_indirect_keys = gives (λ on buffer offset. recording on (DispatchIndirect buffer offset))
+-- what takes its counts from a buffer
+abbrev pub indirect_keys : Reader IndirectCall
+indirect_keys = gives (λ on buffer offset. record { on = on; buffer = buffer; offset = offset })
     ▹ need (codes "on") name_at
     ▹ need (codes "buffer") name_at
     ▹ need (codes "offset") (whole_at most_whole)
 
+unfoldable pub indirect_of : Data → Result IndirectCall ℕ
+indirect_of d = read_by indirect_keys d
+
+-- dispatchIndirect
 unfoldable pub dispatch_indirect_of : Data → Result Call ℕ
-dispatch_indirect_of d = read_by dispatch_indirect_keys d
+dispatch_indirect_of d = indirect_of d >>= λ c. Ok (recording c.on (DispatchIndirect c.buffer c.offset))

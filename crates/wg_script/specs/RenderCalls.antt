@@ -1,17 +1,18 @@
 -- The calls on render pipelines, render passes and draws: for each its keys, and what each holds, in the order in which they
 -- are read.
-use Rattle.std.specs.Prelude.{ℕ, codes, Bool, false, ◌||◌, is_some, if◌then◌else◌, Option, Some, None, option_and_then, Result, Ok, Err, ⊤}
+use Rattle.std.specs.Prelude.{ℕ, codes, Bool, false, is_some, if◌then◌else◌, Option, Some, None, option_and_then, Result, Ok, Err, ⊤}
 use Rattle.serde_json.specs.Data.{Data, Items}
 use Rattle.serde_json.specs.Find.{get, as_array}
 use Rattle.wg_types.specs.declared.commands.CommandOf.TheVariants.{BeginRenderPass, SetVertexBuffer, SetIndexBuffer, Draw, DrawIndexed, DrawIndirect, DrawIndexedIndirect}
 use Rattle.wg_types.specs.declared.requests.RequestOf.TheVariants.{CreateRenderPipeline}
 use Rattle.wg_script.specs.Giving.{◌>>=◌}
 use Rattle.wg_script.specs.Values.{whole_at, whole_or, whole_if, most_whole, most_short, name_at}
-use Rattle.wg_script.specs.Lists.{list_at, list_or_empty, any_item, null_or, item_if}
+use Rattle.wg_script.specs.Lists.{list_at, list_or_empty, any_item, null_or, item_if, name_item}
 use Rattle.wg_script.specs.Words.{word_at}
 use Rattle.wg_script.specs.RenderWords.{index_format_words}
 use Rattle.wg_script.specs.BindingEntries.{staged_entry_of}
 use Rattle.wg_script.specs.BindingCalls.{check_layout_built}
+use Rattle.wg_script.specs.PassCalls.{indirect_of}
 use Rattle.wg_script.specs.RenderEntries.{vertex_buffer_of, format_item, depth_state_of, color_target_of, depth_target_of}
 use Rattle.wg_script.specs.CallOf.{Call}
 use Rattle.wg_script.specs.Calling.{recording, beginning, making}
@@ -43,16 +44,17 @@ abbrev pub any_slice : Option Items → Bool
 any_slice None = false
 any_slice (Some ds) = any_item has_slice ds
 
--- script rule 13: the pass is to count queries, or to draw to slices of 3D textures, neither of which is built yet
+-- script rule 13: the pass is to draw to slices of 3D textures, which is not built yet
 abbrev pub check_pass_built : Data → Result ⊤ ℕ
-check_pass_built d = if is_some (get (codes "queries") d) || any_slice (option_and_then as_array (get (codes "colors") d)) then Err 13 else Ok tt
+check_pass_built d = if any_slice (option_and_then as_array (get (codes "colors") d)) then Err 13 else Ok tt
 
 -- beginRenderPass: a color attachment that is null is left out, and the name that the call makes is that of the pass
 abbrev pub begin_render_pass_keys : Reader Call
-begin_render_pass_keys = gives (λ on colors depth made. beginning on (BeginRenderPass (record { colors = colors; depth = depth })) made)
+begin_render_pass_keys = gives (λ on colors depth queries made. beginning on (BeginRenderPass (record { colors = colors; depth = depth; queries = queries })) made)
     ▹ need (codes "on") name_at
     ▹ need (codes "colors") (list_at (null_or color_target_of))
     ▹ may (codes "depth") (item_if depth_target_of)
+    ▹ may (codes "queries") (item_if name_item)
     ▹ need (codes "as") name_at
 
 unfoldable pub begin_render_pass_of : Data → Result Call ℕ
@@ -111,21 +113,9 @@ unfoldable pub draw_indexed_of : Data → Result Call ℕ
 draw_indexed_of d = read_by draw_indexed_keys d
 
 -- drawIndirect
-abbrev pub draw_indirect_keys : Reader Call
-draw_indirect_keys = gives (λ on buffer offset. recording on (DrawIndirect buffer offset))
-    ▹ need (codes "on") name_at
-    ▹ need (codes "buffer") name_at
-    ▹ need (codes "offset") (whole_at most_whole)
-
 unfoldable pub draw_indirect_of : Data → Result Call ℕ
-draw_indirect_of d = read_by draw_indirect_keys d
+draw_indirect_of d = indirect_of d >>= λ c. Ok (recording c.on (DrawIndirect c.buffer c.offset))
 
 -- drawIndexedIndirect
-abbrev pub draw_indexed_indirect_keys : Reader Call
-draw_indexed_indirect_keys = gives (λ on buffer offset. recording on (DrawIndexedIndirect buffer offset))
-    ▹ need (codes "on") name_at
-    ▹ need (codes "buffer") name_at
-    ▹ need (codes "offset") (whole_at most_whole)
-
 unfoldable pub draw_indexed_indirect_of : Data → Result Call ℕ
-draw_indexed_indirect_of d = read_by draw_indexed_indirect_keys d
+draw_indexed_indirect_of d = indirect_of d >>= λ c. Ok (recording c.on (DrawIndexedIndirect c.buffer c.offset))

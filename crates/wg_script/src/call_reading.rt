@@ -1,9 +1,9 @@
 //! Reads a call: a function for each call that is built, with its keys. Those of calls on textures, bindings,
-//! compute passes and rendering stand in files of their own.
+//! compute passes, rendering and queries stand in files of their own.
 ghost use Rattle.std.specs.Prelude.{◌≡◌};
 ghost use Rattle.serde_json.specs.View.{view};
 ghost use Rattle.wg_script.specs.Giving.{Gives};
-ghost use Rattle.wg_script.specs.Calls.{call_of, call_as, create_buffer_of, create_encoder_of, finish_of, submit_of, write_buffer_of, destroy_of, drop_of, complete_of, push_error_scope_of, keyless_of, pop_error_scope_of, work_done_of, lose_of, map_async_of, unmap_of, copy_buffer_to_buffer_of, clear_buffer_of, bare_of, push_debug_group_of, pop_debug_group_of};
+ghost use Rattle.wg_script.specs.Calls.{call_of, call_as, create_buffer_of, create_encoder_of, finish_of, submit_of, write_buffer_of, destroy_of, drop_of, complete_of, push_error_scope_of, keyless_of, pop_error_scope_of, work_done_of, lose_of, map_async_of, unmap_of, copy_buffer_to_buffer_of, clear_buffer_of, push_debug_group_of, pop_debug_group_of};
 
 use crate::binding_calls::{
     create_bind_group, create_bind_group_layout, create_compute_pipeline, create_pipeline_layout,
@@ -14,7 +14,10 @@ use crate::calls::Call;
 use crate::lists::list_at;
 use crate::name::Name;
 use crate::pass_calls::{
-    begin_compute_pass, dispatch, dispatch_indirect, end, set_bind_group, set_pipeline,
+    bare, begin_compute_pass, dispatch, dispatch_indirect, end, set_bind_group, set_pipeline,
+};
+use crate::query_calls::{
+    begin_occlusion_query, create_query_set, end_occlusion_query, resolve_query_set,
 };
 use crate::render_calls::{
     begin_render_pass, create_render_pipeline, draw, draw_indexed, draw_indexed_indirect,
@@ -206,15 +209,6 @@ fn clear_buffer(alloc: Global, call: &Value) -> Result<Call, Refusal>
         => recording(on, CommandOf::ClearBuffer { buffer, offset, size }))
 }
 
-/// Reads a command with no other key than what it stands on.
-fn bare(alloc: Global, call: &Value, command: CommandOf<Name>) -> Result<Call, Refusal>
-    ensures { Gives result (bare_of command (view call.now)) }
-{
-    reading!(call:
-        need on = name_at(alloc, "on");
-        => recording(on, command))
-}
-
 #[tactic(auto, unfolding(crate::specs::Calls::push_debug_group_of))]
 fn push_debug_group(alloc: Global, call: &Value) -> Result<Call, Refusal>
     ensures { Gives result (push_debug_group_of (view call.now)) }
@@ -243,6 +237,7 @@ fn call_as(alloc: Global, word: Word, call: &Value) -> Result<Call, Refusal>
         Word::CreateBindGroup => create_bind_group(alloc, call),
         Word::CreateComputePipeline => create_compute_pipeline(alloc, call),
         Word::CreateRenderPipeline => create_render_pipeline(alloc, call),
+        Word::CreateQuerySet => create_query_set(alloc, call),
         Word::CreateEncoder => create_encoder(alloc, call),
         Word::Finish => finish(alloc, call),
         Word::Submit => submit(alloc, call),
@@ -262,6 +257,7 @@ fn call_as(alloc: Global, word: Word, call: &Value) -> Result<Call, Refusal>
         Word::CopyTextureToBuffer => copy_texture_to_buffer(alloc, call),
         Word::CopyTextureToTexture => copy_texture_to_texture(alloc, call),
         Word::ClearBuffer => clear_buffer(alloc, call),
+        Word::ResolveQuerySet => resolve_query_set(alloc, call),
         Word::PushDebugGroup => push_debug_group(alloc, call),
         Word::PopDebugGroup => pop_debug_group(alloc, call),
         Word::BeginComputePass => begin_compute_pass(alloc, call),
@@ -277,12 +273,10 @@ fn call_as(alloc: Global, word: Word, call: &Value) -> Result<Call, Refusal>
         Word::DrawIndexed => draw_indexed(alloc, call),
         Word::DrawIndirect => draw_indirect(alloc, call),
         Word::DrawIndexedIndirect => draw_indexed_indirect(alloc, call),
-        Word::CreateQuerySet
-        | Word::CreateBundleEncoder
+        Word::BeginOcclusionQuery => begin_occlusion_query(alloc, call),
+        Word::EndOcclusionQuery => end_occlusion_query(alloc, call),
+        Word::CreateBundleEncoder
         | Word::FinishBundle
-        | Word::ResolveQuerySet
-        | Word::BeginOcclusionQuery
-        | Word::EndOcclusionQuery
         | Word::ExecuteBundles
         | Word::CreateCanvas
         | Word::ConfigureCanvas

@@ -11,6 +11,7 @@ mod draft;
 mod lists;
 mod name;
 mod pass_calls;
+mod query_calls;
 mod reading;
 mod render_calls;
 mod render_entries;

@@ -2,11 +2,12 @@
 ghost use Rattle.std.specs.Prelude.{◌≡◌};
 ghost use Rattle.serde_json.specs.View.{view};
 ghost use Rattle.wg_script.specs.Giving.{Gives};
-ghost use Rattle.wg_script.specs.PassCalls.{begin_compute_pass_of, end_of, set_pipeline_of, set_bind_group_of, dispatch_of, dispatch_indirect_of};
+ghost use Rattle.wg_script.specs.PassCalls.{begin_compute_pass_of, bare_of, end_of, set_pipeline_of, set_bind_group_of, dispatch_of, indirect_of, dispatch_indirect_of};
 
 use crate::calling::{beginning, recording};
 use crate::calls::Call;
 use crate::lists::list_or_empty;
+use crate::name::Name;
 use crate::values::{
     MOST_WHOLE, Refusal, check_keys, name_at, reading, short_at, short_or, whole_at,
 };
@@ -26,14 +27,21 @@ pub fn begin_compute_pass(alloc: Global, call: &Value) -> Result<Call, Refusal>
         => beginning(on, CommandOf::BeginComputePass, made))
 }
 
+/// Reads a command with no other key than what it stands on.
+pub fn bare(alloc: Global, call: &Value, command: CommandOf<Name>) -> Result<Call, Refusal>
+    ensures { Gives result (bare_of command (view call.now)) }
+{
+    reading!(call:
+        need on = name_at(alloc, "on");
+        => recording(on, command))
+}
+
 /// Reads `end`.
 #[tactic(auto, unfolding(crate::specs::PassCalls::end_of))]
 pub fn end(alloc: Global, call: &Value) -> Result<Call, Refusal>
     ensures { Gives result (end_of (view call.now)) }
 {
-    reading!(call:
-        need on = name_at(alloc, "on");
-        => recording(on, CommandOf::End))
+    bare(alloc, call, CommandOf::End)
 }
 
 /// Reads `setPipeline`.
@@ -73,14 +81,31 @@ pub fn dispatch(alloc: Global, call: &Value) -> Result<Call, Refusal>
         => recording(on, CommandOf::Dispatch { x, y, z }))
 }
 
-/// Reads `dispatchIndirect`.
-#[tactic(auto, unfolding(crate::specs::PassCalls::dispatch_indirect_of))]
-pub fn dispatch_indirect(alloc: Global, call: &Value) -> Result<Call, Refusal>
-    ensures { Gives result (dispatch_indirect_of (view call.now)) }
+/// The buffer from which a command takes its counts, where they lie in it, and what the command stands on.
+#[derive(Drop)]
+pub struct IndirectCall {
+    pub on: Name,
+    pub buffer: Name,
+    pub offset: u64,
+}
+
+/// Reads a command that takes its counts from a buffer.
+#[tactic(auto, unfolding(crate::specs::PassCalls::indirect_of))]
+pub fn indirect(alloc: Global, call: &Value) -> Result<IndirectCall, Refusal>
+    ensures { Gives result (indirect_of (view call.now)) }
 {
     reading!(call:
         need on = name_at(alloc, "on");
         need buffer = name_at(alloc, "buffer");
         need offset = whole_at("offset", MOST_WHOLE);
-        => recording(on, CommandOf::DispatchIndirect { buffer, offset }))
+        => IndirectCall { on, buffer, offset })
+}
+
+/// Reads `dispatchIndirect`.
+#[tactic(auto, unfolding(crate::specs::PassCalls::dispatch_indirect_of))]
+pub fn dispatch_indirect(alloc: Global, call: &Value) -> Result<Call, Refusal>
+    ensures { Gives result (dispatch_indirect_of (view call.now)) }
+{
+    let IndirectCall { on, buffer, offset } = indirect(alloc, call)?;
+    Ok(recording(on, CommandOf::DispatchIndirect { buffer, offset }))
 }

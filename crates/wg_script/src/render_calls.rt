@@ -11,10 +11,10 @@ use crate::binding_entries::staged_or_empty;
 use crate::calling::{beginning, making, recording};
 use crate::calls::Call;
 use crate::lists::{item_if, list_at, list_or_empty};
+use crate::pass_calls::{IndirectCall, indirect};
 use crate::render_words::INDEX_FORMATS;
 use crate::values::{
-    MOST_WHOLE, Refusal, check_keys, name_at, reading, short_at, short_or, whole_at, whole_if,
-    whole_or,
+    MOST_WHOLE, Refusal, check_keys, name_at, reading, short_at, short_or, whole_if, whole_or,
 };
 use crate::words::word_at;
 use serde_json::Value;
@@ -65,20 +65,14 @@ fn any_slice(colors: &[Value]) -> bool
     some_slice(colors)
 }
 
-/// Script rule 13: refuses a render pass that is to count queries (WebGPU, "GPURenderPassDescriptor",
-/// `occlusionQuerySet`) or to draw to slices of 3D textures (WebGPU, "GPURenderPassColorAttachment",
-/// `depthSlice`), neither of which is built yet.
+/// Script rule 13: refuses a render pass that is to draw to slices of 3D textures (WebGPU,
+/// "GPURenderPassColorAttachment", `depthSlice`), which is not built yet.
 fn check_pass_built(call: &Value) -> Result<(), u8>
     ensures { result ≡ check_pass_built (view call.now) }
 {
-    let sliced = match call.get("colors").and_then(Value::as_array) {
-        Some(colors) => any_slice(colors),
-        None => false,
-    };
-    if call.get("queries").is_some() || sliced {
-        Err(13)
-    } else {
-        Ok(())
+    match call.get("colors").and_then(Value::as_array) {
+        Some(colors) if any_slice(colors) => Err(13),
+        _ => Ok(()),
     }
 }
 
@@ -92,8 +86,9 @@ pub fn begin_render_pass(alloc: Global, call: &Value) -> Result<Call, Refusal>
         need on = name_at(alloc, "on");
         need colors = list_at(alloc, "colors");
         may depth = item_if(alloc, "depth");
+        may queries = item_if(alloc, "queries");
         need made = name_at(alloc, "as");
-        => beginning(on, CommandOf::BeginRenderPass { begin: RenderBeginOf { colors, depth } }, made))
+        => beginning(on, CommandOf::BeginRenderPass { begin: RenderBeginOf { colors, depth, queries } }, made))
 }
 
 /// Reads `setVertexBuffer`.
@@ -157,11 +152,8 @@ pub fn draw_indexed(alloc: Global, call: &Value) -> Result<Call, Refusal>
 pub fn draw_indirect(alloc: Global, call: &Value) -> Result<Call, Refusal>
     ensures { Gives result (draw_indirect_of (view call.now)) }
 {
-    reading!(call:
-        need on = name_at(alloc, "on");
-        need buffer = name_at(alloc, "buffer");
-        need offset = whole_at("offset", MOST_WHOLE);
-        => recording(on, CommandOf::DrawIndirect { buffer, offset }))
+    let IndirectCall { on, buffer, offset } = indirect(alloc, call)?;
+    Ok(recording(on, CommandOf::DrawIndirect { buffer, offset }))
 }
 
 /// Reads `drawIndexedIndirect`.
@@ -169,9 +161,6 @@ pub fn draw_indirect(alloc: Global, call: &Value) -> Result<Call, Refusal>
 pub fn draw_indexed_indirect(alloc: Global, call: &Value) -> Result<Call, Refusal>
     ensures { Gives result (draw_indexed_indirect_of (view call.now)) }
 {
-    reading!(call:
-        need on = name_at(alloc, "on");
-        need buffer = name_at(alloc, "buffer");
-        need offset = whole_at("offset", MOST_WHOLE);
-        => recording(on, CommandOf::DrawIndexedIndirect { buffer, offset }))
+    let IndirectCall { on, buffer, offset } = indirect(alloc, call)?;
+    Ok(recording(on, CommandOf::DrawIndexedIndirect { buffer, offset }))
 }

@@ -8,7 +8,7 @@ use wg_device::{Device, DevicePass};
 use wg_entry::NoMemory;
 use wg_types::bindings::{BindingKind, GroupEntryOf, LayoutEntry, ResourceOf, SamplerKind};
 use wg_types::formats::Format;
-use wg_types::handles::{BufferInfo, Handle};
+use wg_types::handles::{BufferInfo, Handle, Info, ObjRef, QueriesInfo};
 use wg_types::items::Items;
 use wg_types::render::{DepthState, RenderDesc};
 use wg_types::replies::{Answer, Filter, How, Reply, Settlement};
@@ -214,12 +214,30 @@ fn of_buffer<R: Wait>(rt: &R, device: &Device, pass: &mut DevicePass) -> Option<
     Some((mapped, is(dropped, Answer::Plain, &[])))
 }
 
-/// Opens a scope and closes it at entry 20, with no fault in it, and then loses the device.
+/// Makes object 11, a set of three queries, and gives what its handle says: which object it is of, whether that
+/// is valid, and how many queries it has.
+fn of_queries<R: Wait>(
+    rt: &R,
+    device: &Device,
+    pass: &mut DevicePass,
+) -> Option<(ObjRef, bool, Option<u32>)>
+    requires { IsPassOf device.now.lock pass.old × (calls_of pass.old < 100) }
+    ensures { IsPassOf device.now.lock pass.new × (calls_of pass.new ≤ calls_of pass.old + 1) }
+{
+    let queries = made(device.create_query_set(rt, pass, 3), 11)?;
+    let count = match queries.info() {
+        Info::Queries(QueriesInfo { count }) => Some(*count),
+        _ => None,
+    };
+    Some((queries.reference(), queries.valid(), count))
+}
+
+/// Opens a scope and closes it at entry 21, with no fault in it, and then loses the device.
 fn of_scope<R: Wait>(rt: &R, device: &Device, pass: &mut DevicePass) -> [bool; 3]
     requires { IsPassOf device.now.lock pass.old × (calls_of pass.old < 100) }
 {
     let null = Settlement {
-        promise: 20,
+        promise: 21,
         how: How::Null,
     };
     let pushed = device.push_error_scope(rt, pass, Filter::Validation);
@@ -234,10 +252,12 @@ fn of_scope<R: Wait>(rt: &R, device: &Device, pass: &mut DevicePass) -> [bool; 3
 
 type Pair = Option<(bool, bool)>;
 
-type Queued = (Option<Answer>, Option<([bool; 5], bool)>, [bool; 3]);
+type Queued = (Option<Answer>, Option<([bool; 5], bool)>);
 
-/// What makes objects, and then what is queued and settled, on one new device.
-fn answers<R: Wait>(rt: &R, alloc: Global) -> Option<((Pair, Pair), Queued)> {
+type Last = (Option<(ObjRef, bool, Option<u32>)>, [bool; 3]);
+
+/// What makes objects, then what is queued and settled, and last a query set and a scope, on one new device.
+fn answers<R: Wait>(rt: &R, alloc: Global) -> Option<((Pair, Pair), Queued, Last)> {
     let Ok((device, mut passes)) = Device::open(alloc, 1024, 7, 1) else {
         return None;
     };
@@ -246,15 +266,21 @@ fn answers<R: Wait>(rt: &R, alloc: Global) -> Option<((Pair, Pair), Queued)> {
     let pipelines = of_pipelines(rt, alloc, &device, &mut pass);
     let submitted = submission(rt, &device, &mut pass);
     let buffer = of_buffer(rt, &device, &mut pass);
+    let queries = of_queries(rt, &device, &mut pass);
     let scope = of_scope(rt, &device, &mut pass);
-    Some(((texture, pipelines), (submitted, buffer, scope)))
+    Some(((texture, pipelines), (submitted, buffer), (queries, scope)))
 }
 
 #[test]
 fn calls_are_answered(rt: HostRuntime) {
     let both = Some((true, true));
-    let queued = (Some(Answer::Queued(2)), Some(([true; 5], true)), [true; 3]);
-    assert!(rt; answers(&rt, rt.alloc()) == Some(((both, both), queued)));
+    let queued = (Some(Answer::Queued(2)), Some(([true; 5], true)));
+    let queries = ObjRef {
+        device: 7,
+        number: 11,
+    };
+    let last = (Some((queries, true, Some(3))), [true; 3]);
+    assert!(rt; answers(&rt, rt.alloc()) == Some(((both, both), queued, last)));
 }
 
 /// How many passes a device of the greatest count of callers has, and the numbers of the first and the last.

@@ -14,7 +14,7 @@ use wg_types::steps::{Item, Sort};
 // its drop, which is dear to prove, stands at one way out, and nothing is held where a test asserts.
 
 /// The object of this number of the device with serial 1.
-fn own(number: u64) -> ObjRef {
+pub(crate) fn own(number: u64) -> ObjRef {
     ObjRef { device: 1, number }
 }
 
@@ -28,12 +28,12 @@ fn uncaptured(rule: u16) -> Option<Fault> {
 }
 
 /// The answer of an event that makes an object.
-fn made(number: u64, valid: bool) -> Answer {
+pub(crate) fn made(number: u64, valid: bool) -> Answer {
     Answer::Made { number, valid }
 }
 
 /// Whether an event is answered so; no promise settles.
-fn ask(core: &mut Core, event: Event, answer: Answer, fault: Option<Fault>) -> bool {
+pub(crate) fn ask(core: &mut Core, event: Event, answer: Answer, fault: Option<Fault>) -> bool {
     match core.step(0, event) {
         Ok(reply) => {
             reply.answer == answer && reply.fault == fault && reply.settled.as_slice().is_empty()
@@ -43,7 +43,7 @@ fn ask(core: &mut Core, event: Event, answer: Answer, fault: Option<Fault>) -> b
 }
 
 /// The same of an event that took memory to make.
-fn ask_made(
+pub(crate) fn ask_made(
     core: &mut Core,
     event: Result<Event, NoMemory>,
     answer: Answer,
@@ -81,7 +81,7 @@ fn destroy(object: ObjRef) -> Event {
 }
 
 /// A finish of an encoder.
-fn finish(encoder: ObjRef, recording: Recording) -> Event {
+pub(crate) fn finish(encoder: ObjRef, recording: Recording) -> Event {
     Event::Finish { encoder, recording }
 }
 
@@ -184,7 +184,7 @@ fn forged(alloc: Global) -> Result<Event, NoMemory> {
 }
 
 /// A submit of the object with this number.
-fn submit(alloc: Global, number: u64) -> Result<Event, NoMemory> {
+pub(crate) fn submit(alloc: Global, number: u64) -> Result<Event, NoMemory> {
     let mut buffers = Items::new(alloc);
     buffers.push(own(number))?;
     Ok(Event::Submit { buffers })

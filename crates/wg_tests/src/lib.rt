@@ -15,6 +15,8 @@ mod events;
 #[cfg(test)]
 mod groups;
 #[cfg(test)]
+mod queries;
+#[cfg(test)]
 mod recorders;
 #[cfg(test)]
 mod render;

@@ -27,7 +27,7 @@ fn opened(alloc: Global) -> Recorder {
 }
 
 /// Records a command. The pass that it stands on has to be begun.
-fn note(rt: &impl Abort, recorder: &mut Recorder, on: On, command: Command) -> Answer {
+pub(crate) fn note(rt: &impl Abort, recorder: &mut Recorder, on: On, command: Command) -> Answer {
     if let On::Pass(pass) = on {
         assert!(rt; pass < recorder.passes());
     }

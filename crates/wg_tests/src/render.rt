@@ -67,7 +67,11 @@ fn begin(alloc: Global) -> Result<RenderBegin, NoMemory> {
         stencil_store: None,
         stencil_read_only: true,
     });
-    Ok(RenderBegin { colors, depth })
+    Ok(RenderBegin {
+        colors,
+        depth,
+        queries: None,
+    })
 }
 
 /// Buffer 7, of 16 bytes, from byte 4 on.
