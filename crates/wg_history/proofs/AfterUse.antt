@@ -1,14 +1,11 @@
 -- What is released is used no more, and its uses are complete.
 use Rattle.std.proofs.Common.{◌≡◌, ℕ, ◌+◌, ◌<◌, ◌≤◌, List, [], ◌∷◌, ◌++◌, reverse, Bool, true, false, not, ◌&&◌, ◌||◌, ◌==◌, nat_lt, nat_le, max, is_some, is_none, unwrap_or, refl, ap, ap₂, sym, ◌∙◌, arith, if◌then◌else◌, true≢false, subst, ◌⊎◌, inl, inr}
 use Rattle.std.proofs.lemmas.List.{reverse-append}
-use Rattle.std.proofs.lemmas.List.Folds.{list_any-append}
 use Rattle.std.proofs.lemmas.Bool.{and_parts, or_cases, or_left, or_right, leb-true, ltb-true, eqb-true}
 use Rattle.std.proofs.Math.Nat.{zero-max}
-use Rattle.wg_model.proofs.NamedLemmas.{swap_heads}
 use Rattle.wg_model.proofs.Unmet.{all_met}
 use Rattle.std.specs.List.{list_any}
 use Rattle.wg_model.specs.Rules.{AreMet}
-use Rattle.wg_types.specs.declared.commands.On.{On}
 use Rattle.wg_types.specs.Commands.{Command}
 use Rattle.wg_types.specs.declared.textures.TextureSpot.{TextureSpot}
 use Rattle.wg_types.specs.declared.textures.DataLayout.{DataLayout}
@@ -20,6 +17,7 @@ use Rattle.wg_history.proofs.Tests.{not_true, any_grows, met_after, met_before}
 use Rattle.wg_history.proofs.Released.{resource_made, due_some}
 use Rattle.wg_history.proofs.Makers.{made_more, own_below}
 use Rattle.wg_history.proofs.Holders.{undropped_held, held_falls}
+use Rattle.wg_history.proofs.BundleTouches.{any_either, any_resource_is}
 use Rattle.wg_history.proofs.Reached.{listed_held}
 use Rattle.wg_history.specs.Entries.{Setup, Event, Submit, WriteBuffer, WriteTexture, Complete, Reply, Entry, Past}
 use Rattle.wg_history.specs.Objects.{ObjRef, is_making, count, resource_at, commands_at}
@@ -69,21 +67,6 @@ used_destroyed setup past buffers n destroyed used =
     (λ kept in_command. any_grows (is_destroyed setup past) (λ r. r == n) (λ r same. ap (is_destroyed setup past) (eqb-true r n same) ∙ destroyed) (resources kept.1) in_command)
     (commands_at past buffer.number) in_buffer)
     buffers used
-
--- A test that is passed where one of two others is passes on a list where one of them does.
-any_either : {X : Type 0} (p q r : X → Bool) → ((x : X) → r x ≡ p x || q x) → (xs : List X) → list_any r xs ≡ list_any p xs || list_any q xs
-any_either p q r is [] = refl
-any_either p q r is (x ∷ xs) = ap₂ ◌||◌ (is x) (any_either p q r is xs) ∙ swap_heads (p x) (list_any p xs) (q x) (list_any q xs)
-
--- A resource is a buffer, a texture or a query set.
-any_more_is : (test : ℕ → Bool) (commands : List (On × Command)) → any_named (λ command. textures_of command ++ query_sets_of command) test commands ≡ any_named textures_of test commands || any_named query_sets_of test commands
-any_more_is test commands = any_either (λ kept. list_any test (textures_of kept.1)) (λ kept. list_any test (query_sets_of kept.1)) (λ kept. list_any test (textures_of kept.1 ++ query_sets_of kept.1)) (λ kept. list_any-append test (textures_of kept.1) (query_sets_of kept.1)) commands
-
-pub any_resource_is : (test : ℕ → Bool) (commands : List (On × Command)) → any_resource test commands ≡ any_named buffers_of test commands || (any_named textures_of test commands || any_named query_sets_of test commands)
-any_resource_is test commands =
-    any_either (λ kept. list_any test (buffers_of kept.1)) (λ kept. list_any test (textures_of kept.1 ++ query_sets_of kept.1)) (λ kept. list_any test (resources kept.1))
-    (λ kept. list_any-append test (buffers_of kept.1) (textures_of kept.1 ++ query_sets_of kept.1)) commands
-    ∙ ap (λ b. any_named buffers_of test commands || b) (any_more_is test commands)
 
 -- whether one that command buffers use is destroyed, of each
 abbrev uses_destroyed : (Command → List ℕ) → Setup → Past → List ObjRef → Bool

@@ -1,5 +1,5 @@
 -- The tests of what is bound, and of infos, tell whether they are equal.
-use Rattle.std.proofs.Common.{◌≡◌, ℕ, ◌==◌, Bool, List, [], ◌∷◌, Option, Some, None, refl, ap, ap₂, ◌∙◌, if◌then◌else◌}
+use Rattle.std.proofs.Common.{◌≡◌, ℕ, ◌==◌, Bool, List, [], ◌∷◌, Option, Some, None, refl, ap, ap₂, sym, ◌∙◌, if◌then◌else◌}
 use Rattle.std.specs.Prelude.{Decides}
 use Rattle.std.proofs.lemmas.Bool.{and_parts, and_from}
 use Rattle.std.proofs.lemmas.Bool.Decides.{Decides-and, Decides-like}
@@ -31,15 +31,24 @@ use Rattle.wg_types.specs.declared.groups.ComputeInfo.{ComputeInfo}
 use Rattle.wg_types.specs.declared.groups.RenderInfo.{RenderInfo}
 use Rattle.wg_types.specs.declared.render.DepthState.{DepthState}
 use Rattle.wg_types.specs.declared.render.RenderDesc.{RenderDesc}
+use Rattle.wg_types.specs.declared.render.TargetInfo.{TargetInfo}
+use Rattle.wg_types.specs.declared.bundles.BundleInfo.{BundleInfo}
+use Rattle.wg_types.specs.declared.bundles.BundleTouch.{BundleTouch}
+use Rattle.wg_types.specs.declared.bundles.BundleUse.{BundleUse}
+use Rattle.wg_types.specs.declared.bundles.BundleUse.TheVariants.{Input, Constant, StorageRead, Storage as StorageUse}
+use Rattle.wg_rows.specs.Rows.{list_eq}
+use Rattle.wg_rows.specs.Runs.{Cells, cell_line, cell_lo, cell_hi}
+use Rattle.wg_rows.proofs.Put.{list_eq_true, list_eq_refl}
+use Rattle.wg_rows.proofs.Told.{accesses_tell as cells_tell}
 use Rattle.wg_types.specs.declared.vertex.VertexFormat.{VertexFormat}
 use Rattle.wg_types.specs.declared.vertex.VertexFormat.TheVariants as vertex_format
 use Rattle.wg_types.specs.declared.vertex.VertexStep.{VertexStep}
 use Rattle.wg_types.specs.declared.vertex.VertexStep.TheVariants as vertex_step
 use Rattle.wg_types.specs.declared.vertex.VertexAttribute.{VertexAttribute}
 use Rattle.wg_types.specs.declared.vertex.VertexBuffer.{VertexBuffer}
-use Rattle.wg_types.specs.declared.handles.Info.TheVariants.{Buffer, Texture, View, Sampler, GroupLayout, PipelineLayout, Group, Compute, Render, Queries, Encoder, CommandBuffer}
+use Rattle.wg_types.specs.declared.handles.Info.TheVariants.{Buffer, Texture, View, Sampler, GroupLayout, PipelineLayout, Group, Compute, Render, Queries, Encoder, BundleEncoder, CommandBuffer, Bundle}
 use Rattle.wg_model.specs.Equality.{same_bool, same_list, same_reference, same_buffer, sample_number, buffer_binding_number, sampler_number, access_number, stage_number, same_view_dim, same_sample, same_buffer_binding, same_sampler, same_access, same_stage, same_binding_kind, same_layout_entry, same_iface_entry, same_bound_resource, same_bound_entry, same_group_layout, same_pipeline_layout, same_group, same_compute, vertex_format_number, vertex_step_number, same_attribute, same_vertex_buffer, same_option, same_depth_state, same_render_desc, same_render}
-use Rattle.wg_history.specs.Infos.{SameInfoIs}
+use Rattle.wg_history.specs.Infos.{same_target_info, same_cells, bundle_use_number, same_touch, same_bundle, SameInfoIs}
 use Rattle.wg_history.proofs.InfoLaws.{numbers_tell, words_tell, formats_tell, view_dims_tell, bools_tell, buffers_tell, queries_tell, textures_tell, references_tell, views_tell}
 
 -- Lists, where their items are told apart.
@@ -302,6 +311,60 @@ renders_tell a b =
     (Decides-and (same_reference a.layout b.layout) (same_pipeline_layout a.layout_info b.layout_info) (references_tell a.layout b.layout) (pipeline_layouts_tell a.layout_info b.layout_info))
     (descs_tell a.desc b.desc))
 
+-- Targets and bundles.
+abbrev target_info_made : List (Option Format) → Option Format → ℕ → Bool → Bool → TargetInfo
+target_info_made colors depth samples depth_read_only stencil_read_only =
+    record { colors = colors; depth = depth; samples = samples; depth_read_only = depth_read_only; stencil_read_only = stencil_read_only }
+
+target_infos_tell : (a b : TargetInfo) → Decides (same_target_info a b) (a ≡ b)
+target_infos_tell a b =
+    Decides-like _ (like_five target_info_made a.colors b.colors a.depth b.depth a.samples b.samples a.depth_read_only b.depth_read_only a.stencil_read_only b.stencil_read_only)
+    (λ e. ((((ap (λ (x : TargetInfo). x.colors) e, ap (λ (x : TargetInfo). x.depth) e), ap (λ (x : TargetInfo). x.samples) e), ap (λ (x : TargetInfo). x.depth_read_only) e), ap (λ (x : TargetInfo). x.stencil_read_only) e))
+    (Decides-and _ (same_bool a.stencil_read_only b.stencil_read_only)
+    (Decides-and _ (same_bool a.depth_read_only b.depth_read_only)
+    (Decides-and _ (a.samples == b.samples)
+    (Decides-and (same_list (same_option same_format) a.colors b.colors) (same_option same_format a.depth b.depth) (lists_tell (same_option same_format) (options_tell same_format formats_tell) a.colors b.colors) (options_tell same_format formats_tell a.depth b.depth))
+    (numbers_tell a.samples b.samples))
+    (bools_tell a.depth_read_only b.depth_read_only))
+    (bools_tell a.stencil_read_only b.stencil_read_only))
+
+lines_tell : (xs ys : List ℕ) → Decides (list_eq xs ys) (xs ≡ ys)
+lines_tell xs ys = (list_eq_true xs ys, λ e. ap (list_eq xs) (sym e) ∙ list_eq_refl xs)
+
+runs_tell : (a b : Cells) → Decides (same_cells a b) (a ≡ b)
+runs_tell a b =
+    Decides-like _ (λ h. cells_tell.run a b h.0.0 h.0.1 h.1) (λ e. ((ap cell_line e, ap cell_lo e), ap cell_hi e))
+    (Decides-and _ (cell_hi a == cell_hi b)
+    (Decides-and (list_eq (cell_line a) (cell_line b)) (cell_lo a == cell_lo b) (lines_tell (cell_line a) (cell_line b)) (numbers_tell (cell_lo a) (cell_lo b)))
+    (numbers_tell (cell_hi a) (cell_hi b)))
+
+abbrev bundle_use_at : ℕ → BundleUse
+bundle_use_at n = if n == 0 then Input else if n == 1 then Constant else if n == 2 then StorageRead else StorageUse
+
+bundle_use_back : (u : BundleUse) → bundle_use_at (bundle_use_number u) ≡ u
+bundle_use_back Input = refl
+bundle_use_back Constant = refl
+bundle_use_back StorageRead = refl
+bundle_use_back StorageUse = refl
+
+abbrev touch_made : Cells → BundleUse → BundleTouch
+touch_made cells used = record { cells = cells; used = used }
+
+touches_tell : (a b : BundleTouch) → Decides (same_touch a b) (a ≡ b)
+touches_tell a b =
+    Decides-like _ (like_two touch_made a.cells b.cells a.used b.used) (λ e. (ap (λ (x : BundleTouch). x.cells) e, ap (λ (x : BundleTouch). x.used) e))
+    (Decides-and (same_cells a.cells b.cells) (bundle_use_number a.used == bundle_use_number b.used) (runs_tell a.cells b.cells) (words_tell bundle_use_number bundle_use_at bundle_use_back a.used b.used))
+
+abbrev bundle_made : TargetInfo → List ObjRef → List BundleTouch → BundleInfo
+bundle_made targets named touches = record { targets = targets; named = named; touches = touches }
+
+bundles_tell : (a b : BundleInfo) → Decides (same_bundle a b) (a ≡ b)
+bundles_tell a b =
+    Decides-like _ (like_three bundle_made a.targets b.targets a.named b.named a.touches b.touches) (λ e. ((ap (λ (x : BundleInfo). x.targets) e, ap (λ (x : BundleInfo). x.named) e), ap (λ (x : BundleInfo). x.touches) e))
+    (Decides-and _ (same_list same_touch a.touches b.touches)
+    (Decides-and (same_target_info a.targets b.targets) (same_list same_reference a.named b.named) (target_infos_tell a.targets b.targets) (lists_tell same_reference references_tell a.named b.named))
+    (lists_tell same_touch touches_tell a.touches b.touches))
+
 -- Infos.
 pub infos_tell : SameInfoIs
 infos_tell (Buffer a) (Buffer b) = let d = buffers_tell a b in (λ e. ap Buffer (d.0 e), λ e. d.1 (cc))
@@ -315,5 +378,7 @@ infos_tell (Compute a) (Compute b) = let d = computes_tell a b in (λ e. ap Comp
 infos_tell (Render a) (Render b) = let d = renders_tell a b in (λ e. ap Render (d.0 e), λ e. d.1 (cc))
 infos_tell (Queries a) (Queries b) = let d = queries_tell a b in (λ e. ap Queries (d.0 e), λ e. d.1 (cc))
 infos_tell Encoder Encoder = (λ e. refl, λ e. refl)
+infos_tell (BundleEncoder a) (BundleEncoder b) = let d = target_infos_tell a b in (λ e. ap BundleEncoder (d.0 e), λ e. d.1 (cc))
 infos_tell CommandBuffer CommandBuffer = (λ e. refl, λ e. refl)
+infos_tell (Bundle a) (Bundle b) = let d = bundles_tell a b in (λ e. ap Bundle (d.0 e), λ e. d.1 (cc))
 infos_tell _ _ = (λ e. absurd (cc), λ e. absurd (cc))

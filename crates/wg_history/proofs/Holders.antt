@@ -1,23 +1,28 @@
 -- What is held, and that it is held no more from some entry on.
-use Rattle.std.proofs.Common.{◌≡◌, ◌⊎◌, ℕ, zero, suc, ◌+◌, ◌<◌, ◌≤◌, List, [], ◌∷◌, map, Bool, true, false, not, ◌&&◌, ◌||◌, ◌==◌, nat_lt, Option, Some, None, is_some, is_none, refl, ap, ap₂, sym, ◌∙◌, arith, if◌then◌else◌, true≢false, inl, inr}
+use Rattle.std.proofs.Common.{◌≡◌, ◌⊎◌, ℕ, zero, suc, ◌+◌, ◌<◌, ◌≤◌, List, [], ◌∷◌, ◌++◌, map, Bool, true, false, not, ◌&&◌, ◌||◌, ◌==◌, nat_lt, Option, Some, None, is_some, is_none, refl, ap, ap₂, sym, ◌∙◌, arith, if◌then◌else◌, true≢false, inl, inr}
 use Rattle.std.specs.List.{list_any}
 use Rattle.std.specs.Option.{option_map_or}
 use Rattle.std.proofs.lemmas.Bool.{and_parts, and_from, or_cases, or_left, or_right, eqb-true, ltb-true, cases_lt}
+use Rattle.std.proofs.lemmas.List.{map-append}
 use Rattle.std.proofs.lemmas.List.Folds.{list_any-append}
 use Rattle.wg_types.specs.Handles.{HandleValue}
 use Rattle.wg_types.specs.declared.commands.On.{On}
 use Rattle.wg_types.specs.Commands.{Command, named}
 use Rattle.wg_types.specs.declared.wanted.Wanted.{Wanted}
 use Rattle.wg_types.specs.declared.handles.Info.{Info}
+use Rattle.wg_types.specs.declared.handles.ObjRef.{ObjRef}
+use Rattle.wg_types.specs.declared.render.TargetInfo.{TargetInfo}
 use Rattle.wg_model.specs.Rules.{first_unmet, AreMet}
-use Rattle.wg_model.specs.Walk.{Verdict}
+use Rattle.wg_model.specs.Walk.{Verdict, bundle_of}
+use Rattle.wg_model.specs.Bundles.{references_within}
 use Rattle.wg_model.specs.Recorded.{names_within}
+use Rattle.wg_encoder.specs.Recorders.{RecordingValue}
 use Rattle.wg_model.specs.Holding.{is_among, any_below, is_named_in, is_awaited_in, is_root_in}
 use Rattle.wg_model.proofs.Unmet.{all_met}
 use Rattle.wg_model.proofs.Holding.{below_from, below_to, held_within, held_cases, root_held, referred_held}
-use Rattle.wg_history.specs.Entries.{Setup, Event, Finish, Drop, effects_of, recorded_by, Entry, Past}
-use Rattle.wg_history.specs.Objects.{is_making, count, info_at, is_own, is_any, is_valid, is_made_valid, is_encoder, commands_at}
-use Rattle.wg_history.specs.Rules.{drop_list, drops, dropped_at, is_dropped, is_consumed, consumes, has_finished, ends_encoder, is_genuine, may_name, any_barred, encoder_rules, recording_rules, finish_rule}
+use Rattle.wg_history.specs.Entries.{Setup, Event, Finish, FinishBundle, Drop, effects_of, recorded_by, Entry, Past}
+use Rattle.wg_history.specs.Objects.{is_making, count, info_at, is_own, is_any, is_valid, is_made_valid, is_encoder, is_bundle_encoder, takes_commands, commands_at}
+use Rattle.wg_history.specs.Rules.{drop_list, drops, dropped_at, is_dropped, is_consumed, consumes, has_finished, ends_encoder, is_genuine, may_name, any_barred, encoder_rules, kept_rules, recording_rules, finish_rule, finish_bundle_rule}
 use Rattle.wg_history.specs.Held.{refers_made, refers_at, is_submittable, names_at, is_open, holds_of, is_held}
 use Rattle.wg_history.specs.Loss.{is_lost}
 use Rattle.wg_history.specs.FirstRules.{first_rule}
@@ -127,14 +132,14 @@ submittable_then setup entry older b lt e =
     and_from (is_valid older b) _ (ap (λ (o : Option Entry). option_map_or (λ entry. is_made_valid entry.reply.answer) o false) (sym (maker_stays older entry b lt)) ∙ valid)
     (and_from (not (is_consumed setup older b)) (not (is_dropped setup older b)) (ap not (was_not (consumes setup older entry.event b) (is_consumed setup older b) (not_true (is_consumed setup (entry ∷ older) b) ends.0))) (ap not (undropped_then setup entry older b (not_true (is_dropped setup (entry ∷ older) b) ends.1))))
 
-pub encoder_same : (entry : Entry) (older : Past) (n : ℕ) → n < count older → option_map_or is_encoder (info_at (entry ∷ older) n) false ≡ option_map_or is_encoder (info_at older n) false
-encoder_same entry older n lt = ap (λ (o : Option Info). option_map_or is_encoder o false) (info_stays older entry n lt)
+pub encoder_same : (entry : Entry) (older : Past) (n : ℕ) → n < count older → option_map_or takes_commands (info_at (entry ∷ older) n) false ≡ option_map_or takes_commands (info_at older n) false
+encoder_same entry older n lt = ap (λ (o : Option Info). option_map_or takes_commands o false) (info_stays older entry n lt)
 
 pub open_then : (setup : Setup) (entry : Entry) (older : Past) (e : ℕ) → e < count older → is_open setup (entry ∷ older) e ≡ true → is_open setup older e ≡ true
 open_then setup entry older n lt e =
-    let kind : option_map_or is_encoder (info_at (entry ∷ older) n) false ≡ true = (and_parts (option_map_or is_encoder (info_at (entry ∷ older) n) false) _ e).0 in
-    let ends : (not (has_finished setup (entry ∷ older) n) ≡ true) × (not (is_dropped setup (entry ∷ older) n) ≡ true) = and_parts (not (has_finished setup (entry ∷ older) n)) (not (is_dropped setup (entry ∷ older) n)) (and_parts (option_map_or is_encoder (info_at (entry ∷ older) n) false) _ e).1 in
-    and_from (option_map_or is_encoder (info_at older n) false) _ (sym (encoder_same entry older n lt) ∙ kind)
+    let kind : option_map_or takes_commands (info_at (entry ∷ older) n) false ≡ true = (and_parts (option_map_or takes_commands (info_at (entry ∷ older) n) false) _ e).0 in
+    let ends : (not (has_finished setup (entry ∷ older) n) ≡ true) × (not (is_dropped setup (entry ∷ older) n) ≡ true) = and_parts (not (has_finished setup (entry ∷ older) n)) (not (is_dropped setup (entry ∷ older) n)) (and_parts (option_map_or takes_commands (info_at (entry ∷ older) n) false) _ e).1 in
+    and_from (option_map_or takes_commands (info_at older n) false) _ (sym (encoder_same entry older n lt) ∙ kind)
     (and_from (not (has_finished setup older n)) (not (is_dropped setup older n)) (ap not (was_not (ends_encoder setup older entry.event n) (has_finished setup older n) (not_true (has_finished setup (entry ∷ older) n) ends.0))) (ap not (undropped_then setup entry older n (not_true (is_dropped setup (entry ∷ older) n) ends.1))))
 
 -- What an object refers to, or names, when it is made.
@@ -181,17 +186,27 @@ spared_names setup past encoder n commands spared names = (made (cases_lt n (cou
     may true e = refl
     may false e = absurd (true≢false (sym (barred setup past encoder n commands (λ handle same. and_no (is_genuine setup past handle) (may_name setup past encoder handle.reference.number) (ap (may_name setup past encoder) same ∙ e)) names) ∙ spared))
 
--- The commands of a command buffer name objects that were made, and that were not dropped or whose drop its encoder saw.
-pub finish_names : (setup : Setup) (older : Past) (event : Event) (n : ℕ) → is_made_valid (answer_by older (effects_of event).form (not (is_lost older) && is_none (first_rule setup older event))) ≡ true → is_among (names_within (recorded_by event)) n ≡ true → (n < count older) × (is_root setup older n ≡ true)
-unfolding finish_rule
-finish_names setup older (Finish encoder recording) n made names =
-    let rules = neither _ _ (and_parts (not (is_lost older)) (is_none (finish_rule setup older encoder recording)) made).1 in
-    let late = neither (Verdict recording.device recording.commands) (first_unmet (recording_rules setup older encoder.number recording)) rules.1 in
-    let first : AreMet (encoder_rules setup older encoder) = all_met (encoder_rules setup older encoder) rules.0 in
-    let rest : AreMet (recording_rules setup older encoder.number recording) = all_met (recording_rules setup older encoder.number recording) late.1 in
-    let spared : any_barred setup older encoder.number recording.commands ≡ false = not_true _ rest.1.1.0 in
-    let opened : is_open setup older encoder.number ≡ true = and_from (option_map_or is_encoder (info_at older encoder.number) false) _ (and_parts (encoder.device == setup.serial) (option_map_or is_encoder (info_at older encoder.number) false) first.0).1 (and_from (not (has_finished setup older encoder.number)) (not (is_dropped setup older encoder.number)) first.1.1.1.0 first.1.0) in
-    let those = spared_names setup older encoder.number n recording.commands spared (sym (among_named recording.commands n) ∙ names) in
+-- An object on which commands are recorded may be of either kind.
+abbrev TakesAs : (Info → Bool) → Type 0
+TakesAs kind = (info : Info) → kind info ≡ true → takes_commands info ≡ true
+
+encoder_takes : TakesAs is_encoder
+encoder_takes info e = or_left (is_encoder info) (is_bundle_encoder info) e
+
+bundle_encoder_takes : TakesAs is_bundle_encoder
+bundle_encoder_takes info e = or_right (is_encoder info) (is_bundle_encoder info) e
+
+known_takes : (kind : Info → Bool) → TakesAs kind → (o : Option Info) → option_map_or kind o false ≡ true → option_map_or takes_commands o false ≡ true
+known_takes kind takes None e = e
+known_takes kind takes (Some info) e = takes info e
+
+-- What a recording's commands name was made, and was not dropped or its drop is seen by the encoder, which is open.
+recording_names : (setup : Setup) (older : Past) (kind : Info → Bool) (encoder : ObjRef) (commands : List (On × Command)) (n : ℕ) → TakesAs kind → AreMet (encoder_rules setup older kind encoder)
+    → any_barred setup older encoder.number commands ≡ false → is_among (names_within commands) n ≡ true → (n < count older) × (is_root setup older n ≡ true)
+recording_names setup older kind encoder commands n takes first spared names =
+    let its : option_map_or kind (info_at older encoder.number) false ≡ true = (and_parts (encoder.device == setup.serial) (option_map_or kind (info_at older encoder.number) false) first.0).1 in
+    let opened : is_open setup older encoder.number ≡ true = and_from (option_map_or takes_commands (info_at older encoder.number) false) _ (known_takes kind takes (info_at older encoder.number) its) (and_from (not (has_finished setup older encoder.number)) (not (is_dropped setup older encoder.number)) first.1.1.1.0 first.1.0) in
+    let those = spared_names setup older encoder.number n commands spared (sym (among_named commands n) ∙ names) in
     (those.0, by_drop (dropped_at setup older n) refl opened those.1)
   where
     by_drop : (o : Option ℕ) → dropped_at setup older n ≡ o → is_open setup older encoder.number ≡ true → may_name setup older encoder.number n ≡ true → is_root setup older n ≡ true
@@ -199,7 +214,49 @@ finish_names setup older (Finish encoder recording) n made names =
     by_drop (Some k) e opened may =
         let before : encoder.number < k = ltb-true encoder.number k (ap (λ (o : Option ℕ). option_map_or (nat_lt encoder.number) o true) (sym e) ∙ may) in
         awaited_root setup older n k encoder.number e before opened
+
+-- So are those that the commands of a command buffer name.
+pub finish_names : (setup : Setup) (older : Past) (event : Event) (n : ℕ) → is_made_valid (answer_by older (effects_of event).form (not (is_lost older) && is_none (first_rule setup older event))) ≡ true → is_among (names_within (recorded_by event)) n ≡ true → (n < count older) × (is_root setup older n ≡ true)
+unfolding finish_rule
+finish_names setup older (Finish encoder recording) n made names =
+    let rules = neither _ _ (and_parts (not (is_lost older)) (is_none (finish_rule setup older encoder recording)) made).1 in
+    let late = neither (Verdict recording.device recording.targets recording.commands) (first_unmet (recording_rules setup older encoder.number recording)) rules.1 in
+    let rest : AreMet (recording_rules setup older encoder.number recording) = all_met (recording_rules setup older encoder.number recording) late.1 in
+    recording_names setup older is_encoder encoder recording.commands n encoder_takes (all_met (encoder_rules setup older is_encoder encoder) rules.0) (not_true _ rest.1.1.0) names
 finish_names setup older _ n made names = absurd (true≢false (sym names))
+
+-- and those that the commands of a bundle name, to which the bundle refers.
+
+bundle_names : (setup : Setup) (older : Past) (encoder : ObjRef) (recording : RecordingValue) (n : ℕ) → is_none (finish_bundle_rule setup older encoder recording) ≡ true → is_among (names_within recording.commands) n ≡ true → (n < count older) × (is_root setup older n ≡ true)
+unfolding finish_bundle_rule
+bundle_names setup older encoder recording n met names =
+    let rules = neither _ _ met in
+    let late = neither (Verdict recording.device recording.targets recording.commands) (first_unmet (kept_rules setup older encoder.number recording)) rules.1 in
+    let rest : AreMet (kept_rules setup older encoder.number recording) = all_met (kept_rules setup older encoder.number recording) late.1 in
+    recording_names setup older is_bundle_encoder encoder recording.commands n bundle_encoder_takes (all_met (encoder_rules setup older is_bundle_encoder encoder) rules.0) (not_true _ rest.1.0) names
+
+object_numbers : (objects : List (HandleValue × Wanted)) → map (λ (object : ObjRef). object.number) (map (λ (object : HandleValue × Wanted). object.0.reference) objects) ≡ map (λ (object : HandleValue × Wanted). object.0.reference.number) objects
+object_numbers [] = refl
+object_numbers (object ∷ objects) = ap (λ (rest : List ℕ). object.0.reference.number ∷ rest) (object_numbers objects)
+
+reference_numbers : (commands : List (On × Command)) → map (λ (object : ObjRef). object.number) (references_within commands) ≡ names_within commands
+reference_numbers [] = refl
+reference_numbers (kept ∷ commands) =
+    map-append (λ (object : ObjRef). object.number) (map (λ (object : HandleValue × Wanted). object.0.reference) (named kept.1)) (references_within commands)
+    ∙ ap₂ ◌++◌ (object_numbers (named kept.1)) (reference_numbers commands)
+
+pub bundle_numbers : (device : ℕ) (targets : Option TargetInfo) (commands : List (On × Command)) → map (λ (object : ObjRef). object.number) (bundle_of device targets commands).named ≡ names_within commands
+bundle_numbers device None commands = reference_numbers commands
+bundle_numbers device (Some targets) commands = reference_numbers commands
+
+-- What a valid object refers to when it is made was made, and is held by something that is no object.
+pub refers_root : (setup : Setup) (older : Past) (event : Event) (n : ℕ) → is_made_valid (answer_by older (effects_of event).form (not (is_lost older) && is_none (first_rule setup older event))) ≡ true → is_among (refers_made event) n ≡ true → (n < count older) × (is_root setup older n ≡ true)
+refers_root setup older (FinishBundle encoder recording) n made refers =
+    bundle_names setup older encoder recording n (and_parts (not (is_lost older)) (is_none (finish_bundle_rule setup older encoder recording)) made).1
+    (ap (λ (list : List ℕ). is_among list n) (sym (bundle_numbers recording.device recording.targets recording.commands)) ∙ refers)
+refers_root setup older event n made refers =
+    let those = object_refers setup older event n refl made refers in
+    (those.0, undropped_root setup older n those.1)
 
 -- What holds an object by itself held it before.
 
@@ -259,7 +316,7 @@ falls_upto setup entry older (suc fuel) n run le lt e =
     ]
   where
     by_valid : (setup : Setup) (entry : Entry) (older : Past) (n : ℕ) → IsRun setup (entry ∷ older) → n < count older → (b : Bool) → is_made_valid entry.reply.answer ≡ b → is_among (if b then refers_made entry.event else []) n ≡ true → is_held setup older n ≡ true
-    by_valid setup entry older n run lt true valid refers = undropped_held setup older n lt (object_refers setup older entry.event n (made_met setup entry older (newest setup entry older run) valid) refers).1
+    by_valid setup entry older n run lt true valid refers = rooted setup older n lt (refers_root setup older entry.event n (made_met setup entry older (newest setup entry older run) valid) refers).1
     by_valid setup entry older n run lt false valid refers = absurd (true≢false (sym refers))
 
 pub held_falls : (setup : Setup) (entry : Entry) (older : Past) (n : ℕ) → IsRun setup (entry ∷ older) → n < count older → is_held setup (entry ∷ older) n ≡ true → is_held setup older n ≡ true

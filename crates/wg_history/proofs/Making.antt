@@ -10,14 +10,13 @@ use Rattle.wg_history.specs.Held.{refers_made, refers_at, is_held}
 use Rattle.wg_history.specs.Answers.{reply_to, IsRun}
 use Rattle.wg_history.proofs.Runs.{newest, others}
 use Rattle.wg_history.proofs.Makers.{made_met}
-use Rattle.wg_history.proofs.Holders.{rooted, undropped_held, finish_names}
-use Rattle.wg_history.proofs.Named.{object_refers}
+use Rattle.wg_history.proofs.Holders.{rooted, finish_names, refers_root}
 
--- What a valid object refers to was made and is held when it is made: it is own and not dropped.
+-- What a valid object refers to was made and is held when it is made: it is own and not dropped, or the encoder of a bundle awaits it.
 pub refers_held : (setup : Setup) (past : Past) (entry : Entry) (m : ℕ) → entry.reply ≡ reply_to setup past entry.event → is_made_valid entry.reply.answer ≡ true → is_among (refers_made entry.event) m ≡ true → (m < count past) × (is_held setup past m ≡ true)
 refers_held setup past entry m same valid refers =
-    let those = object_refers setup past entry.event m (made_met setup entry past same valid) refers in
-    (those.0, undropped_held setup past m those.0 those.1)
+    let those = refers_root setup past entry.event m (made_met setup entry past same valid) refers in
+    (those.0, rooted setup past m those.0 those.1)
 
 -- What the commands of a finish that is accepted name was made and is held: it is not dropped, or the encoder awaits it.
 pub names_held : (setup : Setup) (past : Past) (entry : Entry) (m : ℕ) → entry.reply ≡ reply_to setup past entry.event → is_made_valid entry.reply.answer ≡ true → is_among (names_within (recorded_by entry.event)) m ≡ true → (m < count past) × (is_held setup past m ≡ true)

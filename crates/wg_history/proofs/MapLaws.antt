@@ -36,7 +36,8 @@ use Rattle.wg_history.specs.Answers.{at_once, settle_all, kept_how, is_over, is_
 use Rattle.wg_history.specs.MapLaws.{MapsAreSingle, PendingIsUnmapped, AreRecorded, IsLast, MapsWaitForLast}
 use Rattle.wg_history.proofs.Runs.{newest, others}
 use Rattle.wg_history.proofs.Tests.{not_true, was_not, any_grows, met_after, met_before, none_either}
-use Rattle.wg_history.proofs.AfterUse.{any_resource_is, no_op}
+use Rattle.wg_history.proofs.AfterUse.{no_op}
+use Rattle.wg_history.proofs.BundleTouches.{any_resource_is}
 use Rattle.wg_history.proofs.Awaiting.{awaiting_ascends, unsettled_own, unsettled_tested}
 use Rattle.wg_history.proofs.Waits.{any_filter, any_unsettled, any_both}
 use Rattle.wg_history.proofs.Destroyed.{own_of_other, keeps_of, mapped_none}

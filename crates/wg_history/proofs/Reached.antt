@@ -1,4 +1,4 @@
--- What commands use, directly or through bind groups, was made before, and is held by what they name.
+-- What commands use, directly or through views, bind groups or bundles, was made before, and is held by what they name.
 use Rattle.std.proofs.Common.{◌≡◌, ℕ, ◌<◌, List, [], ◌∷◌, ◌++◌, map, Bool, true, false, not, ◌&&◌, ◌||◌, ◌==◌, Option, Some, None, is_none, refl, ap, ap₂, sym, ◌∙◌, subst, arith, if◌then◌else◌, true≢false, inl, inr}
 use Rattle.std.specs.List.{list_any, flat_map}
 use Rattle.std.specs.Option.{option_map_or}
@@ -13,7 +13,8 @@ use Rattle.wg_types.specs.declared.commands.On.{On}
 use Rattle.wg_types.specs.declared.wanted.Wanted.{Wanted}
 use Rattle.wg_types.specs.declared.wanted.Wanted.TheVariants as wanted
 use Rattle.wg_types.specs.declared.handles.Info.{Info}
-use Rattle.wg_types.specs.declared.handles.Info.TheVariants.{Group, View as ViewInfo}
+use Rattle.wg_types.specs.declared.handles.Info.TheVariants.{Group, View as ViewInfo, Bundle}
+use Rattle.wg_types.specs.declared.bundles.BundleInfo.{BundleInfo}
 use Rattle.wg_types.specs.declared.groups.GroupInfo.{GroupInfo}
 use Rattle.wg_types.specs.declared.bindings.ResourceOf.{ResourceOf}
 use Rattle.wg_types.specs.declared.bindings.ResourceOf.TheVariants.{Buffer, View, Sampler}
@@ -23,7 +24,8 @@ use Rattle.wg_types.specs.declared.bindings.BoundResource.TheVariants.{Buffer as
 use Rattle.wg_types.specs.declared.bindings.BoundEntry.{BoundEntry}
 use Rattle.wg_model.specs.Rules.{Rule, AreMet, first_unmet}
 use Rattle.wg_model.specs.Groups.{group_rules}
-use Rattle.wg_model.specs.Walk.{Verdict}
+use Rattle.wg_model.specs.Walk.{Verdict, bundle_of}
+use Rattle.wg_model.specs.Bundles.{bundle_in, known_bundle, in_bundle}
 use Rattle.wg_model.specs.Bound.{group_in, known_group}
 use Rattle.wg_model.specs.Attachments.{view_in, attached_view}
 use Rattle.wg_model.specs.Holding.{is_among}
@@ -33,11 +35,11 @@ use Rattle.wg_model.proofs.Unmet.{all_met}
 use Rattle.wg_model.proofs.NamedLemmas.{any_resources}
 use Rattle.wg_model.proofs.Sparing.{or_first}
 use Rattle.wg_model.proofs.Holding.{referred_held}
-use Rattle.wg_history.specs.Entries.{Setup, Event, CreateBindGroup, Finish, effects_of, recorded_by, Entry, Past}
+use Rattle.wg_history.specs.Entries.{Setup, Event, CreateBindGroup, Finish, FinishBundle, effects_of, recorded_by, Entry, Past}
 use Rattle.wg_history.specs.Objects.{ObjRef, is_making, count, maker, info_made, unknown, known_in, info_at, is_own, is_valid, is_made_valid, commands_at}
 use Rattle.wg_history.specs.Operations.{submit_uses}
 use Rattle.wg_history.specs.Infos.{same_kind, same_info}
-use Rattle.wg_history.specs.Rules.{is_dropped, is_consumed, is_genuine, is_barred, any_barred, recording_rules, finish_rule, listed_rules}
+use Rattle.wg_history.specs.Rules.{is_dropped, is_consumed, is_genuine, is_barred, any_barred, kept_rules, recording_rules, finish_rule, finish_bundle_rule, listed_rules}
 use Rattle.wg_history.specs.GroupRules.{named_rules, group_named, create_bind_group_rule}
 use Rattle.wg_history.specs.Held.{resource_number, refers_of, refers_made, refers_at, holds_of, is_held}
 use Rattle.wg_history.specs.Loss.{is_lost}
@@ -47,7 +49,8 @@ use Rattle.wg_history.proofs.BindingLaws.{infos_tell}
 use Rattle.wg_history.proofs.Runs.{newest, others}
 use Rattle.wg_history.proofs.Tests.{not_true, was_not, met_before, neither}
 use Rattle.wg_history.proofs.Makers.{own_below, made_met, made_more}
-use Rattle.wg_history.proofs.Holders.{named_held, named_from, refers_same, genuine_below}
+use Rattle.wg_history.proofs.BundleTouches.{Word, buffer_word, texture_word, query_word, numbers_in, word_uses, bundle_uses}
+use Rattle.wg_history.proofs.Holders.{named_held, named_from, refers_same, genuine_below, bundle_numbers}
 use Rattle.wg_history.proofs.Making.{refers_back, names_back}
 use Rattle.wg_history.proofs.Viewing.{is_texture_at, texture_later, view_texture}
 
@@ -170,25 +173,20 @@ group_views setup (entry ∷ older) g n group run valid e among = viewed_later e
     by_maker true valid e rest = made_views setup older entry.event group n (others setup entry older run) e (made_met setup entry older (newest setup entry older run) valid) among
     by_maker false valid e rest = rest valid e among
 
--- How commands reach a resource that they use: they name it, or a view or group that refers to it, or a group that refers to a
--- view of it.
-pub data Reached (past : Past) (names : List ℕ) (n : ℕ) : Type 0 where
-  Named : is_among names n ≡ true → Reached past names n
-  Bound : (g : ℕ) → g < count past → is_among names g ≡ true → is_among (refers_at past g) n ≡ true → Reached past names n
-  Viewing : (g v : ℕ) → g < count past → v < count past → is_among names g ≡ true → is_among (refers_at past g) v ≡ true → is_among (refers_at past v) n ≡ true → Reached past names n
+-- How commands reach a resource that they use: they name it, or something that refers to it, be it through others.
+pub data Reached (past : Past) : List ℕ → ℕ → Type 0 where
+  Named : {names : List ℕ} {n : ℕ} → is_among names n ≡ true → Reached past names n
+  Through : {names : List ℕ} {n : ℕ} (m : ℕ) → m < count past → is_among names m ≡ true → Reached past (refers_at past m) n → Reached past names n
 
 widened : (past : Past) (xs ys : List ℕ) (n : ℕ) → ((m : ℕ) → is_among xs m ≡ true → is_among ys m ≡ true) → Reached past xs n → Reached past ys n
 widened past xs ys n wide (Named among) = Named (wide n among)
-widened past xs ys n wide (Bound g lt among refers) = Bound g lt (wide g among) refers
-widened past xs ys n wide (Viewing g v lt less among refers views) = Viewing g v lt less (wide g among) refers views
+widened past xs ys n wide (Through m lt among rest) = Through m lt (wide m among) rest
 
 reached_later : (entry : Entry) (older : Past) (names : List ℕ) (n : ℕ) → Reached older names n → Reached (entry ∷ older) names n
 reached_later entry older names n (Named among) = Named among
-reached_later entry older names n (Bound g lt among refers) = Bound g (made_more (is_making entry.event) (count older) g lt) among (ap (λ (list : List ℕ). is_among list n) (refers_same entry older g lt) ∙ refers)
-reached_later entry older names n (Viewing g v lt less among refers views) =
-    Viewing g v (made_more (is_making entry.event) (count older) g lt) (made_more (is_making entry.event) (count older) v less) among
-    (ap (λ (list : List ℕ). is_among list v) (refers_same entry older g lt) ∙ refers)
-    (ap (λ (list : List ℕ). is_among list n) (refers_same entry older v less) ∙ views)
+reached_later entry older names n (Through m lt among rest) =
+    Through m (made_more (is_making entry.event) (count older) m lt) among
+    (subst (λ (list : List ℕ). Reached (entry ∷ older) list n) (sym (refers_same entry older m lt)) (reached_later entry older (refers_at older m) n rest))
 
 -- a genuine handle that is valid knows what is known of its object
 pub record Knows (past : Past) (n : ℕ) (info : Info) : Type 0 where
@@ -225,8 +223,8 @@ group_buffers setup past handle n genuine among = by_valid handle.valid refl amo
     by_info : (info : Info) → handle.info ≡ info → handle.valid ≡ true → is_among (in_group bound_buffer (group_in info)) n ≡ true → Reached past (handle.reference.number ∷ []) n
     by_info (Group group) same valid among =
         let knows = genuine_knows setup past handle genuine valid in
-        Bound handle.reference.number (genuine_below setup past handle genuine) (among_self handle.reference.number)
-        (ap (λ (list : List ℕ). is_among list n) (refers_known past handle.reference.number (Group group) knows.valid (knows.known ∙ ap (λ (x : Info). Some x) same)) ∙ or_right (group.layout.number == n) _ (bound_refers n group.entries among))
+        Through handle.reference.number (genuine_below setup past handle genuine) (among_self handle.reference.number)
+        (Named (ap (λ (list : List ℕ). is_among list n) (refers_known past handle.reference.number (Group group) knows.valid (knows.known ∙ ap (λ (x : Info). Some x) same)) ∙ or_right (group.layout.number == n) _ (bound_refers n group.entries among)))
     by_info _ same valid among = absurd (true≢false (sym among))
 
     by_valid : (b : Bool) → handle.valid ≡ b → is_among (in_group bound_buffer (if b then group_in handle.info else None)) n ≡ true → Reached past (handle.reference.number ∷ []) n
@@ -241,8 +239,8 @@ group_textures setup past handle n run genuine among = by_valid handle.valid ref
         let knows = genuine_knows setup past handle genuine valid in
         let known : info_at past handle.reference.number ≡ Some (Group group) = knows.known ∙ ap (λ (x : Info). Some x) same in
         let found = group_views setup past handle.reference.number n group run knows.valid known among in
-        Viewing handle.reference.number found.v (genuine_below setup past handle genuine) found.lt (among_self handle.reference.number)
-        (ap (λ (list : List ℕ). is_among list found.v) (refers_known past handle.reference.number (Group group) knows.valid known) ∙ found.among) found.refers
+        Through handle.reference.number (genuine_below setup past handle genuine) (among_self handle.reference.number)
+        (Through found.v found.lt (ap (λ (list : List ℕ). is_among list found.v) (refers_known past handle.reference.number (Group group) knows.valid known) ∙ found.among) (Named found.refers))
     by_info _ same valid among = absurd (true≢false (sym among))
 
     by_valid : (b : Bool) → handle.valid ≡ b → is_among (in_group bound_texture (if b then group_in handle.info else None)) n ≡ true → Reached past (handle.reference.number ∷ []) n
@@ -256,35 +254,59 @@ view_textures setup past handle n genuine among = by_valid handle.valid refl amo
     by_info : (info : Info) → handle.info ≡ info → handle.valid ≡ true → is_among (in_view (view_in info)) n ≡ true → Reached past (handle.reference.number ∷ []) n
     by_info (ViewInfo known) same valid among =
         let knows = genuine_knows setup past handle genuine valid in
-        Bound handle.reference.number (genuine_below setup past handle genuine) (among_self handle.reference.number)
-        (ap (λ (list : List ℕ). is_among list n) (refers_known past handle.reference.number (ViewInfo known) knows.valid (knows.known ∙ ap (λ (x : Info). Some x) same)) ∙ among)
+        Through handle.reference.number (genuine_below setup past handle genuine) (among_self handle.reference.number)
+        (Named (ap (λ (list : List ℕ). is_among list n) (refers_known past handle.reference.number (ViewInfo known) knows.valid (knows.known ∙ ap (λ (x : Info). Some x) same)) ∙ among))
     by_info _ same valid among = absurd (true≢false (sym among))
 
     by_valid : (b : Bool) → handle.valid ≡ b → is_among (in_view (if b then view_in handle.info else None)) n ≡ true → Reached past (handle.reference.number ∷ []) n
     by_valid true valid among = by_info handle.info refl valid among
     by_valid false valid among = absurd (true≢false (sym among))
 
-object_buffers : (setup : Setup) (past : Past) (handle : HandleValue) (asked : Wanted) (n : ℕ) → is_genuine setup past handle ≡ true → is_among (buffers_as asked handle) n ≡ true → Reached past (handle.reference.number ∷ []) n
-object_buffers setup past handle wanted.Buffer n genuine among = Named among
-object_buffers setup past handle wanted.Group n genuine among = group_buffers setup past handle n genuine among
-object_buffers setup past handle _ n genuine among = absurd (true≢false (sym among))
+-- What a valid bundle uses is reached by what it refers to.
+abbrev BundlesReach : Past → ℕ → Type 0
+BundlesReach past n = (word : Word) (m : ℕ) (bundle : BundleInfo) → is_valid past m ≡ true → info_at past m ≡ Some (Bundle bundle)
+    → is_among (in_bundle (numbers_in word) (Some bundle)) n ≡ true → Reached past (refers_of (Bundle bundle)) n
 
-object_textures : (setup : Setup) (past : Past) (handle : HandleValue) (asked : Wanted) (n : ℕ) → IsRun setup past → is_genuine setup past handle ≡ true → is_among (textures_as asked handle) n ≡ true → Reached past (handle.reference.number ∷ []) n
-object_textures setup past handle wanted.Texture n run genuine among = Named among
-object_textures setup past handle wanted.View n run genuine among = view_textures setup past handle n genuine among
-object_textures setup past handle wanted.Group n run genuine among = group_textures setup past handle n run genuine among
-object_textures setup past handle _ n run genuine among = absurd (true≢false (sym among))
+-- so what a genuine handle of a bundle gives is reached through the bundle
+bundle_resources : (setup : Setup) (past : Past) (word : Word) (handle : HandleValue) (n : ℕ) → BundlesReach past n → is_genuine setup past handle ≡ true → is_among (in_bundle (numbers_in word) (known_bundle handle)) n ≡ true → Reached past (handle.reference.number ∷ []) n
+bundle_resources setup past word handle n bundles genuine among = by_valid handle.valid refl among
+  where
+    by_info : (info : Info) → handle.info ≡ info → handle.valid ≡ true → is_among (in_bundle (numbers_in word) (bundle_in info)) n ≡ true → Reached past (handle.reference.number ∷ []) n
+    by_info (Bundle bundle) same valid among =
+        let knows = genuine_knows setup past handle genuine valid in
+        let known : info_at past handle.reference.number ≡ Some (Bundle bundle) = knows.known ∙ ap (λ (x : Info). Some x) same in
+        Through handle.reference.number (genuine_below setup past handle genuine) (among_self handle.reference.number)
+        (subst (λ (list : List ℕ). Reached past list n) (sym (refers_known past handle.reference.number (Bundle bundle) knows.valid known)) (bundles word handle.reference.number bundle knows.valid known among))
+    by_info _ same valid among = absurd (true≢false (sym among))
 
-object_query_sets : (past : Past) (handle : HandleValue) (asked : Wanted) (n : ℕ) → is_among (query_sets_as asked handle) n ≡ true → Reached past (handle.reference.number ∷ []) n
-object_query_sets past handle wanted.Queries n among = Named among
-object_query_sets past handle _ n among = absurd (true≢false (sym among))
+    by_valid : (b : Bool) → handle.valid ≡ b → is_among (in_bundle (numbers_in word) (if b then bundle_in handle.info else None)) n ≡ true → Reached past (handle.reference.number ∷ []) n
+    by_valid true valid among = by_info handle.info refl valid among
+    by_valid false valid among = absurd (true≢false (sym among))
 
-object_reaches : (setup : Setup) (past : Past) (object : HandleValue × Wanted) (n : ℕ) → IsRun setup past → is_genuine setup past object.0 ≡ true → names_resource (λ r. r == n) object ≡ true → Reached past (object.0.reference.number ∷ []) n
-object_reaches setup past object n run genuine among = elim (or_cases (names_by buffers_as (λ r. r == n) object) (names_by textures_as (λ r. r == n) object || names_by query_sets_as (λ r. r == n) object) among) [
-  | inl buffers ↦ object_buffers setup past object.0 object.1 n genuine buffers
+object_buffers : (setup : Setup) (past : Past) (handle : HandleValue) (asked : Wanted) (n : ℕ) → BundlesReach past n → is_genuine setup past handle ≡ true → is_among (buffers_as asked handle) n ≡ true → Reached past (handle.reference.number ∷ []) n
+object_buffers setup past handle wanted.Buffer n bundles genuine among = Named among
+object_buffers setup past handle wanted.Group n bundles genuine among = group_buffers setup past handle n genuine among
+object_buffers setup past handle wanted.Bundle n bundles genuine among = bundle_resources setup past buffer_word handle n bundles genuine among
+object_buffers setup past handle _ n bundles genuine among = absurd (true≢false (sym among))
+
+object_textures : (setup : Setup) (past : Past) (handle : HandleValue) (asked : Wanted) (n : ℕ) → IsRun setup past → BundlesReach past n → is_genuine setup past handle ≡ true → is_among (textures_as asked handle) n ≡ true → Reached past (handle.reference.number ∷ []) n
+object_textures setup past handle wanted.Texture n run bundles genuine among = Named among
+object_textures setup past handle wanted.View n run bundles genuine among = view_textures setup past handle n genuine among
+object_textures setup past handle wanted.Group n run bundles genuine among = group_textures setup past handle n run genuine among
+object_textures setup past handle wanted.Bundle n run bundles genuine among = bundle_resources setup past texture_word handle n bundles genuine among
+object_textures setup past handle _ n run bundles genuine among = absurd (true≢false (sym among))
+
+object_query_sets : (setup : Setup) (past : Past) (handle : HandleValue) (asked : Wanted) (n : ℕ) → BundlesReach past n → is_genuine setup past handle ≡ true → is_among (query_sets_as asked handle) n ≡ true → Reached past (handle.reference.number ∷ []) n
+object_query_sets setup past handle wanted.Queries n bundles genuine among = Named among
+object_query_sets setup past handle wanted.Bundle n bundles genuine among = bundle_resources setup past query_word handle n bundles genuine among
+object_query_sets setup past handle _ n bundles genuine among = absurd (true≢false (sym among))
+
+object_reaches : (setup : Setup) (past : Past) (object : HandleValue × Wanted) (n : ℕ) → IsRun setup past → BundlesReach past n → is_genuine setup past object.0 ≡ true → names_resource (λ r. r == n) object ≡ true → Reached past (object.0.reference.number ∷ []) n
+object_reaches setup past object n run bundles genuine among = elim (or_cases (names_by buffers_as (λ r. r == n) object) (names_by textures_as (λ r. r == n) object || names_by query_sets_as (λ r. r == n) object) among) [
+  | inl buffers ↦ object_buffers setup past object.0 object.1 n bundles genuine buffers
   | inr others ↦ elim (or_cases (names_by textures_as (λ r. r == n) object) (names_by query_sets_as (λ r. r == n) object) others) [
-    | inl textures ↦ object_textures setup past object.0 object.1 n run genuine textures
-    | inr queries ↦ object_query_sets past object.0 object.1 n queries
+    | inl textures ↦ object_textures setup past object.0 object.1 n run bundles genuine textures
+    | inr queries ↦ object_query_sets setup past object.0 object.1 n bundles genuine queries
   ]
 ]
 
@@ -294,14 +316,14 @@ pub double_not : (b : Bool) → not b ≡ false → b ≡ true
 double_not true e = refl
 double_not false e = absurd (true≢false e)
 
-objects_reach : (setup : Setup) (past : Past) (encoder : ℕ) (objects : List (HandleValue × Wanted)) (n : ℕ) → IsRun setup past → list_any (is_barred setup past encoder) objects ≡ false → list_any (names_resource (λ r. r == n)) objects ≡ true → Reached past (map (λ (object : HandleValue × Wanted). object.0.reference.number) objects) n
-objects_reach setup past encoder [] n run spared among = absurd (true≢false (sym among))
-objects_reach setup past encoder (object ∷ objects) n run spared among = elim (or_cases (names_resource (λ r. r == n) object) (list_any (names_resource (λ r. r == n)) objects) among) [
+objects_reach : (setup : Setup) (past : Past) (encoder : ℕ) (objects : List (HandleValue × Wanted)) (n : ℕ) → IsRun setup past → BundlesReach past n → list_any (is_barred setup past encoder) objects ≡ false → list_any (names_resource (λ r. r == n)) objects ≡ true → Reached past (map (λ (object : HandleValue × Wanted). object.0.reference.number) objects) n
+objects_reach setup past encoder [] n run bundles spared among = absurd (true≢false (sym among))
+objects_reach setup past encoder (object ∷ objects) n run bundles spared among = elim (or_cases (names_resource (λ r. r == n) object) (list_any (names_resource (λ r. r == n)) objects) among) [
   | inl here ↦ (
       let genuine = (and_parts (is_genuine setup past object.0) _ (double_not _ (or_first (is_barred setup past encoder object) _ spared))).0 in
       widened past (object.0.reference.number ∷ []) _ n (λ m e. elim (or_cases (object.0.reference.number == m) false e) [ inl same ↦ or_left (object.0.reference.number == m) _ same | inr none ↦ absurd (true≢false (sym none)) ])
-      (object_reaches setup past object n run genuine here))
-  | inr later ↦ widened past _ _ n (λ m e. or_right (object.0.reference.number == m) _ e) (objects_reach setup past encoder objects n run (was_not (is_barred setup past encoder object) _ spared) later)
+      (object_reaches setup past object n run bundles genuine here))
+  | inr later ↦ widened past _ _ n (λ m e. or_right (object.0.reference.number == m) _ e) (objects_reach setup past encoder objects n run bundles (was_not (is_barred setup past encoder object) _ spared) later)
 ]
 
 among_left : (xs ys : List ℕ) (m : ℕ) → is_among xs m ≡ true → is_among (xs ++ ys) m ≡ true
@@ -310,23 +332,51 @@ among_left xs ys m e = list_any-append (λ r. r == m) xs ys ∙ or_left (is_amon
 among_right : (xs ys : List ℕ) (m : ℕ) → is_among ys m ≡ true → is_among (xs ++ ys) m ≡ true
 among_right xs ys m e = list_any-append (λ r. r == m) xs ys ∙ or_right (is_among xs m) (is_among ys m) e
 
-commands_reach : (setup : Setup) (past : Past) (encoder : ℕ) (commands : List (On × Command)) (n : ℕ) → IsRun setup past → any_barred setup past encoder commands ≡ false → uses_resource commands n ≡ true → Reached past (names_within commands) n
-commands_reach setup past encoder [] n run spared used = absurd (true≢false (sym used))
-commands_reach setup past encoder (kept ∷ commands) n run spared used = elim (or_cases (list_any (λ r. r == n) (resources kept.1)) (uses_resource commands n) used) [
+commands_reach : (setup : Setup) (past : Past) (encoder : ℕ) (commands : List (On × Command)) (n : ℕ) → IsRun setup past → BundlesReach past n → any_barred setup past encoder commands ≡ false → uses_resource commands n ≡ true → Reached past (names_within commands) n
+commands_reach setup past encoder [] n run bundles spared used = absurd (true≢false (sym used))
+commands_reach setup past encoder (kept ∷ commands) n run bundles spared used = elim (or_cases (list_any (λ r. r == n) (resources kept.1)) (uses_resource commands n) used) [
   | inl here ↦ widened past _ _ n (among_left (map (λ (object : HandleValue × Wanted). object.0.reference.number) (named kept.1)) (names_within commands))
-      (objects_reach setup past encoder (named kept.1) n run (or_first _ _ spared) (sym (any_resources (λ r. r == n) kept.1) ∙ here))
+      (objects_reach setup past encoder (named kept.1) n run bundles (or_first _ _ spared) (sym (any_resources (λ r. r == n) kept.1) ∙ here))
   | inr later ↦ widened past _ _ n (among_right (map (λ (object : HandleValue × Wanted). object.0.reference.number) (named kept.1)) (names_within commands))
-      (commands_reach setup past encoder commands n run (was_not (list_any (is_barred setup past encoder) (named kept.1)) _ spared) later)
+      (commands_reach setup past encoder commands n run bundles (was_not (list_any (is_barred setup past encoder) (named kept.1)) _ spared) later)
 ]
+
+-- The commands of a bundle that is made are such.
+
+made_reaches : (setup : Setup) (older : Past) (event : Event) (bundle : BundleInfo) (word : Word) (n : ℕ) → IsRun setup older → BundlesReach older n → info_made (known_in older) event ≡ Some (Bundle bundle)
+    → is_made_valid (answer_by older (effects_of event).form (not (is_lost older) && is_none (first_rule setup older event))) ≡ true
+    → is_among (in_bundle (numbers_in word) (Some bundle)) n ≡ true → Reached older (refers_of (Bundle bundle)) n
+unfolding finish_bundle_rule
+made_reaches setup older (FinishBundle encoder recording) bundle word n run bundles e made among =
+    let made_of : BundleInfo = bundle_of recording.device recording.targets recording.commands in
+    let same : made_of ≡ bundle = cc in
+    let rules = neither _ _ (and_parts (not (is_lost older)) (is_none (finish_bundle_rule setup older encoder recording)) made).1 in
+    let late = neither (Verdict recording.device recording.targets recording.commands) (first_unmet (kept_rules setup older encoder.number recording)) rules.1 in
+    let rest : AreMet (kept_rules setup older encoder.number recording) = all_met (kept_rules setup older encoder.number recording) late.1 in
+    let used = bundle_uses word n recording.device recording.targets recording.commands (ap (λ (b : BundleInfo). is_among (in_bundle (numbers_in word) (Some b)) n) same ∙ among) in
+    subst (λ (b : BundleInfo). Reached older (refers_of (Bundle b)) n) same
+    (subst (λ (list : List ℕ). Reached older list n) (sym (bundle_numbers recording.device recording.targets recording.commands))
+    (commands_reach setup older encoder.number recording.commands n run bundles (not_true _ rest.1.0) (word_uses word (λ r. r == n) recording.commands used)))
+made_reaches setup older _ bundle word n run bundles e made among = absurd (cc)
+
+bundles_reach : (setup : Setup) (past : Past) (n : ℕ) → IsRun setup past → BundlesReach past n
+bundles_reach setup [] n run word m bundle valid e among = absurd (true≢false (sym valid))
+bundles_reach setup (entry ∷ older) n run word m bundle valid e among =
+    reached_later entry older (refers_of (Bundle bundle)) n (by_maker (is_making entry.event && count older == m) valid e (bundles_reach setup older n (others setup entry older run)))
+  where
+    by_maker : (b : Bool) → option_map_or (λ entry. is_made_valid entry.reply.answer) (if b then Some entry else maker older m) false ≡ true → (if b then info_made (λ object. info_at older object.number) entry.event else info_at older m) ≡ Some (Bundle bundle)
+        → BundlesReach older n → Reached older (refers_of (Bundle bundle)) n
+    by_maker true valid e rest = made_reaches setup older entry.event bundle word n (others setup entry older run) rest e (made_met setup entry older (newest setup entry older run) valid) among
+    by_maker false valid e rest = rest word m bundle valid e among
 
 -- the commands of a finish that is accepted
 finish_reaches : (setup : Setup) (older : Past) (event : Event) (n : ℕ) → IsRun setup older → is_made_valid (answer_by older (effects_of event).form (not (is_lost older) && is_none (first_rule setup older event))) ≡ true → uses_resource (recorded_by event) n ≡ true → Reached older (names_within (recorded_by event)) n
 unfolding finish_rule
 finish_reaches setup older (Finish encoder recording) n run made used =
     let rules = neither _ _ (and_parts (not (is_lost older)) (is_none (finish_rule setup older encoder recording)) made).1 in
-    let late = neither (Verdict recording.device recording.commands) (first_unmet (recording_rules setup older encoder.number recording)) rules.1 in
+    let late = neither (Verdict recording.device recording.targets recording.commands) (first_unmet (recording_rules setup older encoder.number recording)) rules.1 in
     let rest : AreMet (recording_rules setup older encoder.number recording) = all_met (recording_rules setup older encoder.number recording) late.1 in
-    commands_reach setup older encoder.number recording.commands n run (not_true _ rest.1.1.0) used
+    commands_reach setup older encoder.number recording.commands n run (bundles_reach setup older n run) (not_true _ rest.1.1.0) used
 finish_reaches setup older _ n run made used = absurd (true≢false (sym used))
 
 -- What a valid command buffer uses is reached by what its commands name.
@@ -345,8 +395,8 @@ used_reached setup (entry ∷ older) b n run valid used = reached_later entry ol
 
 pub reached_below : (setup : Setup) (past : Past) (names : List ℕ) (n : ℕ) → IsRun setup past → ((m : ℕ) → is_among names m ≡ true → m < count past) → Reached past names n → n < count past
 reached_below setup past names n run below (Named among) = below n among
-reached_below setup past names n run below (Bound g lt among refers) = let less = refers_back setup past g n run refers in omega (arith, lt, less)
-reached_below setup past names n run below (Viewing g v lt less among refers views) = let before = refers_back setup past v n run views in omega (arith, less, before)
+reached_below setup past names n run below (Through m lt among rest) =
+    reached_below setup past (refers_at past m) n run (λ k refers. (let less = refers_back setup past m k run refers in omega (arith, lt, less))) rest
 
 referred : (setup : Setup) (past : Past) (m n : ℕ) → IsRun setup past → is_held setup past m ≡ true → is_among (refers_at past m) n ≡ true → is_held setup past n ≡ true
 unfolding is_held
@@ -354,8 +404,7 @@ referred setup past m n run held refers = referred_held (holds_of setup past) (c
 
 pub reached_held : (setup : Setup) (past : Past) (names : List ℕ) (n : ℕ) → IsRun setup past → ((m : ℕ) → is_among names m ≡ true → is_held setup past m ≡ true) → Reached past names n → is_held setup past n ≡ true
 reached_held setup past names n run held (Named among) = held n among
-reached_held setup past names n run held (Bound g lt among refers) = referred setup past g n run (held g among) refers
-reached_held setup past names n run held (Viewing g v lt less among refers views) = referred setup past v n run (referred setup past g v run (held g among) refers) views
+reached_held setup past names n run held (Through m lt among rest) = reached_held setup past (refers_at past m) n run (λ k refers. referred setup past m k run (held m among) refers) rest
 
 -- What an operation uses is held.
 pub listed_held : (setup : Setup) (past : Past) (buffers : List ObjRef) (n : ℕ) → IsRun setup past → AreMet (listed_rules setup past buffers) → list_any (λ buffer. is_consumed setup past buffer.number) buffers ≡ false → submit_uses past buffers n ≡ true → is_held setup past n ≡ true

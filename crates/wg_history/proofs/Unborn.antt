@@ -10,8 +10,8 @@ use Rattle.wg_model.specs.Rules.{Rule, AreMet}
 use Rattle.wg_model.specs.Recorded.{names_within, uses_resource}
 use Rattle.wg_model.proofs.Unmet.{all_met}
 use Rattle.wg_history.specs.Loss.{is_lost}
-use Rattle.wg_history.specs.Entries.{Setup, Event, Finish, Submit, WriteBuffer, WriteTexture, Destroy, Entry, Past}
-use Rattle.wg_history.specs.Objects.{is_making, count, maker, is_own, is_valid, is_made_valid, is_encoder, is_command_buffer, has_memory, commands_at}
+use Rattle.wg_history.specs.Entries.{Setup, Event, Finish, FinishBundle, Submit, WriteBuffer, WriteTexture, Destroy, Entry, Past}
+use Rattle.wg_history.specs.Objects.{is_making, count, maker, is_own, is_valid, is_made_valid, takes_commands, is_command_buffer, has_memory, commands_at}
 use Rattle.wg_history.specs.Operations.{issued, submit_uses, is_used, op_of, use_by, last_use}
 use Rattle.wg_history.specs.Rules.{is_dropped, destroy_rule, destroys, is_destroyed, ends_encoder, has_finished, consumes, is_consumed, listed_rules, together_rules, submit_list, submit_rule, write_buffer_list, write_buffer_rule, write_texture_list, write_texture_rule}
 use Rattle.wg_history.specs.Answers.{Queued, Plain, reply_to, IsRun}
@@ -50,7 +50,8 @@ named_below setup past kind object n h =
     omega (arith, lt, same)
 
 ends_below : (setup : Setup) (past : Past) (event : Event) (n : ℕ) → count past ≤ n → ends_encoder setup past event n ≡ false
-ends_below setup past (Finish encoder recording) n le = fails (encoder.number == n && is_own setup past is_encoder encoder) (count past) n le (named_below setup past is_encoder encoder n)
+ends_below setup past (Finish encoder recording) n le = fails (encoder.number == n && is_own setup past takes_commands encoder) (count past) n le (named_below setup past takes_commands encoder n)
+ends_below setup past (FinishBundle encoder recording) n le = fails (encoder.number == n && is_own setup past takes_commands encoder) (count past) n le (named_below setup past takes_commands encoder n)
 ends_below setup past _ n le = refl
 
 pub ended_new : (setup : Setup) (past : Past) (n : ℕ) → count past ≤ n → has_finished setup past n ≡ false

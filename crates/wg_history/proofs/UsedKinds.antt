@@ -1,10 +1,8 @@
--- What commands use as a texture is one, and so is a query set, in a run of recordings that recorders kept.
-use Rattle.std.proofs.Common.{◌≡◌, ℕ, List, [], ◌∷◌, reverse, Bool, true, false, not, ◌&&◌, ◌||◌, ◌==◌, Option, Some, None, is_none, refl, ap, sym, ◌∙◌, if◌then◌else◌, true≢false, inl, inr}
+-- What commands use as a texture is one, and so is a query set, also through bundles, in a run of recordings that recorders kept.
+use Rattle.std.proofs.Common.{◌≡◌, ℕ, List, [], ◌∷◌, reverse, Bool, true, false, not, ◌&&◌, ◌==◌, Option, Some, None, is_none, refl, ap, sym, ◌∙◌, if◌then◌else◌, true≢false, inl, inr}
 use Rattle.std.specs.List.{list_any}
 use Rattle.std.specs.Option.{option_map_or}
 use Rattle.std.proofs.lemmas.Bool.{and_parts, or_cases, eqb-true}
-use Rattle.std.proofs.lemmas.List.{reverse-append}
-use Rattle.std.proofs.lemmas.List.Folds.{list_any-append}
 use Rattle.wg_types.specs.Handles.{HandleValue}
 use Rattle.wg_types.specs.Kinds.{kind_of}
 use Rattle.wg_types.specs.Wanted.{admits}
@@ -13,22 +11,24 @@ use Rattle.wg_types.specs.declared.commands.On.{On}
 use Rattle.wg_types.specs.declared.wanted.Wanted.{Wanted}
 use Rattle.wg_types.specs.declared.wanted.Wanted.TheVariants as wanted
 use Rattle.wg_types.specs.declared.handles.Info.{Info}
-use Rattle.wg_types.specs.declared.handles.Info.TheVariants.{Group, Queries, Texture, View}
+use Rattle.wg_types.specs.declared.handles.Info.TheVariants.{Group, Queries, Texture, View, Bundle}
+use Rattle.wg_types.specs.declared.bundles.BundleInfo.{BundleInfo}
+use Rattle.wg_types.specs.declared.render.TargetInfo.{TargetInfo}
 use Rattle.wg_model.specs.Rules.{AreMet, first_unmet}
-use Rattle.wg_model.specs.Walk.{Kept, PassSoFar, open_pass, Verdict}
+use Rattle.wg_model.specs.Walk.{Kept, Verdict, bundle_of}
+use Rattle.wg_model.specs.Bundles.{bundle_in, known_bundle, in_bundle}
 use Rattle.wg_model.specs.Bound.{group_in, known_group}
 use Rattle.wg_model.specs.Attachments.{view_in, attached_view}
 use Rattle.wg_model.specs.Holding.{is_among}
 use Rattle.wg_model.specs.Commands.{is_queries}
-use Rattle.wg_model.specs.Recorded.{bound_texture, in_group, in_view, textures_as, query_sets_as, numbers_by, textures_of, query_sets_of, any_named, names_by}
+use Rattle.wg_model.specs.Recorded.{bound_texture, in_group, in_view, textures_as, query_sets_as, textures_of, query_sets_of, any_named, names_by}
 use Rattle.wg_model.proofs.Unmet.{all_met}
 use Rattle.wg_model.proofs.NamedLemmas.{any_by}
-use Rattle.wg_model.proofs.Sparing.{or_first}
-use Rattle.wg_encoder.specs.Walked.{open_rule}
-use Rattle.wg_history.specs.Entries.{Setup, Event, Finish, effects_of, recorded_by, Past}
-use Rattle.wg_history.specs.Objects.{is_making, count, maker, info_at, is_valid, is_made_valid, is_texture_info, commands_at}
+use Rattle.wg_model.proofs.Sparing.{or_first, any_reversed}
+use Rattle.wg_history.specs.Entries.{Setup, Event, Finish, FinishBundle, effects_of, recorded_by, Past}
+use Rattle.wg_history.specs.Objects.{is_making, count, maker, info_made, known_in, info_at, is_valid, is_made_valid, is_texture_info, commands_at}
 use Rattle.wg_history.specs.Infos.{same_kind}
-use Rattle.wg_history.specs.Rules.{is_genuine, is_barred, any_barred, recording_rules, finish_rule}
+use Rattle.wg_history.specs.Rules.{is_genuine, is_barred, any_barred, kept_rules, recording_rules, finish_rule, finish_bundle_rule}
 use Rattle.wg_history.specs.Loss.{is_lost}
 use Rattle.wg_history.specs.FirstRules.{first_rule}
 use Rattle.wg_history.specs.Answers.{answer_by, IsRun}
@@ -38,7 +38,8 @@ use Rattle.wg_history.proofs.Tests.{not_true, was_not, neither}
 use Rattle.wg_history.proofs.Makers.{made_met}
 use Rattle.wg_history.proofs.Viewing.{is_kind_at, kind_later, is_texture_at, own_known, view_texture}
 use Rattle.wg_history.proofs.Reached.{genuine_knows, group_views, double_not}
-use Rattle.wg_history.proofs.Walking.{AllFit, EachFits, each_fits}
+use Rattle.wg_history.proofs.Walking.{AllFit, EachFits, bundle_fits, recording_fits}
+use Rattle.wg_history.proofs.BundleTouches.{Word, texture_word, query_word, numbers_in, reached_by, reached_of, bundle_uses}
 
 -- the one number of a list
 among_one : (m n : ℕ) → is_among (m ∷ []) n ≡ true → m ≡ n
@@ -106,20 +107,36 @@ bound_textures setup past handle n run genuine among = by_valid handle.valid ref
     by_valid true valid among = by_info handle.info refl valid among
     by_valid false valid among = absurd (true≢false (sym among))
 
-object_texture : (setup : Setup) (past : Past) (n : ℕ) → IsRun setup past → Tells setup past textures_as is_texture_info n
-object_texture setup past n run handle wanted.Texture genuine fits among = genuine_kind setup past is_texture_info wanted.Texture handle n texture_tells genuine fits among
-object_texture setup past n run handle wanted.View genuine fits among = seen_texture setup past handle n run genuine among
-object_texture setup past n run handle wanted.Group genuine fits among = bound_textures setup past handle n run genuine among
-object_texture setup past n run handle _ genuine fits among = absurd (true≢false (sym among))
+-- What a valid bundle is known to use of a sort is of a kind.
+abbrev BundlesTell : Past → Word → (Info → Bool) → ℕ → Type 0
+BundlesTell past word kind n = (m : ℕ) (bundle : BundleInfo) → is_valid past m ≡ true → info_at past m ≡ Some (Bundle bundle) → is_among (in_bundle (numbers_in word) (Some bundle)) n ≡ true → is_kind_at kind past n ≡ true
 
-object_queries : (setup : Setup) (past : Past) (n : ℕ) → Tells setup past query_sets_as is_queries n
-object_queries setup past n handle wanted.Queries genuine fits among = genuine_kind setup past is_queries wanted.Queries handle n queries_tell genuine fits among
-object_queries setup past n handle _ genuine fits among = absurd (true≢false (sym among))
+bundled_kind : (setup : Setup) (past : Past) (word : Word) (kind : Info → Bool) (handle : HandleValue) (n : ℕ) → BundlesTell past word kind n → is_genuine setup past handle ≡ true → is_among (in_bundle (numbers_in word) (known_bundle handle)) n ≡ true → is_kind_at kind past n ≡ true
+bundled_kind setup past word kind handle n bundles genuine among = by_valid handle.valid refl among
+  where
+    by_info : (info : Info) → handle.info ≡ info → handle.valid ≡ true → is_among (in_bundle (numbers_in word) (bundle_in info)) n ≡ true → is_kind_at kind past n ≡ true
+    by_info (Bundle bundle) same valid among =
+        let knows = genuine_knows setup past handle genuine valid in
+        bundles handle.reference.number bundle knows.valid (knows.known ∙ ap (λ (x : Info). Some x) same) among
+    by_info _ same valid among = absurd (true≢false (sym among))
+
+    by_valid : (b : Bool) → handle.valid ≡ b → is_among (in_bundle (numbers_in word) (if b then bundle_in handle.info else None)) n ≡ true → is_kind_at kind past n ≡ true
+    by_valid true valid among = by_info handle.info refl valid among
+    by_valid false valid among = absurd (true≢false (sym among))
+
+object_texture : (setup : Setup) (past : Past) (n : ℕ) → IsRun setup past → BundlesTell past texture_word is_texture_info n → Tells setup past textures_as is_texture_info n
+object_texture setup past n run bundles handle wanted.Texture genuine fits among = genuine_kind setup past is_texture_info wanted.Texture handle n texture_tells genuine fits among
+object_texture setup past n run bundles handle wanted.View genuine fits among = seen_texture setup past handle n run genuine among
+object_texture setup past n run bundles handle wanted.Group genuine fits among = bound_textures setup past handle n run genuine among
+object_texture setup past n run bundles handle wanted.Bundle genuine fits among = bundled_kind setup past texture_word is_texture_info handle n bundles genuine among
+object_texture setup past n run bundles handle _ genuine fits among = absurd (true≢false (sym among))
+
+object_queries : (setup : Setup) (past : Past) (n : ℕ) → BundlesTell past query_word is_queries n → Tells setup past query_sets_as is_queries n
+object_queries setup past n bundles handle wanted.Queries genuine fits among = genuine_kind setup past is_queries wanted.Queries handle n queries_tell genuine fits among
+object_queries setup past n bundles handle wanted.Bundle genuine fits among = bundled_kind setup past query_word is_queries handle n bundles genuine among
+object_queries setup past n bundles handle _ genuine fits among = absurd (true≢false (sym among))
 
 -- So are those that commands reach.
-abbrev reached_of : (Wanted → HandleValue → List ℕ) → Command → List ℕ
-reached_of reached command = numbers_by reached (named command)
-
 objects_tell : (setup : Setup) (past : Past) (reached : Wanted → HandleValue → List ℕ) (kind : Info → Bool) (encoder : ℕ) (objects : List (HandleValue × Wanted)) (n : ℕ) → Tells setup past reached kind n → AllFit objects
     → list_any (is_barred setup past encoder) objects ≡ false → list_any (names_by reached (λ r. r == n)) objects ≡ true → is_kind_at kind past n ≡ true
 objects_tell setup past reached kind encoder [] n tells fit spared among = absurd (true≢false (sym among))
@@ -136,27 +153,17 @@ commands_tell setup past reached kind encoder (kept ∷ older) n tells fit spare
   | inr later ↦ commands_tell setup past reached kind encoder older n tells fit.1 (was_not (list_any (is_barred setup past encoder) (named kept.1)) _ spared) later
 ]
 
--- A test passes on a list backwards where it passes on it.
-any_reverse : {X : Type 0} (p : X → Bool) (xs : List X) → list_any p (reverse xs) ≡ list_any p xs
-any_reverse p [] = refl
-any_reverse p (x ∷ xs) =
-    ap (list_any p) (reverse-append (x ∷ []) xs)
-    ∙ (list_any-append p (reverse xs) (x ∷ [])
-    ∙ (ap (λ b. b || (p x || false)) (any_reverse p xs) ∙ swap (list_any p xs) (p x)))
-  where
-    swap : (a b : Bool) → (a || (b || false)) ≡ (b || a)
-    swap true true = refl
-    swap true false = refl
-    swap false true = refl
-    swap false false = refl
-
 none_is : (o : Option ℕ) → is_none o ≡ true → o ≡ None
 none_is None e = refl
 none_is (Some rule) e = absurd (true≢false (sym e))
 
-closed_rule : (device : ℕ) (opened : Option PassSoFar) → is_none opened ≡ true → open_rule device opened ≡ None
-closed_rule device None e = refl
-closed_rule device (Some pass) e = absurd (true≢false (sym e))
+-- So are those that a recording reaches which met its rules.
+recording_tells : (setup : Setup) (older : Past) (reached : Wanted → HandleValue → List ℕ) (kind : Info → Bool) (encoder : ℕ) (commands : List (On × Command)) (n : ℕ) → Tells setup older reached kind n → EachFits (reverse commands)
+    → any_barred setup older encoder commands ≡ false → any_named (reached_of reached) (λ r. r == n) commands ≡ true → is_kind_at kind older n ≡ true
+recording_tells setup older reached kind encoder commands n tells fits spared used =
+    commands_tell setup older reached kind encoder (reverse commands) n tells fits
+    (any_reversed (λ (kept : On × Command). list_any (is_barred setup older encoder) (named kept.1)) commands ∙ spared)
+    (any_reversed (λ (kept : On × Command). list_any (λ r. r == n) (reached_of reached kept.1)) commands ∙ used)
 
 finish_tells : (setup : Setup) (older : Past) (reached : Wanted → HandleValue → List ℕ) (kind : Info → Bool) (event : Event) (n : ℕ) → Tells setup older reached kind n → AllStand (reverse (recorded_by event))
     → is_made_valid (answer_by older (effects_of event).form (not (is_lost older) && is_none (first_rule setup older event))) ≡ true
@@ -164,32 +171,66 @@ finish_tells : (setup : Setup) (older : Past) (reached : Wanted → HandleValue 
 unfolding finish_rule
 finish_tells setup older reached kind (Finish encoder recording) n tells stand made used =
     let rules = neither _ _ (and_parts (not (is_lost older)) (is_none (finish_rule setup older encoder recording)) made).1 in
-    let late = neither (Verdict recording.device recording.commands) (first_unmet (recording_rules setup older encoder.number recording)) rules.1 in
+    let late = neither (Verdict recording.device recording.targets recording.commands) (first_unmet (recording_rules setup older encoder.number recording)) rules.1 in
     let rest : AreMet (recording_rules setup older encoder.number recording) = all_met (recording_rules setup older encoder.number recording) late.1 in
-    commands_tell setup older reached kind encoder.number (reverse recording.commands) n tells
-    (each_fits recording.device (reverse recording.commands) stand (none_is (Verdict recording.device recording.commands) late.0) (closed_rule recording.device (open_pass (reverse recording.commands)) rest.0))
-    (any_reverse (λ (kept : On × Command). list_any (is_barred setup older encoder.number) (named kept.1)) recording.commands ∙ not_true _ rest.1.1.0)
-    (any_reverse (λ (kept : On × Command). list_any (λ r. r == n) (reached_of reached kept.1)) recording.commands ∙ used)
+    recording_tells setup older reached kind encoder.number recording.commands n tells
+    (recording_fits recording.device recording.targets recording.commands stand (none_is (Verdict recording.device recording.targets recording.commands) late.0) (not_true _ rest.0))
+    (not_true _ rest.1.1.0) used
 finish_tells setup older reached kind _ n tells stand made used = absurd (true≢false (sym used))
 
-used_tells : (setup : Setup) (past : Past) (reached : Wanted → HandleValue → List ℕ) (kind : Info → Bool) (b n : ℕ) → ((older : Past) → IsRun setup older → Tells setup older reached kind n) → IsRun setup past → AreRecorded past
-    → is_valid past b ≡ true → any_named (reached_of reached) (λ r. r == n) (commands_at past b) ≡ true → is_kind_at kind past n ≡ true
-used_tells setup [] reached kind b n tells run kept valid used = absurd (true≢false (sym valid))
-used_tells setup (entry ∷ older) reached kind b n tells run kept valid used =
-    kind_later kind entry older n (by_maker (is_making entry.event && count older == b) valid used (used_tells setup older reached kind b n tells (others setup entry older run) kept.1))
+-- What a bundle is known to use its own commands use.
+
+bundle_tells : (setup : Setup) (older : Past) (word : Word) (kind : Info → Bool) (event : Event) (bundle : BundleInfo) (n : ℕ) → Tells setup older (reached_by word) kind n → info_made (known_in older) event ≡ Some (Bundle bundle)
+    → is_made_valid (answer_by older (effects_of event).form (not (is_lost older) && is_none (first_rule setup older event))) ≡ true
+    → is_among (in_bundle (numbers_in word) (Some bundle)) n ≡ true → is_kind_at kind older n ≡ true
+unfolding finish_bundle_rule
+bundle_tells setup older word kind (FinishBundle encoder recording) bundle n tells e made among =
+    let same : bundle_of recording.device recording.targets recording.commands ≡ bundle = cc in
+    let rules = neither _ _ (and_parts (not (is_lost older)) (is_none (finish_bundle_rule setup older encoder recording)) made).1 in
+    let late = neither (Verdict recording.device recording.targets recording.commands) (first_unmet (kept_rules setup older encoder.number recording)) rules.1 in
+    let rest : AreMet (kept_rules setup older encoder.number recording) = all_met (kept_rules setup older encoder.number recording) late.1 in
+    let known = ap (λ (b : BundleInfo). is_among (in_bundle (numbers_in word) (Some b)) n) same ∙ among in
+    by_targets recording.targets recording.commands (none_is (Verdict recording.device recording.targets recording.commands) late.0) (not_true _ rest.1.0) known
+  where
+    by_targets : (targets : Option TargetInfo) (commands : List (On × Command)) → Verdict recording.device targets commands ≡ None → any_barred setup older encoder.number commands ≡ false
+        → is_among (in_bundle (numbers_in word) (Some (bundle_of recording.device targets commands))) n ≡ true → is_kind_at kind older n ≡ true
+    by_targets None commands none spared known = absurd (true≢false (sym known))
+    by_targets (Some targets) commands none spared known =
+        recording_tells setup older (reached_by word) kind encoder.number commands n tells (bundle_fits recording.device targets (reverse commands) none) spared (bundle_uses word n recording.device (Some targets) commands known)
+bundle_tells setup older word kind _ bundle n tells e made among = absurd (cc)
+
+-- what is told of objects where it is told of bundles
+abbrev TellsOver : Setup → Word → (Info → Bool) → ℕ → Type 0
+TellsOver setup word kind n = (older : Past) → IsRun setup older → BundlesTell older word kind n → Tells setup older (reached_by word) kind n
+
+bundles_tell : (setup : Setup) (past : Past) (word : Word) (kind : Info → Bool) (n : ℕ) → TellsOver setup word kind n → IsRun setup past → BundlesTell past word kind n
+bundles_tell setup [] word kind n tells run m bundle valid e among = absurd (true≢false (sym valid))
+bundles_tell setup (entry ∷ older) word kind n tells run m bundle valid e among =
+    kind_later kind entry older n (by_maker (is_making entry.event && count older == m) valid e (bundles_tell setup older word kind n tells (others setup entry older run)))
+  where
+    by_maker : (b : Bool) → option_map_or (λ entry. is_made_valid entry.reply.answer) (if b then Some entry else maker older m) false ≡ true → (if b then info_made (λ object. info_at older object.number) entry.event else info_at older m) ≡ Some (Bundle bundle)
+        → BundlesTell older word kind n → is_kind_at kind older n ≡ true
+    by_maker true valid e rest = bundle_tells setup older word kind entry.event bundle n (tells older (others setup entry older run) rest) e (made_met setup entry older (newest setup entry older run) valid) among
+    by_maker false valid e rest = rest m bundle valid e among
+
+used_tells : (setup : Setup) (past : Past) (word : Word) (kind : Info → Bool) (b n : ℕ) → TellsOver setup word kind n → IsRun setup past → AreRecorded past
+    → is_valid past b ≡ true → any_named (reached_of (reached_by word)) (λ r. r == n) (commands_at past b) ≡ true → is_kind_at kind past n ≡ true
+used_tells setup [] word kind b n tells run kept valid used = absurd (true≢false (sym valid))
+used_tells setup (entry ∷ older) word kind b n tells run kept valid used =
+    kind_later kind entry older n (by_maker (is_making entry.event && count older == b) valid used (used_tells setup older word kind b n tells (others setup entry older run) kept.1))
   where
     by_maker : (made : Bool) → option_map_or (λ entry. is_made_valid entry.reply.answer) (if made then Some entry else maker older b) false ≡ true
-        → any_named (reached_of reached) (λ r. r == n) (option_map_or (λ entry. recorded_by entry.event) (if made then Some entry else maker older b) []) ≡ true
-        → (is_valid older b ≡ true → any_named (reached_of reached) (λ r. r == n) (commands_at older b) ≡ true → is_kind_at kind older n ≡ true)
+        → any_named (reached_of (reached_by word)) (λ r. r == n) (option_map_or (λ entry. recorded_by entry.event) (if made then Some entry else maker older b) []) ≡ true
+        → (is_valid older b ≡ true → any_named (reached_of (reached_by word)) (λ r. r == n) (commands_at older b) ≡ true → is_kind_at kind older n ≡ true)
         → is_kind_at kind older n ≡ true
     by_maker true valid used rest =
         let below : IsRun setup older = others setup entry older run in
-        finish_tells setup older reached kind entry.event n (tells older below) kept.0 (made_met setup entry older (newest setup entry older run) valid) used
+        finish_tells setup older (reached_by word) kind entry.event n (tells older below (bundles_tell setup older word kind n tells below)) kept.0 (made_met setup entry older (newest setup entry older run) valid) used
     by_maker false valid used rest = rest valid used
 
 -- What a valid command buffer uses as a texture is one, and so is what it uses as a query set.
 pub used_textures : (setup : Setup) (past : Past) (b n : ℕ) → IsRun setup past → AreRecorded past → is_valid past b ≡ true → any_named textures_of (λ r. r == n) (commands_at past b) ≡ true → is_kind_at is_texture_info past n ≡ true
-used_textures setup past b n run kept valid used = used_tells setup past textures_as is_texture_info b n (λ older below. object_texture setup older n below) run kept valid used
+used_textures setup past b n run kept valid used = used_tells setup past texture_word is_texture_info b n (λ older below bundles. object_texture setup older n below bundles) run kept valid used
 
 pub used_query_sets : (setup : Setup) (past : Past) (b n : ℕ) → IsRun setup past → AreRecorded past → is_valid past b ≡ true → any_named query_sets_of (λ r. r == n) (commands_at past b) ≡ true → is_kind_at is_queries past n ≡ true
-used_query_sets setup past b n run kept valid used = used_tells setup past query_sets_as is_queries b n (λ older below. object_queries setup older n) run kept valid used
+used_query_sets setup past b n run kept valid used = used_tells setup past query_word is_queries b n (λ older below bundles. object_queries setup older n bundles) run kept valid used

@@ -1,12 +1,13 @@
 -- Where the walk over recorded commands finds no rule unmet and no pass open, each command met the rules on the objects that it
 -- names: so none names an object as something whose handle is of another kind.
-use Rattle.std.proofs.Common.{◌≡◌, ℕ, ◌+◌, ◌<◌, List, [], ◌∷◌, ◌++◌, map, Bool, true, false, ◌&&◌, ◌||◌, ◌==◌, Option, Some, None, is_none, refl, ap, sym, ◌∙◌, arith, if◌then◌else◌, true≢false, inl, inr}
+use Rattle.std.proofs.Common.{◌≡◌, ℕ, ◌+◌, ◌<◌, List, [], ◌∷◌, ◌++◌, map, reverse, Bool, true, false, ◌&&◌, ◌||◌, ◌==◌, Option, Some, None, is_some, is_none, refl, ap, sym, ◌∙◌, arith, if◌then◌else◌, true≢false, inl, inr}
 use Rattle.std.specs.Option.{option_or}
 use Rattle.std.proofs.lemmas.Bool.{and_parts, eq-eqb, eqb-true, cases_lt}
 use Rattle.wg_types.specs.Handles.{HandleValue}
 use Rattle.wg_types.specs.Kinds.{kind_of}
 use Rattle.wg_types.specs.Wanted.{admits, pipelines_on, within}
 use Rattle.wg_types.specs.Commands.{Command, named, named_on, bracket, begins_pass_by, is_begin, is_end}
+use Rattle.wg_types.specs.declared.render.TargetInfo.{TargetInfo}
 use Rattle.wg_types.specs.declared.commands.On.{On}
 use Rattle.wg_types.specs.declared.commands.On.TheVariants.{Encoder, Pass}
 use Rattle.wg_types.specs.declared.commands.Bracket.{Bracket}
@@ -20,11 +21,12 @@ use Rattle.wg_model.specs.Commands.{common_rules, own_rules, debug_rules, comman
 use Rattle.wg_model.specs.Compute.{compute_rules}
 use Rattle.wg_model.specs.Settings.{settings}
 use Rattle.wg_model.specs.Attachments.{RenderBegin, begin_of, begun_rules}
-use Rattle.wg_model.specs.Render.{render_set, render_rules}
-use Rattle.wg_model.specs.Walk.{Kept, PassSoFar, rule_by, rule_in, pass_rule, begins, begins_pass, is_open, pass_after, open_after, open_pass, ends, has_ended, encoder_depth, given, verdict}
+use Rattle.wg_model.specs.Render.{render_set, bundle_set, render_rules}
+use Rattle.wg_model.specs.Walk.{Kept, PassSoFar, rule_by, rule_in, pass_rule, begins, begins_pass, is_open, pass_after, open_after, open_pass, ends, has_ended, encoder_depth, given, verdict, bundle_rule, bundle_verdict, Verdict}
 use Rattle.wg_model.proofs.Unmet.{all_met}
 use Rattle.wg_model.proofs.Sparing.{or_second}
 use Rattle.wg_encoder.specs.Walked.{open_rule}
+use Rattle.wg_encoder.specs.Recorders.{has_open_pass}
 use Rattle.wg_history.specs.MapLaws.{StandsOn, AllStand}
 use Rattle.wg_history.proofs.Tests.{met_before}
 
@@ -46,7 +48,7 @@ named_fit device [] met = tt
 named_fit device (object ∷ objects) met =
     ((and_parts (object.0.reference.device == device) _ met.0).1, named_fit device objects met.1.1)
 
--- and in a pass, of which the pipelines are pipelines
+-- and in a pass or a bundle, of which the pipelines are pipelines
 abbrev ArePipelines : Kind → Type 0
 ArePipelines place = (k : Kind) → admits (pipelines_on place) k ≡ true → admits wanted.Pipeline k ≡ true
 
@@ -57,6 +59,10 @@ compute_pipelines _ e = absurd (true≢false (sym e))
 render_pipelines : ArePipelines kind.RenderPass
 render_pipelines kind.Render e = refl
 render_pipelines _ e = absurd (true≢false (sym e))
+
+bundle_pipelines : ArePipelines kind.BundleEncoder
+bundle_pipelines kind.Render e = refl
+bundle_pipelines _ e = absurd (true≢false (sym e))
 
 fits_within : (place : Kind) → ArePipelines place → (asked : Wanted) (k : Kind) → admits (within place asked) k ≡ true → admits asked k ≡ true
 fits_within place pipelines wanted.Pipeline k e = pipelines k e
@@ -185,9 +191,30 @@ fits_next device (Some pass) number depth (Pass q) command was on_open none rule
     by_open true is gives rule = parted (taken (is_end command) gives rule)
     by_open false is gives rule = absurd (true≢false (sym is))
 
-pub each_fits : (device : ℕ) (kept : Kept) → AllStand kept → verdict device kept ≡ None → open_rule device (open_pass kept) ≡ None → EachFits kept
+each_fits : (device : ℕ) (kept : Kept) → AllStand kept → verdict device kept ≡ None → open_rule device (open_pass kept) ≡ None → EachFits kept
 each_fits device [] stand none rule = tt
 each_fits device (kept ∷ older) stand none rule =
     let parts = both_none (verdict device older) (given device (open_pass older) (encoder_depth older) kept.0 kept.1) none in
     let next = fits_next device (open_pass older) (begins older) (encoder_depth older) kept.0 kept.1 (begun older) (takes device older kept.0 parts.0 stand.0) parts.1 rule in
     (next.0, each_fits device older stand.1 parts.0 next.1)
+
+-- Each command of a bundle encoder meets these rules as well.
+pub bundle_fits : (device : ℕ) (targets : TargetInfo) (kept : Kept) → bundle_verdict device targets (map (λ (kept : On × Command). kept.1) kept) ≡ None → EachFits kept
+bundle_fits device targets [] none = tt
+bundle_fits device targets (kept ∷ older) none =
+    let earlier : List Command = map (λ (kept : On × Command). kept.1) older in
+    let parts = both_none (bundle_verdict device targets earlier) (bundle_rule device targets earlier kept.1) none in
+    let objects : List (HandleValue × Wanted) = named_on kind.BundleEncoder kept.1 in (
+      placed_fit device kind.BundleEncoder bundle_pipelines (named kept.1)
+          (met_none (common_rules device objects) (both_none (first_unmet (common_rules device objects)) (first_unmet (render_rules (bundle_set targets earlier) kept.1)) parts.1).0),
+      bundle_fits device targets older parts.0,
+    )
+
+closed_rule : (device : ℕ) (opened : Option PassSoFar) → is_some opened ≡ false → open_rule device opened ≡ None
+closed_rule device None e = refl
+closed_rule device (Some pass) e = absurd (true≢false e)
+
+-- So does each of a recording of which no rule is unmet and no pass is open.
+pub recording_fits : (device : ℕ) (targets : Option TargetInfo) (commands : List (On × Command)) → AllStand (reverse commands) → Verdict device targets commands ≡ None → has_open_pass targets commands ≡ false → EachFits (reverse commands)
+recording_fits device None commands stand none closed = each_fits device (reverse commands) stand none (closed_rule device (open_pass (reverse commands)) closed)
+recording_fits device (Some targets) commands stand none closed = bundle_fits device targets (reverse commands) none

@@ -1,7 +1,7 @@
 -- What is known of an object, under its kind: the words of single kinds are read off this one table.
 use Rattle.std.specs.Prelude.{Option, Some, None}
 use Rattle.wg_types.specs.declared.handles.Info.{Info}
-use Rattle.wg_types.specs.declared.handles.Info.TheVariants.{Buffer, Texture, View, Sampler, GroupLayout, PipelineLayout, Group, Compute, Render, Queries, Encoder, CommandBuffer}
+use Rattle.wg_types.specs.declared.handles.Info.TheVariants.{Buffer, Texture, View, Sampler, GroupLayout, PipelineLayout, Group, Compute, Render, Queries, Encoder, BundleEncoder, CommandBuffer, Bundle}
 use Rattle.wg_types.specs.declared.handles.BufferInfo.{BufferInfo}
 use Rattle.wg_types.specs.declared.handles.QueriesInfo.{QueriesInfo}
 use Rattle.wg_types.specs.declared.textures.TextureInfo.{TextureInfo}
@@ -12,6 +12,8 @@ use Rattle.wg_types.specs.declared.groups.PipelineLayoutInfo.{PipelineLayoutInfo
 use Rattle.wg_types.specs.declared.groups.GroupInfo.{GroupInfo}
 use Rattle.wg_types.specs.declared.groups.ComputeInfo.{ComputeInfo}
 use Rattle.wg_types.specs.declared.groups.RenderInfo.{RenderInfo}
+use Rattle.wg_types.specs.declared.render.TargetInfo.{TargetInfo}
+use Rattle.wg_types.specs.declared.bundles.BundleInfo.{BundleInfo}
 
 -- one place for each kind of which something is known: that of the object's kind is taken, and no other
 pub record Facts : Type 0 where
@@ -25,6 +27,8 @@ pub record Facts : Type 0 where
   pub compute : Option ComputeInfo
   pub render : Option RenderInfo
   pub queries : Option QueriesInfo
+  pub targets : Option TargetInfo
+  pub bundle : Option BundleInfo
 
 abbrev pub no_facts : Facts
 no_facts = record {
@@ -38,6 +42,8 @@ no_facts = record {
   compute = None;
   render = None;
   queries = None;
+  targets = None;
+  bundle = None;
 }
 
 abbrev pub facts_of : Info → Facts
@@ -52,4 +58,6 @@ facts_of (Compute known) = record no_facts { compute = Some known }
 facts_of (Render known) = record no_facts { render = Some known }
 facts_of (Queries known) = record no_facts { queries = Some known }
 facts_of Encoder = no_facts
+facts_of (BundleEncoder known) = record no_facts { targets = Some known }
 facts_of CommandBuffer = no_facts
+facts_of (Bundle known) = record no_facts { bundle = Some known }

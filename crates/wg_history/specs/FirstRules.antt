@@ -4,13 +4,15 @@ use Rattle.wg_types.specs.declared.handles.BufferInfo.{BufferInfo}
 use Rattle.wg_types.specs.declared.handles.QueriesInfo.{QueriesInfo}
 use Rattle.wg_types.specs.declared.handles.Info.TheVariants.{Queries}
 use Rattle.wg_types.specs.declared.textures.TextureInfo.{TextureInfo}
+use Rattle.wg_types.specs.declared.render.TargetInfo.{TargetInfo}
 use Rattle.wg_model.specs.Rules.{Rule, first_unmet}
 use Rattle.wg_model.specs.Buffers.{create_buffer_rules}
 use Rattle.wg_model.specs.Textures.{create_texture_rules}
 use Rattle.wg_model.specs.Queries.{create_queries_rules}
+use Rattle.wg_model.specs.Bundles.{bundle_target_rules}
 use Rattle.wg_model.specs.Memory.{texture_bytes, bytes_of}
-use Rattle.wg_history.specs.Entries.{Setup, Event, CreateBuffer, CreateTexture, CreateView, CreateSampler, CreateBindGroupLayout, CreatePipelineLayout, CreateBindGroup, CreateComputePipeline, CreateRenderPipeline, CreateQuerySet, CreateEncoder, Finish, Late, Submit, WriteBuffer, WriteTexture, Destroy, Drop, Complete, PushErrorScope, PopErrorScope, Lose, WorkDone, MapAsync, Unmap, Past}
-use Rattle.wg_history.specs.Rules.{create_view_rule, destroy_rule, drop_rule, unmap_rule, map_async_rule, write_buffer_rule, write_texture_rule, finish_rule, submit_rule}
+use Rattle.wg_history.specs.Entries.{Setup, Event, CreateBuffer, CreateTexture, CreateView, CreateSampler, CreateBindGroupLayout, CreatePipelineLayout, CreateBindGroup, CreateComputePipeline, CreateRenderPipeline, CreateQuerySet, CreateEncoder, CreateBundleEncoder, Finish, FinishBundle, Late, Submit, WriteBuffer, WriteTexture, Destroy, Drop, Complete, PushErrorScope, PopErrorScope, Lose, WorkDone, MapAsync, Unmap, Past}
+use Rattle.wg_history.specs.Rules.{create_view_rule, destroy_rule, drop_rule, unmap_rule, map_async_rule, write_buffer_rule, write_texture_rule, finish_rule, finish_bundle_rule, submit_rule}
 use Rattle.wg_history.specs.GroupRules.{create_bind_group_layout_rule, create_pipeline_layout_rule, create_bind_group_rule, create_compute_pipeline_rule, create_render_pipeline_rule}
 use Rattle.wg_history.specs.Budget.{live_bytes}
 
@@ -30,6 +32,10 @@ create_texture_rule setup past info = first_unmet (create_texture_rules setup.li
 unfoldable pub create_query_set_rule : Setup → Past → QueriesInfo → Option ℕ
 create_query_set_rule setup past info = first_unmet (create_queries_rules setup.limits info ++ budget_rules setup past (bytes_of (Queries info)))
 
+-- createBundleEncoder, which takes nothing of the budget
+unfoldable pub create_bundle_encoder_rule : Setup → TargetInfo → Option ℕ
+create_bundle_encoder_rule setup targets = first_unmet (bundle_target_rules setup.limits targets)
+
 -- The first unmet rule of an event that comes after a past. An event that meets all its rules is met. A recording call that
 -- came after the end of its encoder or pass always has rule 14.
 abbrev pub first_rule : Setup → Past → Event → Option ℕ
@@ -44,7 +50,9 @@ first_rule setup past (CreateComputePipeline layout iface) = create_compute_pipe
 first_rule setup past (CreateRenderPipeline layout desc) = create_render_pipeline_rule setup past layout desc
 first_rule setup past (CreateQuerySet info) = create_query_set_rule setup past info
 first_rule setup past CreateEncoder = None
+first_rule setup past (CreateBundleEncoder targets) = create_bundle_encoder_rule setup targets
 first_rule setup past (Finish encoder recording) = finish_rule setup past encoder recording
+first_rule setup past (FinishBundle encoder recording) = finish_bundle_rule setup past encoder recording
 first_rule setup past (Late encoder) = Some 14
 first_rule setup past (Submit buffers) = submit_rule setup past buffers
 first_rule setup past (WriteBuffer buffer offset size) = write_buffer_rule setup past buffer offset size

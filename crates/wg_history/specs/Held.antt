@@ -4,13 +4,13 @@ use Rattle.std.specs.Option.{option_map_or}
 use Rattle.wg_model.specs.Holding.{Holds, is_among, is_held_in}
 use Rattle.wg_model.specs.Recorded.{names_within}
 use Rattle.wg_types.specs.declared.handles.Info.{Info}
-use Rattle.wg_types.specs.declared.handles.Info.TheVariants.{Buffer, Texture, View, Sampler, GroupLayout, PipelineLayout, Group, Compute, Render, Queries, Encoder, CommandBuffer}
+use Rattle.wg_types.specs.declared.handles.Info.TheVariants.{Buffer, Texture, View, Sampler, GroupLayout, PipelineLayout, Group, Compute, Render, Queries, Encoder, BundleEncoder, CommandBuffer, Bundle}
 use Rattle.wg_types.specs.declared.bindings.BoundResource.{BoundResource}
 use Rattle.wg_types.specs.declared.bindings.BoundResource.TheVariants.{Buffer as BoundBuffer, View as BoundView, Sampler as BoundSampler}
 use Rattle.wg_types.specs.declared.bindings.BoundEntry.{BoundEntry}
 use Rattle.wg_types.specs.declared.handles.ObjRef.{ObjRef}
 use Rattle.wg_history.specs.Entries.{Setup, Event, Past}
-use Rattle.wg_history.specs.Objects.{count, maker, info_made, unknown, info_at, is_valid, is_encoder, commands_at}
+use Rattle.wg_history.specs.Objects.{count, maker, info_made, unknown, info_at, is_valid, takes_commands, commands_at}
 use Rattle.wg_history.specs.Rules.{dropped_at, is_dropped, is_consumed, has_finished}
 
 -- the object that an entry of a bind group binds
@@ -20,7 +20,7 @@ resource_number (BoundView view info) = view.number
 resource_number (BoundSampler sampler info) = sampler.number
 
 -- The objects to which one of this info refers, if it is valid: a view to its texture; a pipeline layout to the layouts of its
--- groups; a bind group to its layout and to what it binds; a pipeline to its layout.
+-- groups; a bind group to its layout and to what it binds; a pipeline to its layout; a bundle to what its commands name.
 abbrev pub refers_of : Info → List ℕ
 refers_of (View info) = info.texture.number ∷ []
 refers_of (Buffer info) = []
@@ -33,7 +33,9 @@ refers_of (Compute info) = info.layout.number ∷ []
 refers_of (Render info) = info.layout.number ∷ []
 refers_of (Queries info) = []
 refers_of Encoder = []
+refers_of (BundleEncoder targets) = []
 refers_of CommandBuffer = []
+refers_of (Bundle info) = map (λ (object : ObjRef). object.number) info.named
 
 -- the objects to which one that an event makes refers, if it is valid
 abbrev pub refers_made : Event → List ℕ
@@ -50,9 +52,10 @@ is_submittable setup past n = is_valid past n && (not (is_consumed setup past n)
 abbrev pub names_at : Setup → Past → ℕ → List ℕ
 names_at setup past n = if is_submittable setup past n then names_within (commands_at past n) else []
 
--- An encoder is open from its creation, valid or not, to its first finish, accepted or refused, or its drop.
+-- An encoder or a bundle encoder is open from its creation, valid or not, to its first finish or finishBundle, accepted or refused,
+-- or its drop.
 abbrev pub is_open : Setup → Past → ℕ → Bool
-is_open setup past n = option_map_or is_encoder (info_at past n) false && (not (has_finished setup past n) && not (is_dropped setup past n))
+is_open setup past n = option_map_or takes_commands (info_at past n) false && (not (has_finished setup past n) && not (is_dropped setup past n))
 
 -- what object n says of holders
 abbrev pub holds_of : Setup → Past → ℕ → Holds

@@ -28,7 +28,7 @@ abbrev pub AllStand : Kept → Type 0
 AllStand [] = Unit {0}
 AllStand (kept ∷ older) = StandsOn kept.0 older × AllStand older
 
--- Each recording of a past is such.
+-- Each recording of a command buffer is such.
 abbrev pub AreRecorded : Past → Type 0
 AreRecorded [] = Unit {0}
 AreRecorded (entry ∷ older) = AllStand (reverse (recorded_by entry.event)) × AreRecorded older
@@ -38,8 +38,8 @@ abbrev pub IsLast : Past → Awaited → Type 0
 IsLast past (mapping buffer last m) = last ≡ last_use past buffer
 IsLast past (work ops) = Unit {0}
 
--- It is so in a run of recordings that recorders kept: the commands of one that is accepted name no buffer as a texture or a query set, so no
--- submit or write that meets its rules uses a buffer while a map of it is pending.
+-- It is so in a run of recordings that recorders kept: the commands of one that is accepted use no buffer as a texture or a query set,
+-- directly or through a bundle, so no submit or write that meets its rules uses a buffer while a map of it is pending.
 abbrev pub MapsWaitForLast : Type 0
 MapsWaitForLast = (setup : Setup) (history : List Entry) → Run setup history → AreRecorded (reverse history)
     → All (λ (wait : Wait). IsLast (reverse history) wait.awaited) (awaiting (reverse history))

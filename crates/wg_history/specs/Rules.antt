@@ -1,5 +1,5 @@
 -- The first unmet rule of an event that names objects.
-use Rattle.std.specs.Prelude.{ℕ, Bool, true, false, not, ◌&&◌, ◌||◌, ◌==◌, nat_lt, List, [], ◌∷◌, ◌++◌, reverse, Option, Some, None, is_none, is_some, option_and_then, unwrap_or, if◌then◌else◌}
+use Rattle.std.specs.Prelude.{ℕ, Bool, true, false, not, ◌&&◌, ◌||◌, ◌==◌, nat_lt, List, [], ◌∷◌, ◌++◌, Option, Some, None, is_none, is_some, option_and_then, unwrap_or, if◌then◌else◌}
 use Rattle.std.specs.List.{list_any}
 use Rattle.std.specs.Option.{option_map_or, option_or}
 use Rattle.wg_types.specs.Handles.{HandleValue}
@@ -15,11 +15,11 @@ use Rattle.wg_model.specs.Textures.{create_view_rules}
 use Rattle.wg_model.specs.TexelCopies.{write_texture_rules}
 use Rattle.wg_model.specs.Commands.{named, no_buffer}
 use Rattle.wg_model.specs.Scopes.{first_clash}
-use Rattle.wg_model.specs.Walk.{Verdict, ScopesOf, open_pass, encoder_depth}
+use Rattle.wg_model.specs.Walk.{Verdict, ScopesOf, open_depth}
 use Rattle.wg_model.specs.Recorded.{buffers_of, textures_of, query_sets_of, any_named}
-use Rattle.wg_encoder.specs.Recorders.{RecordingValue}
+use Rattle.wg_encoder.specs.Recorders.{RecordingValue, has_open_pass}
 use Rattle.wg_history.specs.Entries.{Setup, Event, effects_of, submitted, Entry, Past}
-use Rattle.wg_history.specs.Objects.{ObjRef, BufferInfo, is_making, count, info_made, unknown, is_made_valid, is_own, is_valid, info_at, is_any, is_buffer, is_texture_info, is_encoder, is_command_buffer, has_memory, as_buffer, buffer_at, texture_or_none_at, commands_at}
+use Rattle.wg_history.specs.Objects.{ObjRef, BufferInfo, is_making, count, info_made, unknown, is_made_valid, is_own, is_valid, info_at, is_any, is_buffer, is_texture_info, is_encoder, is_bundle_encoder, takes_commands, is_command_buffer, has_memory, as_buffer, buffer_at, texture_or_none_at, commands_at}
 use Rattle.wg_types.specs.declared.handles.Info.{Info}
 use Rattle.wg_types.specs.declared.mappings.Mapping.{Mapping}
 use Rattle.wg_types.specs.declared.mappings.MapMode.TheVariants.{Write as WriteMode}
@@ -197,41 +197,52 @@ is_barred setup past encoder object = not (is_genuine setup past object.0 && may
 abbrev pub any_barred : Setup → Past → ℕ → List (On × Command) → Bool
 any_barred setup past encoder commands = list_any (λ kept. list_any (is_barred setup past encoder) (named kept.1)) commands
 
--- whether an event that comes after a past ends the encoder n: a finish of it does, whether or not it is accepted. A finish
--- that names a number which no encoder of this device has ends nothing, also if one gets that number later.
+-- whether an event that comes after a past ends the encoder or bundle encoder n: a finish or a finishBundle of it does, whether or
+-- not it is accepted. One that names a number which no encoder of either kind of this device has ends nothing, also if one gets that
+-- number later.
 abbrev pub ends_encoder : Setup → Past → Event → ℕ → Bool
-ends_encoder setup past event n = option_map_or (λ encoder. encoder.number == n && is_own setup past is_encoder encoder) (effects_of event).ended false
+ends_encoder setup past event n = option_map_or (λ encoder. encoder.number == n && is_own setup past takes_commands encoder) (effects_of event).ended false
 
 abbrev pub has_finished : Setup → Past → ℕ → Bool
 has_finished setup [] n = false
 has_finished setup (entry ∷ older) n = ends_encoder setup older entry.event n || has_finished setup older n
 
--- The rules of finish that go before those of the commands (WebGPU, "finish"): 10 the encoder is one of this device; 11 it
--- is not dropped; 12 it is valid; 180 it has not ended.
-abbrev pub encoder_rules : Setup → Past → ObjRef → List Rule
-encoder_rules setup past encoder =
-    (10, is_own setup past is_encoder encoder)
+-- The rules of finish and finishBundle that go before those of the commands (WebGPU, "finish"): 10 the encoder is one of this device, of
+-- the kind that the call ends; 11 it is not dropped; 12 it is valid; 180 it has not ended.
+abbrev pub encoder_rules : Setup → Past → (Info → Bool) → ObjRef → List Rule
+encoder_rules setup past kind encoder =
+    (10, is_own setup past kind encoder)
     ∷ ((11, not (is_dropped setup past encoder.number))
     ∷ ((12, is_valid past encoder.number)
     ∷ ((180, not (has_finished setup past encoder.number))
     ∷ [])))
 
--- and those after them: 182 no pass is open; 183 no debug group of the encoder is open; 11 each handle that a command
--- names is genuine, and its object was not dropped before the encoder was made; 184 every usage scope is compatible.
-abbrev pub recording_rules : Setup → Past → ℕ → RecordingValue → List Rule
-recording_rules setup past encoder recording =
-    (182, is_none (open_pass (reverse recording.commands)))
-    ∷ ((183, encoder_depth (reverse recording.commands) == 0)
+-- and those after them: 183 no debug group of the encoder is open; 11 each handle that a command names is genuine, and its object
+-- was not dropped before the encoder was made; 184 every usage scope is compatible.
+abbrev pub kept_rules : Setup → Past → ℕ → RecordingValue → List Rule
+kept_rules setup past encoder recording =
+    (183, open_depth recording.targets recording.commands == 0)
     ∷ ((11, not (any_barred setup past encoder recording.commands))
-    ∷ ((184, is_none (first_clash (ScopesOf recording.device recording.commands)))
-    ∷ [])))
+    ∷ ((184, is_none (first_clash (ScopesOf recording.device recording.targets recording.commands)))
+    ∷ []))
+
+-- of finish first 182 no pass is open
+abbrev pub recording_rules : Setup → Past → ℕ → RecordingValue → List Rule
+recording_rules setup past encoder recording = (182, not (has_open_pass recording.targets recording.commands)) ∷ kept_rules setup past encoder recording
 
 -- finish: the rules of the encoder, then the rule that invalidated it first, then those of the recording
 unfoldable pub finish_rule : Setup → Past → ObjRef → RecordingValue → Option ℕ
 finish_rule setup past encoder recording =
-    option_or (first_unmet (encoder_rules setup past encoder))
-    (option_or (Verdict recording.device recording.commands)
+    option_or (first_unmet (encoder_rules setup past is_encoder encoder))
+    (option_or (Verdict recording.device recording.targets recording.commands)
     (first_unmet (recording_rules setup past encoder.number recording)))
+
+-- finishBundle (WebGPU, "finish" of a render bundle encoder): likewise. It has no passes.
+unfoldable pub finish_bundle_rule : Setup → Past → ObjRef → RecordingValue → Option ℕ
+finish_bundle_rule setup past encoder recording =
+    option_or (first_unmet (encoder_rules setup past is_bundle_encoder encoder))
+    (option_or (Verdict recording.device recording.targets recording.commands)
+    (first_unmet (kept_rules setup past encoder.number recording)))
 
 -- whether an event that comes after a past consumes the command buffer n: a submit that lists it does, whether or not it is
 -- accepted

@@ -1,5 +1,5 @@
 //! To what a render pipeline draws: the rules of its color targets, of its depth and stencil, and of its
-//! samples.
+//! samples; what is asked of these also of bundles.
 ghost use Rattle.std.specs.Prelude.{◌≡◌, true, Option, is_some};
 ghost use Rattle.std.specs.List.{list_all, list_any};
 ghost use Rattle.std.specs.Option.{option_map_or};
@@ -15,14 +15,14 @@ use wg_types::limits::Limits;
 use wg_types::render::{DepthState, RenderDesc};
 
 /// Whether textures of the format may have four samples.
-fn is_multisampled(format: Format) -> bool
+pub fn is_multisampled(format: Format) -> bool
     ensures { result ≡ is_multisampled format }
 {
     format.row().multisampled
 }
 
 /// Whether all targets that are not left out have color formats.
-fn are_color(targets: &[Option<Format>]) -> bool
+pub fn are_color(targets: &[Option<Format>]) -> bool
     ensures { result ≡ list_all (passes is_color) targets.now }
 {
     targets
@@ -31,7 +31,7 @@ fn are_color(targets: &[Option<Format>]) -> bool
 }
 
 /// Whether some target is not left out.
-fn has_target(targets: &[Option<Format>]) -> bool
+pub fn has_target(targets: &[Option<Format>]) -> bool
     ensures { result ≡ list_any (λ (target : Option Format). is_some target) targets.now }
 {
     targets.iter().any(|target| target.is_some())
@@ -56,11 +56,11 @@ fn depth_fits(depth: DepthState) -> bool
         && (!depth.stencil_write || has_stencil(aspects))
 }
 
-/// Whether there may be so many samples.
-fn samples_fit(samples: u32, targets: &[Option<Format>], depth: Option<DepthState>) -> bool
-    ensures { result ≡ samples_fit samples targets.now (option_map_or (λ (depth : DepthState). is_multisampled depth.format) depth true) }
+/// Whether there may be so many samples (WebGPU, "Multisample State"), where this tells whether the depth
+/// format may have four, or is left out.
+pub fn samples_fit(samples: u32, targets: &[Option<Format>], depth_allows: bool) -> bool
+    ensures { result ≡ samples_fit samples targets.now depth_allows }
 {
-    let depth_allows = depth.is_none_or(|depth| is_multisampled(depth.format));
     samples == 1 || samples == 4 && are_multisampled(targets) && depth_allows
 }
 
@@ -79,7 +79,8 @@ pub fn check_targets(desc: &RenderDesc, limits: &Limits) -> Option<u16>
     if !has_target(targets) && desc.depth.is_none() {
         return Some(165);
     }
-    if !samples_fit(desc.samples, targets, desc.depth) {
+    let depth_allows = desc.depth.is_none_or(|depth| is_multisampled(depth.format));
+    if !samples_fit(desc.samples, targets, depth_allows) {
         return Some(166);
     }
     None
