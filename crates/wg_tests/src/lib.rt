@@ -25,4 +25,6 @@ mod tests;
 #[cfg(test)]
 mod threads;
 #[cfg(test)]
+mod touches;
+#[cfg(test)]
 mod turns;
