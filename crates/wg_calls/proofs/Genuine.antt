@@ -15,16 +15,16 @@ use Rattle.wg_types.specs.declared.wanted.Wanted.{Wanted}
 use Rattle.wg_types.specs.declared.wanted.Wanted.TheVariants as wanted
 use Rattle.wg_types.specs.declared.handles.ObjRef.{ObjRef}
 use Rattle.wg_types.specs.declared.handles.Info.{Info}
-use Rattle.wg_types.specs.declared.handles.Info.TheVariants as info
 use Rattle.wg_types.specs.declared.bindings.ResourceOf.{ResourceOf}
 use Rattle.wg_types.specs.declared.bindings.ResourceOf.TheVariants.{Buffer, View, Sampler}
 use Rattle.wg_types.specs.declared.bindings.GroupEntryOf.{GroupEntryOf}
 use Rattle.wg_types.specs.declared.groups.GroupInfo.{GroupInfo}
+use Rattle.wg_types.specs.declared.render.TargetInfo.{TargetInfo}
 use Rattle.wg_types.specs.declared.replies.Answer.{Answer}
 use Rattle.wg_types.specs.declared.replies.Answer.TheVariants.{Made}
 use Rattle.wg_types.specs.declared.replies.Reply.{Reply}
 use Rattle.wg_types.specs.declared.requests.RequestOf.{RequestOf}
-use Rattle.wg_types.specs.declared.requests.RequestOf.TheVariants.{CreateBuffer, CreateTexture, CreateView, CreateSampler, CreateBindGroupLayout, CreatePipelineLayout, CreateBindGroup, CreateComputePipeline, CreateRenderPipeline, CreateQuerySet, CreateEncoder, Finish, Submit, WriteBuffer, WriteTexture, Destroy, Drop, Complete, PushErrorScope, PopErrorScope, Lose, WorkDone, MapAsync, Unmap}
+use Rattle.wg_types.specs.declared.requests.RequestOf.TheVariants.{CreateBuffer, CreateTexture, CreateView, CreateSampler, CreateBindGroupLayout, CreatePipelineLayout, CreateBindGroup, CreateComputePipeline, CreateRenderPipeline, CreateQuerySet, CreateEncoder, CreateBundleEncoder, Finish, FinishBundle, Submit, WriteBuffer, WriteTexture, Destroy, Drop, Complete, PushErrorScope, PopErrorScope, Lose, WorkDone, MapAsync, Unmap}
 use Rattle.wg_model.specs.Rules.{Rule, AreMet, first_unmet}
 use Rattle.wg_model.specs.Equality.{same_bool}
 use Rattle.wg_model.specs.Layouts.{pipeline_layout_rules}
@@ -39,7 +39,6 @@ use Rattle.wg_history.specs.declared.events.Event.{Event}
 use Rattle.wg_history.specs.declared.events.Form.{Form}
 use Rattle.wg_history.specs.declared.events.Form.TheVariants.{Making, Queue, Promise as Promising, Completion, Plain as Plainly}
 use Rattle.wg_history.specs.Entries.{effects_of, Entry, Past}
-use Rattle.wg_history.specs.declared.events.Event.TheVariants as event
 use Rattle.wg_history.specs.Objects.{is_making, is_making_form, count, maker, info_made, made_info, known_in, info_at, is_own, is_valid, is_made_valid, is_texture_info}
 use Rattle.wg_history.specs.Infos.{same_kind, same_info}
 use Rattle.wg_history.specs.Loss.{is_lost}
@@ -52,7 +51,7 @@ use Rattle.wg_history.proofs.Tests.{met_before}
 use Rattle.wg_history.proofs.Makers.{maker_stays, info_stays, own_below}
 use Rattle.wg_history.proofs.Holders.{genuine_below}
 use Rattle.wg_history.proofs.Reached.{genuine_knows}
-use Rattle.wg_calls.specs.Calls.{reference_of, event_asked, info_asked, handle_of, handle_made, view_asked}
+use Rattle.wg_calls.specs.Calls.{reference_of, event_asked, info_asked, finish_event, finished_info, handle_of, handle_made, view_asked}
 use Rattle.wg_calls.specs.Genuine.{StaysGenuine}
 use Rattle.wg_calls.proofs.Infos.{Knows as Tells, info_is_made}
 
@@ -239,7 +238,9 @@ known_same setup entry past (CreateRenderPipeline layout desc) if_own ruled =
     (render_pipeline_rules setup.limits (render_made (λ r. r) (known_in past) layout.reference desc).layout_info.layouts_info desc) refl ruled))
 known_same setup entry past (CreateQuerySet made) if_own ruled = refl
 known_same setup entry past CreateEncoder if_own ruled = refl
+known_same setup entry past (CreateBundleEncoder targets) if_own ruled = refl
 known_same setup entry past (Finish encoder) if_own ruled = refl
+known_same setup entry past (FinishBundle encoder) if_own ruled = refl
 known_same setup entry past (Submit buffers) if_own ruled = refl
 known_same setup entry past (WriteBuffer buffer offset size) if_own ruled = refl
 known_same setup entry past (WriteTexture texture spot layout size data_size) if_own ruled = refl
@@ -276,7 +277,9 @@ kin known (CreateComputePipeline layout iface) = record { making = refl; makes =
 kin known (CreateRenderPipeline layout desc) = record { making = refl; makes = refl; kind = refl }
 kin known (CreateQuerySet made) = record { making = refl; makes = refl; kind = refl }
 kin known CreateEncoder = record { making = refl; makes = refl; kind = refl }
+kin known (CreateBundleEncoder targets) = record { making = refl; makes = refl; kind = refl }
 kin known (Finish encoder) = record { making = refl; makes = refl; kind = refl }
+kin known (FinishBundle encoder) = record { making = refl; makes = refl; kind = refl }
 kin known (Submit buffers) = record { making = refl; makes = refl; kind = refl }
 kin known (WriteBuffer buffer offset size) = record { making = refl; makes = refl; kind = refl }
 kin known (WriteTexture texture spot layout size data_size) = record { making = refl; makes = refl; kind = refl }
@@ -328,16 +331,29 @@ gives_handle setup entry past request asked replied makes = by_info (info_asked 
         some_handle setup.serial known entry.reply.answer (count past) (not (is_lost past) && is_none (first_rule setup past entry.event))
         (is_answered setup entry past replied (ap (λ (event : Event). is_making event) asked ∙ ((kin (known_in past) request).making ∙ ap (λ (o : Option Info). is_some o) is)))
 
--- The same of a finish, whatever it hands over.
+-- The same of a finish or a finishBundle, whatever it hands over.
 
-pub genuine_finish : (setup : Setup) (entry : Entry) (past : Past) (encoder : ObjRef) (recording : RecordingValue) (handle : HandleValue) → entry.event ≡ event.Finish encoder recording → entry.reply ≡ reply_to setup past entry.event
-    → handle_of setup.serial info.CommandBuffer entry.reply.answer ≡ Some handle → is_genuine setup (entry ∷ past) handle ≡ true
-genuine_finish setup entry past encoder recording handle asked replied e =
-    made_genuine setup entry past info.CommandBuffer handle replied (ap (λ (event : Event). is_making event) asked)
-    (ap (λ (event : Event). option_map_or (same_kind info.CommandBuffer) (made_info past event) false) asked) (λ ruled. ap (λ (event : Event). made_info past event) asked) e
+finishes : (past : Past) (targets : Option TargetInfo) (encoder : ObjRef) (recording : RecordingValue) → made_info past (finish_event targets encoder recording) ≡ Some (finished_info targets recording)
+finishes past None encoder recording = refl
+finishes past (Some targets) encoder recording = refl
 
-pub gives_finish : (setup : Setup) (entry : Entry) (past : Past) (encoder : ObjRef) (recording : RecordingValue) → entry.event ≡ event.Finish encoder recording → entry.reply ≡ reply_to setup past entry.event
-    → is_some (handle_of setup.serial info.CommandBuffer entry.reply.answer) ≡ true
-gives_finish setup entry past encoder recording asked replied =
-    some_handle setup.serial info.CommandBuffer entry.reply.answer (count past) (not (is_lost past) && is_none (first_rule setup past entry.event))
-    (is_answered setup entry past replied (ap (λ (event : Event). is_making event) asked))
+finish_makes : (targets : Option TargetInfo) (encoder : ObjRef) (recording : RecordingValue) → is_making (finish_event targets encoder recording) ≡ true
+finish_makes None encoder recording = refl
+finish_makes (Some targets) encoder recording = refl
+
+finish_kind : (targets : Option TargetInfo) (recording : RecordingValue) → same_kind (finished_info targets recording) (finished_info targets recording) ≡ true
+finish_kind None recording = refl
+finish_kind (Some targets) recording = refl
+
+pub genuine_finish : (setup : Setup) (entry : Entry) (past : Past) (targets : Option TargetInfo) (encoder : ObjRef) (recording : RecordingValue) (handle : HandleValue) → entry.event ≡ finish_event targets encoder recording → entry.reply ≡ reply_to setup past entry.event
+    → handle_of setup.serial (finished_info targets recording) entry.reply.answer ≡ Some handle → is_genuine setup (entry ∷ past) handle ≡ true
+genuine_finish setup entry past targets encoder recording handle asked replied e =
+    let known : made_info past entry.event ≡ Some (finished_info targets recording) = ap (λ (event : Event). made_info past event) asked ∙ finishes past targets encoder recording in
+    made_genuine setup entry past (finished_info targets recording) handle replied (ap (λ (event : Event). is_making event) asked ∙ finish_makes targets encoder recording)
+    (ap (λ (o : Option Info). option_map_or (same_kind (finished_info targets recording)) o false) known ∙ finish_kind targets recording) (λ ruled. known) e
+
+pub gives_finish : (setup : Setup) (entry : Entry) (past : Past) (targets : Option TargetInfo) (encoder : ObjRef) (recording : RecordingValue) → entry.event ≡ finish_event targets encoder recording → entry.reply ≡ reply_to setup past entry.event
+    → is_some (handle_of setup.serial (finished_info targets recording) entry.reply.answer) ≡ true
+gives_finish setup entry past targets encoder recording asked replied =
+    some_handle setup.serial (finished_info targets recording) entry.reply.answer (count past) (not (is_lost past) && is_none (first_rule setup past entry.event))
+    (is_answered setup entry past replied (ap (λ (event : Event). is_making event) asked ∙ finish_makes targets encoder recording))

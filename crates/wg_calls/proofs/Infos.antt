@@ -13,7 +13,7 @@ use Rattle.wg_types.specs.declared.bindings.ResourceOf.TheVariants.{Buffer, View
 use Rattle.wg_types.specs.declared.bindings.GroupEntryOf.{GroupEntryOf}
 use Rattle.wg_types.specs.Refs.{all_wanted}
 use Rattle.wg_types.specs.Bindings.{resource_named, map_resource, map_entry, entries_named}
-use Rattle.wg_types.specs.declared.requests.RequestOf.TheVariants.{CreateBuffer, CreateTexture, CreateView, CreateSampler, CreateBindGroupLayout, CreatePipelineLayout, CreateBindGroup, CreateComputePipeline, CreateRenderPipeline, CreateQuerySet, CreateEncoder, Finish, Submit, WriteBuffer, WriteTexture, Destroy, Drop, Complete, PushErrorScope, PopErrorScope, Lose, WorkDone, MapAsync, Unmap}
+use Rattle.wg_types.specs.declared.requests.RequestOf.TheVariants.{CreateBuffer, CreateTexture, CreateView, CreateSampler, CreateBindGroupLayout, CreatePipelineLayout, CreateBindGroup, CreateComputePipeline, CreateRenderPipeline, CreateQuerySet, CreateEncoder, CreateBundleEncoder, Finish, FinishBundle, Submit, WriteBuffer, WriteTexture, Destroy, Drop, Complete, PushErrorScope, PopErrorScope, Lose, WorkDone, MapAsync, Unmap}
 use Rattle.wg_model.specs.Making.{known_group_layout, bound_resource, bound_entry}
 use Rattle.wg_calls.specs.Calls.{reference_of, known_by}
 use Rattle.wg_calls.specs.Infos.{InfoIsMade}
@@ -70,7 +70,9 @@ info_is_made known (CreateRenderPipeline layout desc) all =
     rw e refl
 info_is_made known (CreateQuerySet made) all = refl
 info_is_made known CreateEncoder all = refl
+info_is_made known (CreateBundleEncoder targets) all = refl
 info_is_made known (Finish encoder) all = refl
+info_is_made known (FinishBundle encoder) all = refl
 info_is_made known (Submit buffers) all = refl
 info_is_made known (WriteBuffer buffer offset size) all = refl
 info_is_made known (WriteTexture texture spot layout size data_size) all = refl

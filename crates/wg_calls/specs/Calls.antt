@@ -4,6 +4,7 @@ use Rattle.wg_types.specs.Handles.{HandleValue}
 use Rattle.wg_types.specs.declared.handles.ObjRef.{ObjRef}
 use Rattle.wg_types.specs.declared.handles.Info.{Info}
 use Rattle.wg_types.specs.declared.handles.Info.TheVariants as info
+use Rattle.wg_types.specs.declared.render.TargetInfo.{TargetInfo}
 use Rattle.wg_types.specs.declared.textures.TextureInfo.{TextureInfo}
 use Rattle.wg_types.specs.declared.textures.ViewAsked.{ViewAsked}
 use Rattle.wg_types.specs.declared.textures.ViewDesc.{ViewDesc}
@@ -11,11 +12,12 @@ use Rattle.wg_types.specs.Bindings.{map_entry}
 use Rattle.wg_types.specs.declared.replies.Answer.{Answer}
 use Rattle.wg_types.specs.declared.replies.Answer.TheVariants.{Made, Queued, Promised, Plain, BadCompletion}
 use Rattle.wg_types.specs.declared.requests.RequestOf.{RequestOf}
-use Rattle.wg_types.specs.declared.requests.RequestOf.TheVariants.{CreateBuffer, CreateTexture, CreateView, CreateSampler, CreateBindGroupLayout, CreatePipelineLayout, CreateBindGroup, CreateComputePipeline, CreateRenderPipeline, CreateQuerySet, CreateEncoder, Finish, Submit, WriteBuffer, WriteTexture, Destroy, Drop, Complete, PushErrorScope, PopErrorScope, Lose, WorkDone, MapAsync, Unmap}
+use Rattle.wg_types.specs.declared.requests.RequestOf.TheVariants.{CreateBuffer, CreateTexture, CreateView, CreateSampler, CreateBindGroupLayout, CreatePipelineLayout, CreateBindGroup, CreateComputePipeline, CreateRenderPipeline, CreateQuerySet, CreateEncoder, CreateBundleEncoder, Finish, FinishBundle, Submit, WriteBuffer, WriteTexture, Destroy, Drop, Complete, PushErrorScope, PopErrorScope, Lose, WorkDone, MapAsync, Unmap}
 use Rattle.wg_model.specs.Commands.{texture_of, no_texture, size_or_rest}
 use Rattle.wg_model.specs.Making.{view_made, pipeline_layout_made, group_made, compute_made, render_made}
 use Rattle.wg_model.specs.Views.{completed_view}
-use Rattle.wg_encoder.specs.Recorders.{RecorderValue, RecordingValue, after_take}
+use Rattle.wg_model.specs.Walk.{no_targets, bundle_of}
+use Rattle.wg_encoder.specs.Recorders.{RecorderValue, RecordingValue, after_take, targets_left}
 use Rattle.wg_history.specs.declared.events.Event.{Event}
 use Rattle.wg_history.specs.declared.events.Event.TheVariants as event
 
@@ -35,8 +37,8 @@ texture_if_valid texture = if texture.valid then texture_of texture else no_text
 abbrev pub view_asked : HandleValue → ViewAsked → ViewDesc
 view_asked texture asked = completed_view (texture_if_valid texture) asked.dim asked.aspect asked.base_mip asked.mips asked.base_layer asked.layers
 
--- The event that a call of the device is. A finish comes here without a recorder, and has no commands; that of a recorder is
--- below.
+-- The event that a call of the device is. A finish and a finishBundle come here without a recorder, and have no commands; that of a
+-- recorder is below.
 abbrev pub event_asked : RequestOf HandleValue → Event
 event_asked (CreateBuffer known) = event.CreateBuffer known
 event_asked (CreateTexture known) = event.CreateTexture known
@@ -49,7 +51,9 @@ event_asked (CreateComputePipeline layout iface) = event.CreateComputePipeline l
 event_asked (CreateRenderPipeline layout desc) = event.CreateRenderPipeline layout.reference desc
 event_asked (CreateQuerySet known) = event.CreateQuerySet known
 event_asked CreateEncoder = event.CreateEncoder
-event_asked (Finish encoder) = event.Finish encoder.reference (record { device = encoder.reference.device; commands = [] })
+event_asked (CreateBundleEncoder targets) = event.CreateBundleEncoder targets
+event_asked (Finish encoder) = event.Finish encoder.reference (record { device = encoder.reference.device; targets = None; commands = [] })
+event_asked (FinishBundle encoder) = event.FinishBundle encoder.reference (record { device = encoder.reference.device; targets = Some no_targets; commands = [] })
 event_asked (Submit buffers) = event.Submit (map reference_of buffers)
 event_asked (WriteBuffer buffer offset size) = event.WriteBuffer buffer.reference offset size
 event_asked (WriteTexture texture spot layout size data_size) = event.WriteTexture texture.reference spot layout size data_size
@@ -77,7 +81,9 @@ info_asked (CreateComputePipeline layout iface) = Some (info.Compute (compute_ma
 info_asked (CreateRenderPipeline layout desc) = Some (info.Render (render_made reference_of known_by layout desc))
 info_asked (CreateQuerySet known) = Some (info.Queries known)
 info_asked CreateEncoder = Some info.Encoder
+info_asked (CreateBundleEncoder targets) = Some (info.BundleEncoder targets)
 info_asked (Finish encoder) = Some info.CommandBuffer
+info_asked (FinishBundle encoder) = Some (info.Bundle (bundle_of encoder.reference.device (Some no_targets) []))
 info_asked (Submit buffers) = None
 info_asked (WriteBuffer buffer offset size) = None
 info_asked (WriteTexture texture spot layout size data_size) = None
@@ -93,15 +99,29 @@ info_asked (Unmap buffer) = None
 
 -- the recording that a recorder hands over
 abbrev pub recording_of : RecorderValue → RecordingValue
-recording_of recorder = record { device = recorder.device; commands = recorder.commands }
+recording_of recorder = record { device = recorder.device; targets = recorder.targets; commands = recorder.commands }
 
--- the finish of the encoder of a recorder, with the commands that this has kept
+-- The end of an encoder with what its recorder hands over, which is that of a bundle encoder where it has targets, and what is known
+-- of that which it makes.
+
+abbrev pub finish_event : Option TargetInfo → ObjRef → RecordingValue → Event
+finish_event None encoder recording = event.Finish encoder recording
+finish_event (Some targets) encoder recording = event.FinishBundle encoder recording
+
+abbrev pub finished_info : Option TargetInfo → RecordingValue → Info
+finished_info None recording = info.CommandBuffer
+finished_info (Some targets) recording = info.Bundle (bundle_of recording.device recording.targets recording.commands)
+
+-- the same of a recorder, with the commands that this has kept
 abbrev pub finish_of : ObjRef → RecorderValue → Event
-finish_of encoder recorder = event.Finish encoder (recording_of recorder)
+finish_of encoder recorder = finish_event recorder.targets encoder (recording_of recorder)
+
+abbrev pub known_of_finish : RecorderValue → Info
+known_of_finish recorder = finished_info recorder.targets (recording_of recorder)
 
 -- the recorder once what it has kept was taken
 abbrev pub taken_out : RecorderValue → RecorderValue
-taken_out recorder = record recorder { commands = []; takes = after_take recorder.takes }
+taken_out recorder = record recorder { targets = targets_left recorder.targets; commands = []; takes = after_take recorder.takes }
 
 -- the handle of what an answer made, of which so much is known
 abbrev pub handle_of : ℕ → Info → Answer → Option HandleValue
@@ -117,4 +137,8 @@ handle_made serial request answer = option_and_then (λ known. handle_of serial 
 
 -- a recorder that was opened for an encoder and has kept nothing
 abbrev pub opened_for : ObjRef → RecorderValue
-opened_for encoder = record { device = encoder.device; encoder = Some encoder; commands = []; takes = 0; passes = 0 }
+opened_for encoder = record { device = encoder.device; targets = None; encoder = Some encoder; commands = []; takes = 0; passes = 0 }
+
+-- and one that was opened for a bundle encoder that draws to these targets
+abbrev pub opened_with : TargetInfo → ObjRef → RecorderValue
+opened_with targets encoder = record { device = encoder.device; targets = Some targets; encoder = Some encoder; commands = []; takes = 0; passes = 0 }

@@ -1,13 +1,14 @@
 //! Which event each call of a device is.
-ghost use Rattle.std.specs.Prelude.{◌≡◌, true, IfOk};
+ghost use Rattle.std.specs.Prelude.{◌≡◌, [], Some, true, IfOk};
 ghost use Rattle.std.specs.Option.{is_some};
 ghost use Rattle.wg_types.specs.Requests.{kind_made};
+ghost use Rattle.wg_model.specs.Walk.{no_targets};
 ghost use Rattle.wg_history.specs.Entries.{effects_of};
 ghost use Rattle.wg_history.specs.declared.events.Form.TheVariants.{Queue};
 ghost use Rattle.wg_calls.specs.Calls.{reference_of, texture_if_valid, view_asked, event_asked};
 
 use std::alloc::Global;
-use wg_encoder::Recorder;
+use wg_encoder::{Recorder, Recording, no_targets};
 use wg_entry::NoMemory;
 use wg_formats::{no_texture, size_or_rest, texture_of};
 use wg_history::events::Event;
@@ -16,6 +17,7 @@ use wg_types::bindings::map_entries;
 use wg_types::handles::{Handle, ObjRef};
 use wg_types::refs::{self, Find};
 use wg_types::requests::RequestOf;
+use wg_types::shared::Shared;
 use wg_types::textures::{TextureInfo, ViewAsked, ViewDesc};
 
 /// The objects of handles.
@@ -57,6 +59,14 @@ pub fn view_asked(texture: &Handle, asked: ViewAsked) -> ViewDesc
     view_of(&known, asked)
 }
 
+/// What a bundle encoder without a recorder hands over: no commands, which draw to nothing.
+pub fn empty_bundle(alloc: Global, device: u64) -> Result<Recording, NoMemory>
+    ensures { IfOk result (λ recording. recording ≡ record { device = device; targets = Some no_targets; commands = [] }) }
+{
+    let targets = Shared::new(alloc, no_targets(alloc))?;
+    Ok(Recorder::bundle(alloc, device, targets).take())
+}
+
 /// The event that a call is that makes an object.
 fn making_asked(alloc: Global, request: &RequestOf<Handle>) -> Result<Event, NoMemory>
     requires { is_some (kind_made request.now) ≡ true }
@@ -90,11 +100,21 @@ fn making_asked(alloc: Global, request: &RequestOf<Handle>) -> Result<Event, NoM
         }),
         RequestOf::CreateQuerySet { info } => Ok(Event::CreateQuerySet { info: *info }),
         RequestOf::CreateEncoder => Ok(Event::CreateEncoder),
+        RequestOf::CreateBundleEncoder { targets } => Ok(Event::CreateBundleEncoder {
+            targets: targets.share()?,
+        }),
         RequestOf::Finish { encoder } => {
             let encoder = encoder.reference();
             Ok(Event::Finish {
                 encoder,
                 recording: Recorder::new(alloc, encoder.device).take(),
+            })
+        }
+        RequestOf::FinishBundle { encoder } => {
+            let encoder = encoder.reference();
+            Ok(Event::FinishBundle {
+                encoder,
+                recording: empty_bundle(alloc, encoder.device)?,
             })
         }
         _ => unreachable!(),
@@ -136,8 +156,8 @@ fn queue_asked(alloc: Global, request: &RequestOf<Handle>) -> Result<Event, NoMe
     }
 }
 
-/// The event that a call of the device is. A finish has no commands here: those of a recorder are for who
-/// holds it to hand over.
+/// The event that a call of the device is. A finish and a finishBundle have no commands here: those of a
+/// recorder are for who holds it to hand over.
 pub fn event_asked(alloc: Global, request: &RequestOf<Handle>) -> Result<Event, NoMemory>
     ensures { IfOk result (λ event. event ≡ event_asked request.now) }
 {
@@ -153,7 +173,9 @@ pub fn event_asked(alloc: Global, request: &RequestOf<Handle>) -> Result<Event, 
         | RequestOf::CreateRenderPipeline { .. }
         | RequestOf::CreateQuerySet { .. }
         | RequestOf::CreateEncoder
-        | RequestOf::Finish { .. } => making_asked(alloc, request),
+        | RequestOf::CreateBundleEncoder { .. }
+        | RequestOf::Finish { .. }
+        | RequestOf::FinishBundle { .. } => making_asked(alloc, request),
         RequestOf::Submit { .. } | RequestOf::WriteBuffer { .. } | RequestOf::WriteTexture { .. } =>
             queue_asked(alloc, request),
         RequestOf::Destroy { object } => Ok(Event::Destroy {

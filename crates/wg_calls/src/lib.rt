@@ -8,4 +8,6 @@ mod making;
 
 pub use asking::event_asked;
 pub use laws::{made_infos, stays_genuine};
-pub use making::{handle_of, info_asked, recorder_for};
+pub use making::{
+    bundle_recorder_for, finish_event, finished_info, handle_of, info_asked, recorder_for,
+};

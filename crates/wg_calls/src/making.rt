@@ -1,17 +1,19 @@
 //! What calls of a device make.
 ghost use Rattle.std.specs.Prelude.{◌≡◌, IfOk, Some};
 ghost use Rattle.std.specs.Arc.{arc_value};
-ghost use Rattle.wg_calls.specs.Calls.{known_by, info_asked, handle_of, opened_for};
+ghost use Rattle.wg_calls.specs.Calls.{known_by, info_asked, finish_event, finished_info, handle_of, opened_for, opened_with};
 
-use crate::asking::{References, view_asked};
+use crate::asking::{References, empty_bundle, view_asked};
 use std::alloc::Global;
 use std::sync::Arc;
-use wg_encoder::Recorder;
+use wg_encoder::{Recorder, Recording};
 use wg_entry::NoMemory;
 use wg_groups::making::{
     Known, compute_made, group_made, pipeline_layout_made, render_made, view_made,
 };
+use wg_history::events::Event;
 use wg_types::handles::{Handle, Info, ObjRef};
+use wg_types::render::TargetInfo;
 use wg_types::replies::Answer;
 use wg_types::requests::RequestOf;
 use wg_types::shared::Shared;
@@ -30,7 +32,7 @@ impl Known<Handle> for Infos {
 
 /// What is known of the object that a call of the device makes, if it makes one, by what the handles of
 /// those that it names know. It takes memory for the lists of what a pipeline layout or a bind group is
-/// made of.
+/// made of, and for what is known of a bundle.
 pub fn info_asked(alloc: Global, request: &RequestOf<Handle>) -> Result<Option<Info>, NoMemory>
     ensures { IfOk result (λ info. info ≡ info_asked request.now) }
 {
@@ -63,7 +65,15 @@ pub fn info_asked(alloc: Global, request: &RequestOf<Handle>) -> Result<Option<I
         }
         RequestOf::CreateQuerySet { info } => Ok(Some(Info::Queries(*info))),
         RequestOf::CreateEncoder => Ok(Some(Info::Encoder)),
+        RequestOf::CreateBundleEncoder { targets } => Ok(Some(Info::BundleEncoder(
+            targets.share()?,
+        ))),
         RequestOf::Finish { .. } => Ok(Some(Info::CommandBuffer)),
+        RequestOf::FinishBundle { encoder } => {
+            let recording = empty_bundle(alloc, encoder.reference().device)?;
+            let info = recording.bundle_info(alloc)?;
+            Ok(Some(Info::Bundle(Shared::new(alloc, info)?)))
+        }
         RequestOf::Submit { .. }
         | RequestOf::WriteBuffer { .. }
         | RequestOf::WriteTexture { .. }
@@ -95,12 +105,44 @@ pub fn handle_of(serial: u64, info: Arc<Info>, answer: Answer) -> Option<Handle>
     }
 }
 
+/// The event that ends an encoder with what its recorder hands over, be it a bundle encoder. It takes no
+/// memory.
+pub fn finish_event(encoder: ObjRef, recording: Recording) -> Event
+    ensures { result ≡ finish_event recording.targets encoder recording }
+{
+    if recording.targets().is_none() {
+        return Event::Finish { encoder, recording };
+    }
+    Event::FinishBundle { encoder, recording }
+}
+
+/// What is known of the object that this event makes.
+pub fn finished_info(alloc: Global, recording: &Recording) -> Result<Info, NoMemory>
+    ensures { IfOk result (λ info. info ≡ finished_info recording.now.targets recording.now) }
+{
+    if recording.targets().is_none() {
+        return Ok(Info::CommandBuffer);
+    }
+    let info = recording.bundle_info(alloc)?;
+    Ok(Info::Bundle(Shared::new(alloc, info)?))
+}
+
 /// A recorder that is open for an encoder. It takes no memory.
 pub fn recorder_for(alloc: Global, encoder: &Handle) -> Recorder
     ensures { result ≡ opened_for encoder.now.reference }
 {
     let reference = encoder.reference();
     let mut recorder = Recorder::new(alloc, reference.device);
+    recorder.open(reference, encoder.valid());
+    recorder
+}
+
+/// A recorder that is open for a bundle encoder, which draws to these targets. It takes no memory.
+pub fn bundle_recorder_for(alloc: Global, encoder: &Handle, targets: Shared<TargetInfo>) -> Recorder
+    ensures { result ≡ opened_with targets encoder.now.reference }
+{
+    let reference = encoder.reference();
+    let mut recorder = Recorder::bundle(alloc, reference.device, targets);
     recorder.open(reference, encoder.valid());
     recorder
 }

@@ -4,8 +4,10 @@ use Rattle.std.specs.Global.{Global}
 use Rattle.std.specs.declared.boxed.Box.{Box}
 use Rattle.wg_types.specs.declared.commands.On.{On}
 use Rattle.wg_types.specs.Commands.{Command}
+use Rattle.wg_types.specs.declared.render.TargetInfo.{TargetInfo}
 use Rattle.wg_model.specs.Walk.{begins}
-use Rattle.wg_encoder.specs.Walked.{IsWalkOf}
+use Rattle.wg_encoder.specs.Recorders.{targets_left}
+use Rattle.wg_encoder.specs.Walked.{IsKnownOf}
 use Rattle.wg_encoder.specs.declared.kept.Kept.{Kept}
 
 -- the kept commands, in order: none as long as there is no place for them
@@ -14,11 +16,12 @@ commands_of None = []
 commands_of (Some kept) = kept.value.commands.items
 
 -- What is known of the kept commands is what the walk over them finds.
-abbrev pub IsKeptOf : ℕ → Option (Box Kept Global) → Type 0
-IsKeptOf device None = Unit {0}
-IsKeptOf device (Some kept) = IsWalkOf device (reverse kept.value.commands.items) kept.value.walk
+abbrev pub IsKeptOf : ℕ → Option TargetInfo → Option (Box Kept Global) → Type 0
+IsKeptOf device targets None = Unit {0}
+IsKeptOf device targets (Some kept) = IsKnownOf device targets (reverse kept.value.commands.items) kept.value.known
 
--- How often a recorder was taken, and how many passes were begun on it, fit its commands.
-pub record IsRecorder (commands : List (On × Command)) (takes passes : ℕ) : Type 0 where
+-- How often a recorder was taken, and how many passes were begun on it, fit its targets and its commands.
+pub record IsRecorder (targets : Option TargetInfo) (commands : List (On × Command)) (takes passes : ℕ) : Type 0 where
   pub passes_are : takes ≡ 0 → passes ≡ begins (reverse commands)
   pub nothing : nat_lt 0 takes ≡ true → commands ≡ []
+  pub left : nat_lt 0 takes ≡ true → targets ≡ targets_left targets

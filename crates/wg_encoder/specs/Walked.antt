@@ -1,18 +1,28 @@
 -- What a recorder keeps in place of a walk over its commands, and that it is what the walk finds.
-use Rattle.std.specs.Prelude.{◌≡◌, ℕ, ◌<◌, false, List, ◌∷◌, Option, Some, None, length, slice_index_or}
-use Rattle.wg_types.specs.Commands.{Command, bracket}
+use Rattle.std.specs.Prelude.{◌≡◌, ℕ, ◌<◌, false, List, ◌∷◌, map, Option, Some, None, length, slice_index_or}
+use Rattle.std.specs.Option.{option_or}
+use Rattle.wg_types.specs.Commands.{Command, bracket, named_on}
+use Rattle.wg_types.specs.declared.commands.On.{On}
+use Rattle.wg_types.specs.declared.render.TargetInfo.{TargetInfo}
+use Rattle.wg_types.specs.declared.wanted.Kind.TheVariants as kind
 use Rattle.wg_types.specs.declared.commands.Bracket.{Bracket}
 use Rattle.wg_types.specs.declared.commands.Bracket.TheVariants as brackets
-use Rattle.wg_model.specs.Settings.{Settings, settings}
+use Rattle.wg_model.specs.Rules.{first_unmet}
+use Rattle.wg_model.specs.Commands.{common_rules}
+use Rattle.wg_model.specs.Settings.{Settings, settings, debug_depth}
 use Rattle.wg_model.specs.Attachments.{RenderBegin, begin_of}
-use Rattle.wg_model.specs.Render.{RenderSet, render_set}
-use Rattle.wg_model.specs.Walk.{Kept, PassSoFar, pass_rule, pass_does, begins, open_pass, has_ended, encoder_depth, verdict}
+use Rattle.wg_model.specs.Render.{RenderSet, render_set, bundle_set, render_rules}
+use Rattle.wg_model.specs.Walk.{Kept, PassSoFar, pass_rule, pass_does, begins, open_pass, has_ended, encoder_depth, verdict, bundle_verdict}
 use Rattle.wg_access.specs.Done.{done_by_pass, done_of}
 use Rattle.wg_access.specs.declared.done.Done.{Done}
 use Rattle.wg_encoder.specs.declared.pass.PassState.{PassState}
 use Rattle.wg_encoder.specs.declared.pass.PassState.TheVariants.{Refused, Compute, Render}
 use Rattle.wg_encoder.specs.declared.walk.Opened.{Opened}
 use Rattle.wg_encoder.specs.declared.walk.Walk.{Walk}
+use Rattle.wg_encoder.specs.declared.bundle.BundleState.{BundleState}
+use Rattle.wg_encoder.specs.declared.bundle.BundleState.TheVariants as drawn
+use Rattle.wg_encoder.specs.declared.known.Known.{Known}
+use Rattle.wg_encoder.specs.declared.known.Known.TheVariants as known
 
 abbrev pub IsComputeBy : Bracket → List Command → Settings → Type 0
 IsComputeBy brackets.BeginComputePass earlier set = set ≡ settings earlier
@@ -72,3 +82,22 @@ pub record IsTaken (device : ℕ) (begin : Command) (earlier : List Command) (co
 pub record IsNext (device : ℕ) (command : Command) (before after : Opened) (old new : Done) (rule : Option ℕ) : Type 0 where
   pub number : after.number ≡ before.number
   pub taken : (begin : Command) (earlier : List Command) → IsStateOf device begin earlier before.state → IsTaken device begin earlier command after.state old new rule
+
+-- the first unmet rule of a command of a bundle encoder, over what is set
+abbrev pub drawn_rule : ℕ → RenderSet → Command → Option ℕ
+drawn_rule device set command =
+    option_or (first_unmet (common_rules device (named_on kind.BundleEncoder command))) (first_unmet (render_rules set command))
+
+-- The state of a bundle encoder is what its commands give.
+abbrev pub IsBundleOf : ℕ → TargetInfo → List Command → BundleState → Type 0
+IsBundleOf device targets earlier (drawn.Refused rule depth) = (bundle_verdict device targets earlier ≡ Some rule) × (depth ≡ debug_depth earlier)
+IsBundleOf device targets earlier (drawn.Drawing set) = (bundle_verdict device targets earlier ≡ None) × (set ≡ bundle_set targets earlier)
+
+abbrev pub IsDrawnOf : ℕ → Option TargetInfo → Kept → BundleState → Type 0
+IsDrawnOf device None kept state = ⊥
+IsDrawnOf device (Some targets) kept state = IsBundleOf device targets (map (λ (one : On × Command). one.1) kept) state
+
+-- What is known of kept commands, which are those of a bundle encoder where there are targets.
+abbrev pub IsKnownOf : ℕ → Option TargetInfo → Kept → Known → Type 0
+IsKnownOf device targets kept (known.Encoder walk) = (targets ≡ None) × IsWalkOf device kept walk
+IsKnownOf device targets kept (known.Bundle state) = IsDrawnOf device targets kept state

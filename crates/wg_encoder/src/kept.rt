@@ -1,9 +1,10 @@
 //! What a recorder keeps.
-ghost use Rattle.std.specs.Prelude.{◌≡◌, ◌∷◌, ◌<◌, ◌++◌, [], ℕ, true, is_some, vec_len, vec_capacity, reverse, OnOk, OnErr};
-ghost use Rattle.wg_encoder.specs.Walked.{IsWalkOf};
+ghost use Rattle.std.specs.Prelude.{◌≡◌, ◌∷◌, ◌<◌, ◌++◌, [], ℕ, true, is_some, vec_len, vec_capacity, reverse, IfOk, OnOk, OnErr};
+ghost use Rattle.wg_encoder.specs.Walked.{IsKnownOf};
 ghost use Rattle.wg_encoder.specs.Kept.{commands_of, IsKeptOf};
 
-use crate::walk::{Walk, note};
+use crate::known::Known;
+use crate::targets::Targets;
 use std::alloc::Global;
 use wg_types::NoMemory;
 use wg_types::commands::{Command, On};
@@ -12,19 +13,20 @@ use wg_types::commands::{Command, On};
 #[derive(Drop)]
 pub struct Kept {
     pub commands: Vec<(On, Command)>,
-    pub walk: Walk,
+    pub known: Known,
 }
 
 impl Kept {
     /// Nothing is kept.
-    fn new(alloc: Global) -> Kept
-        ensures none { result.commands.items ≡ [] }
-        ensures walk { (device : ℕ) → IsWalkOf device [] result.walk }
+    fn new(alloc: Global, targets: &Targets) -> Result<Kept, NoMemory>
+        ensures none { IfOk result (λ kept. kept.commands.items ≡ []) }
+        ensures known { (device : ℕ) → IfOk result (λ kept. IsKnownOf device targets.now [] kept.known) }
     {
-        Kept {
+        let known = Known::new(alloc, targets)?;
+        Ok(Kept {
             commands: Vec::new(alloc),
-            walk: Walk::new(alloc),
-        }
+            known,
+        })
     }
 
     /// Makes room for a command and notes it: all of keeping it that may fail.
@@ -32,20 +34,21 @@ impl Kept {
         &mut self,
         alloc: Global,
         device: u64,
+        targets: &Targets,
         on: On,
         command: &Command,
     ) -> Result<(), NoMemory>
-        requires { IsWalkOf device (reverse self.old.commands.items) self.old.walk }
+        requires { IsKnownOf device targets.now (reverse self.old.commands.items) self.old.known }
         ensures same { self.new.commands.items ≡ self.old.commands.items }
         ensures room { OnOk result (vec_len self.new.commands < vec_capacity self.new.commands) }
-        ensures ok { OnOk result (IsWalkOf device ((on, command.now) ∷ reverse self.old.commands.items) self.new.walk) }
-        ensures err { OnErr result (self.new.walk ≡ self.old.walk) }
+        ensures ok { OnOk result (IsKnownOf device targets.now ((on, command.now) ∷ reverse self.old.commands.items) self.new.known) }
+        ensures err { OnErr result (self.new.known ≡ self.old.known) }
     {
         self.commands.reserve(1)?;
-        note(
-            &mut self.walk,
+        self.known.note(
             alloc,
             device,
+            targets,
             self.commands.as_slice(),
             on,
             command,
@@ -53,13 +56,20 @@ impl Kept {
     }
 
     /// Adds a command.
-    fn add(&mut self, alloc: Global, device: u64, on: On, command: Command) -> Result<(), NoMemory>
-        requires { IsWalkOf device (reverse self.old.commands.items) self.old.walk }
-        ensures walk { IsWalkOf device (reverse self.new.commands.items) self.new.walk }
+    fn add(
+        &mut self,
+        alloc: Global,
+        device: u64,
+        targets: &Targets,
+        on: On,
+        command: Command,
+    ) -> Result<(), NoMemory>
+        requires { IsKnownOf device targets.now (reverse self.old.commands.items) self.old.known }
+        ensures known { IsKnownOf device targets.now (reverse self.new.commands.items) self.new.known }
         ensures ok { OnOk result (self.new.commands.items ≡ self.old.commands.items ++ (on, command) ∷ []) }
         ensures err { OnErr result (self.new.commands.items ≡ self.old.commands.items) }
     {
-        if let Err(error) = self.prepare(alloc, device, on, &command) {
+        if let Err(error) = self.prepare(alloc, device, targets, on, &command) {
             drop(command);
             return Err(error);
         }
@@ -69,15 +79,16 @@ impl Kept {
 }
 
 /// Makes what is kept, where nothing was.
-fn make(kept: &mut Option<Box<Kept>>, alloc: Global) -> Result<(), NoMemory>
+fn make(kept: &mut Option<Box<Kept>>, alloc: Global, targets: &Targets) -> Result<(), NoMemory>
     ensures some { OnOk result (is_some kept.new ≡ true) }
     ensures same { commands_of kept.new ≡ commands_of kept.old }
-    ensures kept { (device : ℕ) → IsKeptOf device kept.old → IsKeptOf device kept.new }
+    ensures kept { (device : ℕ) → IsKeptOf device targets.now kept.old → IsKeptOf device targets.now kept.new }
 {
     if kept.is_some() {
         return Ok(());
     }
-    *kept = Some(Box::new(alloc, Kept::new(alloc))?);
+    let fresh = Kept::new(alloc, targets)?;
+    *kept = Some(Box::new(alloc, fresh)?);
     Ok(())
 }
 
@@ -86,20 +97,21 @@ pub fn keep(
     kept: &mut Option<Box<Kept>>,
     alloc: Global,
     device: u64,
+    targets: &Targets,
     on: On,
     command: Command,
 ) -> Result<(), NoMemory>
-    requires { IsKeptOf device kept.old }
-    ensures kept { IsKeptOf device kept.new }
+    requires { IsKeptOf device targets.now kept.old }
+    ensures kept { IsKeptOf device targets.now kept.new }
     ensures ok { OnOk result (commands_of kept.new ≡ commands_of kept.old ++ (on, command) ∷ []) }
     ensures err { OnErr result (commands_of kept.new ≡ commands_of kept.old) }
 {
-    if let Err(error) = make(kept, alloc) {
+    if let Err(error) = make(kept, alloc, targets) {
         drop(command);
         return Err(error);
     }
     let Some(held) = kept else {
         unreachable!();
     };
-    held.add(alloc, device, on, command)
+    held.add(alloc, device, targets, on, command)
 }

@@ -1,0 +1,8 @@
+use Rattle.std.proofs.Common.{sym}
+use Rattle.wg_encoder.proofs.known.Known.new.Goals as goal
+
+pub returns-in_default : goal.returns-in_default
+returns-in_default c = λ device. (sym c.in_default.ensures, c.new.ensures device)
+
+pub returns : goal.returns
+returns c = λ device. rw (← c.in-Some.ensures) (c.in_ok-state.ensures device)

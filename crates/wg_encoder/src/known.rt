@@ -1,0 +1,148 @@
+//! What is known of kept commands.
+ghost use Rattle.std.specs.Prelude.{◌≡◌, ◌∷◌, [], ℕ, List, Option, Some, reverse, nat_lt, IfOk, OnOk, OnErr};
+ghost use Rattle.wg_types.specs.Commands.{Command};
+ghost use Rattle.wg_types.specs.declared.commands.On.{On};
+ghost use Rattle.wg_types.specs.declared.render.TargetInfo.{TargetInfo};
+ghost use Rattle.wg_model.specs.Scopes.{first_clash};
+ghost use Rattle.wg_model.specs.Walk.{Kept, Verdict, ScopesOf, DeedsOf, open_depth, encoder_scopes, encoder_deeds, touched_within, bundled};
+ghost use Rattle.wg_encoder.specs.Recorders.{has_open_pass};
+ghost use Rattle.wg_encoder.specs.Walked.{IsWalkOf, IsKnownOf};
+
+use crate::bundle::BundleState;
+use crate::targets::Targets;
+use crate::walk::{Walk, note};
+use std::alloc::Global;
+use wg_types::NoMemory;
+use wg_types::bundles::BundleTouch;
+use wg_types::commands::{Command, On};
+use wg_types::items::Items;
+use wg_types::parts::Part;
+use wg_types::steps::Deed;
+
+/// What is known of the kept commands of an encoder, or of a bundle encoder.
+#[derive(Drop)]
+pub enum Known {
+    Encoder(Walk),
+    Bundle(BundleState),
+}
+
+/// The least clashing part of the first usage scope of an encoder that has one, where there is neither a
+/// verdict nor an open pass (WebGPU, "Usage Scope Validation").
+fn clash(walk: &Walk) -> Option<Part>
+    ensures { (device : ℕ) (kept : Kept) → IsWalkOf device kept walk.now → result ≡ first_clash (encoder_scopes device kept) }
+{
+    if walk.verdict.is_some() {
+        return None;
+    }
+    if walk.opened.is_some() {
+        return None;
+    }
+    walk.done.clash
+}
+
+/// What the commands of an encoder do, in order, where there is neither a verdict nor an open pass.
+#[tactic(auto, using(crate::proofs::WalkLemmas::deeds_are))]
+fn done(walk: &Walk) -> &[Deed]
+    ensures { (device : ℕ) (kept : Kept) → IsWalkOf device kept walk.now → result.now ≡ encoder_deeds device kept }
+{
+    if walk.verdict.is_some() {
+        return &[];
+    }
+    if walk.opened.is_some() {
+        return &[];
+    }
+    walk.done.deeds.as_slice()
+}
+
+impl Known {
+    /// Nothing is kept.
+    pub fn new(alloc: Global, targets: &Targets) -> Result<Known, NoMemory>
+        ensures { (device : ℕ) → IfOk result (λ known. IsKnownOf device targets.now [] known) }
+    {
+        let Some(targets) = targets.get() else {
+            return Ok(Known::Encoder(Walk::new(alloc)));
+        };
+        let state = BundleState::new(alloc, targets)?;
+        Ok(Known::Bundle(state))
+    }
+
+    /// Notes a command.
+    pub fn note(
+        &mut self,
+        alloc: Global,
+        device: u64,
+        targets: &Targets,
+        kept: &[(On, Command)],
+        on: On,
+        command: &Command,
+    ) -> Result<(), NoMemory>
+        requires { IsKnownOf device targets.now (reverse kept.now) self.old }
+        ensures ok { OnOk result (IsKnownOf device targets.now ((on, command.now) ∷ reverse kept.now) self.new) }
+        ensures err { OnErr result (self.new ≡ self.old) }
+    {
+        match self {
+            Known::Encoder(walk) => return note(walk, alloc, device, kept, on, command),
+            Known::Bundle(state) => return state.take(alloc, device, command),
+        }
+    }
+
+    /// The rule that invalidated the encoder first.
+    pub fn verdict(&self) -> Option<u16>
+        ensures { (device : ℕ) (targets : Option TargetInfo) (commands : List (On × Command)) → IsKnownOf device targets (reverse commands) self.now → result ≡ Verdict device targets commands }
+    {
+        match self {
+            Known::Encoder(walk) => return walk.verdict,
+            Known::Bundle(state) => return state.verdict(),
+        }
+    }
+
+    /// The least clashing part of the first usage scope that has one.
+    pub fn clash(&self, alloc: Global) -> Result<Option<Part>, NoMemory>
+        ensures { (device : ℕ) (targets : Option TargetInfo) (commands : List (On × Command)) → IsKnownOf device targets (reverse commands) self.now → IfOk result (λ found. found ≡ first_clash (ScopesOf device targets commands)) }
+    {
+        match self {
+            Known::Encoder(walk) => return Ok(clash(walk)),
+            Known::Bundle(state) => return state.clash(alloc),
+        }
+    }
+
+    /// What the commands do, in order. Those of a bundle encoder do nothing.
+    pub fn done(&self) -> &[Deed]
+        ensures { (device : ℕ) (targets : Option TargetInfo) (commands : List (On × Command)) → IsKnownOf device targets (reverse commands) self.now → result.now ≡ DeedsOf device targets commands }
+    {
+        match self {
+            Known::Encoder(walk) => return done(walk),
+            Known::Bundle(_) => return &[],
+        }
+    }
+
+    /// Whether a pass is open. On a bundle encoder there are none.
+    pub fn open_pass(&self) -> bool
+        ensures { (device : ℕ) (targets : Option TargetInfo) (commands : List (On × Command)) → IsKnownOf device targets (reverse commands) self.now → result ≡ has_open_pass targets commands }
+    {
+        match self {
+            Known::Encoder(walk) => return walk.opened.is_some(),
+            Known::Bundle(_) => return false,
+        }
+    }
+
+    /// How many debug groups of the encoder are open.
+    pub fn depth(&self) -> u64
+        ensures { (device : ℕ) (targets : Option TargetInfo) (commands : List (On × Command)) → IsKnownOf device targets (reverse commands) self.now → result ≡ open_depth targets commands }
+    {
+        match self {
+            Known::Encoder(walk) => return walk.depth,
+            Known::Bundle(state) => return state.depth(),
+        }
+    }
+
+    /// What is touched by the commands of a bundle encoder that draws to these targets.
+    pub fn touched(&self, alloc: Global) -> Result<Items<BundleTouch>, NoMemory>
+        ensures { (device : ℕ) (targets : TargetInfo) (commands : List (On × Command)) → IsKnownOf device (Some targets) (reverse commands) self.now → IfOk result (λ touches. touches ≡ touched_within device targets (bundled commands)) }
+    {
+        match self {
+            Known::Encoder(_) => return Ok(Items::new(alloc)),
+            Known::Bundle(state) => return state.touched(alloc),
+        }
+    }
+}
