@@ -107,8 +107,8 @@ fn targets(alloc: Global) -> Result<TargetInfo, NoMemory> {
 /// Makes objects 0 and 1, the texture and its view.
 fn view<R: Wait>(rt: &R, device: &Device, pass: &mut DevicePass) -> Option<Handle>
     requires { IsPassOf device.now.lock pass.old × (calls_of pass.old < 100) }
-    ensures { IsPassOf device.now.lock pass.new × (calls_of pass.new ≤ calls_of pass.old + 2) }
-    ensures { number_of pass.new ≡ number_of pass.old }
+    ensures pass { IsPassOf device.now.lock pass.new × (calls_of pass.new ≤ calls_of pass.old + 2) }
+    ensures number { number_of pass.new ≡ number_of pass.old }
 {
     let (texture, _) = device.create_texture(rt, pass, TEXTURE).ok()?;
     let (view, _) = device.create_view(rt, pass, &texture, VIEW).ok()?;
@@ -123,8 +123,8 @@ fn pipeline<R: Wait>(
     pass: &mut DevicePass,
 ) -> Option<Handle>
     requires { IsPassOf device.now.lock pass.old × (calls_of pass.old < 100) }
-    ensures { IsPassOf device.now.lock pass.new × (calls_of pass.new ≤ calls_of pass.old + 2) }
-    ensures { number_of pass.new ≡ number_of pass.old }
+    ensures pass { IsPassOf device.now.lock pass.new × (calls_of pass.new ≤ calls_of pass.old + 2) }
+    ensures number { number_of pass.new ≡ number_of pass.old }
 {
     let desc = desc(alloc).ok()?;
     let layout = device.create_pipeline_layout(rt, pass, Vec::new(alloc));
@@ -136,8 +136,8 @@ fn pipeline<R: Wait>(
 /// Makes all with which is drawn; the buffer is object 4.
 fn make<R: Wait>(rt: &R, alloc: Global, device: &Device, pass: &mut DevicePass) -> Option<Made>
     requires { IsPassOf device.now.lock pass.old × (calls_of pass.old < 90) }
-    ensures { IsPassOf device.now.lock pass.new × (calls_of pass.new ≤ calls_of pass.old + 5) }
-    ensures { number_of pass.new ≡ number_of pass.old }
+    ensures pass { IsPassOf device.now.lock pass.new × (calls_of pass.new ≤ calls_of pass.old + 5) }
+    ensures number { number_of pass.new ≡ number_of pass.old }
 {
     let view = view(rt, device, pass)?;
     let pipeline = pipeline(rt, alloc, device, pass)?;
@@ -252,8 +252,8 @@ fn finish<R: Wait>(
     recorder: &mut Recorder,
 ) -> Option<Handle>
     requires { IsPassOf device.now.lock pass.old × (calls_of pass.old < 100) }
-    ensures { IsPassOf device.now.lock pass.new × (calls_of pass.new ≤ calls_of pass.old + 1) }
-    ensures { number_of pass.new ≡ number_of pass.old }
+    ensures pass { IsPassOf device.now.lock pass.new × (calls_of pass.new ≤ calls_of pass.old + 1) }
+    ensures number { number_of pass.new ≡ number_of pass.old }
 {
     if recorder.encoder().is_none() {
         return None;
@@ -271,8 +271,8 @@ fn bundle<R: Wait + Abort>(
     made: &Made,
 ) -> Option<Handle>
     requires { IsPassOf device.now.lock pass.old × (calls_of pass.old < 90) }
-    ensures { IsPassOf device.now.lock pass.new × (calls_of pass.new ≤ calls_of pass.old + 2) }
-    ensures { number_of pass.new ≡ number_of pass.old }
+    ensures pass { IsPassOf device.now.lock pass.new × (calls_of pass.new ≤ calls_of pass.old + 2) }
+    ensures number { number_of pass.new ≡ number_of pass.old }
 {
     let targets = targets(alloc).ok()?;
     let (mut recorder, _, _) = device.create_bundle_encoder(rt, pass, targets).ok()?;
@@ -290,8 +290,8 @@ fn buffer_with<R: Wait + Abort>(
     bundle: &Handle,
 ) -> Option<Handle>
     requires { IsPassOf device.now.lock pass.old × (calls_of pass.old < 90) }
-    ensures { IsPassOf device.now.lock pass.new × (calls_of pass.new ≤ calls_of pass.old + 2) }
-    ensures { number_of pass.new ≡ number_of pass.old }
+    ensures pass { IsPassOf device.now.lock pass.new × (calls_of pass.new ≤ calls_of pass.old + 2) }
+    ensures number { number_of pass.new ≡ number_of pass.old }
 {
     let (mut recorder, _, _) = device.create_encoder(rt, pass).ok()?;
     note_pass(rt, alloc, &mut recorder, made, bundle).ok()?;
@@ -307,8 +307,8 @@ fn submit<R: Wait + Abort>(
     made: &Made,
 ) -> Option<Answer>
     requires { IsPassOf device.now.lock pass.old × (calls_of pass.old < 80) }
-    ensures { IsPassOf device.now.lock pass.new }
-    ensures { number_of pass.new ≡ number_of pass.old }
+    ensures pass { IsPassOf device.now.lock pass.new }
+    ensures number { number_of pass.new ≡ number_of pass.old }
 {
     let bundle = bundle(rt, alloc, device, pass, made)?;
     let buffer = buffer_with(rt, alloc, device, pass, made, &bundle)?;
@@ -342,8 +342,8 @@ type Told = (Option<Answer>, Option<[Option<u16>; 2]>);
 /// What the submit answers, and the verdicts.
 fn call<R: Wait + Abort>(rt: &R, alloc: Global, device: &Device, pass: &mut DevicePass) -> Option<Told>
     requires { IsPassOf device.now.lock pass.old × (calls_of pass.old ≡ 0) }
-    ensures { IsPassOf device.now.lock pass.new }
-    ensures { number_of pass.new ≡ number_of pass.old }
+    ensures pass { IsPassOf device.now.lock pass.new }
+    ensures number { number_of pass.new ≡ number_of pass.old }
 {
     let made = make(rt, alloc, device, pass)?;
     let submitted = submit(rt, alloc, device, pass, &made);
