@@ -316,30 +316,33 @@ fn submit<R: Wait + Abort>(
     Some(reply.answer)
 }
 
-/// Records a pass in which a draw comes before an empty list of bundles and another draw after it.
-fn note_two(
+/// Records a pass in which a draw comes before an empty list of bundles, and maybe another after it.
+fn note_draws(
     rt: &impl Abort,
     alloc: Global,
     recorder: &mut Recorder,
     made: &Made,
-) -> Result<[Option<u16>; 2], NoMemory> {
+    again: bool,
+) -> Result<(), NoMemory> {
     note_made(rt, recorder, On::Encoder, begin(alloc, made))?;
     note_draw(rt, recorder, On::Pass(0), made)?;
     note_made(rt, recorder, On::Pass(0), Ok(execute_none(alloc)))?;
-    let before = recorder.verdict();
-    note_made(rt, recorder, On::Pass(0), Ok(draw()))?;
-    Ok([before, recorder.verdict()])
+    if again {
+        note_made(rt, recorder, On::Pass(0), Ok(draw()))?;
+    }
+    note_made(rt, recorder, On::Pass(0), Ok(Command::End))
 }
 
-/// The verdict before the second draw and after it, on a recorder that is dropped here.
-fn unset(rt: &impl Abort, alloc: Global, made: &Made) -> Option<[Option<u16>; 2]> {
+/// The verdict of a recorder of these, which is dropped here.
+fn verdict(rt: &impl Abort, alloc: Global, made: &Made, again: bool) -> Option<Option<u16>> {
     let mut recorder = Recorder::new(alloc, made.view.reference().device);
-    note_two(rt, alloc, &mut recorder, made).ok()
+    note_draws(rt, alloc, &mut recorder, made, again).ok()?;
+    Some(recorder.verdict())
 }
 
-type Told = (Option<Answer>, Option<[Option<u16>; 2]>);
+type Told = (Option<Answer>, [Option<Option<u16>>; 2]);
 
-/// What the submit answers, and the verdicts.
+/// What the submit answers, and the verdicts without the second draw and with it.
 fn call<R: Wait + Abort>(rt: &R, alloc: Global, device: &Device, pass: &mut DevicePass) -> Option<Told>
     requires { IsPassOf device.now.lock pass.old × (calls_of pass.old ≡ 0) }
     ensures pass { IsPassOf device.now.lock pass.new }
@@ -347,7 +350,9 @@ fn call<R: Wait + Abort>(rt: &R, alloc: Global, device: &Device, pass: &mut Devi
 {
     let made = make(rt, alloc, device, pass)?;
     let submitted = submit(rt, alloc, device, pass, &made);
-    Some((submitted, unset(rt, alloc, &made)))
+    let once = verdict(rt, alloc, &made, false);
+    let again = verdict(rt, alloc, &made, true);
+    Some((submitted, [once, again]))
 }
 
 /// A device with its pass, and the list that had it.
@@ -411,6 +416,6 @@ fn told_of<R: Wait + Abort>(rt: &R, alloc: Global) -> Option<(Option<Told>, bool
 
 #[test]
 fn a_bundle_is_executed(rt: HostRuntime) {
-    let told = (Some(Answer::Queued(1)), Some([None, Some(340)]));
+    let told = (Some(Answer::Queued(1)), [Some(None), Some(Some(340))]);
     assert!(rt; told_of(&rt, rt.alloc()) == Some((Some(told), true)));
 }
