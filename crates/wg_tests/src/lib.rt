@@ -5,6 +5,8 @@
 #[cfg(test)]
 mod access;
 #[cfg(test)]
+mod bundles;
+#[cfg(test)]
 mod calls;
 #[cfg(test)]
 mod compute;
