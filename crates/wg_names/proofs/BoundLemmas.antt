@@ -45,7 +45,7 @@ uses_found p l names made ours sees (u ∷ us) fine e =
     (record { kind = found.mark.kind; stands = seen.0 found.visible; fits = found.admits; own = λ want. seen.1 (found.own want) })
     (uses_found p l names made ours sees us fine step.2)
 
--- a command asks for an encoder or a pass of its own lane to stand on
+-- a command asks for an encoder, a bundle encoder or a pass of its own lane to stand on
 pub place_own : {R : Type 0} (command : CommandOf R) → wants_own (place_wanted command) ≡ true
 place_own command = grind arith
 
@@ -81,6 +81,7 @@ render_pipeline _ e = absurd (cc)
 pipelines : (place k : Kind) → admits (pipelines_on place) k ≡ true → admits wanted.Pipeline k ≡ true
 pipelines kind.ComputePass k e = compute_pipeline k e
 pipelines kind.RenderPass k e = render_pipeline k e
+pipelines kind.BundleEncoder k e = render_pipeline k e
 pipelines _ k e = e
 
 within_admits : (place : Kind) (want : Wanted) (k : Kind) → admits (within place want) k ≡ true → admits want k ≡ true

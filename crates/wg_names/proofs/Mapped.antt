@@ -43,6 +43,11 @@ maybe_mapped : {R S : Type 0} (f : R → S) (want : Wanted) (x : Option R) → m
 maybe_mapped f want None = refl
 maybe_mapped f want (Some x) = refl
 
+-- a list of objects
+all_named : {R S : Type 0} (f : R → S) (want : Wanted) (xs : List R) → all_wanted want (map f xs) ≡ map (other f) (all_wanted want xs)
+all_named f want [] = refl
+all_named f want (x ∷ xs) = ap (λ rest. (f x, want) ∷ rest) (all_named f want xs)
+
 -- the views of attachments, and the query set after them
 
 color_mapped : {R S : Type 0} (f : R → S) (color : Option (ColorTargetOf R)) → color_named (option_map (map_color f) color) ≡ map (other f) (color_named color)
@@ -64,17 +69,13 @@ begin_mapped : {R S : Type 0} (f : R → S) (begin : RenderBeginOf R) → begin_
 begin_mapped f begin = ap₂ (λ a b. a ++ b) (targets_mapped f begin) (maybe_mapped f wanted.Queries begin.queries) ∙ sym (map-append (other f) (targets_named begin) (maybe_wanted wanted.Queries begin.queries))
 
 command_named : {R S : Type 0} (f : R → S) (command : CommandOf R) → named (map_refs f command) ≡ map (other f) (named command)
-command_named f command = grind (arith, begin_mapped)
+command_named f command = grind (arith, begin_mapped, all_named)
 
 command_place : {R S : Type 0} (f : R → S) (command : CommandOf R) → place_wanted (map_refs f command) ≡ place_wanted command
 command_place f command = grind arith
 
 command_kind : {R S : Type 0} (f : R → S) (command : CommandOf R) → kind_begun (map_refs f command) ≡ kind_begun command
 command_kind f command = grind arith
-
-all_named : {R S : Type 0} (f : R → S) (want : Wanted) (xs : List R) → all_wanted want (map f xs) ≡ map (other f) (all_wanted want xs)
-all_named f want [] = refl
-all_named f want (x ∷ xs) = ap (λ rest. (f x, want) ∷ rest) (all_named f want xs)
 
 resource_mapped : {R S : Type 0} (f : R → S) (r : ResourceOf R) → resource_named (map_resource f r) ≡ other f (resource_named r)
 resource_mapped f (Buffer buffer offset size) = refl

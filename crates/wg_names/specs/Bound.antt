@@ -28,8 +28,8 @@ made_by call = option_to_list (made_of call)
 abbrev pub made_in : {R : Type 0} → List (CallOf R) → Made R
 made_in calls = flat_map made_by calls
 
--- what is used was made, and stands for what is wanted; an encoder or a pass that is asked for stands in the second list, which has
--- what the call's own lane made in this phase before the call
+-- what is used was made, and stands for what is wanted; an encoder, a bundle encoder or a pass that is asked for stands in the second
+-- list, which has what the call's own lane made in this phase before the call
 pub record IsFound {R : Type 0} (made ours : Made R) (key : R × Wanted) : Type 0 where
   pub kind : Kind
   pub stands : Contains made (key.0, kind)
@@ -69,9 +69,9 @@ abbrev pub numbers_below : ℕ → List ℕ
 numbers_below zero = []
 numbers_below (suc n) = numbers_below n ++ n ∷ []
 
--- In a script each used slot was made by an earlier visible call and stands for what is wanted, the encoders and passes that calls
--- stand on or end were made by the same lane in the same phase, and the slots that the calls make are the numbers from 0 on, in
--- reading order.
+-- In a script each used slot was made by an earlier visible call and stands for what is wanted, the encoders, bundle encoders and
+-- passes that calls stand on or end were made by the same lane in the same phase, and the slots that the calls make are the numbers
+-- from 0 on, in reading order.
 pub record IsBound (phases : List (List (List BoundCall))) : Type 0 where
   pub used : PhasesAreBound [] phases
   pub count : ℕ

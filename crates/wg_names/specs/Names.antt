@@ -52,7 +52,8 @@ is_own p l mark = mark.phase == p && mark.lane == l
 abbrev pub is_visible : ℕ → ℕ → Mark → Bool
 is_visible p l mark = nat_lt mark.phase p || is_own p l mark
 
--- script rule 12: the name stands for an encoder or a pass of another lane or phase, where one of the call's own is wanted
+-- script rule 12: the name stands for an encoder, a bundle encoder or a pass of another lane or phase, where one of the call's own is
+-- wanted
 abbrev pub check_own : ℕ → ℕ → Wanted → Mark → Result ⊤ ℕ
 check_own p l wanted mark = if wants_own wanted && not (is_own p l mark) then Err 12 else Ok tt
 

@@ -14,8 +14,8 @@ abbrev pub uses_of : {R : Type 0} → CallOf R → List (R × Wanted)
 uses_of (Record on command made) = (on, place_wanted command) ∷ named command
 uses_of (Ask request made) = asked_of request
 
--- whether a place in a call asks for what the call's own lane made in this phase: so does each that asks for an encoder, a pass, or
--- either
+-- whether a place in a call asks for what the call's own lane made in this phase: so does each that asks for an encoder, a bundle
+-- encoder, a pass, or any of these
 abbrev pub wants_own : Wanted → Bool
 wants_own wanted.Buffer = false
 wants_own wanted.Texture = false
@@ -30,7 +30,9 @@ wants_own wanted.RenderPipeline = false
 wants_own wanted.Queries = false
 wants_own wanted.Destroyable = false
 wants_own wanted.Encoder = true
+wants_own wanted.BundleEncoder = true
 wants_own wanted.CommandBuffer = false
+wants_own wanted.Bundle = false
 wants_own wanted.ComputePass = true
 wants_own wanted.RenderPass = true
 wants_own wanted.Pass = true

@@ -74,8 +74,8 @@ impl<'a> Known<'a> {
 
     /// Tests a name that a call of this phase and lane uses: script rule 10 where no call that is
     /// visible has made it, then 11 where it stands for something else than is wanted, and then 12
-    /// where it stands for an encoder or a pass of another lane or phase that the call stands on or
-    /// ends.
+    /// where it stands for an encoder, a bundle encoder or a pass of another lane or phase that the
+    /// call stands on or ends.
     pub fn check_use(&self, phase: u32, lane: u32, name: &Name, wanted: Wanted) -> Result<(), u8>
         ensures { result ≡ check_use (names_in self.now) phase lane (name.now, wanted) }
     {
@@ -138,12 +138,13 @@ impl Mark {
 }
 
 /// Whether a place in a call asks for what the call's own lane made in this phase: so does each that
-/// asks for an encoder, a pass, or either.
+/// asks for an encoder, a bundle encoder, a pass, or any of these.
 fn wants_own(wanted: Wanted) -> bool
     ensures { result ≡ wants_own wanted }
 {
     match wanted {
         Wanted::Encoder
+        | Wanted::BundleEncoder
         | Wanted::ComputePass
         | Wanted::RenderPass
         | Wanted::Pass
@@ -163,6 +164,7 @@ fn wants_own(wanted: Wanted) -> bool
         | Wanted::Queries
         | Wanted::Destroyable
         | Wanted::CommandBuffer
+        | Wanted::Bundle
         | Wanted::Object => false,
     }
 }

@@ -1,6 +1,6 @@
 -- Which call an object is, or the first script rule that it breaks: for each call that is built, its
 -- keys, and what each holds, in the order in which they are read. Calls on textures, bindings, compute
--- passes, rendering and queries have definitions of their own.
+-- passes, rendering, queries and bundles have definitions of their own.
 use Rattle.std.specs.Prelude.{ℕ, List, [], ◌∷◌, false, codes, Option, Some, None, option_and_then, Result, Err}
 use Rattle.serde_json.specs.Data.{Data}
 use Rattle.serde_json.specs.Find.{get, as_str}
@@ -13,6 +13,7 @@ use Rattle.wg_script.specs.BindingCalls.{create_sampler_of, create_group_layout_
 use Rattle.wg_script.specs.PassCalls.{bare_of, begin_compute_pass_of, end_of, set_pipeline_of, set_bind_group_of, dispatch_of, dispatch_indirect_of}
 use Rattle.wg_script.specs.RenderCalls.{create_render_of, begin_render_pass_of, set_vertex_buffer_of, set_index_buffer_of, draw_of, draw_indexed_of, draw_indirect_of, draw_indexed_indirect_of}
 use Rattle.wg_script.specs.QueryCalls.{create_queries_of, resolve_queries_of, begin_occlusion_of, end_occlusion_of}
+use Rattle.wg_script.specs.BundleCalls.{create_bundle_encoder_of, finish_bundle_of, execute_bundles_of}
 use Rattle.wg_types.specs.Words.{word_of}
 use Rattle.wg_types.specs.declared.words.Word.{Word}
 use Rattle.wg_types.specs.declared.words.Word.TheVariants as word
@@ -165,7 +166,9 @@ call_as word.CreateComputePipeline d = create_compute_of d
 call_as word.CreateRenderPipeline d = create_render_of d
 call_as word.CreateQuerySet d = create_queries_of d
 call_as word.CreateEncoder d = create_encoder_of d
+call_as word.CreateBundleEncoder d = create_bundle_encoder_of d
 call_as word.Finish d = finish_of d
+call_as word.FinishBundle d = finish_bundle_of d
 call_as word.Submit d = submit_of d
 call_as word.WriteBuffer d = write_buffer_of d
 call_as word.WriteTexture d = write_texture_of d
@@ -201,9 +204,7 @@ call_as word.DrawIndirect d = draw_indirect_of d
 call_as word.DrawIndexedIndirect d = draw_indexed_indirect_of d
 call_as word.BeginOcclusionQuery d = begin_occlusion_of d
 call_as word.EndOcclusionQuery d = end_occlusion_of d
-call_as word.CreateBundleEncoder d = Err 13
-call_as word.FinishBundle d = Err 13
-call_as word.ExecuteBundles d = Err 13
+call_as word.ExecuteBundles d = execute_bundles_of d
 call_as word.CreateCanvas d = Err 13
 call_as word.ConfigureCanvas d = Err 13
 call_as word.CurrentTexture d = Err 13

@@ -1,5 +1,5 @@
 //! Reads a call: a function for each call that is built, with its keys. Those of calls on textures, bindings,
-//! compute passes, rendering and queries stand in files of their own.
+//! compute passes, rendering, queries and bundles stand in files of their own.
 ghost use Rattle.std.specs.Prelude.{◌≡◌};
 ghost use Rattle.serde_json.specs.View.{view};
 ghost use Rattle.wg_script.specs.Giving.{Gives};
@@ -9,6 +9,7 @@ use crate::binding_calls::{
     create_bind_group, create_bind_group_layout, create_compute_pipeline, create_pipeline_layout,
     create_sampler,
 };
+use crate::bundle_calls::{create_bundle_encoder, execute_bundles, finish_bundle};
 use crate::calling::{asking, making, recording};
 use crate::calls::Call;
 use crate::lists::list_at;
@@ -239,7 +240,9 @@ fn call_as(alloc: Global, word: Word, call: &Value) -> Result<Call, Refusal>
         Word::CreateRenderPipeline => create_render_pipeline(alloc, call),
         Word::CreateQuerySet => create_query_set(alloc, call),
         Word::CreateEncoder => create_encoder(alloc, call),
+        Word::CreateBundleEncoder => create_bundle_encoder(alloc, call),
         Word::Finish => finish(alloc, call),
+        Word::FinishBundle => finish_bundle(alloc, call),
         Word::Submit => submit(alloc, call),
         Word::WriteBuffer => write_buffer(alloc, call),
         Word::WriteTexture => write_texture(alloc, call),
@@ -275,13 +278,10 @@ fn call_as(alloc: Global, word: Word, call: &Value) -> Result<Call, Refusal>
         Word::DrawIndexedIndirect => draw_indexed_indirect(alloc, call),
         Word::BeginOcclusionQuery => begin_occlusion_query(alloc, call),
         Word::EndOcclusionQuery => end_occlusion_query(alloc, call),
-        Word::CreateBundleEncoder
-        | Word::FinishBundle
-        | Word::ExecuteBundles
-        | Word::CreateCanvas
-        | Word::ConfigureCanvas
-        | Word::CurrentTexture
-        | Word::Present => Err(Refusal::Rule(13)),
+        Word::ExecuteBundles => execute_bundles(alloc, call),
+        Word::CreateCanvas | Word::ConfigureCanvas | Word::CurrentTexture | Word::Present => Err(
+            Refusal::Rule(13),
+        ),
     }
 }
 

@@ -4,6 +4,7 @@
 mod binding_calls;
 mod binding_entries;
 mod binding_words;
+mod bundle_calls;
 mod call_reading;
 mod calling;
 mod calls;

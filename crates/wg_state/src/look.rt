@@ -2,13 +2,16 @@
 ghost use Rattle.std.specs.Prelude.{◌≡◌, ◌==◌, reverse, option_copied, is_some, IfSome, Some, None, false, if◌then◌else◌};
 ghost use Rattle.std.specs.Option.{option_map_or};
 ghost use Rattle.wg_history.specs.Infos.{same_kind, same_info};
-ghost use Rattle.wg_history.specs.Objects.{info_at, buffer_at, texture_at, texture_or_none_at, commands_at, deeds_at, is_own, is_any, is_buffer, is_texture_info, is_encoder, is_command_buffer, has_memory};
+ghost use Rattle.wg_history.specs.Objects.{info_at, buffer_at, texture_at, texture_or_none_at, commands_at, deeds_at, is_own, is_any, is_buffer, is_texture_info, is_encoder, is_bundle_encoder, takes_commands, is_command_buffer, has_memory};
 ghost use Rattle.wg_history.specs.Rules.{is_genuine};
 ghost use Rattle.wg_types.specs.Wanted.{admits};
 ghost use Rattle.wg_types.specs.Kinds.{kind_of};
 
 use crate::book::Book;
-use crate::infos::{as_buffer, has_memory, is_command_buffer, is_encoder, same_info, same_kind};
+use crate::infos::{
+    as_buffer, has_memory, is_bundle_encoder, is_command_buffer, is_encoder, same_info, same_kind,
+    takes_commands,
+};
 use wg_history::events::Setup;
 use wg_types::commands::{Command, On};
 use wg_types::handles::{BufferInfo, Handle, Info, ObjRef};
@@ -97,6 +100,26 @@ pub fn is_own_encoder(setup: Setup, book: &Book, object: ObjRef) -> bool
         return false;
     };
     is_encoder(info)
+}
+
+/// Whether the object is a bundle encoder of this device, valid or not.
+pub fn is_own_bundle_encoder(setup: Setup, book: &Book, object: ObjRef) -> bool
+    ensures { result ≡ is_own setup (reverse book.now.entries) is_bundle_encoder object }
+{
+    let Some(info) = own_info(setup, book, object) else {
+        return false;
+    };
+    is_bundle_encoder(info)
+}
+
+/// Whether the object is one of this device on which commands are recorded, valid or not.
+pub fn takes_own_commands(setup: Setup, book: &Book, object: ObjRef) -> bool
+    ensures { result ≡ is_own setup (reverse book.now.entries) takes_commands object }
+{
+    let Some(info) = own_info(setup, book, object) else {
+        return false;
+    };
+    takes_commands(info)
 }
 
 /// Whether the object is a command buffer of this device, valid or not.

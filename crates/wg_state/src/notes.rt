@@ -70,12 +70,12 @@ fn dropped_by(setup: Setup, book: &Book, life: &Life, event: &Event) -> Option<u
     Some(object.number)
 }
 
-/// The encoder that an event ends, if it does.
+/// The encoder or bundle encoder that an event ends, if it does.
 fn ended_by(setup: Setup, book: &Book, event: &Event) -> Option<u64>
     ensures { result ≡ ended_by setup (reverse book.now.entries) event.now }
 {
     let encoder = event.effects().ended?;
-    if !look::is_own_encoder(setup, book, encoder) {
+    if !look::takes_own_commands(setup, book, encoder) {
         return None;
     }
     Some(encoder.number)

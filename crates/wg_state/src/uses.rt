@@ -4,17 +4,22 @@ ghost use Rattle.wg_types.specs.Commands.{named};
 ghost use Rattle.std.specs.Prelude.{option_to_list};
 ghost use Rattle.std.specs.List.{flat_map};
 ghost use Rattle.wg_types.specs.declared.bindings.BoundEntry.{BoundEntry as BoundEntryOf};
+ghost use Rattle.wg_types.specs.declared.bundles.BundleTouch.{BundleTouch as BundleTouchOf};
 ghost use Rattle.wg_model.specs.Bound.{known_group};
 ghost use Rattle.wg_model.specs.Attachments.{attached_view};
-ghost use Rattle.wg_state.specs.Uses.{resource_uses, group_uses, view_uses, uses_as, uses_in, uses_within, uses_of};
+ghost use Rattle.wg_model.specs.Bundles.{known_bundle};
+ghost use Rattle.wg_state.specs.Uses.{resource_uses, group_uses, view_uses, cells_uses, bundle_uses, uses_as, uses_in, uses_within, uses_of};
 
 use crate::book::Book;
 use crate::look;
 use std::alloc::Global;
+use wg_formats::known_bundle;
 use wg_history::NoMemory;
 use wg_types::bindings::{BoundEntry, BoundResource};
+use wg_types::bundles::BundleTouch;
 use wg_types::commands::{Command, On};
 use wg_types::handles::{Handle, Info, ObjRef};
+use wg_types::parts::Cells;
 use wg_types::refs::Gather;
 use wg_types::steps::Sort;
 use wg_types::wanted::Wanted;
@@ -98,7 +103,47 @@ fn push_view(uses: &mut Vec<Used>, view: &Handle) -> Result<(), NoMemory>
     }
 }
 
-/// The resources that objects are or bind.
+/// The resource that cells are of.
+fn cells_used(cells: Cells) -> Used
+    ensures { result ∷ [] ≡ cells_uses cells }
+{
+    match cells {
+        Cells::Bytes { object, .. } => Used {
+            number: object,
+            sort: Sort::Buffer,
+        },
+        Cells::Layers { object, .. } | Cells::Slices { object, .. } => Used {
+            number: object,
+            sort: Sort::Texture,
+        },
+        Cells::Queries { object, .. } => Used {
+            number: object,
+            sort: Sort::Queries,
+        },
+    }
+}
+
+/// Adds the resources of what a bundle touches to a list.
+fn push_touches(uses: &mut Vec<Used>, touches: &[BundleTouch]) -> Result<(), NoMemory>
+    ensures { OnOk result (uses.new.items ≡ uses.old.items ++ flat_map (λ (touch : BundleTouchOf). cells_uses touch.cells) touches.now) }
+{
+    for touch in touches {
+        uses.push(cells_used(touch.cells))?;
+    }
+    Ok(())
+}
+
+/// Adds the resources that a bundle uses to a list; nothing is known of an invalid one.
+fn push_bundle(uses: &mut Vec<Used>, bundle: &Handle) -> Result<(), NoMemory>
+    ensures { OnOk result (uses.new.items ≡ uses.old.items ++ bundle_uses (known_bundle bundle.now)) }
+{
+    match known_bundle(bundle) {
+        Some(known) => push_touches(uses, known.touches.as_slice()),
+        None => Ok(()),
+    }
+}
+
+/// The resources that objects are, bind or use.
 #[derive(Drop)]
 struct Resources;
 
@@ -117,6 +162,7 @@ impl Gather<Handle, Used> for Resources {
             Wanted::Queries => push_used(found, object, Sort::Queries),
             Wanted::View => push_view(found, object),
             Wanted::Group => push_group(found, object),
+            Wanted::Bundle => push_bundle(found, object),
             Wanted::Sampler
             | Wanted::GroupLayout
             | Wanted::PipelineLayout
@@ -125,6 +171,7 @@ impl Gather<Handle, Used> for Resources {
             | Wanted::RenderPipeline
             | Wanted::Destroyable
             | Wanted::Encoder
+            | Wanted::BundleEncoder
             | Wanted::CommandBuffer
             | Wanted::ComputePass
             | Wanted::RenderPass
