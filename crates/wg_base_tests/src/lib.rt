@@ -7,6 +7,8 @@ mod bars;
 #[cfg(test)]
 mod buffers;
 #[cfg(test)]
+mod bundles;
+#[cfg(test)]
 mod copy;
 #[cfg(test)]
 mod counts;

@@ -2,14 +2,14 @@
 ghost use Rattle.std.specs.Prelude.{◌≡◌, ◌==◌, ◌&&◌, ◌+◌, ◌*◌, ◌^◌, ◌<◌, reverse, [], Some, IsNone, IfOk, IfSome};
 ghost use Rattle.std.specs.List.{list_any};
 ghost use Rattle.wg_model.specs.Rules.{first_unmet};
-ghost use Rattle.wg_core.specs.Plans.{use_rules, IsMapInRange};
+ghost use Rattle.wg_core.specs.Plans.{use_rules, ending_rules, IsMapInRange};
 ghost use Rattle.wg_state.specs.Uses.{uses_of, is_sort, is_used_as};
 ghost use Rattle.wg_history.specs.Objects.{is_own, is_command_buffer, made_info};
 ghost use Rattle.wg_model.specs.Commands.{no_texture, query_bytes};
 ghost use Rattle.wg_access.specs.Ranges.{IsInRange};
 ghost use Rattle.wg_history.specs.Entries.{effects_of, submitted, written};
-ghost use Rattle.wg_history.specs.Rules.{is_busy, map_async_rule, unmap_rule, create_view_rule, write_buffer_rule, write_texture_rule, destroy_rule, drop_rule, destroys, is_destroyed, finish_rule, ends_encoder, has_finished, consumes, is_consumed, are_distinct, listed_rules, submit_rule};
-ghost use Rattle.wg_history.specs.FirstRules.{first_rule, create_buffer_rule, create_texture_rule, create_query_set_rule};
+ghost use Rattle.wg_history.specs.Rules.{is_busy, map_async_rule, unmap_rule, create_view_rule, write_buffer_rule, write_texture_rule, destroy_rule, drop_rule, destroys, is_destroyed, finish_rule, finish_bundle_rule, kept_rules, ends_encoder, has_finished, consumes, is_consumed, are_distinct, listed_rules, submit_rule};
+ghost use Rattle.wg_history.specs.FirstRules.{first_rule, create_buffer_rule, create_texture_rule, create_query_set_rule, create_bundle_encoder_rule};
 ghost use Rattle.wg_history.specs.Budget.{bytes_made};
 ghost use Rattle.wg_model.specs.Memory.{texture_bytes};
 
@@ -17,6 +17,7 @@ use crate::{group_rules, uses};
 use std::alloc::Global;
 use std::collections::BTreeSet;
 use wg_buffers::{check_create as check_buffer, check_map};
+use wg_bundle::check_targets;
 use wg_copy::{check_write_buffer, check_write_texture};
 use wg_encoder::Recording;
 use wg_formats::texture_bytes;
@@ -26,6 +27,7 @@ use wg_queries::check_create as check_queries;
 use wg_state::{State, Used};
 use wg_textures::{check_create as check_texture, check_view};
 use wg_types::handles::{BufferInfo, Info, ObjRef, QueriesInfo};
+use wg_types::render::TargetInfo;
 use wg_types::steps::Sort;
 use wg_types::textures::{DataLayout, TextureInfo, TextureSpot, ViewDesc};
 
@@ -218,39 +220,96 @@ fn write_texture(
     None
 }
 
-/// The first unmet rule of a finish (WebGPU, "finish").
-#[tactic(auto, unfolding(wg_history::specs::Rules::finish_rule))]
-fn finish(state: &State, encoder: ObjRef, recording: &Recording) -> Option<u16>
-    ensures { result ≡ finish_rule state.now.setup (reverse state.now.history) encoder recording.now }
+/// The first unmet rule of a createBundleEncoder (WebGPU, "createRenderBundleEncoder").
+#[tactic(auto, unfolding(wg_history::specs::FirstRules::create_bundle_encoder_rule))]
+fn create_bundle_encoder(state: &State, targets: &TargetInfo) -> Option<u16>
+    ensures { result ≡ create_bundle_encoder_rule state.now.setup targets.now }
 {
-    if !wg_state::is_own_encoder(state.setup(), state.book(), encoder) {
-        return Some(10);
-    }
-    if state.is_dropped(encoder.number) {
+    check_targets(targets, &state.setup().limits)
+}
+
+/// The first unmet rule of those on the encoder that a finish or a finishBundle ends, once that is one of this device.
+fn check_ending(state: &State, encoder: u64) -> Option<u16>
+    ensures { result ≡ first_unmet (ending_rules state.now.setup (reverse state.now.history) encoder) }
+{
+    if state.is_dropped(encoder) {
         return Some(11);
     }
-    if !state.book().is_valid(encoder.number) {
+    if !state.book().is_valid(encoder) {
         return Some(12);
     }
-    if state.has_finished(encoder.number) {
+    if state.has_finished(encoder) {
         return Some(180);
     }
+    None
+}
+
+/// The first unmet rule on what an encoder of this number has recorded, be it a bundle encoder.
+fn check_kept(
+    alloc: Global,
+    state: &State,
+    encoder: u64,
+    recording: &Recording,
+) -> Result<Option<u16>, NoMemory>
+    ensures { IfOk result (λ rule. rule ≡ first_unmet (kept_rules state.now.setup (reverse state.now.history) encoder recording.now)) }
+{
+    if recording.open_group() {
+        return Ok(Some(183));
+    }
+    if uses::any_barred(state, encoder, recording.commands()) {
+        return Ok(Some(11));
+    }
+    if recording.scopes(alloc)?.is_some() {
+        return Ok(Some(184));
+    }
+    Ok(None)
+}
+
+/// The first unmet rule of a finish (WebGPU, "finish").
+#[tactic(auto, unfolding(wg_history::specs::Rules::finish_rule))]
+fn finish(
+    alloc: Global,
+    state: &State,
+    encoder: ObjRef,
+    recording: &Recording,
+) -> Result<Option<u16>, NoMemory>
+    ensures { IfOk result (λ rule. rule ≡ finish_rule state.now.setup (reverse state.now.history) encoder recording.now) }
+{
+    if !wg_state::is_own_encoder(state.setup(), state.book(), encoder) {
+        return Ok(Some(10));
+    }
+    if let Some(rule) = check_ending(state, encoder.number) {
+        return Ok(Some(rule));
+    }
     if let Some(rule) = recording.verdict() {
-        return Some(rule);
+        return Ok(Some(rule));
     }
     if recording.open_pass() {
-        return Some(182);
+        return Ok(Some(182));
     }
-    if recording.open_group() {
-        return Some(183);
+    check_kept(alloc, state, encoder.number, recording)
+}
+
+/// The first unmet rule of a finishBundle (WebGPU, "finish" of a render bundle encoder).
+#[tactic(auto, unfolding(wg_history::specs::Rules::finish_bundle_rule))]
+fn finish_bundle(
+    alloc: Global,
+    state: &State,
+    encoder: ObjRef,
+    recording: &Recording,
+) -> Result<Option<u16>, NoMemory>
+    ensures { IfOk result (λ rule. rule ≡ finish_bundle_rule state.now.setup (reverse state.now.history) encoder recording.now) }
+{
+    if !wg_state::is_own_bundle_encoder(state.setup(), state.book(), encoder) {
+        return Ok(Some(10));
     }
-    if uses::any_barred(state, encoder.number, recording.commands()) {
-        return Some(11);
+    if let Some(rule) = check_ending(state, encoder.number) {
+        return Ok(Some(rule));
     }
-    if recording.scopes().is_some() {
-        return Some(184);
+    if let Some(rule) = recording.verdict() {
+        return Ok(Some(rule));
     }
-    None
+    check_kept(alloc, state, encoder.number, recording)
 }
 
 /// Whether some command buffer of a list was consumed.
@@ -416,7 +475,11 @@ pub fn first_rule(
             group_rules::create_render_pipeline(state, *layout, desc, made)
         }
         Event::CreateQuerySet { info } => create_query_set(state, info),
-        Event::Finish { encoder, recording } => finish(state, *encoder, recording),
+        Event::CreateBundleEncoder { targets } => create_bundle_encoder(state, targets.get()),
+        Event::Finish { encoder, recording } => finish(alloc, state, *encoder, recording)?,
+        Event::FinishBundle { encoder, recording } => {
+            finish_bundle(alloc, state, *encoder, recording)?
+        }
         Event::Late { .. } => Some(14),
         Event::Submit { buffers } => return submit(alloc, state, buffers.as_slice()),
         Event::WriteBuffer {

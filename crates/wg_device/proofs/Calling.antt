@@ -9,7 +9,6 @@ use Rattle.wg_types.specs.Bindings.{entries_named}
 use Rattle.wg_types.specs.declared.bindings.GroupEntryOf.{GroupEntryOf}
 use Rattle.wg_types.specs.Requests.{named, kind_made}
 use Rattle.wg_types.specs.declared.wanted.Wanted.{Wanted}
-use Rattle.wg_types.specs.declared.handles.Info.TheVariants as info
 use Rattle.wg_types.specs.declared.handles.ObjRef.{ObjRef}
 use Rattle.wg_types.specs.declared.replies.Reply.{Reply}
 use Rattle.wg_types.specs.declared.requests.RequestOf.{RequestOf}
@@ -22,7 +21,7 @@ use Rattle.wg_history.specs.Answers.{reply_to, IsRun}
 use Rattle.wg_history.proofs.Runs.{newest}
 use Rattle.wg_turn.specs.Entries.{entry}
 use Rattle.wg_turn.specs.Passes.{number_of}
-use Rattle.wg_calls.specs.Calls.{event_asked, handle_of, handle_made, finish_of, recording_of}
+use Rattle.wg_calls.specs.Calls.{event_asked, handle_of, handle_made, finish_of, known_of_finish, recording_of}
 use Rattle.wg_calls.proofs.Genuine.{genuine_made, gives_handle, genuine_finish, gives_finish}
 use Rattle.wg_device.specs.Fronts.{Lock, DevicePass, setup_of, front_in, IsAct}
 use Rattle.wg_device.specs.Handles.{IsGenuine, AreGenuine, IsGenuineIn, AreGenuineIn}
@@ -63,19 +62,19 @@ asked_gives lock old new request reply act makes =
     let end = ended lock old new (event_asked request) reply act in
     gives_handle (setup_of lock) (entry (number_of old) (event_asked request) reply) end.past request refl end.replied makes
 
--- So does a finish, whose handle is genuine.
+-- So does a finish, of a bundle encoder too, whose handle is genuine.
 pub finished_genuine : (lock : Lock) (old new : DevicePass) (encoder : ObjRef) (recorder : RecorderValue) (handle : HandleValue) (reply : Reply) → IsAct lock old new (finish_of encoder recorder) reply
-    → handle_of (setup_of lock).serial info.CommandBuffer reply.answer ≡ Some handle → IsGenuine (setup_of lock) (front_in lock new) handle
+    → handle_of (setup_of lock).serial (known_of_finish recorder) reply.answer ≡ Some handle → IsGenuine (setup_of lock) (front_in lock new) handle
 finished_genuine lock old new encoder recorder handle reply act made =
     let end = ended lock old new (finish_of encoder recorder) reply act in
     subst (λ (past : Past). is_genuine (setup_of lock) past handle ≡ true) (sym end.back)
-    (genuine_finish (setup_of lock) (entry (number_of old) (finish_of encoder recorder) reply) end.past encoder (recording_of recorder) handle refl end.replied made)
+    (genuine_finish (setup_of lock) (entry (number_of old) (finish_of encoder recorder) reply) end.past recorder.targets encoder (recording_of recorder) handle refl end.replied made)
 
 pub finished_gives : (lock : Lock) (old new : DevicePass) (encoder : ObjRef) (recorder : RecorderValue) (reply : Reply) → IsAct lock old new (finish_of encoder recorder) reply
-    → is_some (handle_of (setup_of lock).serial info.CommandBuffer reply.answer) ≡ true
+    → is_some (handle_of (setup_of lock).serial (known_of_finish recorder) reply.answer) ≡ true
 finished_gives lock old new encoder recorder reply act =
     let end = ended lock old new (finish_of encoder recorder) reply act in
-    gives_finish (setup_of lock) (entry (number_of old) (finish_of encoder recorder) reply) end.past encoder (recording_of recorder) refl end.replied
+    gives_finish (setup_of lock) (entry (number_of old) (finish_of encoder recorder) reply) end.past recorder.targets encoder (recording_of recorder) refl end.replied
 
 -- What a call names is genuine.
 

@@ -1,23 +1,26 @@
--- A finish, and how what it took goes back where there was no memory.
+-- A finish, of a bundle encoder too, and how what it took goes back where there was no memory.
 use Rattle.std.specs.Prelude.{◌≡◌}
 use Rattle.wg_encoder.specs.Recorders.{RecorderValue, IsTakenFrom, has_taken, restored}
 use Rattle.wg_history.specs.declared.events.Event.{Event}
-use Rattle.wg_history.specs.declared.events.Event.TheVariants.{Finish}
+use Rattle.wg_history.specs.declared.events.Event.TheVariants.{Finish, FinishBundle}
 
 -- the event has what the last take of the recorder gave
 abbrev pub HasTaken : Event → RecorderValue → Type 0
 HasTaken (Finish encoder recording) recorder = IsTakenFrom recording recorder
+HasTaken (FinishBundle encoder recording) recorder = IsTakenFrom recording recorder
 HasTaken _ recorder = ⊥
 
 -- the recorder with that put back
 abbrev pub given_back : Event → RecorderValue → RecorderValue
 given_back (Finish encoder recording) recorder = restored recording recorder
+given_back (FinishBundle encoder recording) recorder = restored recording recorder
 given_back _ recorder = recorder
 
--- The recorder is as it was: of the same encoder, with the same commands and passes, and ended exactly where it was. It is equal
+-- The recorder is as it was: of the same encoder, with the same targets, commands and passes, and ended exactly where it was. It is equal
 -- to what it was but for how often it was taken, where that is at the end of its count.
 pub record IsAsBefore (old new : RecorderValue) : Type 0 where
   pub device : new.device ≡ old.device
+  pub targets : new.targets ≡ old.targets
   pub encoder : new.encoder ≡ old.encoder
   pub commands : new.commands ≡ old.commands
   pub passes : new.passes ≡ old.passes

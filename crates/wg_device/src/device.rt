@@ -3,22 +3,21 @@ ghost use Rattle.std.specs.Prelude.{◌≡◌, ◌+◌, ◌^◌, ◌<◌, ◌≤
 ghost use Rattle.std.specs.Option.{is_some, option_map};
 ghost use Rattle.std.specs.Arc.{arc_value};
 ghost use mathlib.Core.List.{IsPrefix};
-ghost use Rattle.wg_types.specs.declared.handles.Info.TheVariants.{CommandBuffer};
 ghost use Rattle.wg_types.specs.Requests.{named, kind_made};
 ghost use Rattle.wg_model.specs.Limits.{default_limits};
 ghost use Rattle.wg_encoder.specs.Recorders.{most_takes};
 ghost use Rattle.wg_turn.specs.Passes.{IsPassOf, AreFresh, AreSound, AreInOrder, FrontsAre, IsSamePass, IsWhole, callers_of, own_of, opened_with};
 ghost use Rattle.wg_turn.specs.Closings.{entries_of, passes_of, state_of};
-ghost use Rattle.wg_calls.specs.Calls.{event_asked, info_asked, handle_of, handle_made, finish_of, taken_out};
+ghost use Rattle.wg_calls.specs.Calls.{event_asked, info_asked, handle_of, handle_made, finish_of, finished_info, known_of_finish, taken_out};
 ghost use Rattle.wg_device.specs.Fronts.{front_in, history_of, setup_of, CanCall, HasCalled, HasNotMade, IsAct, IsSoundIn};
 ghost use Rattle.wg_device.specs.Handles.{IsHandleOf, IsGenuineIn, AreGenuineIn};
 ghost use Rattle.wg_device.specs.Takes.{HasTaken, given_back, IsAsBefore};
 
 use std::alloc::Global;
 use std::sync::{Arc, Wait};
-use wg_calls::{event_asked, handle_of, info_asked};
+use wg_calls::{event_asked, finish_event, finished_info, handle_of, info_asked};
 use wg_core::{Core, Event};
-use wg_encoder::Recorder;
+use wg_encoder::{Recorder, Recording};
 use wg_entry::NoMemory;
 use wg_turn::{Closed, Pass, TurnLock};
 use wg_types::handles::{Handle, Info, ObjRef};
@@ -60,13 +59,23 @@ fn handle_from(serial: u64, kept: Option<Arc<Info>>, answer: Answer) -> Option<H
     }
 }
 
+/// What the handle of what a finish makes of a recording will share.
+fn keep_finished(alloc: Global, recording: &Recording) -> Result<Arc<Info>, NoMemory>
+    ensures { IfOk result (λ kept. arc_value kept ≡ finished_info recording.now.targets recording.now) }
+{
+    let info = finished_info(alloc, recording)?;
+    Ok(Arc::new(alloc, info)?)
+}
+
 /// Puts back what a finish took.
 fn put_back(recorder: &mut Recorder, event: Event)
     requires { HasTaken event recorder.old }
     ensures { recorder.new ≡ given_back event recorder.old }
 {
     match event {
-        Event::Finish { recording, .. } => recorder.put_back(recording),
+        Event::Finish { recording, .. } | Event::FinishBundle { recording, .. } => {
+            recorder.put_back(recording)
+        }
         _ => unreachable!(),
     }
 }
@@ -115,9 +124,9 @@ impl Device {
         self.lock.act(rt, pass, event).map_err(|_| NoMemory)
     }
 
-    /// Any call of the device over handles, with the handle of what it makes. A finish that comes here hands
-    /// over no commands: `finish` is for those of a recorder. All that the handle needs is taken before the
-    /// event is sent.
+    /// Any call of the device over handles, with the handle of what it makes. A finish or a finishBundle that
+    /// comes here hands over no commands: `finish` is for those of a recorder. All that the handle needs is
+    /// taken before the event is sent.
     #[tactic(auto, using(crate::proofs::Calling::if_genuine))]
     pub fn ask(
         &self,
@@ -183,9 +192,10 @@ impl Device {
         self.make(rt, pass, &request)
     }
 
-    /// Ends the encoder of a recorder: what that has kept moves into the event. A recorder that was ended
-    /// before hands over nothing. Without memory it is as before.
-    #[tactic(auto, using(crate::proofs::Calling::finished_genuine, crate::proofs::Calling::finished_gives, crate::proofs::Taking::is_as_before, crate::proofs::Taking::is_unchanged))]
+    /// Ends the encoder of a recorder, by a finish, or by a finishBundle where the recorder is that of a bundle
+    /// encoder: what it has kept moves into the event. A recorder that was ended before hands over nothing.
+    /// Without memory it is as before.
+    #[tactic(auto, using(crate::proofs::Calling::finished_genuine, crate::proofs::Calling::finished_gives, crate::proofs::Taking::finish_takes, crate::proofs::Taking::finish_gives_back, crate::proofs::Taking::is_as_before, crate::proofs::Taking::is_unchanged))]
     pub fn finish(
         &self,
         rt: &impl Wait,
@@ -197,20 +207,20 @@ impl Device {
         ensures called { HasCalled self.now.lock pass.old pass.new }
         ensures done { IfOk result (λ t. IfSome recorder.old.encoder (λ encoder.
             IsAct self.now.lock pass.old pass.new (finish_of encoder recorder.old) t.1)) }
-        ensures handle { IfOk result (λ t. handle_of (setup_of self.now.lock).serial CommandBuffer t.1.answer ≡ Some t.0) }
+        ensures handle { IfOk result (λ t. handle_of (setup_of self.now.lock).serial (known_of_finish recorder.old) t.1.answer ≡ Some t.0) }
         ensures genuine { IfOk result (λ t. IsGenuineIn self.now.lock pass.new t.0) }
         ensures taken { IfOk result (λ _. recorder.new ≡ taken_out recorder.old) }
         ensures refused { IfErr result (λ _. HasNotMade self.now.lock pass.old pass.new) }
         ensures as_before { OnErr result (IsAsBefore recorder.old recorder.new) }
         ensures unchanged { OnErr result (recorder.old.takes < most_takes → recorder.new ≡ recorder.old) }
     {
-        let info = Arc::new(self.alloc, Info::CommandBuffer)?;
         let encoder = recorder.encoder().unwrap();
         let recording = recorder.take();
-        match self
-            .lock
-            .act(rt, pass, Event::Finish { encoder, recording })
-        {
+        let Ok(info) = keep_finished(self.alloc, &recording) else {
+            recorder.put_back(recording);
+            return Err(NoMemory);
+        };
+        match self.lock.act(rt, pass, finish_event(encoder, recording)) {
             Ok(reply) => match handle_of(self.serial, info, reply.answer) {
                 Some(handle) => Ok((handle, reply)),
                 None => unreachable!(),

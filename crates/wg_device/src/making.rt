@@ -2,13 +2,13 @@
 ghost use Rattle.std.specs.Prelude.{◌≡◌, All, map, IfOk, IfErr};
 ghost use Rattle.wg_types.specs.Bindings.{entries_named, map_entry};
 ghost use Rattle.wg_types.specs.declared.requests.RequestOf.TheVariants as request;
-ghost use Rattle.wg_calls.specs.Calls.{reference_of, opened_for};
+ghost use Rattle.wg_calls.specs.Calls.{reference_of, opened_for, opened_with};
 ghost use Rattle.wg_device.specs.Fronts.{CanCall, HasCalled, HasNotMade, IsAct};
 ghost use Rattle.wg_device.specs.Handles.{IsHandleOf, IsGenuineIn, AreGenuineIn, whole};
 
 use crate::device::{Device, DevicePass};
 use std::sync::Wait;
-use wg_calls::recorder_for;
+use wg_calls::{bundle_recorder_for, recorder_for};
 use wg_core::Event;
 use wg_encoder::Recorder;
 use wg_entry::NoMemory;
@@ -16,7 +16,7 @@ use wg_types::bindings::{GroupEntryOf, IfaceEntry, LayoutEntry, SamplerKind};
 use wg_types::groups::{GroupLayoutInfo, Interface};
 use wg_types::handles::{BufferInfo, Handle, QueriesInfo};
 use wg_types::items::Items;
-use wg_types::render::RenderDesc;
+use wg_types::render::{RenderDesc, TargetInfo};
 use wg_types::replies::Reply;
 use wg_types::requests::RequestOf;
 use wg_types::shared::Shared;
@@ -248,6 +248,30 @@ impl Device {
     {
         let (handle, reply) = self.make_of(rt, pass, RequestOf::CreateEncoder)?;
         let recorder = recorder_for(self.alloc, &handle);
+        Ok((recorder, handle, reply))
+    }
+
+    /// Makes a bundle encoder that draws to these targets (WebGPU, "createRenderBundleEncoder"), with a recorder
+    /// that is open for it. `finish` ends it, and makes the bundle.
+    #[tactic(auto, using(crate::proofs::Calling::none_named))]
+    pub fn create_bundle_encoder(
+        &self,
+        rt: &impl Wait,
+        pass: &mut DevicePass,
+        targets: TargetInfo,
+    ) -> Result<(Recorder, Handle, Reply), NoMemory>
+        requires { CanCall self.now.lock pass.old }
+        ensures called { HasCalled self.now.lock pass.old pass.new }
+        ensures done { IfOk result (λ t. IsAct self.now.lock pass.old pass.new (Event.CreateBundleEncoder targets) t.2) }
+        ensures handle { IfOk result (λ t. IsHandleOf self.now.lock (request.CreateBundleEncoder targets) t.2 t.1) }
+        ensures recorder { IfOk result (λ t. t.0 ≡ opened_with targets t.1.reference) }
+        ensures genuine { IfOk result (λ t. IsGenuineIn self.now.lock pass.new t.1) }
+        ensures refused { IfErr result (λ _. HasNotMade self.now.lock pass.old pass.new) }
+    {
+        let targets = Shared::new(self.alloc, targets)?;
+        let kept = targets.share()?;
+        let (handle, reply) = self.make_of(rt, pass, RequestOf::CreateBundleEncoder { targets })?;
+        let recorder = bundle_recorder_for(self.alloc, &handle, kept);
         Ok((recorder, handle, reply))
     }
 }

@@ -5,6 +5,8 @@
 #[cfg(test)]
 mod access;
 #[cfg(test)]
+mod bundles;
+#[cfg(test)]
 mod calls;
 #[cfg(test)]
 mod compute;
@@ -24,5 +26,7 @@ mod render;
 mod tests;
 #[cfg(test)]
 mod threads;
+#[cfg(test)]
+mod touches;
 #[cfg(test)]
 mod turns;

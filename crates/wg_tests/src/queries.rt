@@ -152,7 +152,7 @@ fn run(rt: &impl Abort, core: &mut Core, alloc: Global) -> [bool; 2] {
 }
 
 /// Whether an item is a step of the first operation with this name, these uses and these accesses.
-fn is_step(
+pub(crate) fn is_step(
     item: &Item,
     name: StepName,
     uses: &[(PartRun, Usages)],

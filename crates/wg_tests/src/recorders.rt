@@ -98,7 +98,7 @@ fn put_back(recorder: &mut Recorder) -> (bool, bool, usize, usize) {
 
 /// What is told of what is taken for good: its verdict, how many commands were kept and how many deeds are
 /// done, and whether no usage scope has a clash.
-fn taken(recorder: &mut Recorder) -> (Option<u16>, usize, usize, bool) {
+fn taken(recorder: &mut Recorder, alloc: Global) -> (Option<u16>, usize, usize, bool) {
     let recording = recorder.take();
     let kept = recording.commands().len();
     let done = recording.done().len();
@@ -106,7 +106,7 @@ fn taken(recorder: &mut Recorder) -> (Option<u16>, usize, usize, bool) {
         recording.verdict(),
         kept,
         done,
-        recording.scopes().is_none(),
+        matches!(recording.scopes(alloc), Ok(None)),
     )
 }
 
@@ -142,9 +142,9 @@ type Ended = (
 );
 
 /// After the end of the encoder each call is late.
-fn end_a_pass(rt: &impl Abort, recorder: &mut Recorder) -> Ended {
+fn end_a_pass(rt: &impl Abort, recorder: &mut Recorder, alloc: Global) -> Ended {
     let ended = end(rt, recorder);
-    let told = taken(recorder);
+    let told = taken(recorder, alloc);
     let late = note(rt, recorder, On::Encoder, Command::PushDebugGroup);
     (ended, told, late)
 }
@@ -153,7 +153,7 @@ fn end_a_pass(rt: &impl Abort, recorder: &mut Recorder) -> Ended {
 fn of_pass(rt: &impl Abort, alloc: Global) -> (Begun, Ended) {
     let mut recorder = opened(alloc);
     let begun = begin_a_pass(rt, &mut recorder);
-    (begun, end_a_pass(rt, &mut recorder))
+    (begun, end_a_pass(rt, &mut recorder, alloc))
 }
 
 #[test]
@@ -205,10 +205,10 @@ type Told = (
 );
 
 /// What is told while the pass is open, and then once it has ended.
-fn open_and_end(rt: &impl Abort, recorder: &mut Recorder) -> Told {
+fn open_and_end(rt: &impl Abort, recorder: &mut Recorder, alloc: Global) -> Told {
     let open = put_back(recorder);
     let ended = note(rt, recorder, On::Pass(0), Command::End);
-    (open, ended, taken(recorder))
+    (open, ended, taken(recorder, alloc))
 }
 
 /// Both, of one recorder, which is dropped here.
@@ -216,7 +216,7 @@ fn of_open_pass(rt: &impl Abort, alloc: Global) -> Result<([Answer; 2], Told), N
     let buffer = object(alloc, 1, BUFFER)?;
     let mut recorder = opened(alloc);
     let begun = clear_and_begin(rt, &mut recorder, buffer);
-    Ok((begun, open_and_end(rt, &mut recorder)))
+    Ok((begun, open_and_end(rt, &mut recorder, alloc)))
 }
 
 #[test]
