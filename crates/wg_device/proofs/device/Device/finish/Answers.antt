@@ -1,4 +1,4 @@
-use Rattle.std.proofs.Common.{◌≡◌, true, false, Option, None, is_some, sym, ap, ◌∙◌, subst, true≢false}
+use Rattle.std.proofs.Common.{◌≡◌, true, Option, None, is_some, sym, ap, ◌∙◌, subst, true≢false}
 use Rattle.std.specs.Arc.{arc_value}
 use Rattle.wg_types.specs.Handles.{HandleValue}
 use Rattle.wg_encoder.specs.Recorders.{RecorderValue, RecordingValue}
