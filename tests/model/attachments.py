@@ -1,4 +1,4 @@
-"""What is attached to a render pass: the rules of its begin, those of a pipeline that is set in it, and what it touches of it.
+"""What is attached to a render pass: the rules of its begin, what it draws to by that, and what it touches of it.
 
 The colors of a pass are the dictionaries that the script has, with all of their keys, or None where they are null.
 """
@@ -120,20 +120,6 @@ def resolve_rules(view, resolve):
     yield 307, "same format", texture_of(resolve)["format"] == texture_of(view)["format"]
     for name, one, two in zip(("width", "height"), width_and_height(view), width_and_height(resolve)):
         yield 307, name, one == two
-
-
-def pipeline_rules(pipeline, begin):
-    """Rules 320 and 321, on a pipeline that is set in a pass that was begun without a fault; a compute pass asks for nothing."""
-    if begin.do == "beginRenderPass":
-        depth, asked = begin.call["depth"], pipeline["depth"]
-        yield 320, "targets", without_last_nulls(pipeline["targets"]) == without_last_nulls(color_formats(begin))
-        yield 320, "has depth", (asked is not None) == (depth is not None)
-        if asked is not None:
-            yield 320, "depth format", asked["format"] == texture_of(depth_of(begin)[0])["format"]
-        yield 320, "samples", pipeline["samples"] == texture_of(attached_views(begin)[0])["samples"]
-        if asked is not None:
-            yield 321, "depth", not (asked["depthWrite"] and depth["depthReadOnly"])
-            yield 321, "stencil", not (asked["stencilWrite"] and depth["stencilReadOnly"])
 
 
 def attached_views(begin):

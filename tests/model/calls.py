@@ -24,7 +24,11 @@ ENCODER = ("name", ("encoder",))
 COMPUTE_PASS = ("name", ("compute pass",))
 RENDER_PASS = ("name", ("render pass",))
 PASS = ("name", ("compute pass", "render pass"))
-ENCODER_OR_PASS = ("name", ("encoder", "compute pass", "render pass"))
+BUNDLE_ENCODER = ("name", ("bundle encoder",))
+BUNDLES = ("names", ("bundle",))
+DRAWN_ON = ("name", ("render pass", "bundle encoder"))
+SET_ON = ("name", ("compute pass", "render pass", "bundle encoder"))
+ANY_PLACE = ("name", ("encoder", "compute pass", "render pass", "bundle encoder"))
 VIEW = ("name", ("view",))
 SAMPLER = ("name", ("sampler",))
 GROUP_LAYOUT = ("name", ("bind group layout",))
@@ -38,7 +42,7 @@ OBJECT = (
     "name",
     (
         "buffer", "texture", "view", "sampler", "bind group layout", "pipeline layout", "bind group", "compute pipeline", "render pipeline",
-        "query set", "encoder", "command buffer",
+        "query set", "encoder", "bundle encoder", "command buffer", "bundle",
     ),
 )
 COMMAND_BUFFERS = ("names", ("command buffer",))
@@ -56,7 +60,9 @@ ON = ("on", ENCODER, NEEDED)
 ON_COMPUTE = ("on", COMPUTE_PASS, NEEDED)
 ON_RENDER = ("on", RENDER_PASS, NEEDED)
 ON_PASS = ("on", PASS, NEEDED)
-ON_EITHER = ("on", ENCODER_OR_PASS, NEEDED)
+ON_DRAWN = ("on", DRAWN_ON, NEEDED)
+ON_SET = ("on", SET_ON, NEEDED)
+ON_ANY = ("on", ANY_PLACE, NEEDED)
 AS = ("as", NAME, NEEDED)
 
 SAMPLER_WORDS = ("filtering", "non-filtering", "comparison")
@@ -134,7 +140,7 @@ IFACE_ENTRIES = ("objects", iface_entry_keys)
 RENDER_IFACE_ENTRIES = ("objects", render_iface_entry_keys)
 GROUP_ENTRIES = ("objects", group_entry_keys)
 VERTEX_BUFFERS = ("objects", vertex_buffer_keys)
-TARGETS = ("words or nulls", tuple(FORMATS))
+FORMATS_OR_NULLS = ("words or nulls", tuple(FORMATS))
 DEPTH_STATE = ("object", depth_state_keys)
 COLORS = ("objects or nulls", color_keys)
 DEPTH = ("object", depth_keys)
@@ -157,12 +163,17 @@ CALLS = {
     "createBindGroup": [("layout", GROUP_LAYOUT, NEEDED), ("entries", GROUP_ENTRIES, NEEDED), AS],
     "createComputePipeline": [("layout", PIPELINE_LAYOUT, NEEDED), ("iface", IFACE_ENTRIES, ()), AS],
     "createRenderPipeline": [
-        ("layout", PIPELINE_LAYOUT, NEEDED), ("iface", RENDER_IFACE_ENTRIES, ()), ("buffers", VERTEX_BUFFERS, ()), ("targets", TARGETS, ()),
+        ("layout", PIPELINE_LAYOUT, NEEDED), ("iface", RENDER_IFACE_ENTRIES, ()), ("buffers", VERTEX_BUFFERS, ()), ("targets", FORMATS_OR_NULLS, ()),
         ("depth", DEPTH_STATE, None), ("samples", WORD32, 1), AS,
     ],
     "createQuerySet": [("count", WORD32, NEEDED), AS],
     "createEncoder": [AS],
+    "createBundleEncoder": [
+        ("colors", FORMATS_OR_NULLS, NEEDED), ("depth", word(FORMATS), None), ("samples", WORD32, 1), ("depthReadOnly", FLAG, False),
+        ("stencilReadOnly", FLAG, False), AS,
+    ],
     "finish": [ON, AS],
+    "finishBundle": [("on", BUNDLE_ENCODER, NEEDED), AS],
     "submit": [("buffers", COMMAND_BUFFERS, NEEDED)],
     "writeBuffer": [("buffer", BUFFER, NEEDED), ("offset", WHOLE, NEEDED), ("size", WHOLE, NEEDED)],
     "writeTexture": SPOT + LAYOUT + [("dataSize", WHOLE, NEEDED)],
@@ -192,42 +203,47 @@ CALLS = {
     ],
     "beginComputePass": [ON, AS],
     "beginRenderPass": [ON, ("colors", COLORS, NEEDED), ("depth", DEPTH, None), ("queries", QUERIES, None), AS],
-    "setPipeline": [ON_PASS, ("pipeline", PIPELINE, NEEDED)],
-    "setBindGroup": [ON_PASS, ("index", WORD32, NEEDED), ("group", GROUP, NEEDED), ("offsets", WORDS32, ())],
+    "setPipeline": [ON_SET, ("pipeline", PIPELINE, NEEDED)],
+    "setBindGroup": [ON_SET, ("index", WORD32, NEEDED), ("group", GROUP, NEEDED), ("offsets", WORDS32, ())],
     "dispatch": [ON_COMPUTE, ("x", WORD32, NEEDED), ("y", WORD32, 1), ("z", WORD32, 1)],
     "dispatchIndirect": [ON_COMPUTE, ("buffer", BUFFER, NEEDED), ("offset", WHOLE, NEEDED)],
-    "setVertexBuffer": [ON_RENDER, ("slot", WORD32, NEEDED), ("buffer", BUFFER, NEEDED), ("offset", WHOLE, 0), ("size", WHOLE, None)],
+    "setVertexBuffer": [ON_DRAWN, ("slot", WORD32, NEEDED), ("buffer", BUFFER, NEEDED), ("offset", WHOLE, 0), ("size", WHOLE, None)],
     "setIndexBuffer": [
-        ON_RENDER, ("buffer", BUFFER, NEEDED), ("format", word(("uint16", "uint32")), NEEDED), ("offset", WHOLE, 0), ("size", WHOLE, None),
+        ON_DRAWN, ("buffer", BUFFER, NEEDED), ("format", word(("uint16", "uint32")), NEEDED), ("offset", WHOLE, 0), ("size", WHOLE, None),
     ],
     "draw": [
-        ON_RENDER, ("vertices", WORD32, NEEDED), ("instances", WORD32, 1), ("firstVertex", WORD32, 0), ("firstInstance", WORD32, 0),
+        ON_DRAWN, ("vertices", WORD32, NEEDED), ("instances", WORD32, 1), ("firstVertex", WORD32, 0), ("firstInstance", WORD32, 0),
     ],
     "drawIndexed": [
-        ON_RENDER, ("indices", WORD32, NEEDED), ("instances", WORD32, 1), ("firstIndex", WORD32, 0), ("firstInstance", WORD32, 0),
+        ON_DRAWN, ("indices", WORD32, NEEDED), ("instances", WORD32, 1), ("firstIndex", WORD32, 0), ("firstInstance", WORD32, 0),
     ],
-    "drawIndirect": [ON_RENDER, ("buffer", BUFFER, NEEDED), ("offset", WHOLE, NEEDED)],
-    "drawIndexedIndirect": [ON_RENDER, ("buffer", BUFFER, NEEDED), ("offset", WHOLE, NEEDED)],
+    "drawIndirect": [ON_DRAWN, ("buffer", BUFFER, NEEDED), ("offset", WHOLE, NEEDED)],
+    "drawIndexedIndirect": [ON_DRAWN, ("buffer", BUFFER, NEEDED), ("offset", WHOLE, NEEDED)],
     "beginOcclusionQuery": [ON_RENDER, ("index", WORD32, NEEDED)],
     "endOcclusionQuery": [ON_RENDER],
+    "executeBundles": [ON_RENDER, ("bundles", BUNDLES, NEEDED)],
     "end": [ON_PASS],
-    "pushDebugGroup": [ON_EITHER],
-    "popDebugGroup": [ON_EITHER],
+    "pushDebugGroup": [ON_ANY],
+    "popDebugGroup": [ON_ANY],
 }
 
 # The calls that are known and not built yet.
-UNBUILT = set("createBundleEncoder finishBundle executeBundles createCanvas configureCanvas currentTexture present".split())
+UNBUILT = set("createCanvas configureCanvas currentTexture present".split())
 
-# The calls that record a command on an encoder, or on a pass of it.
+# The calls that record a command on an encoder, on a pass of it, or on a bundle encoder.
 RECORDING = {
     "copyBufferToBuffer", "copyBufferToTexture", "copyTextureToBuffer", "copyTextureToTexture", "clearBuffer", "resolveQuerySet",
     "beginComputePass", "beginRenderPass", "setPipeline", "setBindGroup", "dispatch", "dispatchIndirect", "setVertexBuffer", "setIndexBuffer",
-    "draw", "drawIndexed", "drawIndirect", "drawIndexedIndirect", "beginOcclusionQuery", "endOcclusionQuery", "end", "pushDebugGroup",
-    "popDebugGroup",
+    "draw", "drawIndexed", "drawIndirect", "drawIndexedIndirect", "beginOcclusionQuery", "endOcclusionQuery", "executeBundles", "end",
+    "pushDebugGroup", "popDebugGroup",
 }
 BEGINS = {"beginComputePass", "beginRenderPass"}
 DISPATCHES = {"dispatch", "dispatchIndirect"}
 DRAWS = {"draw", "drawIndexed", "drawIndirect", "drawIndexedIndirect"}
+
+# The calls that make what commands are recorded on, and those that end it and make something of the commands.
+ENCODERS = {"createEncoder", "createBundleEncoder"}
+FINISHES = {"finish", "finishBundle"}
 
 # The calls that queue an operation.
 QUEUED = {"submit", "writeBuffer", "writeTexture"}
@@ -241,7 +257,7 @@ MADE = {
     "createBuffer": "buffer", "createTexture": "texture", "createView": "view", "createSampler": "sampler",
     "createBindGroupLayout": "bind group layout", "createPipelineLayout": "pipeline layout", "createBindGroup": "bind group",
     "createComputePipeline": "compute pipeline", "createRenderPipeline": "render pipeline", "createQuerySet": "query set",
-    "createEncoder": "encoder", "finish": "command buffer",
+    "createEncoder": "encoder", "createBundleEncoder": "bundle encoder", "finish": "command buffer", "finishBundle": "bundle",
 }
 
 # The calls whose objects take memory: they are destroyed and released.

@@ -5,11 +5,12 @@ asked for again and again is kept beside them, and brought up to date by each ca
 """
 
 import collections
+import functools
 
 from . import maps
 from . import passes
 from . import scopes
-from .calls import RESOURCES, WAITING, name_keys, names_in
+from .calls import ENCODERS, FINISHES, RESOURCES, WAITING, name_keys, names_in
 from .lives import Lives
 
 
@@ -17,7 +18,8 @@ class Played:
     """A call that was played: what it says, which objects its names stand for, and how it was answered.
 
     Its rule is the first that it leaves unmet, also on a lost device, where that makes no fault. A command that was recorded in
-    time has no entry in the history, no rule and no answer.
+    time has no entry in the history, no rule and no answer. A first finish has the commands of which it makes a command buffer or a bundle,
+    be they valid or not; a later one has none.
     """
 
     def __init__(self, call, uses, caller):
@@ -36,6 +38,7 @@ class Played:
         self.op = None
         self.awaited = None
         self.ended = None
+        self.commands = []
         self.released = []
 
     @property
@@ -64,19 +67,36 @@ class Played:
                 found += [(key, thing) for thing in (value if type(value) is list else [value])]
         return found
 
+    @functools.cached_property
+    def names(self):
+        """The objects that the commands of a finish name themselves, each once."""
+        return list(dict.fromkeys(thing for command in self.commands for _, thing in command.named()))
+
+    @functools.cached_property
+    def resources(self):
+        """The buffers, textures and query sets that they name, themselves or through others, each once."""
+        return list(dict.fromkeys(found for thing in self.names for found in resources_in(thing)))
+
+    @functools.cached_property
+    def touches(self):
+        """What a bundle touches in each pass that executes it, each once."""
+        return list(dict.fromkeys(passes.touches_of_drawing(self.commands)))
+
 
 def encoder_of(place):
-    """The encoder of what a command stands on: itself, or the one on which the pass was begun."""
-    return place if place.do == "createEncoder" else place.uses["on"]
+    """The encoder of what a command stands on: itself, be it one of a bundle, or the one on which the pass was begun."""
+    return place if place.do in ENCODERS else place.uses["on"]
 
 
 def resources_in(thing):
-    """The buffers, textures and query sets that one names who names an object: it itself, the texture of a view, or what a bind group
-    binds."""
+    """The buffers, textures and query sets that one names who names an object: it itself, the texture of a view, what a bind group
+    binds, or what the commands of a bundle name, themselves or through these."""
     if thing.do in RESOURCES:
         return [thing]
     if thing.do == "createView":
         return [thing.uses["texture"]]
+    if thing.do == "finishBundle":
+        return thing.resources
     return [found for bound in thing.uses["entries"] for found in resources_in(bound)] if thing.do == "createBindGroup" else []
 
 
@@ -102,7 +122,6 @@ class History:
         self.pending = {}
         self.mappings = {}
         self.scopes = scopes.Stack()
-        self.named = {}
         self.lives = Lives(self)
 
     def add(self, played):
@@ -113,7 +132,7 @@ class History:
             self.walks[encoder].take(played)
             return
         self.with_entry.append(played)
-        if played.do == "finish":
+        if played.do in FINISHES:
             self.finished[played.uses["on"]].append(played)
         if played.do == "destroy" and played.is_met:
             self.destroyed.add(played.uses["object"])
@@ -165,14 +184,15 @@ class History:
         return self.has_loss
 
     def finishes(self, encoder):
-        """The finishes that named an encoder, accepted, refused or on a lost device."""
+        """The finishes that named an encoder or a bundle encoder, accepted, refused or on a lost device."""
         return self.finished[encoder]
 
     def has_finished(self, encoder):
         return self.finishes(encoder) != []
 
     def has_ended(self, place):
-        """An encoder has ended from its first finish on. A pass has ended where its encoder has, or by its own end, if it was open."""
+        """An encoder or a bundle encoder has ended from its first finish on. A pass has ended where its encoder has, or by its own end, if it
+        was open."""
         encoder = encoder_of(place)
         return self.has_finished(encoder) or place in self.walks[encoder].ended
 
@@ -180,10 +200,9 @@ class History:
         """The commands that were recorded on an encoder and on its passes, in order; a late one was not."""
         return self.recorded[encoder]
 
-    def commands_of(self, command_buffer):
-        """The commands of a command buffer: those of its encoder if it came of the first finish, else none."""
-        encoder = command_buffer.uses["on"]
-        return self.commands_on(encoder) if self.finishes(encoder)[0] is command_buffer else []
+    def commands_of(self, made):
+        """The commands of a command buffer or a bundle: those of its encoder if it came of the first finish, else none."""
+        return made.commands
 
     def is_destroyed(self, thing):
         """Some destroy that met its rules named the object, be it on a lost device."""
@@ -232,22 +251,20 @@ class History:
 
     def used_by(self, played):
         """What an operation uses: a write its target, also where its size is 0; a submit what its commands name, with the textures of the
-        views that they attach, and what is bound in the groups that they set. A query set is used also where no query of it is begun."""
+        views that they attach, what is bound in the groups that they set, and what the bundles name that they execute. A query set is used
+        also where no query of it is begun."""
         if played.do == "submit":
             return self.resources_of(played.uses["buffers"])
         return [played.uses["buffer" if played.do == "writeBuffer" else "texture"]]
 
     def named_by(self, command_buffers):
         """The objects that the commands of some command buffers name themselves."""
-        for one in command_buffers:
-            if one not in self.named:
-                self.named[one] = [thing for command in self.commands_of(one) for _, thing in command.named()]
-        return [thing for one in command_buffers for thing in self.named[one]]
+        return [thing for one in command_buffers for thing in one.names]
 
     def resources_of(self, command_buffers):
         """The buffers, textures and query sets that the commands of some command buffers name, themselves, through a view that they
-        attach, or through a bind group, whether or not a step comes of it."""
-        return [found for thing in dict.fromkeys(self.named_by(command_buffers)) for found in resources_in(thing)]
+        attach, through a bind group, or through a bundle, whether or not a step comes of it."""
+        return [found for one in command_buffers for found in one.resources]
 
     def live_bytes(self):
         """The bytes of all that is valid and was not released."""

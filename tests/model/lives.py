@@ -8,7 +8,7 @@ let go, or for which an operation is complete now.
 import collections
 
 from . import memory
-from .calls import RESOURCES
+from .calls import ENCODERS, FINISHES, RESOURCES
 
 # The calls that make an object which refers to all that they name.
 REFERRING = {"createView", "createPipelineLayout", "createBindGroup", "createComputePipeline", "createRenderPipeline"}
@@ -31,9 +31,9 @@ class Lives:
         if played.do in RESOURCES and played.is_valid:
             self.kept.add(played)
             self.bytes += memory.bytes_of(played.call)
-        if played.do == "createEncoder":
+        if played.do in ENCODERS:
             self.open_encoders[played] = True
-        if played.is_valid and (played.do in REFERRING or played.do == "finish"):
+        if played.is_valid and (played.do in REFERRING or played.do in FINISHES):
             for thing in dict.fromkeys(self.held_by(played)):
                 self.holders[thing].append(played)
         released = sorted({thing for thing in self.looked_at(played) if self.is_due(thing)}, key=lambda thing: thing.made)
@@ -44,9 +44,9 @@ class Lives:
 
     def held_by(self, thing):
         """What an object holds while it is valid and itself held: a view its texture, a pipeline layout its bind group layouts, a bind group
-        its layout and what it binds, a pipeline its layout; and a command buffer what its commands name."""
-        if thing.do == "finish":
-            return self.history.named_by([thing])
+        its layout and what it binds, a pipeline its layout; and a command buffer or a bundle what its commands name."""
+        if thing.do in FINISHES:
+            return thing.names
         return thing.referred() if thing.do in REFERRING else []
 
     def looked_at(self, played):
@@ -58,7 +58,7 @@ class Lives:
             self.under_encoders.append(played.uses["object"])
             yield from self.reached(played.uses["object"])
             yield from self.closed(played.uses["object"])
-        if played.do == "finish":
+        if played.do in FINISHES:
             yield from self.closed(played.uses["on"])
         for one in played.uses["buffers"] if played.do == "submit" else []:
             yield from self.reached(one)
@@ -88,13 +88,15 @@ class Lives:
         return holders != []
 
     def still_holds(self, other):
-        """A command buffer holds what it names while it is neither consumed nor dropped, another object while it is itself held."""
+        """A command buffer holds what it names while it is neither consumed nor dropped, another object, be it a bundle, while it is itself
+        held."""
         if other.do == "finish":
             return not self.history.is_consumed(other) and not self.history.is_dropped(other)
         return self.is_held(other)
 
     def is_held_by_encoder(self, thing):
-        """An encoder that is open, valid or not, holds all that was dropped since it was made: so the oldest holds the most."""
+        """An encoder or bundle encoder that is open, valid or not, holds all that was dropped since it was made: so the oldest holds the
+        most."""
         oldest = next(iter(self.open_encoders), None)
         return oldest is not None and oldest.entry < self.history.drop_of(thing).entry
 

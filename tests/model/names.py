@@ -11,8 +11,8 @@ from .script import ask
 
 WELL_FORMED = re.compile(r"[A-Za-z0-9_]{1,64}")
 
-# Of which kind a pipeline has to be that is set in a pass of some kind.
-PIPELINE_OF = {"compute pass": "compute pipeline", "render pass": "render pipeline"}
+# Of which kind a pipeline has to be that is set in a pass of some kind, or on a bundle encoder.
+PIPELINE_OF = {"compute pass": "compute pipeline", "render pass": "render pipeline", "bundle encoder": "render pipeline"}
 
 
 def bind(phases):
@@ -29,7 +29,7 @@ def bind(phases):
 
 
 def wanted(call, key, kinds, given):
-    """What a name may stand for. Of a pipeline that is set the pass says which, whose name is looked at before."""
+    """What a name may stand for. Of a pipeline that is set that says which on which it is set, whose name is looked at before."""
     if call["do"] == "setPipeline" and key == "pipeline":
         return [PIPELINE_OF[given[call["on"]][1]]]
     return kinds
@@ -37,7 +37,7 @@ def wanted(call, key, kinds, given):
 
 def ask_used(place, key, name, kinds, given):
     """Rule 10: an earlier call gave the name, and it is visible. Rule 11: what it stands for is of a kind that the key takes. Rule 12: the
-    encoder or pass under `on` was made by this lane, in this phase."""
+    encoder, bundle encoder or pass under `on` was made by this lane, in this phase."""
     ask(10, "given", name in given, place)
     maker, kind = given[name]
     ask(10, "visible", is_visible(maker, place), place)

@@ -4,6 +4,7 @@ import collections
 
 from . import attachments
 from . import bound_groups
+from . import bundles
 from . import draws
 from . import queries
 from .calls import BEGINS, DISPATCHES, DRAWS
@@ -44,17 +45,20 @@ class Walk:
 
 
 class Settings:
-    """What is set of a pass after some of its commands, each as the command that set it last, how many of its debug groups are open, which
-    queries were begun in it, and whether one is active."""
+    """What is set of a pass or a bundle after some of its commands, each as the command that set it last, how many of its debug groups are
+    open, which queries were begun in it, and whether one is active."""
 
     def __init__(self):
+        self.unset()
+        self.open_groups = 0
+        self.begun = set()
+        self.is_active = False
+
+    def unset(self):
         self.pipeline = None
         self.groups = {}
         self.vertex_buffers = {}
         self.index_buffer = None
-        self.open_groups = 0
-        self.begun = set()
-        self.is_active = False
 
     def take(self, command):
         self.open_groups = groups_after(self.open_groups, command)
@@ -71,6 +75,8 @@ class Settings:
             self.is_active = True
         elif command.do == "endOcclusionQuery":
             self.is_active = False
+        elif command.do == "executeBundles":
+            self.unset()
 
 
 def groups_after(count, command):
@@ -82,13 +88,20 @@ def groups_after(count, command):
 
 def pass_rule(begin, commands):
     """The first rule that a pass leaves unmet: one of its begin, or else of its commands; or None."""
-    rule, settings = first_unmet(begin.do, begin_rules(begin)), Settings()
+    rule = first_unmet(begin.do, begin_rules(begin))
+    return rule_in(commands) if rule is None else rule
+
+
+def rule_in(commands, where=""):
+    """The first rule that the commands of a pass or of a bundle encoder leave unmet, which are counted with a word for where they stand; or
+    None."""
+    settings = Settings()
     for command in commands:
+        rule = first_unmet(command.do + where, command_rules(command, settings))
         if rule is not None:
             return rule
-        rule = first_unmet(command.do, command_rules(command, settings))
         settings.take(command)
-    return rule
+    return None
 
 
 def begin_rules(begin):
@@ -99,11 +112,11 @@ def begin_rules(begin):
 
 
 def command_rules(command, settings):
-    """The rules of a command of a pass by what is set where it comes: those on what it names, then its own."""
+    """The rules of a command of a pass or of a bundle encoder by what is set where it comes: those on what it names, then its own."""
     yield from named_rules(command)
     call, uses = command.call, command.uses
     if command.do == "setPipeline":
-        yield from attachments.pipeline_rules(uses["pipeline"].call, uses["on"])
+        yield from bundles.pipeline_rules(uses["pipeline"].call, uses["on"])
     elif command.do == "setBindGroup":
         yield from bound_groups.set_rules(call["index"], uses["group"], call["offsets"])
     elif command.do == "setVertexBuffer":
@@ -114,7 +127,7 @@ def command_rules(command, settings):
         yield from bound_groups.bound_rules(settings)
         yield from work_rules(command, settings)
     elif command.do == "popDebugGroup":
-        yield 285, "open group of a pass", settings.open_groups > 0
+        yield 285, "open group", settings.open_groups > 0
     elif command.do == "end":
         yield 310, "groups are closed", settings.open_groups == 0
         yield 311, "no query is active", not settings.is_active
@@ -122,6 +135,8 @@ def command_rules(command, settings):
         yield from queries.begin_rules(uses["on"].uses.get("queries"), call["index"], settings)
     elif command.do == "endOcclusionQuery":
         yield 364, "a query is active", settings.is_active
+    elif command.do == "executeBundles":
+        yield from bundles.execute_rules(uses["bundles"], uses["on"])
 
 
 def work_rules(command, settings):
@@ -150,14 +165,22 @@ def touches_of_dispatch(dispatch, settings):
 
 
 def touches_of_pass(begin, commands):
-    """What a render pass touches: what is attached, and all that its commands set, whatever comes of it, the numbers of its indirect draws,
-    and the queries that are begun in it. Of a query set of which none is begun nothing is."""
-    touches = attachments.touches(begin)
+    """What a render pass touches: what is attached, what its commands set or execute, and the queries that are begun in it. Of a query set
+    of which none is begun nothing is."""
+    begun = [touch for command in commands for touch in queries.touches_of_begun(begin, command)]
+    return attachments.touches(begin) + begun + touches_of_drawing(commands)
+
+
+def touches_of_drawing(commands):
+    """What the commands of a render pass or of a bundle encoder touch: all that they set, whatever comes of it, the numbers of indirect
+    draws, and what the bundles touch that they execute, be it several times."""
+    touches = []
     for command in commands:
         if command.do == "setBindGroup":
             touches += [touch for _, found in bound_groups.touched(command) for touch in found]
-        touches += draws.touches_of_range(command) + draws.touches_of_indirect(command) + queries.touches_of_begun(begin, command)
-    return touches
+        touches += draws.touches_of_range(command) + draws.touches_of_indirect(command)
+    executed = dict.fromkeys(bundle for command in commands if command.do == "executeBundles" for bundle in command.uses["bundles"])
+    return touches + [touch for bundle in executed for touch in bundle.touches]
 
 
 def scopes_of(commands):
@@ -173,15 +196,20 @@ def scopes_of(commands):
 
 
 def scope_rules(commands):
-    """Rule 184: the usage scope of each dispatch and of each render pass is compatible, in which query sets are not looked at. The commands
-    are those of an encoder that no rule invalidated."""
+    """Rule 184: the usage scope of each dispatch and of each render pass is compatible. The commands are those of an encoder that no rule
+    invalidated."""
     for _, touches in scopes_of(commands):
-        uses = {}
-        for cell, usage, _ in touches or []:
-            uses.setdefault(part_of(cell), set()).add(usage)
-        for part, usages in uses.items():
-            if part[0] == "q":
-                continue
-            what = "buffer" if part[0] == "b" else "subresource"
-            are_alike = usages <= READ_TOGETHER or usages in ({"storage"}, {"attachment"})
-            yield 184, f"{what}, {' and '.join(sorted(usages))}", are_alike
+        yield from scope_rule(touches or [])
+
+
+def scope_rule(touches):
+    """Rule 184 on what is touched in one usage scope, in which query sets are not looked at."""
+    uses = {}
+    for cell, usage, _ in touches:
+        uses.setdefault(part_of(cell), set()).add(usage)
+    for part, usages in uses.items():
+        if part[0] == "q":
+            continue
+        what = "buffer" if part[0] == "b" else "subresource"
+        are_alike = usages <= READ_TOGETHER or usages in ({"storage"}, {"attachment"})
+        yield 184, f"{what}, {' and '.join(sorted(usages))}", are_alike

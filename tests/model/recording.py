@@ -12,8 +12,10 @@ from .calls import BEGINS
 from .rules import first_unmet
 
 
-def verdict(commands):
-    """The rule that went to an encoder first, by the commands that were recorded on it and on its passes, or None."""
+def verdict(encoder, commands):
+    """The rule that went to an encoder or a bundle encoder first, by the commands that were recorded on it and on its passes, or None."""
+    if encoder.do == "createBundleEncoder":
+        return passes.rule_in(commands, " in a bundle")
     walk = passes.Walk()
     for command in commands:
         rule = rule_given(command, walk)

@@ -3,6 +3,7 @@
 import collections
 
 from . import buffers
+from . import bundles
 from . import copies
 from . import groups
 from . import maps
@@ -14,8 +15,8 @@ from . import queries
 from . import recording
 from . import scopes
 from . import textures
-from .calls import BEGINS, MADE, PROMISING, QUEUED, RECORDING, bound_by
-from .history import Played
+from .calls import BEGINS, FINISHES, MADE, PROMISING, QUEUED, RECORDING, bound_by
+from .history import Played, resources_in
 from .rules import first_unmet, note
 
 BUDGET_RULE, LATE_RULE = 13, 14
@@ -63,8 +64,10 @@ def answer_of(history, played):
     """The answer to an event whose fault is known; an object or an operation gets its number.
 
     A workDone waits for all operations that were queued before it, a mapAsync for those that use its buffer. An unmap ends the
-    mapping of its buffer, if there is one.
+    mapping of its buffer, if there is one. A first finish takes the commands of its encoder.
     """
+    if played.do in FINISHES and not history.has_finished(played.uses["on"]):
+        played.commands = history.commands_on(played.uses["on"])
     if played.do in MADE:
         played.made = len(history.objects)
         history.objects.append(played)
@@ -127,7 +130,9 @@ def rules_of(history, played):
         return of_object(history, "target", texture, copies.write_texture_rules(call, texture.call, history.is_destroyed(texture)))
     if played.do == "mapAsync":
         return of_object(history, "target", uses["buffer"], maps.map_rules(history, call, uses["buffer"]))
-    if played.do == "finish":
+    if played.do == "createBundleEncoder":
+        return bundles.create_rules(call)
+    if played.do in FINISHES:
         return of_object(history, "encoder", uses["on"], finish_rules(history, uses["on"]))
     if played.do == "submit":
         return submit_rules(history, uses["buffers"])
@@ -181,18 +186,21 @@ def write_buffer_rules(history, call, buffer):
 
 
 def finish_rules(history, encoder):
-    """The rules of a finish after those of its encoder: first the rule that invalidated it, then what was recorded."""
+    """The rules of a finish after those of its encoder: first the rule that invalidated it, then what was recorded. Those of a finishBundle
+    are the same, but that no pass can be open, and that all commands are in one usage scope."""
     yield 180, "ended", not history.has_finished(encoder)
     commands = history.commands_on(encoder)
-    invalidating = recording.verdict(commands)
+    invalidating = recording.verdict(encoder, commands)
     if invalidating is not None:
         yield invalidating, "invalidated the encoder", False
-    yield 182, "no pass is open", history.walks[encoder].open_pass is None
+    is_bundle = encoder.do == "createBundleEncoder"
+    if not is_bundle:
+        yield 182, "no pass is open", history.walks[encoder].open_pass is None
     yield 183, "groups are closed", history.walks[encoder].groups[encoder] == 0
     for command in commands:
         for key, thing in command.named():
             yield 11, f"{key} that a command names", not history.was_dropped_before(thing, encoder)
-    yield from passes.scope_rules(commands)
+    yield from passes.scope_rule(passes.touches_of_drawing(commands)) if is_bundle else passes.scope_rules(commands)
 
 
 def submit_rules(history, command_buffers):
@@ -209,7 +217,7 @@ def submit_rules(history, command_buffers):
 
 
 def used_rules(history, used, how):
-    """Rule 192: no buffer that a command names, itself or through a bind group, is pending, mapped or destroyed."""
+    """Rule 192: no buffer that a command names, itself or through a bind group or a bundle, is pending, mapped or destroyed."""
     for thing in used:
         yield 192, f"pending buffer{how[thing]}", not maps.is_pending(history, thing)
         yield 192, f"mapped buffer{how[thing]}", not maps.mapping_of(history, thing)
@@ -219,6 +227,10 @@ def used_rules(history, used, how):
 def ways_of(named):
     """Of each buffer, texture and query set a word for the counts, where no command names it itself."""
     ways = collections.defaultdict(lambda: " in a bind group")
+    bundled = dict.fromkeys(inner for one in named if one.do == "finishBundle" for inner in one.names)
+    ways.update((inner, " in a bundle") for inner in bundled if inner.do == "createBuffer")
+    ways.update((thing, " in a bind group of a bundle") for inner in bundled if inner.do == "createBindGroup" for thing in resources_in(inner))
+    ways.update((thing, " in a bind group") for one in named if one.do == "createBindGroup" for thing in resources_in(one))
     ways.update((one.uses["texture"], " that is attached") for one in named if one.do == "createView")
     ways.update((one, "") for one in named)
     return ways

@@ -4,7 +4,7 @@ An order is a list of callers, one for each entry. A caller is the number of a l
 make no entry and take no turn; which these are is told by the lane alone, since none but it can end its encoders and passes.
 """
 
-from .calls import BEGINS, RECORDING
+from .calls import BEGINS, FINISHES, RECORDING
 from .history import History
 from .replies import answer_call
 
@@ -20,8 +20,8 @@ class NotFixed(Exception):
 def events_of(lane):
     """Of each call of a lane, in order, whether it makes an entry: each but recording calls, and of these the late ones.
 
-    A recording call is late where the lane has, before it, a finish of its encoder, which of one on a pass is the encoder on which the
-    pass was begun; or an end of its pass, where the pass is not dead.
+    A recording call is late where the lane has, before it, a finish of its encoder or bundle encoder, which of one on a pass is the encoder
+    on which the pass was begun; or an end of its pass, where the pass is not dead.
     """
     finished, ended, dead, encoder_of, open_on = set(), set(), set(), {}, {}
     events = []
@@ -30,7 +30,7 @@ def events_of(lane):
         encoder = encoder_of.get(on, on)
         is_late = call["do"] in RECORDING and (encoder in finished or on in ended)
         events.append(is_late or call["do"] not in RECORDING)
-        if call["do"] == "finish":
+        if call["do"] in FINISHES:
             finished.add(on)
         elif call["do"] in BEGINS:
             encoder_of[call["as"]] = encoder
