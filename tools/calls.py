@@ -146,6 +146,11 @@ def query(word):
     return CALLS.get(word, {}).get("query")
 
 
+def executes(word):
+    """Whether the call executes bundles, which unsets what is set."""
+    return CALLS.get(word, {}).get("executes", False)
+
+
 def step_of(word):
     """The name of the step that the call makes, if it may make one."""
     return CALLS.get(word, {}).get("step")

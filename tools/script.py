@@ -139,6 +139,11 @@ class Script:
                 found = {}
         return [found[at] for at in sorted(found)]
 
+    def recorded_in(self, call):
+        """The commands of what a call makes, where it is a finish of an encoder, or of a bundle encoder; else none."""
+        place = self.places.get(string_of(call.value, "on")) if calls.ends_encoder(call.word) else None
+        return place.commands if place is not None else []
+
     def drawn_on(self, call):
         """The call that made what a call draws on: the begin of a render pass, or the making of a bundle encoder; or None where it is on neither."""
         place = self.places.get(string_of(call.value, "on"))
