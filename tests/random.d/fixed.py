@@ -149,6 +149,29 @@ def attributes(count):
     return rendered({"targets": ["rgba8unorm"], "buffers": [{"stride": 4, "attributes": listed}]}, COLORS[:1], [[]])
 
 
+def bundled(bundles, commands, executed):
+    """So many bundles of so many settings each, and lists of these, each of which is executed in a pass of its own. A bundle has its own
+    ranges of a buffer, of which every third is empty, and half of its settings are draws."""
+    made = [BUFFER]
+    for number in range(bundles):
+        calls = [{"do": "setPipeline", "pipeline": "k"}]
+        for at in range(commands):
+            range_set = {"offset": 4 * ((number + 7 * at) % 1000), "size": at % 3 * 4}
+            calls += [{"do": "setVertexBuffer", "slot": at % 8, "buffer": "b"} | range_set, {"do": "draw", "vertices": at % 5}]
+        made += [{"do": "createBundleEncoder", "as": f"h{number}", "colors": ["rgba8unorm", None]}]
+        made += [call | {"on": f"h{number}"} for call in calls]
+        made += [{"do": "finishBundle", "on": f"h{number}", "as": f"m{number}"}]
+    pipeline = [{"do": "createPipelineLayout", "as": "pl", "layouts": []}, {"do": "createRenderPipeline", "as": "k", "layout": "pl", "targets": ["rgba8unorm"]}]
+    bodies = [[{"do": "executeBundles", "bundles": [f"m{number}" for number in one]}] for one in executed]
+    return rendered({"as": "r", "targets": ["rgba8unorm"]}, COLORS[:1], bodies, pipeline + made)
+
+
+def bundle_colors(count):
+    """A bundle encoder of so many colors, which is invalid where there are more than may be, and its finish."""
+    made = {"do": "createBundleEncoder", "as": "h", "colors": [None] * (count - 1) + ["rgba8unorm"]}
+    return script([made, {"do": "draw", "on": "h", "vertices": 1}, {"do": "finishBundle", "on": "h", "as": "m"}])
+
+
 def all_subresources():
     """Dispatches that sample all layers of all mip levels of a texture, and then write one level whole, and one layer of another."""
     texture = {"do": "createTexture", "as": "t", "size": [4, 4, 256], "usage": 12, "format": "r32uint", "mips": 3}
@@ -223,6 +246,15 @@ FIXED = {
     "many-draws": lambda: drawn(200, 1),
     "many-render-passes": lambda: drawn(2, 40),
     "many-ranges": lambda: set_again(500),
+    "many-bundles": lambda: bundled(150, 2, [range(150), range(0, 150, 3), [], [7] * 40]),
+    "a-bundle-of-many-commands": lambda: bundled(1, 1500, [[0], [0, 0]]),
+    "many-executions": lambda: bundled(3, 3, [[number % 3] for number in range(60)]),
+    "bundles-at-the-limit": lambda: bundled(2, 1, [[0, 1] * 512]),
+    "bundles-past-the-limit": lambda: bundled(2, 1, [[0, 1] * 512 + [0]]),
+    "colors-of-a-bundle-at-most": lambda: bundle_colors(8),
+    "colors-of-a-bundle-past-the-most": lambda: bundle_colors(9),
+    "colors-of-a-bundle-at-the-limit": lambda: bundle_colors(1024),
+    "colors-of-a-bundle-past-the-limit": lambda: bundle_colors(1025),
     "targets-at-the-limit": lambda: targets(1024),
     "targets-past-the-limit": lambda: targets(1025),
     "colors-at-the-limit": lambda: colors(1024),

@@ -10,6 +10,7 @@ from worlds import complete, last_before_loss, scope
 
 BUDGETS = [7, 8, 16, 60, 150, 150, 400, 400, 2000, 2**53 - 1]
 COLORS = ["r8unorm", "rg8unorm", "rgba8unorm", "r32uint", "rgba16float", "rgba32float"]
+DRAWN = 48
 OTHERS = ["depth16unorm", "depth24plus", "depth24plus-stencil8", "depth32float", "stencil8"]
 
 
@@ -43,7 +44,7 @@ def room(world, thing=None):
 
 def buffer(world):
     size = world.random.choice([0, 4, 4, 8, 8, 16, 24, 60])
-    usage = world.random.choice([12, 12, 12, 12 | QUERY_RESOLVE, 9, 6])
+    usage = world.random.choice([12, 12, 12 | DRAWN, 12 | DRAWN, 12 | QUERY_RESOLVE, 9, 6])
     thing = world.buffer(not world.has_fault(), size=size, usage=usage, mapped=world.random.random() < 0.06)
     taken(world, thing, thing.call["size"])
 
@@ -160,13 +161,50 @@ def attach(world, on):
         keys = {f"{aspect}{key}": word for aspect in aspects for key, word in (("Load", load), ("Store", store))}
         begin.update(colors=[], depth={"view": found.name} | keys)
     queries = chosen(world, world.query_sets, on.made_at)
-    calls = []
+    calls = [{"do": "executeBundles", "bundles": [thing.name for thing in fit_bundles(world, found.texture, on)]}] if random.random() < 0.6 else []
     if queries is not None and random.random() < 0.5:
         begin["queries"] = queries.name
         if queries.call["count"] > 0 and random.random() < 0.5:
-            calls = [{"do": "beginOcclusionQuery", "index": queries.call["count"] - 1}, {"do": "endOcclusionQuery"}]
+            calls += [{"do": "beginOcclusionQuery", "index": queries.call["count"] - 1}, {"do": "endOcclusionQuery"}]
     for call in [begin, *[call | {"on": name} for call in [*calls, {"do": "end"}]]]:
         world.add(call)
+
+
+def targets_of(texture):
+    """What is drawn to where a texture is attached alone, as the keys of a bundle encoder."""
+    color = {"colors": [texture.call["format"]]} if texture.call["format"] in COLORS else {"colors": [], "depth": texture.call["format"]}
+    return {"do": "createBundleEncoder"} | color | {"samples": texture.call["samples"]}
+
+
+def fit_bundles(world, texture, on):
+    """A bundle or two that draw to what a texture is, or none; at times one that was dropped before an encoder was made."""
+    found = [thing for thing in world.bundles if thing.good and thing.target == targets_of(texture)]
+    found = [thing for thing in found if not thing.dropped or thing.dropped_at > on.made_at or world.has_fault()]
+    return world.random.sample(found[-4:], min(len(found[-4:]), world.random.choice([0, 1, 1, 2])))
+
+
+def some_bundle_encoder(world):
+    """One that is not finished, for a view that there is, or one that draws to nothing, which is invalid."""
+    random = world.random
+    found = [thing for thing in world.bundle_encoders if not thing.finished and (not thing.dropped or world.has_fault())]
+    if found and random.random() < 0.7:
+        return random.choice(found[-3:])
+    views = [view for view in world.views if view.good and view.texture.call["usage"] & 16]
+    if not views or world.has_fault():
+        return world.bundle_encoder({"do": "createBundleEncoder", "colors": []}, False)
+    return world.bundle_encoder(targets_of(random.choice(views[-3:]).texture))
+
+
+def bundle(world):
+    """Vertex and index buffers that are set on a bundle encoder, which is finished then as a rule."""
+    random, on = world.random, some_bundle_encoder(world)
+    for _ in range(random.choice([0, 1, 1, 2])):
+        thing = chosen(world, [thing for thing in world.buffers if thing.call["usage"] & DRAWN], on.made_at)
+        if thing is not None:
+            setting = random.choice([{"do": "setVertexBuffer", "slot": random.choice([0, 7])}, {"do": "setIndexBuffer", "format": "uint16"}])
+            world.add(setting | {"on": on.name, "buffer": thing.name} | random.choice([{}, {}, {"size": 0}, {"offset": thing.call["size"] // 4 * 4}]))
+    if random.random() < 0.65:
+        world.finish_bundle(on).target = on.call
 
 
 def whole(image):
@@ -218,5 +256,5 @@ def mapping(world):
         world.random.choice([world.unmap, world.unmap, world.destroy])(world.random.choice(mapped))
 
 
-ACTS = [buffer, texture, query_set, view, World.encoder, record, finish, submit, drop, destroy, complete, write, mapping, scope]
-WEIGHTS = [6, 4, 3, 4, 3, 8, 4, 4, 10, 2, 4, 3, 2, 1]
+ACTS = [buffer, texture, query_set, view, World.encoder, record, finish, bundle, submit, drop, destroy, complete, write, mapping, scope]
+WEIGHTS = [6, 4, 3, 4, 3, 8, 4, 5, 4, 10, 2, 4, 3, 2, 1]

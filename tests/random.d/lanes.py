@@ -16,7 +16,7 @@ from world import World
 
 LISTS = [
     "buffers", "textures", "views", "samplers", "group_layouts", "pipeline_layouts", "groups", "pipelines", "render_pipelines", "query_sets",
-    "command_buffers",
+    "command_buffers", "bundles",
 ]
 ACTS = {
     "mixed": (worlds.ACTS, worlds.ACT_WEIGHTS),
@@ -38,6 +38,7 @@ class Shared(World):
         self.old_encoders = []
         self.budget = random.choice(holding.BUDGETS) if sort == "holders" else random.choice([2**53 - 1] * 12 + [40_000, 4_000])
         self.renders = 0.85 if sort == "rendering" else 0.15
+        self.bundled = random.choice([0.05, 0.4])
 
     def everything(self):
         return super().everything() + self.old_encoders
@@ -138,14 +139,14 @@ def phase(world, acts, is_lost_in_it):
                 world.lose()
             act(world)
         found.append(taken(world))
-        made.append(({name: getattr(world, name)[len(before[name]):] for name in LISTS}, world.encoders))
+        made.append(({name: getattr(world, name)[len(before[name]):] for name in LISTS}, world.encoders + world.bundle_encoders))
         gone.append({thing: dict(thing.__dict__) for thing in states})
         for thing, state in states.items():
             thing.__dict__.update(state)
         for name in LISTS:
             setattr(world, name, list(before[name]))
         is_lost = world.is_lost
-        world.encoders = []
+        world.encoders, world.bundle_encoders = [], []
         for name, value in start.items():
             setattr(world, name, value)
         world.is_lost = is_lost
@@ -160,8 +161,8 @@ def phase(world, acts, is_lost_in_it):
 
 def end_of_phase(world, states, gone):
     """What any lane did to an object is done."""
-    world.old_encoders += world.encoders
-    world.encoders = []
+    world.old_encoders += world.encoders + world.bundle_encoders
+    world.encoders, world.bundle_encoders = [], []
     for thing in states:
         for ended in gone:
             for key in ("destroyed", "submitted", "mapped"):
@@ -195,7 +196,7 @@ def of_names(random, phases):
         other = random.choice(lists_in(phases))
         other.insert(random.randint(0, len(other)), lane.pop(at))
         return
-    keys = {"on": ["on"], "as": ["as"], "listed": ["buffers", "layouts"]}.get(kind, ["buffer", "texture", "object", "source", "target", "pipeline", "group", "layout"])
+    keys = {"on": ["on"], "as": ["as"], "listed": ["buffers", "layouts", "bundles"]}.get(kind, ["buffer", "texture", "object", "source", "target", "pipeline", "group", "layout"])
     users = [(lane, at, key) for lane, at in calls for key in keys if key in lane[at]]
     if not users:
         return

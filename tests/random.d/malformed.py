@@ -6,13 +6,14 @@ import worlds
 from json_forms import Pairs, Raw, text_of
 
 WORD_LIMIT, WHOLE_LIMIT = 2**32 - 1, 2**53 - 1
-UNBUILT = "createBundleEncoder finishBundle executeBundles createCanvas configureCanvas currentTexture present".split()
+UNBUILT = "createCanvas configureCanvas currentTexture present".split()
 UNKNOWN = ["", "createbuffer", "CreateBuffer", "createBuffer ", "getBindGroupLayout", "setViewport", "copy", "createBuffer\0", "é", "Lose", "onSubmittedWorkDone"]
 NAME_KEYS = {"buffer", "texture", "source", "target", "on", "object", "layout", "view", "resolve", "sampler", "pipeline", "group", "queries"}
 QUERY_WORDS = ["createQuerySet", "resolveQuerySet", "beginOcclusionQuery", "endOcclusionQuery"]
+BUNDLE_WORDS = ["createBundleEncoder", "createBundleEncoder", "finishBundle", "executeBundles", "executeBundles"]
 PASS_WORDS = [
     "beginComputePass", "setPipeline", "setBindGroup", "dispatch", "dispatchIndirect", "end", "createRenderPipeline", "beginRenderPass",
-    "beginRenderPass", "setVertexBuffer", "setIndexBuffer", "draw", "drawIndexed", "drawIndirect", "drawIndexedIndirect", *QUERY_WORDS,
+    "beginRenderPass", "setVertexBuffer", "setIndexBuffer", "draw", "drawIndexed", "drawIndirect", "drawIndexedIndirect", *QUERY_WORDS, *BUNDLE_WORDS,
 ]
 NUMBERS = [
     "0", "1", "-1", "-0", "1.0", "1.5", "1e3", "1E3", "1e-3", "0e400", "0.0e999999", "4294967295", "4294967296", "9007199254740991",
@@ -31,11 +32,11 @@ GOOD_NAMES = ["a" * 64, "_", "0", "9" * 64, "Z_z9", "do", "as"]
 
 def malformed(random):
     """The bytes of a script with one or two faults, the first of which is what the answer tells."""
-    length, kind = random.choice([3, 12, 30]), random.choices(["bound", "passes", "renders", "queries", "others"], [5, 3, 5, 3, 4])[0]
-    has_objects = kind in ("bound", "renders", "queries")
-    if kind in ("passes", "renders", "queries"):
-        renders, queries = {"passes": (0.1, 0.2), "renders": (0.85, 0.2), "queries": (0.9, 0.9)}[kind]
-        calls = passing.passes(random, 1, renders, queries)[1]
+    length, kind = random.choice([3, 12, 30]), random.choices(["bound", "passes", "renders", "queries", "bundles", "others"], [5, 3, 5, 3, 5, 4])[0]
+    has_objects = kind in ("bound", "renders", "queries", "bundles")
+    if kind in ("passes", "renders", "queries", "bundles"):
+        many = {"passes": (0.1, 0.2, 0.05), "renders": (0.85, 0.2, 0.05), "queries": (0.9, 0.9, 0), "bundles": (0.95, 0, 0.7)}[kind]
+        calls = passing.passes(random, 1, *many)[1]
     else:
         calls = grouping.groups(random)[1][:length] if kind == "bound" else worlds.mixed(random, length)
     top = {"budget": random.choice([0, 1, 1000000, WHOLE_LIMIT]), "phases": [[calls]]}
@@ -153,7 +154,7 @@ def other_item(random, call):
 
 
 def null_item(random, call):
-    """A null in a list, which only `targets` and `colors` may have."""
+    """A null in a list, which only `targets` and `colors` may have, be it those of a bundle encoder."""
     lists = [key for key, value in call.items() if isinstance(value, list)]
     if lists:
         key = random.choice(lists)
@@ -164,7 +165,7 @@ def long_list(random, call):
     entry, of_pipeline = {"binding": 0, "visibility": 0, "kind": "sampler"}, {"stride": 0, "attributes": []}
     used, buffer = {"group": 0, "binding": 0, "kind": "sampler"}, of_pipeline if call.get("do") == "createRenderPipeline" else "x"
     lists = [("buffers", buffer), ("layouts", "x"), ("entries", entry), ("iface", used), ("offsets", 0), ("size", 1), ("targets", None)]
-    for key, item in [*lists, ("colors", None), ("attributes", {"format": "float32", "offset": 0, "location": 0})]:
+    for key, item in [*lists, ("colors", None), ("bundles", "x"), ("attributes", {"format": "float32", "offset": 0, "location": 0})]:
         if key in call:
             call[key] = [item] * random.choice([1024, 1025])
 
@@ -182,7 +183,8 @@ MORE_KEYS = [
     "binding", "visibility", "group", "type", "dynamic", "minSize", "sample", "multi", "access", "buffer", "offset", "view", "sampler", "do",
     "on", "index", "offsets", "x", "w", "pipeline", "timestampWrites", "stage", "stride", "step", "attributes", "location", "targets", "depth",
     "samples", "colors", "resolve", "load", "store", "depthLoad", "depthReadOnly", "stencilStore", "slot", "vertices", "firstIndex", "depthWrite",
-    "depthSlice", "queries", "queries", "baseVertex", "first", "count", "index", "occlusionQuerySet", "querySet", "queryIndex",
+    "depthSlice", "queries", "queries", "baseVertex", "first", "count", "index", "occlusionQuerySet", "querySet", "queryIndex", "bundles",
+    "bundle", "stencilReadOnly", "colorFormats", "depthStencilFormat", "sampleCount",
 ]
 WRONG_WORDS = [
     "Filtering", "filtering", "nonfiltering", "storage", "readonly-storage", "write", "read-write", "sampled", "unfilterable", "sint", "auto",
@@ -203,11 +205,25 @@ def other_word(random, call):
 
 
 def other_target(random, call):
-    """A target that is no format, or may be one; of any other call something else."""
-    if not isinstance(call.get("targets"), list):
+    """A target, or a color of a bundle encoder, that is no format, or may be one; of any other call something else."""
+    key = "colors" if call.get("do") == "createBundleEncoder" else "targets"
+    if not isinstance(call.get(key), list):
         return other_value(random, call)
-    call["targets"] = [*call["targets"], random.choice([*WRONG_WORDS, *VALUES])]
+    call[key] = [*call[key], random.choice([*WRONG_WORDS, *VALUES])]
     return None
+
+
+def other_bundle(random, call):
+    """The keys of a bundle encoder, or the bundles of an executeBundles, of a wrong sort or of one that will do; of any other call something else."""
+    if call.get("do") == "createBundleEncoder":
+        key = random.choice(["colors", "depth", "depth", "samples", "depthReadOnly", "stencilReadOnly"])
+        call[key] = random.choice([*VALUES, *WRONG_WORDS, "depth24plus", ["rgba8unorm"], [None], ["rgba8unorm", None], {"format": "depth24plus"}])
+        return None
+    if call.get("do") == "executeBundles":
+        bundles = call["bundles"] if isinstance(call.get("bundles"), list) else []
+        call["bundles"] = random.choice([[*bundles, random.choice(VALUES)], [random.choice(VALUES), *bundles], random.choice(VALUES), [bundles], [*bundles, *bundles]])
+        return None
+    return other_value(random, call)
 
 
 def other_offsets(random, call):
@@ -299,10 +315,10 @@ def repeated(random, call):
 
 
 CALL_CHANGES = [
-    other_value, other_number, border_number, other_item, null_item, other_target, other_offsets, long_list, key_gone, key_more, other_word,
-    unbuilt, unknown, mapped, no_object, repeated,
+    other_value, other_number, border_number, other_item, null_item, other_target, other_bundle, other_offsets, long_list, key_gone, key_more,
+    other_word, unbuilt, unknown, mapped, no_object, repeated,
 ]
-CALL_WEIGHTS = [4, 4, 3, 4, 3, 3, 3, 2, 4, 3, 3, 2, 3, 3, 2, 3]
+CALL_WEIGHTS = [4, 4, 3, 4, 3, 3, 4, 3, 2, 4, 3, 3, 2, 3, 3, 2, 3]
 OBJECT_CHANGES = [
     other_value, other_number, border_number, past_word, key_gone, needed_gone, key_more, other_word, other_kind, no_object, repeated, long_list,
 ]
@@ -319,11 +335,12 @@ def naming_objects(call):
 
 
 def uses_names(call):
-    return isinstance(call, dict) and (NAME_KEYS & set(call) or call.get("buffers") or call.get("layouts") or naming_objects(call))
+    return isinstance(call, dict) and (NAME_KEYS & set(call) or any(call.get(key) for key in LIST_KEYS) or naming_objects(call))
 
 
-# What stands for passes, encoders and pipelines, of which there are two kinds of some.
-KIN = ["beginComputePass", "beginRenderPass", "createEncoder", "createComputePipeline", "createRenderPipeline"]
+# What stands for passes, encoders and pipelines, of which there are two kinds of some, and the keys whose values are lists of names.
+KIN = ["beginComputePass", "beginRenderPass", "createEncoder", "createBundleEncoder", "createComputePipeline", "createRenderPipeline"]
+LIST_KEYS = ["buffers", "layouts", "bundles"]
 
 
 def crossed(random, calls):
@@ -369,9 +386,9 @@ def of_names(random, top, calls):
         call[random.choice([key for key in used if key in ("on", "pipeline")])] = random.choice(kin or names)
     elif change == 3 and used:
         call[random.choice(used)] = random.choice(["unknown", "", "é", "a" * 65, names[0].upper(), names[0] + " "])
-    elif isinstance(call.get("buffers", call.get("layouts")), list):
-        key = "buffers" if "buffers" in call else "layouts"
-        call[key] = call[key] + [random.choice([other, other, "unknown"])]
+    elif any(isinstance(call.get(key), list) for key in LIST_KEYS):
+        key = next(key for key in LIST_KEYS if isinstance(call.get(key), list))
+        call[key] = random.choice([[], call[key]]) + [random.choice([other, other, "unknown"])]
     else:
         place = random.randrange(len(calls))
         calls[at], calls[place] = calls[place], calls[at]

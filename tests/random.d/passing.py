@@ -6,6 +6,7 @@ encoders can be mixed.
 """
 
 from bindings import is_written
+from bundling import bare_calls, bundle_alone, render_calls
 from commands import clear_buffer, copy_buffer, write_buffer, write_texture
 from dispatching import (
     INDIRECT, bound_by, buffers_in, kit, new_layout, new_pipeline, offsets_for, pick, pool, pool_buffer, pool_texture, set_call,
@@ -16,8 +17,8 @@ from pass_faults import places, some_begin, spoil
 from pipelining import render_pipelines
 from querying import resolve_queries, some_set
 from regions import TEXELS, extent
-from render_faults import spoil_render
-from rendering import PAST, bare_calls, render_calls
+from render_faults import spoil_bundle, spoil_render
+from rendering import PAST
 from resources import COLOR_FORMATS
 from targets import multisampled_pool, pool_target, target_pool
 from world import Thing, World
@@ -26,15 +27,17 @@ from worlds import complete, last_before_loss, maps, scope, work_done
 BUDGETS = [2**53 - 1] * 16 + [40_000, 4_000]
 
 
-def passes(random, longest=10, renders=0.1, queries=0.2):
-    """A budget, and calls; so many of the passes are render passes, and so many of these have a query set."""
+def passes(random, longest=10, renders=0.1, queries=0.2, bundled=0.08):
+    """A budget, and calls; so many of the passes are render passes, so many of these have a query set, and before so many of their draws bundles
+    are executed."""
     world = World(random, random.choice([0.05, 0.3, 0.6] if renders < 0.5 else [0.02, 0.05, 0.3, 0.5]))
-    world.renders, world.queries = renders, queries
+    world.renders, world.queries, world.bundled = renders, queries, bundled
     pool(world)
     if random.random() < 3 * renders:
         target_pool(world)
     kit(world)
-    acts = ACTS + (RENDER_ACTS if renders > 0.5 else []) + (QUERY_ACTS if queries > 0.5 else [])
+    more = [(RENDER_ACTS, RENDER_WEIGHTS, renders > 0.5), (QUERY_ACTS, QUERY_WEIGHTS, queries > 0.5), (BUNDLE_ACTS, BUNDLE_WEIGHTS, bundled > 0.3)]
+    acts, weights = [sum([one[place] for one in more if one[2]], start) for place, start in enumerate([ACTS, WEIGHTS])]
     count = random.randint(min(3, longest), longest)
     last = last_before_loss(random, count, 0.12)
     for act in range(count):
@@ -43,7 +46,7 @@ def passes(random, longest=10, renders=0.1, queries=0.2):
         if act == 0 and random.random() < 0.7:
             without_faults(world)
         else:
-            random.choices(acts, (WEIGHTS + RENDER_WEIGHTS + QUERY_WEIGHTS)[:len(acts)])[0](world)
+            random.choices(acts, weights)[0](world)
     if random.random() < 0.5:
         drop_all(world)
         world.complete(world.issued)
@@ -58,6 +61,11 @@ def rendering(random, longest=10):
 def queries(random):
     """The same, with a query set in most of the passes, and resolves between them."""
     return passes(random, 10, 0.9, 0.8)
+
+
+def bundles(random):
+    """The same, with bundles in most of the passes."""
+    return passes(random, 10, 0.9, 0.1, 0.5)
 
 
 class Plan:
@@ -259,13 +267,19 @@ def planned(world):
         outside(world, plan)
     if world.has_fault() and world.random.random() < 0.12 and places(plan.calls, "end"):
         end_gone(world.random, plan)
-    everything = world.resources() + world.views + world.groups + world.pipelines + world.render_pipelines
+    everything = world.resources() + world.views + world.groups + world.pipelines + world.render_pipelines + world.bundles
     names = {name for call in plan.calls for name in names_in(call)}
     plan.named = [thing for thing in everything if thing.name in names]
-    behind = {cell[1] for thing in plan.named for _, cells in getattr(thing, "bound", []) for cell in cells}
-    behind |= {thing.texture.name for thing in plan.named if hasattr(thing, "texture")}
-    plan.bound = [thing for thing in world.buffers + world.textures if thing.name in behind]
+    plan.bound = behind(world, plan.named)
     return plan
+
+
+def behind(world, things):
+    """What takes memory and stands behind some things: what is bound in a group, attached by a view, or used by a bundle."""
+    names = {cell[1] for thing in things for _, cells in getattr(thing, "bound", []) for cell in cells}
+    names |= {thing.texture.name for thing in things if hasattr(thing, "texture")}
+    names |= {name for thing in things for name in getattr(thing, "behind", ())}
+    return [thing for thing in world.buffers + world.textures if thing.name in names]
 
 
 def names_in(value):
@@ -297,15 +311,13 @@ def drop_some(world, things):
 
 
 def let_go(world, plans):
-    """A group or a view that a plan names is dropped, with all that stands behind it and the views of that, in some order; some of it may
-    be destroyed."""
+    """A group, a view or a bundle that a plan names is dropped, with all that stands behind it and the views of that, in some order; some of it
+    may be destroyed."""
     random = world.random
-    one = pick(world, [thing for plan in plans for thing in plan.named if hasattr(thing, "bound") or hasattr(thing, "texture")])
+    one = pick(world, [thing for plan in plans for thing in plan.named if behind(world, [thing])])
     if one is None:
         return
-    names = {cell[1] for _, cells in getattr(one, "bound", []) for cell in cells}
-    names |= {one.texture.name} if hasattr(one, "texture") else set()
-    things = [thing for thing in world.buffers + world.textures if thing.name in names]
+    things = behind(world, [one]) + [thing for thing in world.groups if thing.name in getattr(one, "names", ())]
     things += [thing for thing in world.views if getattr(thing, "texture", None) in things and thing is not one] + [one]
     for thing in random.sample(things, len(things)):
         if thing in world.resources() and not thing.dropped and not thing.destroyed and random.random() < 0.15:
@@ -458,6 +470,12 @@ def resolves(world):
             world.submit([made])
 
 
+def bundled(world):
+    """Bundles that no pass is there for, some of them with a fault, and such whose encoder stays open."""
+    for _ in range(world.random.choice([2, 3, 4, 5])):
+        bundle_alone(world, spoil_bundle)
+
+
 def bare(world):
     """A pass of few commands: with nothing set, or of a pipeline that asks for nothing."""
     random = world.random
@@ -524,6 +542,8 @@ WEIGHTS = [40, 2, 4, 3, 5, 1, 3, 4, 4, 1, 3, 1]
 RENDER_ACTS = [spoiled, render_pipelines]
 RENDER_WEIGHTS = [25, 10]
 
-# And in those of query sets these.
+# And in those of query sets and of bundles these.
 QUERY_ACTS = [resolves]
 QUERY_WEIGHTS = [12]
+BUNDLE_ACTS = [bundled]
+BUNDLE_WEIGHTS = [30]

@@ -1,8 +1,10 @@
 """Ways to leave one rule of a render pass unmet. As in `pass_faults`, a fault changes the list of the calls of a pass, from its begin to
-its end, on an encoder of some name; what it needs is made before."""
+its end, on an encoder of some name; what it needs is made before. Many do so too of the calls of a bundle encoder, from its making to its
+finish."""
 
 import copy
 
+from bundle_faults import CREATE_FAULTS, EXECUTE_FAULTS
 from dispatching import INDIRECT, buffers_in, named, size_of
 from drawing import INDEX, INDIRECT_BYTES, VERTEX, add_render_pipeline, new_render_pipeline
 from grouping import pipeline_layout_of
@@ -493,6 +495,8 @@ def faults(world, encoder, on, calls):
     random, kind = world.random, world.random.random()
     if random.random() < world.queries / 2:
         several = random.sample(QUERY_FAULTS, random.choice([1, 1, 2]))
+    elif random.random() < world.bundled:
+        several = random.sample(EXECUTE_FAULTS, random.choice([1, 1, 2]))
     elif kind < 0.12:
         several = random.sample(BEGIN_FAULTS, 2)
     elif kind < 0.22:
@@ -505,3 +509,30 @@ def faults(world, encoder, on, calls):
         several = [random.choice(FAULTS)]
     for fault in several:
         fault(world, encoder, on, calls)
+
+
+def writing_in_bundle(world, encoder, on, calls):
+    """A pipeline that may write what is read-only in the bundle."""
+    other_writes(world, encoder, on, calls)
+    for aspect in ("depth", "stencil"):
+        if world.random.random() < 0.7:
+            calls[0] = calls[0] | {f"{aspect}ReadOnly": True}
+
+
+BUNDLE_FAULTS = (
+    SETTING_FAULTS * 2 + OFFSET_FAULTS + VERTEX_FAULTS * 3 + INDEX_FAULTS * 3 + DRAW_FAULTS * 2 + [invalid_render_pipeline, invalid_render_pipeline]
+    + [other_targets] * 8 + [writing_in_bundle] * 5 + [pop_too_many, push_too_many] * 3 + [shuffled] * 3
+)
+
+
+def spoil_bundle(world, on, calls):
+    """A fault in the calls of a bundle encoder, or two."""
+    random, kind = world.random, world.random.random()
+    if kind < 0.25:
+        several = random.sample(CREATE_FAULTS, random.choice([1, 1, 2]))
+    elif kind < 0.35:
+        several = random.sample(random.choice([VERTEX_FAULTS, INDEX_FAULTS]), random.choice([2, 3]))
+    else:
+        several = random.sample(BUNDLE_FAULTS, random.choice([1, 1, 1, 2]))
+    for fault in several:
+        fault(world, on, on, calls)

@@ -1,13 +1,11 @@
-"""Render passes: settings and draws in any order that is good, on what is attached, with queries among them; and the few that are bare."""
+"""What is set and drawn in a render pass or on a bundle encoder, in any order that is good."""
 
 from bindings import is_written
-from dispatching import bound_by, new_layout, set_call
+from dispatching import bound_by, set_call
 from drawing import (
-    INDIRECT_BYTES, VERTEX, counts_for, draw_call, end_of, index_call, indirect_call, joins, new_render_pipeline, parts_of_group, size_set,
-    some_index_range, some_range, some_render_pipeline, stray_settings, vertex_call,
+    INDIRECT_BYTES, VERTEX, counts_for, draw_call, end_of, index_call, indirect_call, joins, parts_of_group, size_set, some_index_range,
+    some_range, some_render_pipeline, stray_settings, vertex_call,
 )
-from querying import with_queries
-from targets import begin
 
 DRAWS = ["draw", "drawIndexed", "drawIndirect", "drawIndexedIndirect"]
 INDEXED = ["drawIndexed", "drawIndexedIndirect"]
@@ -27,15 +25,19 @@ class Draw:
         self.word = random.choice(PAST[self.past]) if self.past is not None else random.choices(DRAWS, [4, 4, 2, 2])[0]
 
 
-def render_calls(world, encoder, on, wanted, counts=(0, 1, 1, 1, 2, 2, 3)):
-    """The calls of a pass from its begin to its end, with one of so many settings with draws, and whether its usage scope clashes.
+def drawn(world, on, target, wanted, counts, between=None):
+    """The settings and draws on what is drawn to, with one of so many settings with draws. Between these stand more calls, which unset all, if
+    a function gives any.
 
-    `wanted` is what is to be wrong with it: `overlap`, `scope`, a key of PAST, or None.
+    `wanted` is what is to be wrong with them: `overlap`, `scope`, a key of PAST, or None.
     """
     random = world.random
-    target = begin(world, encoder, on)
     calls, now = [], {}
     for number in range(random.choice(counts)):
+        more = [] if between is None else between(wanted == "scope")
+        if more:
+            calls += more
+            now = {}
         draw = Draw(random, wanted, number == 0)
         pipeline, groups = ready(world, target, draw)
         added = None if groups is None else settings(world, on, target, pipeline, groups, now, draw)
@@ -44,9 +46,7 @@ def render_calls(world, encoder, on, wanted, counts=(0, 1, 1, 1, 2, 2, 3)):
             calls += stray_settings(world, on, target, draw.is_any, list(range(len(pipeline.vertex), 8)), free, now) + added
             calls += [one_draw(world, on, target, pipeline, now, draw) for _ in range(random.choice([1, 1, 1, 2]))]
     calls += stray_settings(world, on, target, wanted == "scope", list(range(8)), list(range(4)), now)
-    if random.random() < world.queries:
-        with_queries(world, target.begin, on, calls)
-    return [target.begin, *calls, {"do": "end", "on": on}], target.clashes
+    return calls + ([] if between is None else between(wanted == "scope"))
 
 
 def ready(world, target, draw):
@@ -115,19 +115,3 @@ def one_draw(world, on, target, pipeline, now, draw):
         if thing is not None:
             return indirect_call(world, on, draw.word, thing)
     return draw_call(world, on, draw.word.removesuffix("Indirect"), pipeline, now, draw.past)
-
-
-def bare_calls(world, encoder, on):
-    """A pass of no draw, or of draws by a pipeline that asks for nothing."""
-    random = world.random
-    target = begin(world, encoder, on)
-    calls = []
-    if random.random() < 0.6:
-        layouts = random.choice([[], [new_layout(world, [])]])
-        pipeline = new_render_pipeline(world, layouts, target.formats, target.depth, target.samples, target.read_only)
-        calls.append({"do": "setPipeline", "on": on, "pipeline": pipeline.name})
-        if not pipeline.vertex:
-            calls.append(draw_call(world, on, "draw", pipeline, {}))
-    if random.random() < world.queries:
-        with_queries(world, target.begin, on, calls)
-    return [target.begin, *calls, {"do": "end", "on": on}]

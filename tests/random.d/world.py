@@ -32,6 +32,7 @@ class World:
         self.random = random
         self.fault = fault
         self.queries = 0.2  # How many of the render passes have a query set, and how often queries are resolved beside them.
+        self.bundled = 0.08  # How often bundles are executed before the draws of a render pass, and bundles are made beside them.
         self.calls = []
         self.names = 0
         self.issued = 0
@@ -50,6 +51,8 @@ class World:
         self.query_sets = []
         self.encoders = []
         self.command_buffers = []
+        self.bundle_encoders = []
+        self.bundles = []
 
     def has_fault(self):
         return self.random.random() < self.fault
@@ -134,6 +137,23 @@ class World:
         self.command_buffers.append(thing)
         return thing
 
+    def bundle_encoder(self, call, good=True, name=None):
+        """Makes a bundle encoder; keys that have their usual value are sometimes left out."""
+        usual = {"samples": 1, "depthReadOnly": False, "stencilReadOnly": False}
+        told = {key: value for key, value in call.items() if usual.get(key, ...) != value or self.random.random() < 0.3}
+        thing = Thing(name or self.new_name("h"), call, good and not self.is_lost)
+        self.add(told | {"as": thing.name})
+        thing.made_at = len(self.calls)
+        self.bundle_encoders.append(thing)
+        return thing
+
+    def finish_bundle(self, encoder):
+        good = not encoder.finished and encoder.good and not encoder.dropped
+        thing = self.make("m", {"do": "finishBundle", "on": encoder.name}, good)
+        encoder.finished = True
+        self.bundles.append(thing)
+        return thing
+
     def submit(self, command_buffers):
         self.add({"do": "submit", "buffers": [thing.name for thing in command_buffers]})
         self.queued(all(thing.good and not thing.submitted and not thing.dropped for thing in command_buffers))
@@ -164,7 +184,7 @@ class World:
 
     def everything(self):
         bound = self.samplers + self.group_layouts + self.pipeline_layouts + self.groups + self.pipelines + self.render_pipelines
-        return self.resources() + self.views + bound + self.encoders + self.command_buffers
+        return self.resources() + self.views + bound + self.encoders + self.command_buffers + self.bundle_encoders + self.bundles
 
     def resources(self):
         """What takes memory."""

@@ -3,13 +3,11 @@ use Rattle.std.proofs.Common.{◌≡◌, ℕ, zero, suc, ◌+◌, ◌-◌, ◌<�
 use Rattle.std.specs.Prelude.{All, Contains, unwrap_or, slice_get}
 use Rattle.std.specs.Option.{option_map_or, option_to_list}
 use Rattle.std.proofs.lemmas.Bool.{eqb-true, eq-eqb}
-use Rattle.std.proofs.lemmas.List.{length-append}
 use Rattle.std.proofs.lemmas.List.Concat.{flat_map-append}
 use Rattle.std.proofs.lemmas.List.Elements.{All-nil, All-cons, All-head, All-tail, Contains-append_left, Contains-append_right}
 use Rattle.wg_types.specs.Commands.{bracket, kind_begun}
 use Rattle.wg_types.specs.declared.commands.CommandOf.{CommandOf}
 use Rattle.wg_types.specs.declared.wanted.Kind.{Kind}
-use Rattle.wg_types.specs.declared.wanted.Kind.TheVariants as kinds
 use Rattle.wg_script.specs.CallOf.{BoundCall}
 use Rattle.wg_script.specs.declared.calls.CallOf.TheVariants.{Record, Ask}
 use Rattle.wg_names.specs.Uses.{made_as, made_of}
@@ -20,16 +18,17 @@ use Rattle.wg_play.specs.declared.objects.Stand.{Stand}
 use Rattle.wg_play.specs.Sights.{Sight, place_in}
 use Rattle.wg_play.specs.Lanes.{stand_seen}
 use Rattle.wg_play.specs.Late.{Answered, IsAnswered, after_call, after_calls, begun_as, encoder_of}
+use Rattle.wg_play.specs.Found.{has_recorder}
 use Rattle.wg_play.specs.Played.{PlayedCall, calls_in, with_answer}
 use Rattle.wg_play.proofs.Slots.{stand_encoder, stand_pass}
 use Rattle.wg_play.proofs.Places.{place_of_begin, stands_on}
-use Rattle.wg_play.proofs.Making.{call_length, no_encoder, pass_made, pass_begun}
+use Rattle.wg_play.proofs.Making.{no_encoder, pass_made, pass_begun}
 use Rattle.wg_play.proofs.Lateness.{call_leaves}
 use Rattle.wg_play.proofs.LateLaw.{first_after}
 use Rattle.wg_play.proofs.Numbered.{Slots, AreFrom, slots_of, first_from, from_front, from_back, call_in, lane_front}
 use Rattle.wg_play.proofs.Finished.{Stands, no_calls, begun_on, all_after as all_stand}
 use Rattle.wg_play.proofs.FoundLaw.{at_least, below}
-use Rattle.wg_play.proofs.Makers.{lane_same, calls_more, new_contains, made_among}
+use Rattle.wg_play.proofs.Makers.{lane_same, calls_more, new_contains, made_among, lane_length}
 
 -- ---- what calls make, and which passes they begin
 
@@ -48,10 +47,10 @@ begun_made (Ask request made) slot e h = absurd (cc (h))
 begun_here : (on slot : ℕ) (command : CommandOf ℕ) (k : Kind) → kind_begun command ≡ Some k → begun_as slot (Record on command (Some slot)) ≡ Some on
 begun_here on slot command k e = ap₂ (λ (o : Option Kind) (b : Bool). if is_some o && b then Some on else None) e (eq-eqb slot slot refl)
 
-encoder_not_begun : (call : BoundCall) (slot : ℕ) → made_of call ≡ Some (slot, kinds.Encoder) → begun_as slot call ≡ None
-encoder_not_begun (Record on command None) slot e = refl
-encoder_not_begun (Record on command (Some made)) slot e = absurd (no_encoder (bracket command) made slot e)
-encoder_not_begun (Ask request made) slot e = refl
+encoder_not_begun : (call : BoundCall) (slot : ℕ) (k : Kind) → has_recorder k ≡ true → made_of call ≡ Some (slot, k) → begun_as slot call ≡ None
+encoder_not_begun (Record on command None) slot k p e = refl
+encoder_not_begun (Record on command (Some made)) slot k p e = absurd (no_encoder (bracket command) made slot k p e)
+encoder_not_begun (Ask request made) slot k p e = refl
 
 abbrev NotMade : List BoundCall → ℕ → Type 0
 NotMade calls slot = (k : Kind) → Contains (made_in calls) (slot, k) → ⊥
@@ -93,18 +92,6 @@ after_split : (serial : ℕ) (a : List PlayedCall) (call : PlayedCall) (b : List
     ≡ after_calls serial (after_call serial (after_calls serial sight (map with_answer a)) (with_answer call)) (map with_answer b)
 after_split serial [] call b sight = refl
 after_split serial (first ∷ a) call b sight = after_split serial a call b (after_call serial sight (with_answer first))
-
-lane_length : (serial : ℕ) (calls : List PlayedCall) (sight : Sight) → All IsAnswered (map with_answer calls)
-    → length (after_calls serial sight (map with_answer calls)).own ≡ length sight.own + length (made_in (calls_in calls))
-lane_length serial [] sight all = omega arith
-lane_length serial (call ∷ calls) sight all =
-    let after : Sight = after_call serial sight (with_answer call) in
-    let one : length after.own ≡ length sight.own + length (made_by call.0)
-    = call_length serial sight call.0 (with_answer call).1 (All-head IsAnswered (with_answer call) (map with_answer calls) all) in
-    let rest = lane_length serial calls after (All-tail IsAnswered (with_answer call) (map with_answer calls) all) in
-    let both : length (made_by call.0 ++ made_in (calls_in calls)) ≡ length (made_by call.0) + length (made_in (calls_in calls))
-    = length-append (made_by call.0) (made_in (calls_in calls)) in
-    omega (arith, one, rest, both)
 
 all_before : (P : Answered → Type 0) (a : List PlayedCall) (rest : List PlayedCall) → All P (map with_answer (a ++ rest)) → All P (map with_answer a)
 all_before P [] rest all = All-nil P
@@ -173,13 +160,13 @@ begun_slot call e slot command k on place is begins makes =
     ap (λ (o : Option (ℕ × Kind)). option_map_or (λ (m : ℕ × Kind). m.0) o 0) same
 
 -- where some object stands that an earlier call has made: on an encoder itself
-stand_of_encoder : (serial : ℕ) (others : List Object) (first : ℕ) (before : List PlayedCall) (on : ℕ) → let sight = sight_with serial others first before in
-    Stands sight.first sight.own (calls_in before) → first ≤ on → Contains (made_in (calls_in before)) (on, kinds.Encoder) → first +
+stand_of_encoder : (serial : ℕ) (others : List Object) (first : ℕ) (before : List PlayedCall) (on : ℕ) (k : Kind) → has_recorder k ≡ true → let sight = sight_with serial others first before in
+    Stands sight.first sight.own (calls_in before) → first ≤ on → Contains (made_in (calls_in before)) (on, k) → first +
     (stand_seen sight on).encoder ≡ on
-stand_of_encoder serial others first before on stands from own =
+stand_of_encoder serial others first before on k p stands from own =
     let sight : Sight = sight_with serial others first before in
     let same : sight.first ≡ first = first_after serial (map with_answer before) (begin_at others first) in
-    let found = stands.encoders on own in
+    let found = stands.encoders on k p own in
     let stand_is : (stand_seen sight on).encoder ≡ on - sight.first
     = ap (λ (s : Stand). s.encoder) (stand_encoder sight.own (on - sight.first) found.recorder found.is) in
     omega (arith, stand_is, same, from)
@@ -231,11 +218,10 @@ encoder_is serial others first visible before on command made after bound number
     elim (stands_on command here.place here.takes) [
       | inl encoder ↦
           let stands = lane_stands serial others first visible before (Record on command made ∷ after) bound numbers answered in
-          let own : Contains ours (on, kinds.Encoder) = subst (λ k. Contains ours (on, k)) encoder here.own in
-          let none : begun_as on call.0 ≡ None = encoder_not_begun call.0 on (subst (λ k. made_of call.0 ≡ Some (on, k)) encoder maker.makes) in
+          let none : begun_as on call.0 ≡ None = encoder_not_begun call.0 on here.place encoder maker.makes in
           let last : encoder_of (calls_in back) on ≡ on = ap (λ (cs : List BoundCall). encoder_of cs on) (sym (append-nil (calls_in back))) ∙ none_begun
           (calls_in back) [] on once.after in
-          stand_of_encoder serial others first before on stands from own ∙ sym
+          stand_of_encoder serial others first before on here.place encoder stands from here.own ∙ sym
           (found ∙ (ap (λ (o : Option ℕ). unwrap_or o (encoder_of (calls_in back) on)) none ∙ last))
       | inr pass ↦
           let begin = pass_made call.0 on here.place pass maker.makes in

@@ -14,26 +14,24 @@ use Rattle.wg_types.specs.declared.wanted.Wanted.TheVariants as wanted
 use Rattle.wg_types.specs.Wanted.{admits}
 use Rattle.wg_types.specs.Commands.{place_wanted, kind_begun}
 use Rattle.wg_types.specs.declared.commands.CommandOf.{CommandOf}
-use Rattle.wg_types.specs.Requests.{named as asked_of}
 use Rattle.wg_types.specs.declared.replies.Answer.{Answer}
-use Rattle.wg_types.specs.declared.requests.RequestOf.{RequestOf}
-use Rattle.wg_types.specs.declared.requests.RequestOf.TheVariants.{CreateBuffer, CreateTexture, CreateView, CreateSampler, CreateBindGroupLayout, CreatePipelineLayout, CreateBindGroup, CreateComputePipeline, CreateRenderPipeline, CreateQuerySet, CreateEncoder, Finish, Submit, WriteBuffer, WriteTexture, Destroy, Drop, Complete, PushErrorScope, PopErrorScope, Lose, WorkDone, MapAsync, Unmap}
 use Rattle.wg_encoder.specs.Recorders.{RecorderValue, has_taken}
 use Rattle.wg_script.specs.CallOf.{BoundCall}
 use Rattle.wg_script.specs.declared.calls.CallOf.TheVariants.{Record, Ask}
 use Rattle.wg_names.specs.Uses.{made_of}
-use Rattle.wg_names.specs.Bound.{made_by, made_in, IsFound, CallIsBound, LaneIsBound}
+use Rattle.wg_names.specs.Bound.{made_by, made_in, CallIsBound, LaneIsBound}
 use Rattle.wg_play.specs.declared.objects.Object.{Object}
 use Rattle.wg_play.specs.declared.objects.Object.TheVariants as object
 use Rattle.wg_play.specs.Objects.{recorder_at, ended_by}
 use Rattle.wg_play.specs.Sights.{Sight, place_in}
-use Rattle.wg_play.specs.Found.{is_pass, StandsAt}
+use Rattle.wg_play.specs.Found.{is_pass, has_recorder, StandsAt}
 use Rattle.wg_play.specs.Late.{Answered, Answers, IsAnswered, after_call, after_calls, finishes}
-use Rattle.wg_play.proofs.Following.{same_first}
+use Rattle.wg_play.proofs.Following.{same_first, MakesAs}
 use Rattle.wg_play.proofs.Holding.{call_stands, call_makes}
 use Rattle.wg_play.proofs.Lateness.{or_false, Owns, call_keeps, call_leaves}
 use Rattle.wg_play.proofs.Making.{call_length, encoder_made, pass_made, pass_begun}
 use Rattle.wg_play.proofs.Places.{place_of_begin, is_encoder}
+use Rattle.wg_play.proofs.Sending.{finish_own, makes_as}
 use Rattle.wg_play.proofs.Numbered.{only, Slots, AreFrom, slots_of, first_from, from_back, made_more}
 
 -- ---- what a call finishes was made by its own lane
@@ -44,42 +42,9 @@ IsBelow count m = m.0 < count
 abbrev IsAbove : ℕ → ℕ × Kind → Type 0
 IsAbove first m = first ≤ m.0
 
--- where the encoder that a call ends is found
-finish_found : (made ours : Slots) (request : RequestOf ℕ) (encoder : ℕ) → All (IsFound made ours) (asked_of request) → ended_by request ≡ Some encoder → IsFound made ours (encoder, wanted.Encoder)
-finish_found made ours (Finish on) encoder all e = let same : on ≡ encoder = cc (e) in subst (λ n. IsFound made ours (n, wanted.Encoder)) same (All-head (IsFound made ours) (on, wanted.Encoder) [] all)
-finish_found made ours (CreateBuffer known) encoder all e = absurd (cc)
-finish_found made ours (CreateTexture known) encoder all e = absurd (cc)
-finish_found made ours (CreateView texture asked) encoder all e = absurd (cc)
-finish_found made ours (CreateSampler known) encoder all e = absurd (cc)
-finish_found made ours (CreateBindGroupLayout known) encoder all e = absurd (cc)
-finish_found made ours (CreatePipelineLayout layouts) encoder all e = absurd (cc)
-finish_found made ours (CreateBindGroup layout entries) encoder all e = absurd (cc)
-finish_found made ours (CreateComputePipeline layout iface) encoder all e = absurd (cc)
-finish_found made ours (CreateRenderPipeline layout desc) encoder all e = absurd (cc)
-finish_found made ours (CreateQuerySet known) encoder all e = absurd (cc)
-finish_found made ours CreateEncoder encoder all e = absurd (cc)
-finish_found made ours (Submit buffers) encoder all e = absurd (cc)
-finish_found made ours (WriteBuffer buffer offset size) encoder all e = absurd (cc)
-finish_found made ours (WriteTexture texture spot layout size data_size) encoder all e = absurd (cc)
-finish_found made ours (Destroy object) encoder all e = absurd (cc)
-finish_found made ours (Drop object) encoder all e = absurd (cc)
-finish_found made ours (Complete op) encoder all e = absurd (cc)
-finish_found made ours (PushErrorScope filter) encoder all e = absurd (cc)
-finish_found made ours PopErrorScope encoder all e = absurd (cc)
-finish_found made ours Lose encoder all e = absurd (cc)
-finish_found made ours WorkDone encoder all e = absurd (cc)
-finish_found made ours (MapAsync buffer mode offset size) encoder all e = absurd (cc)
-finish_found made ours (Unmap buffer) encoder all e = absurd (cc)
-
--- the encoder is the lane's own
-pub finish_own : (made ours : Slots) (request : RequestOf ℕ) (encoder : ℕ) → All (IsFound made ours) (asked_of request) → ended_by request ≡ Some encoder → Contains ours (encoder, kind.Encoder)
-finish_own made ours request encoder all e =
-    let found = finish_found made ours request encoder all e in
-    subst (λ k. Contains ours (encoder, k)) (is_encoder found.kind found.fits) (found.own refl)
-
 pub call_owns : (first : ℕ) (made ours : Slots) (call : BoundCall) → All (IsAbove first) ours → CallIsBound made ours call → Owns first call
 call_owns first made ours (Record on command slot) above bound = tt
-call_owns first made ours (Ask request slot) above bound = λ encoder e. All-contains (IsAbove first) ours (encoder, kind.Encoder) above (finish_own made ours request encoder bound e)
+call_owns first made ours (Ask request slot) above bound = λ encoder e. let ended = finish_own made ours request encoder bound e in All-contains (IsAbove first) ours (encoder, ended.kind) above ended.own
 
 ended_unborn : (ended : Option ℕ) (count n : ℕ) → ((encoder : ℕ) → ended ≡ Some encoder → encoder < count) → count ≤ n → option_map_or (λ encoder. encoder == n) ended false ≡ false
 ended_unborn None count n below from = refl
@@ -88,30 +53,30 @@ ended_unborn (Some encoder) count n below from = let less : encoder < count = be
 call_unborn : (made ours : Slots) (count n : ℕ) (call : BoundCall) → All (IsBelow count) ours → count ≤ n → CallIsBound made ours call → finishes n call ≡ false
 call_unborn made ours count n (Record on command slot) below from bound = refl
 call_unborn made ours count n (Ask request slot) below from bound =
-    ended_unborn (ended_by request) count n (λ encoder e. All-contains (IsBelow count) ours (encoder, kind.Encoder) below (finish_own made ours request encoder bound e)) from
+    ended_unborn (ended_by request) count n (λ encoder e. let ended = finish_own made ours request encoder bound e in All-contains (IsBelow count) ours (encoder, ended.kind) below ended.own) from
 
 -- ---- what a lane has made after some calls
 
--- an encoder, which has ended where one of the calls finishes it
-pub record IsEncoder (first : ℕ) (own : List Object) (before : List BoundCall) (place : ℕ) : Type 0 where
+-- an encoder of a kind, which has ended where one of the calls finishes it
+pub record IsEncoder (first : ℕ) (own : List Object) (before : List BoundCall) (place : ℕ) (k : Kind) : Type 0 where
   pub recorder : RecorderValue
   pub is : recorder_at own place ≡ Some recorder
-  pub stands : StandsAt own place kind.Encoder
+  pub stands : StandsAt own place k
   pub taken : has_taken recorder ≡ list_any (finishes (first + place)) before
 
--- a pass that was begun on such an encoder
+-- a pass that was begun on a command encoder
 pub record IsPass (first : ℕ) (own : List Object) (before : List BoundCall) (place : ℕ) : Type 0 where
   pub encoder : ℕ
   pub number : ℕ
   pub is : slice_get own place ≡ Some (object.Pass encoder number)
-  pub holder : IsEncoder first own before encoder
+  pub holder : IsEncoder first own before encoder kind.Encoder
   pub begun : nat_lt number holder.recorder.passes ≡ true
 
 pub record Stands (first : ℕ) (own : List Object) (before : List BoundCall) : Type 0 where
   pub below : All (IsBelow (first + length own)) (made_in before)
   pub above : All (IsAbove first) (made_in before)
   pub unborn : (n : ℕ) → first + length own ≤ n → list_any (finishes n) before ≡ false
-  pub encoders : (slot : ℕ) → Contains (made_in before) (slot, kind.Encoder) → IsEncoder first own before (slot - first)
+  pub encoders : (slot : ℕ) (k : Kind) → has_recorder k ≡ true → Contains (made_in before) (slot, k) → IsEncoder first own before (slot - first) k
   pub passes : (slot : ℕ) (k : Kind) → is_pass k ≡ true → Contains (made_in before) (slot, k) → IsPass first own before (slot - first)
 
 pub no_calls : (first : ℕ) → Stands first [] []
@@ -119,7 +84,7 @@ no_calls first = record {
   below = All-nil (IsBelow (first + 0));
   above = All-nil (IsAbove first);
   unborn = λ n from. refl;
-  encoders = λ slot there. absurd (omega (arith, there.1));
+  encoders = λ slot k p there. absurd (omega (arith, there.1));
   passes = λ slot k p there. absurd (omega (arith, there.1));
 }
 
@@ -128,14 +93,14 @@ finished_more before call n = list_any-append (finishes n) before (call ∷ []) 
 
 -- ---- one more call
 
-encoder_after : (serial : ℕ) (sight : Sight) (before : List BoundCall) (call : BoundCall) (answer : Answer) (place : ℕ) → Owns sight.first call → IsEncoder sight.first sight.own before place
-    → IsEncoder sight.first (after_call serial sight (call, answer)).own (before ++ call ∷ []) place
-encoder_after serial sight before call answer place owns was =
+encoder_after : (serial : ℕ) (sight : Sight) (before : List BoundCall) (call : BoundCall) (answer : Answer) (place : ℕ) (k : Kind) → Owns sight.first call → IsEncoder sight.first sight.own before place k
+    → IsEncoder sight.first (after_call serial sight (call, answer)).own (before ++ call ∷ []) place k
+encoder_after serial sight before call answer place k owns was =
     let kept = call_keeps serial sight call answer place was.recorder owns was.is in
     record {
       recorder = kept.recorder;
       is = kept.is;
-      stands = call_stands serial sight call answer place kind.Encoder was.stands;
+      stands = call_stands serial sight call answer place k was.stands;
       taken = kept.taken ∙ (ap (λ b. b || finishes (sight.first + place) call) was.taken ∙ sym (finished_more before call (sight.first + place)));
     }
 
@@ -151,16 +116,18 @@ pass_after serial sight before call answer place owns was =
       encoder = was.encoder;
       number = was.number;
       is = call_leaves serial sight call answer place was.encoder was.number was.is;
-      holder = encoder_after serial sight before call answer was.encoder owns was.holder;
+      holder = encoder_after serial sight before call answer was.encoder kind.Encoder owns was.holder;
       begun = more_begun was.number was.holder.recorder.passes kept.recorder.passes was.begun kept.passes;
     }
 
 -- no call has finished the encoder that is made
-encoder_first : (serial : ℕ) (sight : Sight) (made : Slots) (before : List BoundCall) (call : BoundCall) (answer : Answer) (slot : ℕ) → Stands sight.first sight.own before → CallIsBound made (made_in before) call
-    → Answers call answer → slot ≡ sight.first + length sight.own → made_of call ≡ Some (slot, kind.Encoder) → IsEncoder sight.first (after_call serial sight (call, answer)).own (before ++ call ∷ []) (slot - sight.first)
-encoder_first serial sight made before call answer slot was bound answered here makes =
+encoder_first : (serial : ℕ) (sight : Sight) (made : Slots) (before : List BoundCall) (call : BoundCall) (answer : Answer) (slot : ℕ) (k : Kind) → has_recorder k ≡ true → Stands sight.first sight.own before
+    → CallIsBound made (made_in before) call → Answers call answer → slot ≡ sight.first + length sight.own → made_of call ≡ Some (slot, k)
+    → IsEncoder sight.first (after_call serial sight (call, answer)).own (before ++ call ∷ []) (slot - sight.first) k
+encoder_first serial sight made before call answer slot k p was bound answered here makes =
     let own : List Object = (after_call serial sight (call, answer)).own in
-    let fresh = encoder_made serial sight call answer slot answered makes in
+    let fit : MakesAs sight call = makes_as sight made (made_in before) call (λ n x q there. (was.encoders n x q there).stands) bound in
+    let fresh = encoder_made serial sight call answer slot k p answered fit makes in
     let place : length sight.own ≡ slot - sight.first = omega (arith, here) in
     let again : sight.first + (slot - sight.first) ≡ slot = omega (arith, here) in
     let from : sight.first + length sight.own ≤ slot = omega (arith, here) in
@@ -169,11 +136,11 @@ encoder_first serial sight made before call answer slot was bound answered here 
     record {
       recorder = fresh.recorder;
       is = ap (λ n. recorder_at own n) (sym place) ∙ fresh.is;
-      stands = subst (λ n. StandsAt own n kind.Encoder) place (call_makes serial sight call answer slot kind.Encoder answered makes);
+      stands = subst (λ n. StandsAt own n k) place (call_makes serial sight call answer slot k answered fit makes);
       taken = fresh.unended ∙ sym (ap (λ n. list_any (finishes n) (before ++ call ∷ [])) again ∙ unborn);
     }
 
-pass_on : (serial : ℕ) (sight : Sight) (before : List BoundCall) (on made slot : ℕ) (command : CommandOf ℕ) (answer : Answer) (k : Kind) → IsEncoder sight.first sight.own before (place_in sight on)
+pass_on : (serial : ℕ) (sight : Sight) (before : List BoundCall) (on made slot : ℕ) (command : CommandOf ℕ) (answer : Answer) (k : Kind) → IsEncoder sight.first sight.own before (place_in sight on) kind.Encoder
     → slot ≡ sight.first + length sight.own → kind_begun command ≡ Some k
     → IsPass sight.first (after_call serial sight (Record on command (Some made), answer)).own (before ++ Record on command (Some made) ∷ []) (slot - sight.first)
 pass_on serial sight before on made slot command answer k holder here begins =
@@ -196,9 +163,9 @@ pass_on serial sight before on made slot command answer k holder here begins =
 
 -- the encoder on which a pass is begun is the lane's own
 pub begun_on : (first : ℕ) (own : List Object) (made : Slots) (before : List BoundCall) (on : ℕ) (command : CommandOf ℕ) (slot : Option ℕ) → Stands first own before → CallIsBound made (made_in before) (Record on command slot)
-    → place_wanted command ≡ wanted.Encoder → IsEncoder first own before (on - first)
+    → place_wanted command ≡ wanted.Encoder → IsEncoder first own before (on - first) kind.Encoder
 begun_on first own made before on command slot was bound place =
-    was.encoders on (subst (λ k. Contains (made_in before) (on, k)) (is_encoder bound.place (ap (λ w. admits w bound.place) (sym place) ∙ bound.takes)) bound.own)
+    was.encoders on kind.Encoder refl (subst (λ k. Contains (made_in before) (on, k)) (is_encoder bound.place (ap (λ w. admits w bound.place) (sym place) ∙ bound.takes)) bound.own)
 
 pass_first : (serial : ℕ) (sight : Sight) (made : Slots) (before : List BoundCall) (call : BoundCall) (answer : Answer) (slot : ℕ) (k : Kind) → is_pass k ≡ true → Stands sight.first sight.own before
     → CallIsBound made (made_in before) call → slot ≡ sight.first + length sight.own → made_of call ≡ Some (slot, k)
@@ -241,10 +208,10 @@ one_more serial sight made before call answer was bound answered here =
       unborn = λ n there. (
           let less : old ≤ n = omega (arith, there, grown) in
           finished_more before call n ∙ ap₂ (λ a b. a || b) (was.unborn n less) (call_unborn made (made_in before) old n call was.below less bound));
-      encoders = λ slot there. elim (Contains-append_cases (made_in before) (made_by call) (slot, kind.Encoder) (subst (λ ms. Contains ms (slot, kind.Encoder)) new_made there)) [
-        | inl earlier ↦ encoder_after serial sight before call answer (slot - sight.first) owns (was.encoders slot earlier)
-        | inr new ↦ let makes : made_of call ≡ Some (slot, kind.Encoder) = only (made_of call) (slot, kind.Encoder) new in
-            encoder_first serial sight made before call answer slot was bound answered (here (slot, kind.Encoder) makes) makes
+      encoders = λ slot k p there. elim (Contains-append_cases (made_in before) (made_by call) (slot, k) (subst (λ ms. Contains ms (slot, k)) new_made there)) [
+        | inl earlier ↦ encoder_after serial sight before call answer (slot - sight.first) k owns (was.encoders slot k p earlier)
+        | inr new ↦ let makes : made_of call ≡ Some (slot, k) = only (made_of call) (slot, k) new in
+            encoder_first serial sight made before call answer slot k p was bound answered (here (slot, k) makes) makes
       ];
       passes = λ slot k p there. elim (Contains-append_cases (made_in before) (made_by call) (slot, k) (subst (λ ms. Contains ms (slot, k)) new_made there)) [
         | inl earlier ↦ pass_after serial sight before call answer (slot - sight.first) owns (was.passes slot k p earlier)

@@ -1,5 +1,5 @@
--- What a lane has made after a call, late or kept, and what the object of a call is.
-use Rattle.std.proofs.Common.{◌≡◌, ℕ, ◌+◌, true, Option, Some, None, List, [], ◌∷◌, ◌++◌, length, refl, ap, ◌∙◌, inl, inr, arith}
+-- What a lane has made after a call, late or kept, and what is known of the object of a call.
+use Rattle.std.proofs.Common.{◌≡◌, ℕ, ◌+◌, true, Option, Some, None, List, [], ◌∷◌, ◌++◌, length, refl, sym, ap, subst, ◌∙◌, inl, inr, arith}
 use Rattle.std.specs.Prelude.{option_map, option_and_then, is_some}
 use Rattle.std.specs.Option.{option_map_or, option_to_list}
 use Rattle.std.proofs.lemmas.Bool.{cases_Bool}
@@ -12,17 +12,20 @@ use Rattle.wg_types.specs.declared.handles.Info.{Info}
 use Rattle.wg_types.specs.declared.replies.Answer.{Answer}
 use Rattle.wg_types.specs.declared.replies.Answer.TheVariants.{Made, Queued, Promised, Plain, BadCompletion}
 use Rattle.wg_types.specs.declared.requests.RequestOf.{RequestOf}
-use Rattle.wg_types.specs.declared.requests.RequestOf.TheVariants.{CreateBuffer, CreateTexture, CreateView, CreateSampler, CreateBindGroupLayout, CreatePipelineLayout, CreateBindGroup, CreateComputePipeline, CreateRenderPipeline, CreateQuerySet, CreateEncoder, Finish, Submit, WriteBuffer, WriteTexture, Destroy, Drop, Complete, PushErrorScope, PopErrorScope, Lose, WorkDone, MapAsync, Unmap}
+use Rattle.wg_types.specs.declared.requests.RequestOf.TheVariants.{CreateBuffer, CreateTexture, CreateView, CreateSampler, CreateBindGroupLayout, CreatePipelineLayout, CreateBindGroup, CreateComputePipeline, CreateRenderPipeline, CreateQuerySet, CreateEncoder, CreateBundleEncoder, Finish, FinishBundle, Submit, WriteBuffer, WriteTexture, Destroy, Drop, Complete, PushErrorScope, PopErrorScope, Lose, WorkDone, MapAsync, Unmap}
 use Rattle.wg_types.specs.declared.wanted.Kind.{Kind}
-use Rattle.wg_calls.specs.Calls.{info_asked, handle_of}
+use Rattle.wg_types.specs.declared.handles.ObjRef.{ObjRef}
+use Rattle.wg_encoder.specs.Recorders.{RecorderValue}
+use Rattle.wg_calls.specs.Calls.{info_asked, known_of_finish, handle_of}
 use Rattle.wg_script.specs.CallOf.{BoundCall}
 use Rattle.wg_script.specs.declared.calls.CallOf.TheVariants.{Record, Ask}
 use Rattle.wg_names.specs.Uses.{made_as, made_of}
 use Rattle.wg_play.specs.declared.objects.Object.{Object}
-use Rattle.wg_play.specs.Objects.{is_late_on, taken_on, ended_by, object_of}
-use Rattle.wg_play.specs.Sights.{Sight, place_in}
-use Rattle.wg_play.specs.Lanes.{command_seen, stand_seen, noted_on, request_seen, with_handle, handle_kept}
+use Rattle.wg_play.specs.Objects.{recorder_at, is_late_on, taken_on, ended_by, object_of}
+use Rattle.wg_play.specs.Sights.{Sight, place_in, handle_in_sight}
+use Rattle.wg_play.specs.Lanes.{command_seen, stand_seen, noted_on, finish_known, request_seen, info_sent, with_handle, handle_known, handle_kept}
 use Rattle.wg_play.specs.Late.{Answers, is_made, after_call}
+use Rattle.wg_play.proofs.Ended.{is_finish}
 
 -- ---- what a lane has made after a call
 
@@ -64,7 +67,7 @@ same_others serial sight (Ask request made) answer = ap (λ (s : Sight). s.other
 
 -- ---- the object of a call of the device
 
-info_kind : (f : ℕ → HandleValue) (request : RequestOf ℕ) → option_map kind_of (info_asked (map_asked f request)) ≡ kind_made request
+pub info_kind : (f : ℕ → HandleValue) (request : RequestOf ℕ) → option_map kind_of (info_asked (map_asked f request)) ≡ kind_made request
 info_kind f (CreateBuffer known) = refl
 info_kind f (CreateTexture known) = refl
 info_kind f (CreateView texture asked) = refl
@@ -76,7 +79,9 @@ info_kind f (CreateComputePipeline layout iface) = refl
 info_kind f (CreateRenderPipeline layout desc) = refl
 info_kind f (CreateQuerySet known) = refl
 info_kind f CreateEncoder = refl
+info_kind f (CreateBundleEncoder targets) = refl
 info_kind f (Finish encoder) = refl
+info_kind f (FinishBundle encoder) = refl
 info_kind f (Submit buffers) = refl
 info_kind f (WriteBuffer buffer offset size) = refl
 info_kind f (WriteTexture texture spot layout size data_size) = refl
@@ -90,20 +95,50 @@ info_kind f WorkDone = refl
 info_kind f (MapAsync buffer mode offset size) = refl
 info_kind f (Unmap buffer) = refl
 
--- there is a handle just where the call makes something that has a slot, and it is of that kind
+-- That of a finish is known by its encoder's recorder, whichever that is.
+
+some_opened : (recorder : RecorderValue) (known : Info) (open_for : Option ObjRef) → is_some (option_map_or (λ encoder. Some (known_of_finish recorder)) open_for (Some known)) ≡ true
+some_opened recorder known None = refl
+some_opened recorder known (Some encoder) = refl
+
+some_finish : (found : Option RecorderValue) (known : Info) → is_some (finish_known found (Some known)) ≡ true
+some_finish None known = refl
+some_finish (Some recorder) known = some_opened recorder known recorder.encoder
+
+some_mapped : {X Y : Type 0} (f : X → Y) (o : Option X) → is_some (option_map f o) ≡ is_some o
+some_mapped f None = refl
+some_mapped f (Some x) = refl
+
+-- so that something is known just where the call makes something
+some_sent : (sight : Sight) (request : RequestOf ℕ) → is_some (info_sent sight request) ≡ is_some (kind_made request)
+some_sent sight request = by_ended (ended_by request) refl
+  where
+    asked : Option Info
+    asked = info_asked (request_seen sight request)
+
+    by_ended : (ended : Option ℕ) → ended_by request ≡ ended → is_some (info_sent sight request) ≡ is_some (kind_made request)
+    by_ended None none =
+        ap (λ (o : Option ℕ). is_some (option_map_or (λ encoder. finish_known (recorder_at sight.own (place_in sight encoder)) asked) o asked)) none
+        ∙ (sym (some_mapped kind_of asked) ∙ ap (λ (o : Option Kind). is_some o) (info_kind (handle_in_sight sight) request))
+    by_ended (Some encoder) ends = elim (is_finish request encoder ends) [
+      | inl same ↦ subst (λ (r : RequestOf ℕ). is_some (info_sent sight r) ≡ is_some (kind_made r)) (sym same) (some_finish (recorder_at sight.own (place_in sight encoder)) _)
+      | inr same ↦ subst (λ (r : RequestOf ℕ). is_some (info_sent sight r) ≡ is_some (kind_made r)) (sym same) (some_finish (recorder_at sight.own (place_in sight encoder)) _)
+    ]
+
+-- there is a handle just where the call makes something that has a slot
 abbrev pub Fits : Option HandleValue → Option (ℕ × Kind) → Type 0
 Fits None None = Unit {0}
 Fits None (Some made) = ⊥
 Fits (Some handle) None = ⊥
-Fits (Some handle) (Some made) = kind_of handle.info ≡ made.1
+Fits (Some handle) (Some made) = Unit {0}
 
-fits_known : (serial : ℕ) (known : Option Info) (answer : Answer) (made : Option ℕ) (found : Option Kind) → option_map kind_of known ≡ found → (is_some (made_as made found) ≡ true → is_made answer ≡ true)
-    → Fits (option_and_then (λ slot. option_and_then (λ x. handle_of serial x answer) known) made) (made_as made found)
+fits_known : (serial : ℕ) (known : Option Info) (answer : Answer) (made : Option ℕ) (found : Option Kind) → is_some known ≡ is_some found → (is_some (made_as made found) ≡ true → is_made answer ≡ true)
+    → Fits (option_and_then (λ slot. handle_known serial known answer) made) (made_as made found)
 fits_known serial known answer None found e answered = tt
 fits_known serial None answer (Some slot) None e answered = tt
-fits_known serial None answer (Some slot) (Some k) e answered = absurd (cc)
-fits_known serial (Some x) answer (Some slot) None e answered = absurd (cc)
-fits_known serial (Some x) (Made number valid) (Some slot) (Some k) e answered = cc
+fits_known serial None answer (Some slot) (Some k) e answered = absurd (cc (e))
+fits_known serial (Some x) answer (Some slot) None e answered = absurd (cc (e))
+fits_known serial (Some x) (Made number valid) (Some slot) (Some k) e answered = tt
 fits_known serial (Some x) (Queued op) (Some slot) (Some k) e answered = absurd (cc (answered refl))
 fits_known serial (Some x) Promised (Some slot) (Some k) e answered = absurd (cc (answered refl))
 fits_known serial (Some x) Plain (Some slot) (Some k) e answered = absurd (cc (answered refl))
@@ -112,7 +147,40 @@ fits_known serial (Some x) BadCompletion (Some slot) (Some k) e answered = absur
 pub handle_fits : (serial : ℕ) (sight : Sight) (request : RequestOf ℕ) (made : Option ℕ) (answer : Answer) → Answers (Ask request made) answer
     → Fits (handle_kept serial sight (Ask request made) answer) (made_of (Ask request made))
 handle_fits serial sight request made answer answered =
-    fits_known serial (info_asked (request_seen sight request)) answer made (kind_made request) (info_kind _ request) answered
+    fits_known serial (info_sent sight request) answer made (kind_made request) (some_sent sight request) answered
+
+-- What is known of that which a call makes is of the kind that it makes.
+abbrev pub MakesAs : Sight → BoundCall → Type 0
+MakesAs sight (Record on command made) = Unit {0}
+MakesAs sight (Ask request made) = option_map kind_of (info_sent sight request) ≡ kind_made request
+
+pub same_kind : (slot on : ℕ) (found : Option Kind) (k : Kind) → made_as (Some slot) found ≡ Some (on, k) → found ≡ Some k
+same_kind slot on None k e = absurd (cc)
+same_kind slot on (Some x) k e = let same : (slot, x) ≡ (on, k) = cc in ap (λ (m : ℕ × Kind). Some m.1) same
+
+info_of : (serial : ℕ) (known : Info) (answer : Answer) (handle : HandleValue) → handle_of serial known answer ≡ Some handle → known ≡ handle.info
+info_of serial known (Made number valid) handle e =
+    let new : HandleValue = record { reference = record { device = serial; number = number }; valid = valid; info = known } in
+    let same : new ≡ handle = cc (e) in
+    ap (λ (h : HandleValue). h.info) same
+info_of serial known (Queued op) handle e = absurd (cc (e))
+info_of serial known Promised handle e = absurd (cc (e))
+info_of serial known Plain handle e = absurd (cc (e))
+info_of serial known BadCompletion handle e = absurd (cc (e))
+
+kind_known : (serial : ℕ) (known : Option Info) (answer : Answer) (made : Option ℕ) (found : Option Kind) (handle : HandleValue) (slot : ℕ) (k : Kind) → option_map kind_of known ≡ found
+    → option_and_then (λ n. handle_known serial known answer) made ≡ Some handle → made_as made found ≡ Some (slot, k) → kind_of handle.info ≡ k
+kind_known serial known answer None found handle slot k e is makes = absurd (cc (is))
+kind_known serial None answer (Some n) found handle slot k e is makes = absurd (cc (is))
+kind_known serial (Some x) answer (Some n) found handle slot k e is makes =
+    let same : Some (kind_of x) ≡ Some k = e ∙ same_kind n slot found k makes in
+    let kind : kind_of x ≡ k = cc (same) in
+    sym (ap kind_of (info_of serial x answer handle is)) ∙ kind
+
+-- and so it is of its handle
+pub handle_kind : (serial : ℕ) (sight : Sight) (request : RequestOf ℕ) (made : Option ℕ) (answer : Answer) (slot : ℕ) (k : Kind) → MakesAs sight (Ask request made) → made_of (Ask request made) ≡ Some (slot, k)
+    → (handle : HandleValue) → handle_kept serial sight (Ask request made) answer ≡ Some handle → kind_of handle.info ≡ k
+handle_kind serial sight request made answer slot k fit makes handle is = kind_known serial (info_sent sight request) answer made (kind_made request) handle slot k fit is makes
 
 pub fits_length : (objects : List Object) (handle : Option HandleValue) (made : Option (ℕ × Kind)) → Fits handle made → length (with_kept objects handle) ≡ length objects + length (option_to_list made)
 fits_length objects None None fits = omega arith

@@ -1,6 +1,6 @@
 -- In a lane of a bound script each call finds what it uses, and what a phase has made stands at its slots for those after it.
-use Rattle.std.proofs.Common.{◌≡◌, ℕ, zero, suc, ◌+◌, ◌-◌, ◌<◌, ◌≤◌, nat_lt, true, false, Option, Some, List, [], ◌∷◌, ◌++◌, length, map, refl, sym, ap, subst, ◌∙◌, inl, inr, arith, append_assoc, if◌then◌else◌}
-use Rattle.std.specs.Prelude.{All, Contains, option_and_then, slice_get}
+use Rattle.std.proofs.Common.{◌≡◌, ℕ, zero, suc, ◌+◌, ◌-◌, ◌<◌, ◌≤◌, nat_lt, true, false, List, [], ◌∷◌, ◌++◌, length, map, refl, sym, ap, subst, ◌∙◌, inl, inr, arith, append_assoc, if◌then◌else◌}
+use Rattle.std.specs.Prelude.{All, Contains, slice_get}
 use Rattle.std.specs.Option.{option_map_or}
 use Rattle.std.specs.List.{flat_map}
 use Rattle.std.proofs.lemmas.Bool.Decides.{nat_tests}
@@ -16,18 +16,18 @@ use Rattle.wg_types.specs.declared.wanted.Kind.TheVariants as kinds
 use Rattle.wg_types.specs.declared.wanted.Wanted.{Wanted}
 use Rattle.wg_script.specs.CallOf.{BoundCall}
 use Rattle.wg_script.specs.declared.calls.CallOf.TheVariants.{Record, Ask}
-use Rattle.wg_names.specs.Bound.{made_by, made_in, all_made, numbers_below, IsFound, CallIsBound}
+use Rattle.wg_names.specs.Bound.{made_by, made_in, all_made, numbers_below, IsFound, CallIsBound, LaneIsBound}
 use Rattle.wg_play.specs.declared.objects.Object.{Object}
-use Rattle.wg_play.specs.declared.objects.Object.TheVariants as object
-use Rattle.wg_play.specs.Objects.{handle_in, handle_at, reference_at, recorder_in, recorder_at, stand_at, unknown}
+use Rattle.wg_play.specs.Objects.{handle_in, handle_at, reference_at, recorder_at, stand_at, unknown}
 use Rattle.wg_play.specs.declared.objects.Stand.{Stand}
 use Rattle.wg_play.specs.Sights.{Sight, place_in}
 use Rattle.wg_play.specs.Lanes.{gathered}
 use Rattle.wg_play.specs.Late.{Answered, IsAnswered, after_calls, slots_before}
-use Rattle.wg_play.specs.Found.{IsOpenFor, IsOf, StandsAt, Holds, IsSeen, IsSeenAs, CallIsFound, BoundIsFound, GatheredIsHeld, ended_from, phase_of}
+use Rattle.wg_play.specs.Found.{has_recorder, IsOpenFor, StandsAt, Holds, IsSeen, IsSeenAs, CallIsFound, BoundIsFound, GatheredIsHeld, ended_from, phase_of}
 use Rattle.wg_play.proofs.Following.{same_others}
-use Rattle.wg_play.proofs.Numbered.{Slots, AreFrom, slots_of, from_zero, from_front, from_back, lane_in, lane_from, call_in, lane_front}
-use Rattle.wg_play.proofs.Finished.{finish_own, IsEncoder, IsPass, Stands, no_calls, all_after}
+use Rattle.wg_play.proofs.Numbered.{Slots, AreFrom, slots_of, from_zero, from_front, from_back, phase_at, lane_in, lane_from, call_in, lane_front}
+use Rattle.wg_play.proofs.Sending.{finish_own, open_at, sends_as}
+use Rattle.wg_play.proofs.Finished.{IsEncoder, IsPass, Stands, no_calls, all_after}
 use Rattle.wg_play.proofs.Places.{stands_on}
 use Rattle.wg_play.proofs.Slots.{stand_encoder, stand_pass}
 use Rattle.wg_play.proofs.Holding.{stands_append, HoldsFrom, none_held, all_held}
@@ -102,29 +102,20 @@ keys_found sight made ours seen own keys all =
     All-weaker (IsFound made ours) (IsSeenAs sight made)
     (λ key found. record { kind = found.kind; was_made = found.stands; fits = found.fits; seen = seen key.0 found.kind found.stands; own = λ want. own key.0 found.kind (found.own want) }) keys all
 
--- an encoder has a recorder, which is open for it
-open_in : (what : Object) (found : Option Object) → found ≡ Some what → IsOf kinds.Encoder what → IsOpenFor (option_map_or handle_in found unknown).reference (option_and_then recorder_in found)
-open_in (object.Pass encoder number) found is of = absurd (cc (of))
-open_in (object.Made handle recorder) found is of =
-    subst (λ (o : Option Object). IsOpenFor (option_map_or handle_in o unknown).reference (option_and_then recorder_in o)) (sym is) (of.1 refl)
-
-open_at : (objects : List Object) (place : ℕ) → StandsAt objects place kinds.Encoder → IsOpenFor (reference_at objects place) (recorder_at objects place)
-open_at objects place was = open_in was.what (slice_get objects place) was.is was.of
-
--- so has the encoder on which a recording call stands
+-- the encoder on which a recording call stands has a recorder, which is open for it
 abbrev OpenAt : List Object → Stand → Type 0
 OpenAt own stand = IsOpenFor (reference_at own stand.encoder) (recorder_at own stand.encoder)
 
-open_encoder : (first : ℕ) (own : List Object) (before : List BoundCall) (place : ℕ) → IsEncoder first own before place → OpenAt own (stand_at own place)
-open_encoder first own before place at = subst (OpenAt own) (sym (stand_encoder own place at.recorder at.is)) (open_at own place at.stands)
+open_encoder : (first : ℕ) (own : List Object) (before : List BoundCall) (place : ℕ) (k : Kind) → has_recorder k ≡ true → IsEncoder first own before place k → OpenAt own (stand_at own place)
+open_encoder first own before place k p at = subst (OpenAt own) (sym (stand_encoder own place at.recorder at.is)) (open_at own place k p at.stands).is_open
 
 open_pass : (first : ℕ) (own : List Object) (before : List BoundCall) (place : ℕ) → IsPass first own before place → OpenAt own (stand_at own place)
-open_pass first own before place at = subst (OpenAt own) (sym (stand_pass own place at.encoder at.number at.is)) (open_at own at.encoder at.holder.stands)
+open_pass first own before place at = subst (OpenAt own) (sym (stand_pass own place at.encoder at.number at.is)) (open_at own at.encoder kinds.Encoder refl at.holder.stands).is_open
 
 open_stand : (first : ℕ) (own : List Object) (before : List BoundCall) (slot : ℕ) (command : CommandOf ℕ) (place : Kind) → Stands first own before → Contains (made_in before) (slot, place) → admits (place_wanted command) place ≡ true
     → OpenAt own (stand_at own (slot - first))
 open_stand first own before slot command place was there takes = elim (stands_on command place takes) [
-  | inl encoder ↦ open_encoder first own before (slot - first) (was.encoders slot (subst (λ k. Contains (made_in before) (slot, k)) encoder there))
+  | inl encoder ↦ open_encoder first own before (slot - first) place encoder (was.encoders slot place encoder there)
   | inr pass ↦ open_pass first own before (slot - first) (was.passes slot place pass there)
 ]
 
@@ -137,10 +128,16 @@ call_found sight made before seen own was (Record on command slot) bound = recor
   encoder = open_stand sight.first sight.own before on command bound.place was bound.own bound.takes;
   found = keys_found sight made (made_in before) seen own (named_on bound.place command) bound.found;
 }
-call_found sight made before seen own was (Ask request slot) bound = record {
-  found = keys_found sight made (made_in before) seen own (asked_of request) bound;
-  ends = λ encoder e. open_at sight.own (place_in sight encoder) (own encoder kinds.Encoder (finish_own made (made_in before) request encoder bound e));
-}
+call_found sight made before seen own was (Ask request slot) bound =
+    let sends = sends_as sight made (made_in before) request (λ n k p there. own n k there) bound in
+    record {
+      found = keys_found sight made (made_in before) seen own (asked_of request) bound;
+      ends = λ encoder e. (
+          let ended = finish_own made (made_in before) request encoder bound e in
+          (open_at sight.own (place_in sight encoder) ended.kind ended.recorded (own encoder ended.kind ended.own)).is_open);
+      verb = sends.verb;
+      makes = sends.makes;
+    }
 
 pub bound_is_found : BoundIsFound
 bound_is_found earlier later lanes_before lanes_after answered call after bound all serial others holds =
@@ -155,7 +152,9 @@ bound_is_found earlier later lanes_before lanes_after answered call after bound 
     let numbers : AreFrom first (slots_of (made_in before))
     = from_front first (made_in before) (made_in (call ∷ after)) (subst (λ ms. AreFrom first (slots_of ms)) parts (lane_from earlier later lanes_before lanes_after calls bound.count bound.numbered)) in
     let zero_is : first ≡ first + 0 = omega arith in
-    let held : HoldsFrom sight.first sight.own (made_in before) = all_held serial answered [] start (none_held first) all (subst (λ n. AreFrom n (slots_of (made_in before))) zero_is numbers) in
+    let bound_before = lane_front visible [] before (call ∷ after) lane in
+    let held : HoldsFrom sight.first sight.own (made_in before)
+    = all_held serial visible answered [] start (none_held first) all bound_before (subst (λ n. AreFrom n (slots_of (made_in before))) zero_is numbers) in
     let same : sight.first ≡ first = first_after serial answered start in
     let seen_before : AreFrom 0 (slots_of visible) = earlier_from earlier ((lanes_before ++ calls ∷ lanes_after) ∷ later) bound.count bound.numbered in
     let seen : SeesAll sight (visible ++ made_in before)
@@ -168,7 +167,7 @@ bound_is_found earlier later lanes_before lanes_after answered call after bound 
           seen_own sight slot kind over (held.stands slot kind mine)
     ] in
     let stands : Stands sight.first sight.own before
-    = all_after serial visible answered [] start (no_calls first) all (lane_front visible [] before (call ∷ after) lane) (subst (λ n. AreFrom n (slots_of (made_in before))) zero_is numbers) in
+    = all_after serial visible answered [] start (no_calls first) all bound_before (subst (λ n. AreFrom n (slots_of (made_in before))) zero_is numbers) in
     call_found sight (visible ++ made_in before) before seen held.stands stands call (call_in visible [] before call after lane)
 
 -- ---- what a phase has made
@@ -198,10 +197,10 @@ lane_held objects own made ours was held from =
       ];
     }
 
-gathered_held : (serial : ℕ) (others : List Object) (lanes : List (List Answered)) (objects : List Object) (made : Slots) → Holds objects made → All (All IsAnswered) lanes
-    → AreFrom (length objects) (slots_of (flat_map made_in (phase_of lanes))) → Holds (gathered objects (ended_from serial others (length objects) lanes)) (made ++ flat_map made_in (phase_of lanes))
-gathered_held serial others [] objects made was all from = subst (Holds objects) (sym (append-nil made)) was
-gathered_held serial others (calls ∷ lanes) objects made was all from =
+gathered_held : (serial : ℕ) (others : List Object) (visible : Slots) (lanes : List (List Answered)) (objects : List Object) (made : Slots) → Holds objects made → All (All IsAnswered) lanes
+    → All (LaneIsBound visible []) (phase_of lanes) → AreFrom (length objects) (slots_of (flat_map made_in (phase_of lanes))) → Holds (gathered objects (ended_from serial others (length objects) lanes)) (made ++ flat_map made_in (phase_of lanes))
+gathered_held serial others visible [] objects made was all bound from = subst (Holds objects) (sym (append-nil made)) was
+gathered_held serial others visible (calls ∷ lanes) objects made was all bound from =
     let first : ℕ = length objects in
     let start : Sight = record { others = others; first = first; own = [] } in
     let sight : Sight = after_calls serial start calls in
@@ -209,13 +208,16 @@ gathered_held serial others (calls ∷ lanes) objects made was all from =
     let rest : Slots = flat_map made_in (phase_of lanes) in
     let numbers : AreFrom first (slots_of ours) = from_front first ours rest from in
     let zero_is : first ≡ first + 0 = omega arith in
-    let there : HoldsFrom sight.first sight.own ours = all_held serial calls [] start (none_held first) (All-head (All IsAnswered) calls lanes all) (subst (λ n. AreFrom n (slots_of ours)) zero_is numbers) in
+    let bound_calls : List BoundCall = map (λ (c : Answered). c.0) calls in
+    let there : HoldsFrom sight.first sight.own ours
+    = all_held serial visible calls [] start (none_held first) (All-head (All IsAnswered) calls lanes all) (All-head (LaneIsBound visible []) bound_calls (phase_of lanes) bound) (subst (λ n. AreFrom n (slots_of ours)) zero_is numbers) in
     let held : HoldsFrom first sight.own ours = subst (λ n. HoldsFrom n sight.own ours) (first_after serial calls start) there in
     let more : length (objects ++ sight.own) ≡ length objects + length sight.own = length-append objects sight.own in
     let count : length sight.own ≡ length ours = held.count in
     let next : length (objects ++ sight.own) ≡ first + length ours = omega (arith, more, count) in
     let end : Holds (gathered (objects ++ sight.own) (ended_from serial others (length (objects ++ sight.own)) lanes)) ((made ++ ours) ++ rest)
-    = gathered_held serial others lanes (objects ++ sight.own) (made ++ ours) (lane_held objects sight.own made ours was held numbers) (All-tail (All IsAnswered) calls lanes all)
+    = gathered_held serial others visible lanes (objects ++ sight.own) (made ++ ours) (lane_held objects sight.own made ours was held numbers) (All-tail (All IsAnswered) calls lanes all)
+    (All-tail (LaneIsBound visible []) bound_calls (phase_of lanes) bound)
     (subst (λ n. AreFrom n (slots_of rest)) (sym next) (from_back first ours rest from)) in
     subst (λ n. Holds (gathered (objects ++ sight.own) (ended_from serial others n lanes)) (made ++ (ours ++ rest))) next
     (subst (Holds (gathered (objects ++ sight.own) (ended_from serial others (length (objects ++ sight.own)) lanes))) (append_assoc made ours rest) end)
@@ -232,4 +234,4 @@ gathered_is_held earlier later lanes bound all serial others holds =
     let numbers : AreFrom (length others) (slots_of here) = subst (λ n. AreFrom n (slots_of here)) first (from_front (0 + length before) here rest (from_back 0 before (here ++ rest) from)) in
     let end : before ++ here ≡ flat_map (flat_map made_in) (earlier ++ phase_of lanes ∷ [])
     = ap (λ ms. before ++ ms) (sym (append-nil here)) ∙ sym (flat_map-append (flat_map made_in) earlier (phase_of lanes ∷ [])) in
-    subst (Holds (gathered others (ended_from serial others (length others) lanes))) end (gathered_held serial others lanes others before holds all numbers)
+    subst (Holds (gathered others (ended_from serial others (length others) lanes))) end (gathered_held serial others before lanes others before holds all (phase_at [] earlier later (phase_of lanes) bound.used) numbers)

@@ -13,21 +13,20 @@ use Rattle.wg_types.specs.declared.bindings.ResourceOf.{ResourceOf}
 use Rattle.wg_types.specs.declared.bindings.ResourceOf.TheVariants.{Buffer, View, Sampler}
 use Rattle.wg_types.specs.declared.bindings.GroupEntryOf.{GroupEntryOf}
 use Rattle.wg_types.specs.declared.handles.Info.{Info}
-use Rattle.wg_types.specs.declared.handles.Info.TheVariants as info
 use Rattle.wg_types.specs.declared.handles.ObjRef.{ObjRef}
+use Rattle.wg_types.specs.declared.render.TargetInfo.{TargetInfo}
 use Rattle.wg_types.specs.declared.requests.RequestOf.{RequestOf}
-use Rattle.wg_types.specs.declared.requests.RequestOf.TheVariants.{CreateBuffer, CreateTexture, CreateView, CreateSampler, CreateBindGroupLayout, CreatePipelineLayout, CreateBindGroup, CreateComputePipeline, CreateRenderPipeline, CreateQuerySet, CreateEncoder, Finish, Submit, WriteBuffer, WriteTexture, Destroy, Drop, Complete, PushErrorScope, PopErrorScope, Lose, WorkDone, MapAsync, Unmap}
+use Rattle.wg_types.specs.declared.requests.RequestOf.TheVariants.{CreateBuffer, CreateTexture, CreateView, CreateSampler, CreateBindGroupLayout, CreatePipelineLayout, CreateBindGroup, CreateComputePipeline, CreateRenderPipeline, CreateQuerySet, CreateEncoder, CreateBundleEncoder, Finish, FinishBundle, Submit, WriteBuffer, WriteTexture, Destroy, Drop, Complete, PushErrorScope, PopErrorScope, Lose, WorkDone, MapAsync, Unmap}
 use Rattle.wg_types.specs.declared.wanted.Kind.{Kind}
 use Rattle.wg_types.specs.declared.wanted.Wanted.{Wanted}
 use Rattle.wg_types.specs.declared.wanted.Wanted.TheVariants as wanted
 use Rattle.wg_encoder.specs.Recorders.{RecorderValue, RecordingValue}
 use Rattle.wg_history.specs.declared.events.Setup.{Setup}
 use Rattle.wg_history.specs.declared.events.Event.{Event}
-use Rattle.wg_history.specs.declared.events.Event.TheVariants as event
 use Rattle.wg_history.specs.Entries.{Entry, Past}
 use Rattle.wg_history.specs.Rules.{is_genuine}
 use Rattle.wg_history.specs.Answers.{reply_to}
-use Rattle.wg_calls.specs.Calls.{event_asked, info_asked, handle_of, handle_made, recording_of, taken_out}
+use Rattle.wg_calls.specs.Calls.{event_asked, info_asked, finish_event, finished_info, finish_of, known_of_finish, recording_of, taken_out}
 use Rattle.wg_calls.proofs.Genuine.{genuine_more, IsGenuineIfOwn, genuine_if_own, genuine_finish}
 use Rattle.wg_script.specs.CallOf.{BoundCall}
 use Rattle.wg_script.specs.declared.calls.CallOf.TheVariants.{Record, Ask}
@@ -36,7 +35,7 @@ use Rattle.wg_play.specs.declared.objects.Object.TheVariants as object
 use Rattle.wg_play.specs.declared.objects.Stand.{Stand}
 use Rattle.wg_play.specs.Objects.{unknown, handle_at, changed, with_recorder, recorder_at, recorded_by, recorded_on, passes_at, begun_by, ended_by, object_of}
 use Rattle.wg_play.specs.Sights.{Sight, place_in, handle_in_sight}
-use Rattle.wg_play.specs.Lanes.{command_seen, stand_seen, noted_on, kept, finish_by, request_seen, event_sent, event_of, handle_kept, answered_by, settled}
+use Rattle.wg_play.specs.Lanes.{command_seen, stand_seen, noted_on, kept, finish_by, finish_known, request_seen, event_sent, info_sent, event_of, handle_known, handle_kept, answered_by, settled}
 use Rattle.wg_play.specs.Kept.{IsKept, AreKept, SeesGenuine}
 use Rattle.wg_play.proofs.Slots.{with_tail}
 use Rattle.wg_play.proofs.Following.{ended_on, with_kept, after_ask}
@@ -154,7 +153,9 @@ module _ (setup : Setup) (past : Past) where
     named_if_own (CreateRenderPipeline layout desc) = one_if_own layout wanted.PipelineLayout
     named_if_own (CreateQuerySet known) = All-nil UsedIfOwn
     named_if_own CreateEncoder = All-nil UsedIfOwn
+    named_if_own (CreateBundleEncoder targets) = All-nil UsedIfOwn
     named_if_own (Finish encoder) = one_if_own encoder wanted.Encoder
+    named_if_own (FinishBundle encoder) = one_if_own encoder wanted.BundleEncoder
     named_if_own (Submit buffers) = wanted_if_own wanted.CommandBuffer buffers
     named_if_own (WriteBuffer buffer offset size) = one_if_own buffer wanted.Buffer
     named_if_own (WriteTexture texture spot layout size data_size) = one_if_own texture wanted.Texture
@@ -170,73 +171,70 @@ module _ (setup : Setup) (past : Past) where
 
 -- ---- which event a call is
 
--- The finish of an encoder, with whatever commands.
-record IsFinish (sight : Sight) (request : RequestOf ℕ) : Type 0 where
+-- The end of an encoder, with whatever its recorder hands over.
+record IsEnd (sight : Sight) (request : RequestOf ℕ) : Type 0 where
   encoder : ObjRef
+  targets : Option TargetInfo
   recording : RecordingValue
-  is : event_sent sight request ≡ event.Finish encoder recording
-  makes : info_asked (request_seen sight request) ≡ Some info.CommandBuffer
+  is : event_sent sight request ≡ finish_event targets encoder recording
+  makes : info_sent sight request ≡ Some (finished_info targets recording)
+
+record IsAsked (sight : Sight) (request : RequestOf ℕ) : Type 0 where
+  is : event_sent sight request ≡ event_asked (request_seen sight request)
+  makes : info_sent sight request ≡ info_asked (request_seen sight request)
 
 abbrev IsSent : Sight → RequestOf ℕ → Type 0
-IsSent sight request = (event_sent sight request ≡ event_asked (request_seen sight request)) ⊎ IsFinish sight request
-
-finish_sent : (sight : Sight) (slot : ℕ) → IsSent sight (Finish slot)
-finish_sent sight slot = by_recorder (recorder_at sight.own (place_in sight slot)) refl
-  where
-    other : Event
-    other = event_asked (request_seen sight (Finish slot))
-
-    by_encoder : (recorder : RecorderValue) → recorder_at sight.own (place_in sight slot) ≡ Some recorder → (open_for : Option ObjRef) → recorder.encoder ≡ open_for → IsSent sight (Finish slot)
-    by_encoder recorder found None none =
-        inl (ap (λ (o : Option RecorderValue). finish_by o other) found ∙ ap (λ (o : Option ObjRef). option_map_or (λ (encoder : ObjRef). event.Finish encoder (recording_of recorder)) o other) none)
-    by_encoder recorder found (Some encoder) is = inr (record {
-      encoder = encoder;
-      recording = recording_of recorder;
-      is = ap (λ (o : Option RecorderValue). finish_by o other) found ∙ ap (λ (o : Option ObjRef). option_map_or (λ (e : ObjRef). event.Finish e (recording_of recorder)) o other) is;
-      makes = refl;
-    })
-
-    by_recorder : (o : Option RecorderValue) → recorder_at sight.own (place_in sight slot) ≡ o → IsSent sight (Finish slot)
-    by_recorder None none = inl (ap (λ (o : Option RecorderValue). finish_by o other) none)
-    by_recorder (Some recorder) found = by_encoder recorder found recorder.encoder refl
+IsSent sight request = IsAsked sight request ⊎ IsEnd sight request
 
 sent : (sight : Sight) (request : RequestOf ℕ) → IsSent sight request
-sent sight (CreateBuffer known) = inl refl
-sent sight (CreateTexture known) = inl refl
-sent sight (CreateView texture asked) = inl refl
-sent sight (CreateSampler known) = inl refl
-sent sight (CreateBindGroupLayout known) = inl refl
-sent sight (CreatePipelineLayout layouts) = inl refl
-sent sight (CreateBindGroup layout entries) = inl refl
-sent sight (CreateComputePipeline layout iface) = inl refl
-sent sight (CreateRenderPipeline layout desc) = inl refl
-sent sight (CreateQuerySet known) = inl refl
-sent sight CreateEncoder = inl refl
-sent sight (Finish encoder) = finish_sent sight encoder
-sent sight (Submit buffers) = inl refl
-sent sight (WriteBuffer buffer offset size) = inl refl
-sent sight (WriteTexture texture spot layout size data_size) = inl refl
-sent sight (Destroy object) = inl refl
-sent sight (Drop object) = inl refl
-sent sight (Complete op) = inl refl
-sent sight (PushErrorScope filter) = inl refl
-sent sight PopErrorScope = inl refl
-sent sight Lose = inl refl
-sent sight WorkDone = inl refl
-sent sight (MapAsync buffer mode offset size) = inl refl
-sent sight (Unmap buffer) = inl refl
+sent sight request = by_ended (ended_by request) refl
+  where
+    event : Event
+    event = event_asked (request_seen sight request)
+
+    known : Option Info
+    known = info_asked (request_seen sight request)
+
+    event_by : Option ℕ → Event
+    event_by ended = option_map_or (λ encoder. finish_by (recorder_at sight.own (place_in sight encoder)) event) ended event
+
+    info_by : Option ℕ → Option Info
+    info_by ended = option_map_or (λ encoder. finish_known (recorder_at sight.own (place_in sight encoder)) known) ended known
+
+    by_encoder : (recorder : RecorderValue) → event_sent sight request ≡ finish_by (Some recorder) event → info_sent sight request ≡ finish_known (Some recorder) known
+        → (open_for : Option ObjRef) → recorder.encoder ≡ open_for → IsSent sight request
+    by_encoder recorder is makes None none = inl (record {
+      is = is ∙ ap (λ (o : Option ObjRef). option_map_or (λ (encoder : ObjRef). finish_of encoder recorder) o event) none;
+      makes = makes ∙ ap (λ (o : Option ObjRef). option_map_or (λ (encoder : ObjRef). Some (known_of_finish recorder)) o known) none;
+    })
+    by_encoder recorder is makes (Some encoder) opened = inr (record {
+      encoder = encoder;
+      targets = recorder.targets;
+      recording = recording_of recorder;
+      is = is ∙ ap (λ (o : Option ObjRef). option_map_or (λ (e : ObjRef). finish_of e recorder) o event) opened;
+      makes = makes ∙ ap (λ (o : Option ObjRef). option_map_or (λ (e : ObjRef). Some (known_of_finish recorder)) o known) opened;
+    })
+
+    by_recorder : (found : Option RecorderValue) → event_sent sight request ≡ finish_by found event → info_sent sight request ≡ finish_known found known → IsSent sight request
+    by_recorder None is makes = inl (record { is = is; makes = makes })
+    by_recorder (Some recorder) is makes = by_encoder recorder is makes recorder.encoder refl
+
+    by_ended : (ended : Option ℕ) → ended_by request ≡ ended → IsSent sight request
+    by_ended None none = inl (record { is = ap event_by none; makes = ap info_by none })
+    by_ended (Some slot) ends = by_recorder (recorder_at sight.own (place_in sight slot)) (ap event_by ends) (ap info_by ends)
 
 -- ---- what a call makes
 
 -- The handle of it is genuine once the call is made.
 made_is_genuine : (setup : Setup) → setup.serial ≢ 0 → (entry : Entry) (past : Past) (sight : Sight) (request : RequestOf ℕ) (handle : HandleValue) → SeesGenuine setup past sight
     → entry.event ≡ event_sent sight request → entry.reply ≡ reply_to setup past entry.event
-    → handle_made setup.serial (request_seen sight request) entry.reply.answer ≡ Some handle → is_genuine setup (entry ∷ past) handle ≡ true
+    → handle_known setup.serial (info_sent sight request) entry.reply.answer ≡ Some handle → is_genuine setup (entry ∷ past) handle ≡ true
 made_is_genuine setup some entry past sight request handle sees asked replied e = elim (sent sight request) [
-  | inl same ↦ genuine_if_own setup entry past (request_seen sight request) handle (asked ∙ same) replied
-      (named_if_own setup (entry ∷ past) (handle_in_sight sight) (λ slot. seen_if_own setup (entry ∷ past) some sight slot (sees_more setup entry past sight sees)) request) e
-  | inr finish ↦ genuine_finish setup entry past finish.encoder finish.recording handle (asked ∙ finish.is) replied
-      (sym (ap (λ (o : Option Info). option_and_then (λ known. handle_of setup.serial known entry.reply.answer) o) finish.makes) ∙ e)
+  | inl same ↦ genuine_if_own setup entry past (request_seen sight request) handle (asked ∙ same.is) replied
+      (named_if_own setup (entry ∷ past) (handle_in_sight sight) (λ slot. seen_if_own setup (entry ∷ past) some sight slot (sees_more setup entry past sight sees)) request)
+      (sym (ap (λ (o : Option Info). handle_known setup.serial o entry.reply.answer) same.makes) ∙ e)
+  | inr end ↦ genuine_finish setup entry past end.targets end.encoder end.recording handle (asked ∙ end.is) replied
+      (sym (ap (λ (o : Option Info). handle_known setup.serial o entry.reply.answer) end.makes) ∙ e)
 ]
 
 kept_if_made : (setup : Setup) (past : Past) (objects : List Object) (handle : Option HandleValue) → AreKept setup past objects → ((h : HandleValue) → handle ≡ Some h → is_genuine setup past h ≡ true)
@@ -266,5 +264,5 @@ answered_sees setup some entry past sight (Ask request made) sees asked replied 
     subst (SeesGenuine setup (entry ∷ past)) (sym (after_ask setup.serial sight request made entry.reply.answer)) (
       more.0,
       kept_if_made setup (entry ∷ past) (ended_on sight (ended_by request)) handle (ended_kept setup (entry ∷ past) sight (ended_by request) more.1)
-          (λ h e. made_is_genuine setup some entry past sight request h sees asked replied (slot_made made (handle_made setup.serial (request_seen sight request) entry.reply.answer) h e)),
+          (λ h e. made_is_genuine setup some entry past sight request h sees asked replied (slot_made made (handle_known setup.serial (info_sent sight request) entry.reply.answer) h e)),
     )

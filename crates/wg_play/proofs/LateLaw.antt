@@ -1,6 +1,6 @@
 -- In a lane of a bound script a recording call is late exactly where a call before it finishes its encoder, or its pass has ended.
 use Rattle.std.proofs.Common.{◌≡◌, ℕ, ◌+◌, ◌-◌, not, Bool, true, false, ◌||◌, Some, List, [], ◌∷◌, ◌++◌, map, refl, sym, ap, ap₂, subst, ◌∙◌, inl, inr, arith}
-use Rattle.std.specs.Prelude.{Contains, reverse}
+use Rattle.std.specs.Prelude.{Contains}
 use Rattle.std.specs.Option.{option_map_or}
 use Rattle.std.specs.List.{flat_map, list_any}
 use Rattle.std.proofs.lemmas.List.Concat.{flat_map-append}
@@ -10,8 +10,7 @@ use Rattle.wg_types.specs.Commands.{place_wanted}
 use Rattle.wg_types.specs.declared.commands.CommandOf.{CommandOf}
 use Rattle.wg_types.specs.declared.commands.On.{On}
 use Rattle.wg_types.specs.declared.commands.On.TheVariants.{Encoder, Pass}
-use Rattle.wg_model.specs.Walk.{has_ended}
-use Rattle.wg_encoder.specs.Recorders.{RecorderValue, has_taken}
+use Rattle.wg_encoder.specs.Recorders.{RecorderValue, has_taken, pass_ended as ended_within}
 use Rattle.wg_script.specs.CallOf.{BoundCall}
 use Rattle.wg_script.specs.declared.calls.CallOf.TheVariants.{Record}
 use Rattle.wg_names.specs.Bound.{made_by, made_in, LaneIsBound}
@@ -30,7 +29,7 @@ use Rattle.wg_play.proofs.Finished.{IsEncoder, IsPass, Stands, no_calls, all_aft
 -- an end of the encoder and an end of the pass are both found in the recorder
 late_of : (on : On) (r : RecorderValue) (finished : Bool) → has_taken r ≡ finished → is_begun on r.passes ≡ true → is_late_by on r ≡ finished || pass_ended on (Some r)
 late_of Encoder r finished taken begun = ap (λ b. b || false) taken
-late_of (Pass number) r finished taken begun = ap₂ (λ a b. not a || (b || has_ended (reverse r.commands) number)) begun taken
+late_of (Pass number) r finished taken begun = ap₂ (λ a b. not a || (b || ended_within r.targets r.commands number)) begun taken
 
 abbrev LateAt : ℕ → List Object → List BoundCall → Stand → Type 0
 LateAt first own before stand = is_late_on own stand ≡ list_any (finishes (first + stand.encoder)) before || has_pass_ended own stand
@@ -42,8 +41,8 @@ late_by first own before stand r is taken begun =
     ∙ (late_of stand.on r (list_any (finishes (first + stand.encoder)) before) taken begun
     ∙ ap (λ found. list_any (finishes (first + stand.encoder)) before || pass_ended stand.on found) (sym is))
 
-late_encoder : (first : ℕ) (own : List Object) (before : List BoundCall) (place : ℕ) → IsEncoder first own before place → LateAt first own before (stand_at own place)
-late_encoder first own before place at =
+late_encoder : (first : ℕ) (own : List Object) (before : List BoundCall) (place : ℕ) (k : Kind) → IsEncoder first own before place k → LateAt first own before (stand_at own place)
+late_encoder first own before place k at =
     subst (λ stand. LateAt first own before stand) (sym (stand_encoder own place at.recorder at.is))
     (late_by first own before (record { encoder = place; on = Encoder }) at.recorder at.is at.taken refl)
 
@@ -55,7 +54,7 @@ late_pass first own before place at =
 late_found : (first : ℕ) (own : List Object) (before : List BoundCall) (slot : ℕ) (command : CommandOf ℕ) (place : Kind) → Stands first own before → Contains (made_in before) (slot, place) → admits (place_wanted command) place ≡ true
     → LateAt first own before (stand_at own (slot - first))
 late_found first own before slot command place was there takes = elim (stands_on command place takes) [
-  | inl encoder ↦ late_encoder first own before (slot - first) (was.encoders slot (subst (λ k. Contains (made_in before) (slot, k)) encoder there))
+  | inl encoder ↦ late_encoder first own before (slot - first) place (was.encoders slot place encoder there)
   | inr pass ↦ late_pass first own before (slot - first) (was.passes slot place pass there)
 ]
 

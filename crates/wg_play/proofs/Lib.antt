@@ -4,11 +4,13 @@ pub mod Turning
 pub mod Phases
 pub mod Parts
 pub mod Unique
+pub mod Ended
 pub mod Following
 pub mod Lateness
 pub mod Places
 pub mod Making
 pub mod Numbered
+pub mod Sending
 pub mod Finished
 pub mod LateLaw
 pub mod Holding

@@ -5,7 +5,7 @@ use Rattle.std.specs.List.{flat_map}
 use Rattle.std.specs.Option.{option_to_list}
 use Rattle.std.proofs.lemmas.Bool.{cases_eq}
 use Rattle.std.proofs.lemmas.List.{length-append}
-use Rattle.std.proofs.lemmas.List.Elements.{All-nil, All-cons, Contains-append_left, Contains-append_right, Contains-append_cases, Contains-push_cases}
+use Rattle.std.proofs.lemmas.List.Elements.{All-nil, All-cons, All-head, All-tail, Contains-append_left, Contains-append_right, Contains-append_cases, Contains-push_cases}
 use Rattle.wg_types.specs.Handles.{HandleValue}
 use Rattle.wg_types.specs.Commands.{Command}
 use Rattle.wg_types.specs.declared.handles.Info.{Info}
@@ -15,7 +15,7 @@ use Rattle.wg_types.specs.declared.wanted.Kind.{Kind}
 use Rattle.wg_encoder.specs.Recorders.{RecorderValue}
 use Rattle.wg_history.specs.declared.events.Setup.{Setup}
 use Rattle.wg_history.specs.Entries.{Entry}
-use Rattle.wg_calls.specs.Calls.{info_asked, handle_of, taken_out}
+use Rattle.wg_calls.specs.Calls.{handle_of, taken_out}
 use Rattle.wg_script.specs.CallOf.{BoundCall}
 use Rattle.wg_script.specs.declared.calls.CallOf.TheVariants.{Record, Ask}
 use Rattle.wg_names.specs.Uses.{made_of}
@@ -25,7 +25,7 @@ use Rattle.wg_play.specs.declared.objects.Object.TheVariants as object
 use Rattle.wg_play.specs.declared.objects.Stand.{Stand}
 use Rattle.wg_play.specs.Objects.{handle_in, changed, with_recorder, recorded_by, recorded_on, begun_by, ended_by, object_of}
 use Rattle.wg_play.specs.Sights.{Sight, place_in}
-use Rattle.wg_play.specs.Lanes.{command_seen, stand_seen, request_seen, handle_kept, count_made, gathered}
+use Rattle.wg_play.specs.Lanes.{command_seen, stand_seen, info_sent, handle_known, handle_kept, count_made, gathered}
 use Rattle.wg_play.specs.Late.{Answered, IsAnswered, after_call, after_calls}
 use Rattle.wg_play.specs.Found.{ended_from, phase_of}
 use Rattle.wg_play.specs.Played.{PlayedCall, calls_in, with_answer, answered_lanes}
@@ -34,7 +34,7 @@ use Rattle.wg_play.proofs.Following.{ended_on, with_kept, after_record, after_as
 use Rattle.wg_play.proofs.Lateness.{ended_length}
 use Rattle.wg_play.proofs.Making.{call_length}
 use Rattle.wg_play.proofs.Numbered.{only, Slots, AreFrom, slots_of, first_from, from_front, from_back}
-use Rattle.wg_play.proofs.Holding.{call_makes, HoldsFrom, none_held, all_held}
+use Rattle.wg_play.proofs.Holding.{call_makes}
 use Rattle.wg_play.proofs.LateLaw.{first_after}
 use Rattle.wg_play.proofs.FoundLaw.{at_least, at_behind}
 use Rattle.wg_play.proofs.Running.{RunsAs, Runs, call_answered, lane_answered}
@@ -84,6 +84,18 @@ made_among (call ∷ plays) m there = elim (Contains-append_cases (made_by call.
   | inr later ↦ let rest = made_among plays m later in
       record { maker = rest.maker; is_there = Contains-append_right (call ∷ []) plays rest.maker rest.is_there; makes = rest.makes }
 ]
+
+pub lane_length : (serial : ℕ) (calls : List PlayedCall) (sight : Sight) → All IsAnswered (map with_answer calls)
+    → length (after_calls serial sight (map with_answer calls)).own ≡ length sight.own + length (made_in (calls_in calls))
+lane_length serial [] sight all = omega arith
+lane_length serial (call ∷ calls) sight all =
+    let after : Sight = after_call serial sight (with_answer call) in
+    let one : length after.own ≡ length sight.own + length (made_by call.0)
+    = call_length serial sight call.0 (with_answer call).1 (All-head IsAnswered (with_answer call) (map with_answer calls) all) in
+    let rest = lane_length serial calls after (All-tail IsAnswered (with_answer call) (map with_answer calls) all) in
+    let both : length (made_by call.0 ++ made_in (calls_in calls)) ≡ length (made_by call.0) + length (made_in (calls_in calls))
+    = length-append (made_by call.0) (made_in (calls_in calls)) in
+    omega (arith, one, rest, both)
 
 -- ---- the handle of what a call made
 
@@ -156,7 +168,7 @@ handle_from serial known Plain handle e = absurd (cc (e))
 handle_from serial known BadCompletion handle e = absurd (cc (e))
 
 kept_from : (serial : ℕ) (known : Option Info) (answer : Answer) (made : Option ℕ) (handle : HandleValue)
-    → option_and_then (λ (slot : ℕ). option_and_then (λ (x : Info). handle_of serial x answer) known) made ≡ Some handle → IsAnswer serial answer handle
+    → option_and_then (λ (slot : ℕ). handle_known serial known answer) made ≡ Some handle → IsAnswer serial answer handle
 kept_from serial known answer None handle e = absurd (cc (e))
 kept_from serial None answer (Some slot) handle e = absurd (cc (e))
 kept_from serial (Some x) answer (Some slot) handle e = handle_from serial x answer handle e
@@ -172,7 +184,7 @@ module _ (setup : Setup) where
   call_new : (sight : Sight) (call : BoundCall) (found : Option Entry) (slot : ℕ) (k : Kind) → RunsAs setup sight call found → made_of call ≡ Some (slot, k)
       → IsMadeAt setup.serial (after_call setup.serial sight (with_answer (call, found))).own (length sight.own) (call, found)
   call_new sight (Record on command made) found slot k runs e =
-      let there = call_makes setup.serial sight (Record on command made) (with_answer (Record on command made, found)).1 slot k tt e in
+      let there = call_makes setup.serial sight (Record on command made) (with_answer (Record on command made, found)).1 slot k tt tt e in
       record { what = there.what; is = there.is; of = tt }
   call_new sight (Ask request made) None slot k runs e = absurd (cc (runs))
   call_new sight (Ask request made) (Some entry) slot k runs e =
@@ -185,7 +197,7 @@ module _ (setup : Setup) where
       (subst (λ n. IsMadeAt setup.serial (with_kept (ended_on sight (ended_by request)) handle) n (Ask request made, Some entry))
       (ended_length sight (ended_by request))
       (new_made setup.serial (ended_on sight (ended_by request)) handle slot k (Ask request made, Some entry) fits
-      (λ h x. kept_from setup.serial (info_asked (request_seen sight request)) answer made h x)))
+      (λ h x. kept_from setup.serial (info_sent sight request) answer made h x)))
 
   -- ---- calls of a lane, one after another
 
@@ -279,10 +291,7 @@ module _ (setup : Setup) where
       = subst (λ n. MadeFrom n sight.own calls) (first_after setup.serial (map with_answer calls) start)
       (lane_made calls [] start (none_made first) runs.0 numbers_start) in
       let same : made_in (map (λ (c : Answered). c.0) (map with_answer calls)) ≡ ours = ap (λ (cs : List BoundCall). made_in cs) (lane_same calls) in
-      let held : HoldsFrom sight.first sight.own (made_in (map (λ (c : Answered). c.0) (map with_answer calls)))
-      = all_held setup.serial (map with_answer calls) [] start (none_held first) (lane_answered setup calls start runs.0)
-      (subst (λ (ms : Slots). AreFrom (first + 0) (slots_of ms)) (sym same) numbers_start) in
-      let count : length sight.own ≡ length ours = held.count ∙ ap (λ (ms : Slots). length ms) same in
+      let count : length sight.own ≡ 0 + length ours = lane_length setup.serial calls start (lane_answered setup calls start runs.0) in
       let more : length (objects ++ sight.own) ≡ length objects + length sight.own = length-append objects sight.own in
       let next : length (objects ++ sight.own) ≡ first + length ours = omega (arith, more, count) in
       let next_answered : length (objects ++ sight.own) ≡ first + count_made (map (λ (c : Answered). c.0) (map with_answer calls))

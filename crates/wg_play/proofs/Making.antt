@@ -19,9 +19,9 @@ use Rattle.wg_types.specs.declared.commands.CommandOf.{CommandOf}
 use Rattle.wg_types.specs.Commands.{Command, map_refs, bracket, kind_begun_by, kind_begun, is_begin}
 use Rattle.wg_types.specs.Requests.{kind_made}
 use Rattle.wg_types.specs.declared.requests.RequestOf.{RequestOf}
-use Rattle.wg_types.specs.declared.requests.RequestOf.TheVariants.{CreateBuffer, CreateTexture, CreateView, CreateSampler, CreateBindGroupLayout, CreatePipelineLayout, CreateBindGroup, CreateComputePipeline, CreateRenderPipeline, CreateQuerySet, CreateEncoder, Finish, Submit, WriteBuffer, WriteTexture, Destroy, Drop, Complete, PushErrorScope, PopErrorScope, Lose, WorkDone, MapAsync, Unmap}
+use Rattle.wg_types.specs.declared.requests.RequestOf.TheVariants.{CreateBuffer, CreateTexture, CreateView, CreateSampler, CreateBindGroupLayout, CreatePipelineLayout, CreateBindGroup, CreateComputePipeline, CreateRenderPipeline, CreateQuerySet, CreateEncoder, CreateBundleEncoder, Finish, FinishBundle, Submit, WriteBuffer, WriteTexture, Destroy, Drop, Complete, PushErrorScope, PopErrorScope, Lose, WorkDone, MapAsync, Unmap}
 use Rattle.wg_encoder.specs.Recorders.{RecorderValue, has_taken}
-use Rattle.wg_calls.specs.Calls.{opened_for}
+use Rattle.wg_calls.specs.Calls.{opened_for, opened_with}
 use Rattle.wg_script.specs.CallOf.{BoundCall}
 use Rattle.wg_script.specs.declared.calls.CallOf.TheVariants.{Record, Ask}
 use Rattle.wg_names.specs.Uses.{made_as, made_of}
@@ -32,10 +32,10 @@ use Rattle.wg_play.specs.declared.objects.Stand.{Stand}
 use Rattle.wg_play.specs.Objects.{recorder_at, with_recorder, recorded_by, recorded_on, passes_at, begun_by, ended_by, recorder_for, object_of}
 use Rattle.wg_play.specs.Sights.{Sight, place_in, handle_in_sight}
 use Rattle.wg_play.specs.Lanes.{command_seen, stand_seen, handle_kept}
-use Rattle.wg_play.specs.Found.{is_pass}
+use Rattle.wg_play.specs.Found.{is_pass, has_recorder, recorder_kind}
 use Rattle.wg_play.specs.Late.{Answers, after_call}
 use Rattle.wg_play.proofs.Slots.{own_recorder, length_with, at_new, recorder_new, recorder_append, stand_encoder}
-use Rattle.wg_play.proofs.Following.{ended_on, with_kept, after_record, after_ask, Fits, handle_fits, fits_length}
+use Rattle.wg_play.proofs.Following.{ended_on, with_kept, after_record, after_ask, Fits, handle_fits, fits_length, MakesAs, same_kind, handle_kind}
 use Rattle.wg_play.proofs.Lateness.{ended_length}
 use Rattle.wg_play.proofs.Places.{bracket_mapped, begins_by}
 
@@ -75,48 +75,62 @@ pub record Fresh (objects : List Object) (slot : ℕ) : Type 0 where
   pub is : recorder_at objects slot ≡ Some recorder
   pub unended : has_taken recorder ≡ false
 
-pub encoder_known : (reference : ObjRef) (known : Info) → kind_of known ≡ kind.Encoder → recorder_for reference known ≡ Some (opened_for reference)
-encoder_known reference info.Encoder e = refl
-encoder_known reference (info.Buffer known) e = absurd (cc)
-encoder_known reference (info.Texture known) e = absurd (cc)
-encoder_known reference (info.View known) e = absurd (cc)
-encoder_known reference (info.Sampler known) e = absurd (cc)
-encoder_known reference (info.GroupLayout known) e = absurd (cc)
-encoder_known reference (info.PipelineLayout known) e = absurd (cc)
-encoder_known reference (info.Group known) e = absurd (cc)
-encoder_known reference (info.Compute known) e = absurd (cc)
-encoder_known reference (info.Render known) e = absurd (cc)
-encoder_known reference (info.Queries known) e = absurd (cc)
-encoder_known reference info.CommandBuffer e = absurd (cc)
+-- the recorder of an encoder that was made is open for it, and of its kind
+pub record Opens (reference : ObjRef) (known : Info) : Type 0 where
+  pub recorder : RecorderValue
+  pub is : recorder_for reference known ≡ Some recorder
+  pub open_for : recorder.encoder ≡ Some reference
+  pub kind_is : recorder_kind recorder ≡ kind_of known
+  pub unended : has_taken recorder ≡ false
 
-encoder_new : (objects : List Object) (handle : Option HandleValue) (on : ℕ) → Fits handle (Some (on, kind.Encoder)) → Fresh (with_kept objects handle) (length objects)
-encoder_new objects None on fits = absurd fits
-encoder_new objects (Some handle) on fits = record {
-  recorder = opened_for handle.reference;
-  is = recorder_new objects (object_of handle) ∙ encoder_known handle.reference handle.info fits;
-  unended = refl;
-}
+pub opens : (reference : ObjRef) (known : Info) → has_recorder (kind_of known) ≡ true → Opens reference known
+opens reference info.Encoder e = record { recorder = opened_for reference; is = refl; open_for = refl; kind_is = refl; unended = refl }
+opens reference (info.BundleEncoder targets) e = record { recorder = opened_with targets reference; is = refl; open_for = refl; kind_is = refl; unended = refl }
+opens reference (info.Buffer known) e = absurd (cc)
+opens reference (info.Texture known) e = absurd (cc)
+opens reference (info.View known) e = absurd (cc)
+opens reference (info.Sampler known) e = absurd (cc)
+opens reference (info.GroupLayout known) e = absurd (cc)
+opens reference (info.PipelineLayout known) e = absurd (cc)
+opens reference (info.Group known) e = absurd (cc)
+opens reference (info.Compute known) e = absurd (cc)
+opens reference (info.Render known) e = absurd (cc)
+opens reference (info.Queries known) e = absurd (cc)
+opens reference info.CommandBuffer e = absurd (cc)
+opens reference (info.Bundle known) e = absurd (cc)
 
-pub same_kind : (slot on : ℕ) (found : Option Kind) (k : Kind) → made_as (Some slot) found ≡ Some (on, k) → found ≡ Some k
-same_kind slot on None k e = absurd (cc)
-same_kind slot on (Some x) k e = let same : (slot, x) ≡ (on, k) = cc in ap (λ (m : ℕ × Kind). Some m.1) same
+encoder_new : (objects : List Object) (handle : Option HandleValue) (on : ℕ) (k : Kind) → has_recorder k ≡ true → Fits handle (Some (on, k)) → ((h : HandleValue) → handle ≡ Some h → kind_of h.info ≡ k)
+    → Fresh (with_kept objects handle) (length objects)
+encoder_new objects None on k p fits kind = absurd fits
+encoder_new objects (Some handle) on k p fits kind =
+    let new = opens handle.reference handle.info (ap has_recorder (kind handle refl) ∙ p) in
+    record {
+      recorder = new.recorder;
+      is = recorder_new objects (object_of handle) ∙ new.is;
+      unended = new.unended;
+    }
 
-pub no_encoder : (b : Bracket) (slot on : ℕ) → made_as (Some slot) (kind_begun_by b) ≡ Some (on, kind.Encoder) → ⊥
-no_encoder brackets.BeginComputePass slot on e = let same : Some kind.ComputePass ≡ Some kind.Encoder = same_kind slot on (Some kind.ComputePass) kind.Encoder e in cc
-no_encoder brackets.BeginRenderPass slot on e = let same : Some kind.RenderPass ≡ Some kind.Encoder = same_kind slot on (Some kind.RenderPass) kind.Encoder e in cc
-no_encoder brackets.EndPass slot on e = cc
-no_encoder brackets.PushGroup slot on e = cc
-no_encoder brackets.PopGroup slot on e = cc
-no_encoder brackets.Neither slot on e = cc
+not_recorded : (x k : Kind) → has_recorder x ≡ false → Some x ≡ Some k → has_recorder k ≡ true → ⊥
+not_recorded x k none e p = let same : x ≡ k = cc (e) in true≢false (sym p ∙ (sym (ap has_recorder same) ∙ none))
 
-pub encoder_made : (serial : ℕ) (sight : Sight) (call : BoundCall) (answer : Answer) (on : ℕ) → Answers call answer → made_of call ≡ Some (on, kind.Encoder) → Fresh (after_call serial sight (call, answer)).own (length sight.own)
-encoder_made serial sight (Record stand command None) answer on answered e = absurd (cc)
-encoder_made serial sight (Record stand command (Some slot)) answer on answered e = absurd (no_encoder (bracket command) slot on e)
-encoder_made serial sight (Ask request made) answer on answered e =
+pub no_encoder : (b : Bracket) (slot on : ℕ) (k : Kind) → has_recorder k ≡ true → made_as (Some slot) (kind_begun_by b) ≡ Some (on, k) → ⊥
+no_encoder brackets.BeginComputePass slot on k p e = not_recorded kind.ComputePass k refl (same_kind slot on (Some kind.ComputePass) k e) p
+no_encoder brackets.BeginRenderPass slot on k p e = not_recorded kind.RenderPass k refl (same_kind slot on (Some kind.RenderPass) k e) p
+no_encoder brackets.EndPass slot on k p e = cc
+no_encoder brackets.PushGroup slot on k p e = cc
+no_encoder brackets.PopGroup slot on k p e = cc
+no_encoder brackets.Neither slot on k p e = cc
+
+pub encoder_made : (serial : ℕ) (sight : Sight) (call : BoundCall) (answer : Answer) (on : ℕ) (k : Kind) → has_recorder k ≡ true → Answers call answer → MakesAs sight call → made_of call ≡ Some (on, k)
+    → Fresh (after_call serial sight (call, answer)).own (length sight.own)
+encoder_made serial sight (Record stand command None) answer on k p answered fit e = absurd (cc)
+encoder_made serial sight (Record stand command (Some slot)) answer on k p answered fit e = absurd (no_encoder (bracket command) slot on k p e)
+encoder_made serial sight (Ask request made) answer on k p answered fit e =
     let handle : Option HandleValue = handle_kept serial sight (Ask request made) answer in
-    let fits : Fits handle (Some (on, kind.Encoder)) = subst (Fits handle) e (handle_fits serial sight request made answer answered) in
+    let fits : Fits handle (Some (on, k)) = subst (Fits handle) e (handle_fits serial sight request made answer answered) in
     subst (λ (s : Sight). Fresh s.own (length sight.own)) (sym (after_ask serial sight request made answer))
-    (subst (λ n. Fresh (with_kept (ended_on sight (ended_by request)) handle) n) (ended_length sight (ended_by request)) (encoder_new (ended_on sight (ended_by request)) handle on fits))
+    (subst (λ n. Fresh (with_kept (ended_on sight (ended_by request)) handle) n) (ended_length sight (ended_by request))
+    (encoder_new (ended_on sight (ended_by request)) handle on k p fits (handle_kind serial sight request made answer on k fit e)))
 
 -- ---- the pass that a call makes
 
@@ -132,7 +146,9 @@ no_pass_made (CreateComputePipeline layout iface) = refl
 no_pass_made (CreateRenderPipeline layout desc) = refl
 no_pass_made (CreateQuerySet known) = refl
 no_pass_made CreateEncoder = refl
+no_pass_made (CreateBundleEncoder targets) = refl
 no_pass_made (Finish encoder) = refl
+no_pass_made (FinishBundle encoder) = refl
 no_pass_made (Submit buffers) = refl
 no_pass_made (WriteBuffer buffer offset size) = refl
 no_pass_made (WriteTexture texture spot layout size data_size) = refl

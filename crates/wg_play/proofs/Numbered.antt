@@ -64,7 +64,7 @@ all_at : {X : Type 0} (P : X → Type 0) (xs ys : List X) (y : X) → All P (xs 
 all_at P [] ys y all = All-head P y ys all
 all_at P (x ∷ xs) ys y all = all_at P xs ys y (All-tail P x (xs ++ y ∷ ys) all)
 
-phase_at : (made : Slots) (earlier later : List (List (List BoundCall))) (lanes : List (List BoundCall)) → PhasesAreBound made (earlier ++ lanes ∷ later)
+pub phase_at : (made : Slots) (earlier later : List (List (List BoundCall))) (lanes : List (List BoundCall)) → PhasesAreBound made (earlier ++ lanes ∷ later)
     → All (LaneIsBound (made ++ flat_map (flat_map made_in) earlier) []) lanes
 phase_at made [] later lanes bound = subst (λ ms. All (LaneIsBound ms []) lanes) (sym (append-nil made)) bound.0
 phase_at made (phase ∷ earlier) later lanes bound =

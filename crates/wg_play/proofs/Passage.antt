@@ -9,10 +9,11 @@ use Rattle.wg_types.specs.declared.replies.Answer.{Answer}
 use Rattle.wg_types.specs.declared.replies.Answer.TheVariants.{Plain}
 use Rattle.wg_types.specs.declared.replies.Reply.{Reply}
 use Rattle.wg_types.specs.declared.requests.RequestOf.{RequestOf}
-use Rattle.wg_types.specs.declared.requests.RequestOf.TheVariants.{CreateBuffer, CreateTexture, CreateView, CreateSampler, CreateBindGroupLayout, CreatePipelineLayout, CreateBindGroup, CreateComputePipeline, CreateRenderPipeline, CreateQuerySet, CreateEncoder, Finish, Submit, WriteBuffer, WriteTexture, Destroy, Drop, Complete, PushErrorScope, PopErrorScope, Lose, WorkDone, MapAsync, Unmap}
+use Rattle.wg_types.specs.declared.requests.RequestOf.TheVariants.{CreateBuffer, CreateTexture, CreateView, CreateSampler, CreateBindGroupLayout, CreatePipelineLayout, CreateBindGroup, CreateComputePipeline, CreateRenderPipeline, CreateQuerySet, CreateEncoder, CreateBundleEncoder, Finish, FinishBundle, Submit, WriteBuffer, WriteTexture, Destroy, Drop, Complete, PushErrorScope, PopErrorScope, Lose, WorkDone, MapAsync, Unmap}
 use Rattle.wg_types.specs.declared.wanted.Kind.{Kind}
-use Rattle.wg_encoder.specs.Recorders.{RecorderValue}
-use Rattle.wg_calls.specs.Calls.{finish_of}
+use Rattle.wg_types.specs.declared.render.TargetInfo.{TargetInfo}
+use Rattle.wg_encoder.specs.Recorders.{RecorderValue, RecordingValue}
+use Rattle.wg_calls.specs.Calls.{recording_of, finish_event, finish_of}
 use Rattle.wg_history.specs.declared.events.Event.{Event}
 use Rattle.wg_history.specs.declared.events.Setup.{Setup}
 use Rattle.wg_history.specs.declared.events.Form.{Form}
@@ -40,9 +41,13 @@ form_of event = (effects_of event).form
 made_reply : (setup : Setup) (past : Past) (event : Event) → form_of event ≡ Making → is_made (reply_to setup past event).answer ≡ true
 made_reply setup past event e = ap (λ form. is_made (answer_by past form (not (is_lost past) && is_none (first_rule setup past event)))) e
 
+by_targets : (targets : Option TargetInfo) (encoder : ObjRef) (recording : RecordingValue) → form_of (finish_event targets encoder recording) ≡ Making
+by_targets None encoder recording = refl
+by_targets (Some targets) encoder recording = refl
+
 by_encoder : (found : Option ObjRef) (recorder : RecorderValue) (other : Event) → form_of other ≡ Making → form_of (option_map_or (λ encoder. finish_of encoder recorder) found other) ≡ Making
 by_encoder None recorder other e = e
-by_encoder (Some encoder) recorder other e = refl
+by_encoder (Some encoder) recorder other e = by_targets recorder.targets encoder (recording_of recorder)
 
 by_recorder : (found : Option RecorderValue) (other : Event) → form_of other ≡ Making → form_of (finish_by found other) ≡ Making
 by_recorder None other e = e
@@ -60,7 +65,9 @@ sent_makes sight (CreateComputePipeline layout iface) k e = refl
 sent_makes sight (CreateRenderPipeline layout desc) k e = refl
 sent_makes sight (CreateQuerySet known) k e = refl
 sent_makes sight CreateEncoder k e = refl
+sent_makes sight (CreateBundleEncoder targets) k e = refl
 sent_makes sight (Finish encoder) k e = by_recorder (recorder_at sight.own (place_in sight encoder)) _ refl
+sent_makes sight (FinishBundle encoder) k e = by_recorder (recorder_at sight.own (place_in sight encoder)) _ refl
 sent_makes sight (Submit buffers) k e = absurd (cc)
 sent_makes sight (WriteBuffer buffer offset size) k e = absurd (cc)
 sent_makes sight (WriteTexture texture spot layout size data_size) k e = absurd (cc)

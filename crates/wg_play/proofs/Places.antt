@@ -8,11 +8,11 @@ use Rattle.wg_types.specs.Wanted.{admits}
 use Rattle.wg_types.specs.declared.commands.Bracket.{Bracket}
 use Rattle.wg_types.specs.declared.commands.Bracket.TheVariants as brackets
 use Rattle.wg_types.specs.declared.commands.CommandOf.{CommandOf}
-use Rattle.wg_types.specs.declared.commands.CommandOf.TheVariants.{BeginComputePass, BeginRenderPass, CopyBufferToBuffer, CopyBufferToTexture, CopyTextureToBuffer, CopyTextureToTexture, ClearBuffer, ResolveQuerySet, PushDebugGroup, PopDebugGroup, End, SetPipeline, SetBindGroup, Dispatch, DispatchIndirect, SetVertexBuffer, SetIndexBuffer, Draw, DrawIndexed, DrawIndirect, DrawIndexedIndirect, BeginOcclusionQuery, EndOcclusionQuery}
+use Rattle.wg_types.specs.declared.commands.CommandOf.TheVariants.{BeginComputePass, BeginRenderPass, CopyBufferToBuffer, CopyBufferToTexture, CopyTextureToBuffer, CopyTextureToTexture, ClearBuffer, ResolveQuerySet, PushDebugGroup, PopDebugGroup, End, SetPipeline, SetBindGroup, Dispatch, DispatchIndirect, SetVertexBuffer, SetIndexBuffer, Draw, DrawIndexed, DrawIndirect, DrawIndexedIndirect, BeginOcclusionQuery, EndOcclusionQuery, ExecuteBundles}
 use Rattle.wg_types.specs.Commands.{map_refs, bracket, place_wanted, kind_begun_by, kind_begun, begins_pass_by}
 use Rattle.wg_names.specs.Uses.{wants_own}
 use Rattle.wg_names.proofs.BoundLemmas.{place_own}
-use Rattle.wg_play.specs.Found.{is_pass}
+use Rattle.wg_play.specs.Found.{is_pass, has_recorder}
 
 -- ---- the command that begins a pass
 
@@ -40,6 +40,7 @@ bracket_mapped f (DrawIndirect buffer offset) = refl
 bracket_mapped f (DrawIndexedIndirect buffer offset) = refl
 bracket_mapped f (BeginOcclusionQuery index) = refl
 bracket_mapped f EndOcclusionQuery = refl
+bracket_mapped f (ExecuteBundles bundles) = refl
 
 -- it stands on an encoder
 pub place_of_begin : {R : Type 0} (command : CommandOf R) (k : Kind) → kind_begun command ≡ Some k → place_wanted command ≡ wanted.Encoder
@@ -66,6 +67,7 @@ place_of_begin (DrawIndirect buffer offset) k e = absurd (cc)
 place_of_begin (DrawIndexedIndirect buffer offset) k e = absurd (cc)
 place_of_begin (BeginOcclusionQuery index) k e = absurd (cc)
 place_of_begin EndOcclusionQuery k e = absurd (cc)
+place_of_begin (ExecuteBundles bundles) k e = absurd (cc)
 
 pub begins_by : (b : Bracket) (k : Kind) → kind_begun_by b ≡ Some k → begins_pass_by b ≡ true
 begins_by brackets.BeginComputePass k e = refl
@@ -81,23 +83,32 @@ pub is_encoder : (k : Kind) → admits wanted.Encoder k ≡ true → k ≡ kind.
 is_encoder kind.Encoder e = refl
 is_encoder _ e = absurd (cc)
 
+pub is_bundle_encoder : (k : Kind) → admits wanted.BundleEncoder k ≡ true → k ≡ kind.BundleEncoder
+is_bundle_encoder kind.BundleEncoder e = refl
+is_bundle_encoder _ e = absurd (cc)
+
 abbrev EncoderOrPass : Kind → Type 0
-EncoderOrPass k = (k ≡ kind.Encoder) ⊎ (is_pass k ≡ true)
+EncoderOrPass k = (has_recorder k ≡ true) ⊎ (is_pass k ≡ true)
 
 -- what asks for the lane's own is met by encoders and passes alone
 admitted : (w : Wanted) (k : Kind) → wants_own w ≡ true → admits w k ≡ true → EncoderOrPass k
 admitted wanted.Encoder kind.Encoder p e = inl refl
+admitted wanted.BundleEncoder kind.BundleEncoder p e = inl refl
 admitted wanted.ComputePass kind.ComputePass p e = inr refl
 admitted wanted.RenderPass kind.RenderPass p e = inr refl
 admitted wanted.Pass kind.ComputePass p e = inr refl
 admitted wanted.Pass kind.RenderPass p e = inr refl
 admitted wanted.Binding kind.ComputePass p e = inr refl
 admitted wanted.Binding kind.RenderPass p e = inr refl
+admitted wanted.Binding kind.BundleEncoder p e = inl refl
 admitted wanted.Drawing kind.RenderPass p e = inr refl
+admitted wanted.Drawing kind.BundleEncoder p e = inl refl
 admitted wanted.Recording kind.Encoder p e = inl refl
+admitted wanted.Recording kind.BundleEncoder p e = inl refl
 admitted wanted.Recording kind.ComputePass p e = inr refl
 admitted wanted.Recording kind.RenderPass p e = inr refl
 admitted wanted.Encoder _ p e = absurd (cc)
+admitted wanted.BundleEncoder _ p e = absurd (cc)
 admitted wanted.ComputePass _ p e = absurd (cc)
 admitted wanted.RenderPass _ p e = absurd (cc)
 admitted wanted.Pass _ p e = absurd (cc)

@@ -9,6 +9,7 @@ use Rattle.std.proofs.lemmas.List.Concat.{flat_map-append}
 use Rattle.std.proofs.lemmas.List.Elements.{All-nil, All-head, All-tail, All-weaker, Contains-append_left, Contains-append_right, Contains-append_cases}
 use Rattle.wg_types.specs.Handles.{HandleValue}
 use Rattle.wg_types.specs.declared.commands.CommandOf.{CommandOf}
+use Rattle.wg_types.specs.declared.requests.RequestOf.{RequestOf}
 use Rattle.wg_types.specs.declared.wanted.Wanted.{Wanted}
 use Rattle.wg_history.specs.declared.events.Setup.{Setup}
 use Rattle.wg_history.specs.Entries.{Entry, Past}
@@ -32,10 +33,10 @@ use Rattle.wg_play.proofs.Turning.{onto}
 use Rattle.wg_play.proofs.Phases.{onto_back, onto_more}
 use Rattle.wg_play.proofs.Keeping.{settled_sees}
 use Rattle.wg_play.proofs.LateLaw.{first_after, late_is_finished}
-use Rattle.wg_play.proofs.FoundLaw.{at_least, below, earlier_from, others_after, gathered_is_held}
+use Rattle.wg_play.proofs.FoundLaw.{at_least, below, earlier_from, others_after, bound_is_found, gathered_is_held}
 use Rattle.wg_play.proofs.Numbered.{Slots, AreFrom, slots_of, from_zero, from_front, from_back, lane_in, lane_from, call_in}
 use Rattle.wg_play.proofs.Backward.{play_back}
-use Rattle.wg_play.proofs.Running.{RunsAs, Runs, lane_with, goes_to, runs_front, runs_at, lane_answered, recorded_as, asked_as, settled_back}
+use Rattle.wg_play.proofs.Running.{HasVerb, RunsAs, Runs, lane_with, goes_to, runs_front, runs_at, lane_answered, recorded_as, asked_as, settled_back}
 use Rattle.wg_play.proofs.Encoders.{encoder_is}
 use Rattle.wg_play.proofs.Makers.{lane_same, lanes_same, calls_more, made_among, IsFrom, IsMadeAt, MadeFrom, none_made, lane_made, start_at, AllRun, all_answered, MadeAll, lanes_joined}
 use Rattle.wg_play.proofs.PlayedPhases.{lanes_length, after_part, PhaseRuns, PhasesRun, entries_of, script_runs, phase_at, all_interleaved, lane_run_at, lane_sees_at}
@@ -188,9 +189,10 @@ module _ (setup : Setup) (some : setup.serial ≢ 0) where
 
   how_by : (sight : Sight) (before : List BoundCall) (call : BoundCall) (found : Option Entry) → RunsAs setup sight call found
       → ((on : ℕ) (command : CommandOf ℕ) (made : Option ℕ) → call ≡ Record on command made → is_late_on sight.own
-      (stand_seen sight on) ≡ is_late_after sight before on) → IsPlayedAs sight before call found
-  how_by sight before (Record on command made) found runs late = recorded_as setup sight before on command made found runs (late on command made refl)
-  how_by sight before (Ask request made) found runs late = asked_as setup sight before request made found runs
+      (stand_seen sight on) ≡ is_late_after sight before on)
+      → ((request : RequestOf ℕ) (made : Option ℕ) → call ≡ Ask request made → HasVerb sight request) → IsPlayedAs sight before call found
+  how_by sight before (Record on command made) found runs late verb = recorded_as setup sight before on command made found runs (late on command made refl)
+  how_by sight before (Ask request made) found runs late verb = asked_as setup sight before request made found runs (verb request made refl)
 
   lane_split : (lanes_before lanes_after : List (List PlayedCall)) (before after : List PlayedCall) (call : PlayedCall)
       → map calls_in (lanes_before ++ (before ++ call ∷ after) ∷ lanes_after)
@@ -228,6 +230,18 @@ module _ (setup : Setup) (some : setup.serial ≢ 0) where
       (sym same) bound) answered setup.serial others
       ∙ ap₂ (λ (n : ℕ) (cs : List BoundCall). list_any (finishes n) cs || has_pass_ended sight.own (stand_seen sight on))
       (encoder_is setup.serial others first (slots_in earlier) before on command made (calls_in after) lane numbers answered) same
+
+  verb_at : (earlier later : List PlayedPhase) (lanes_before lanes_after : List (List PlayedCall)) (before after : List PlayedCall)
+      (request : RequestOf ℕ) (made : Option ℕ)
+      → BoundAt earlier later lanes_before lanes_after (calls_in before ++ Ask request made ∷ calls_in after) → All IsAnswered (map with_answer before)
+      → Holds (objects_after setup.serial [] earlier) (slots_in earlier) → HasVerb (sight_after setup.serial earlier lanes_before before) request
+  verb_at earlier later lanes_before lanes_after before after request made bound answered holds =
+      let call : BoundCall = Ask request made in
+      let found = bound_is_found (map lanes_in earlier) (map lanes_in later) (map calls_in lanes_before) (map calls_in lanes_after)
+      (map with_answer before) call (calls_in after)
+      (subst (λ (cs : List BoundCall). BoundAt earlier later lanes_before lanes_after (cs ++ call ∷ calls_in after)) (sym (lane_same before)) bound)
+      answered setup.serial (objects_after setup.serial [] earlier) holds in
+      found.verb
 
   -- all that the lane sees is genuine
   genuine_at : (earlier : List PlayedPhase) (phase : PlayedPhase) (lanes_before lanes_after : List (List PlayedCall)) (before after : List PlayedCall)
@@ -326,7 +340,10 @@ module _ (setup : Setup) (some : setup.serial ≢ 0) where
         how = how_by sight (calls_in before) call.0 call.1 (runs_at setup before call after start runs)
             (λ on command made is. late_at earlier later lanes_before lanes_after before after on command made
             (subst (λ (c : BoundCall). BoundAt earlier later lanes_before lanes_after (calls_in before ++ c ∷ calls_in after)) is bound_here)
-            (lane_answered setup before start front_runs));
+            (lane_answered setup before start front_runs))
+            (λ request made is. verb_at earlier later lanes_before lanes_after before after request made
+            (subst (λ (c : BoundCall). BoundAt earlier later lanes_before lanes_after (calls_in before ++ c ∷ calls_in after)) is bound_here)
+            (lane_answered setup before start front_runs) stands.held);
         sees = λ front moment.
             let genuine = genuine_at earlier phase lanes_before lanes_after before after call others first lanes_are first_is here front_runs front moment in
             record {

@@ -9,7 +9,8 @@ use Rattle.wg_types.specs.declared.replies.Answer.TheVariants.{Plain}
 use Rattle.wg_types.specs.declared.requests.RequestOf.{RequestOf}
 use Rattle.wg_encoder.specs.Recorders.{RecorderValue}
 use Rattle.wg_history.specs.declared.events.Setup.{Setup}
-use Rattle.wg_history.specs.Entries.{Entry, Past}
+use Rattle.wg_history.specs.Entries.{Entry, Past, verb_of}
+use Rattle.wg_calls.specs.Calls.{event_asked}
 use Rattle.wg_script.specs.CallOf.{BoundCall}
 use Rattle.wg_script.specs.declared.calls.CallOf.TheVariants.{Record, Ask}
 use Rattle.wg_play.specs.declared.objects.Object.{Object}
@@ -17,7 +18,7 @@ use Rattle.wg_play.specs.declared.objects.Object.TheVariants as object
 use Rattle.wg_play.specs.declared.objects.Stand.{Stand}
 use Rattle.wg_play.specs.Objects.{changed, with_recorder, recorded_by, recorded_on, begun_by, is_late_on}
 use Rattle.wg_play.specs.Sights.{Sight}
-use Rattle.wg_play.specs.Lanes.{Lane, kept, settled, settle, next_at, answered_by, after_at, event_of, noted_on, command_seen, stand_seen}
+use Rattle.wg_play.specs.Lanes.{Lane, kept, settled, settle, next_at, answered_by, after_at, event_of, event_sent, request_seen, noted_on, command_seen, stand_seen}
 use Rattle.wg_play.specs.Late.{IsAnswered, after_call, after_calls}
 use Rattle.wg_play.specs.Through.{IsReplied}
 use Rattle.wg_play.specs.Kept.{IsKept, AreKept, SeesGenuine}
@@ -27,6 +28,10 @@ use Rattle.wg_play.proofs.Passage.{event_answered, kept_answered, GivesAll, end_
 
 abbrev pub lane_with : Sight → List BoundCall → Lane
 lane_with sight calls = record { sight = sight; left = calls }
+
+-- the event of a call of the device has the verb of that
+abbrev pub HasVerb : Sight → RequestOf ℕ → Type 0
+HasVerb sight request = verb_of (event_sent sight request) ≡ verb_of (event_asked (request_seen sight request))
 
 module _ (setup : Setup) where
   -- a call was kept, or became this entry
@@ -161,9 +166,9 @@ module _ (setup : Setup) where
   }
 
   pub asked_as : (sight : Sight) (before : List BoundCall) (request : RequestOf ℕ) (made : Option ℕ) (found : Option Entry)
-      → RunsAs sight (Ask request made) found → IsPlayedAs sight before (Ask request made) found
-  asked_as sight before request made None runs = absurd (cc (runs))
-  asked_as sight before request made (Some e) runs = record { entry = e; is = refl; event = sym runs.1 }
+      → RunsAs sight (Ask request made) found → HasVerb sight request → IsPlayedAs sight before (Ask request made) found
+  asked_as sight before request made None runs verb = absurd (cc (runs))
+  asked_as sight before request made (Some e) runs verb = record { entry = e; is = refl; event = sym runs.1; verb = sym (ap verb_of runs.1) ∙ verb }
 
   -- ---- what is genuine once calls are kept was so before
 

@@ -1,9 +1,10 @@
--- What the slots of a script whose names are bound stand for, as its lanes are played.
-use Rattle.std.specs.Prelude.{◌≡◌, ℕ, ◌+◌, nat_lt, Bool, true, false, List, [], ◌∷◌, ◌++◌, length, map, slice_get, All, Contains, Option, Some, if◌then◌else◌}
+-- What the slots of a script whose names are bound stand for, as its lanes are played. An encoder is one of either kind, a command
+-- encoder or a bundle encoder.
+use Rattle.std.specs.Prelude.{◌≡◌, ℕ, ◌+◌, nat_lt, Bool, true, false, List, [], ◌∷◌, ◌++◌, length, map, slice_get, All, Contains, Option, Some, is_some, option_map, if◌then◌else◌}
 use Rattle.std.specs.List.{flat_map}
 use Rattle.wg_types.specs.Kinds.{kind_of}
 use Rattle.wg_types.specs.Commands.{place_wanted, named_on}
-use Rattle.wg_types.specs.Requests.{named as asked_of}
+use Rattle.wg_types.specs.Requests.{kind_made, named as asked_of}
 use Rattle.wg_types.specs.Wanted.{admits}
 use Rattle.wg_types.specs.declared.commands.CommandOf.{CommandOf}
 use Rattle.wg_types.specs.declared.handles.ObjRef.{ObjRef}
@@ -12,6 +13,8 @@ use Rattle.wg_types.specs.declared.wanted.Kind.{Kind}
 use Rattle.wg_types.specs.declared.wanted.Kind.TheVariants as kinds
 use Rattle.wg_types.specs.declared.wanted.Wanted.{Wanted}
 use Rattle.wg_encoder.specs.Recorders.{RecorderValue}
+use Rattle.wg_history.specs.Entries.{verb_of}
+use Rattle.wg_calls.specs.Calls.{event_asked}
 use Rattle.wg_script.specs.CallOf.{BoundCall}
 use Rattle.wg_script.specs.declared.calls.CallOf.TheVariants.{Record, Ask}
 use Rattle.wg_names.specs.Bound.{Made, made_in, IsBound}
@@ -20,7 +23,7 @@ use Rattle.wg_play.specs.declared.objects.Object.{Object}
 use Rattle.wg_play.specs.declared.objects.Object.TheVariants as object
 use Rattle.wg_play.specs.Objects.{handle_in, reference_at, recorder_at, ended_by}
 use Rattle.wg_play.specs.Sights.{Sight, place_in, handle_in_sight}
-use Rattle.wg_play.specs.Lanes.{Lane, stand_seen, count_made, gathered}
+use Rattle.wg_play.specs.Lanes.{Lane, stand_seen, request_seen, event_sent, info_sent, count_made, gathered}
 use Rattle.wg_play.specs.Late.{Answered, IsAnswered, after_calls, slots_before}
 
 -- ---- an object of a kind
@@ -38,9 +41,34 @@ is_pass kinds.Compute = false
 is_pass kinds.Render = false
 is_pass kinds.Queries = false
 is_pass kinds.Encoder = false
+is_pass kinds.BundleEncoder = false
 is_pass kinds.CommandBuffer = false
+is_pass kinds.Bundle = false
 is_pass kinds.ComputePass = true
 is_pass kinds.RenderPass = true
+
+-- the kinds of encoders, each of which has a recorder and is ended by a finish of its own
+abbrev pub has_recorder : Kind → Bool
+has_recorder kinds.Buffer = false
+has_recorder kinds.Texture = false
+has_recorder kinds.View = false
+has_recorder kinds.Sampler = false
+has_recorder kinds.GroupLayout = false
+has_recorder kinds.PipelineLayout = false
+has_recorder kinds.Group = false
+has_recorder kinds.Compute = false
+has_recorder kinds.Render = false
+has_recorder kinds.Queries = false
+has_recorder kinds.Encoder = true
+has_recorder kinds.BundleEncoder = true
+has_recorder kinds.CommandBuffer = false
+has_recorder kinds.Bundle = false
+has_recorder kinds.ComputePass = false
+has_recorder kinds.RenderPass = false
+
+-- the kind of the encoder of a recorder: a bundle encoder where that has targets
+abbrev pub recorder_kind : RecorderValue → Kind
+recorder_kind recorder = if is_some recorder.targets then kinds.BundleEncoder else kinds.Encoder
 
 -- a recorder that is open for an encoder
 pub record IsOpenFor (encoder : ObjRef) (found : Option RecorderValue) : Type 0 where
@@ -48,10 +76,15 @@ pub record IsOpenFor (encoder : ObjRef) (found : Option RecorderValue) : Type 0 
   pub is : found ≡ Some recorder
   pub open_for : recorder.encoder ≡ Some encoder
 
--- An object of a kind is one of which its handle knows that it is of that kind; an encoder has a recorder, which is open for it. A
--- pass is what the calls make that begin one.
+-- and that is one of an encoder of this kind
+pub record IsOpenAs (kind : Kind) (encoder : ObjRef) (found : Option RecorderValue) : Type 0 where
+  pub is_open : IsOpenFor encoder found
+  pub kind_is : recorder_kind is_open.recorder ≡ kind
+
+-- An object of a kind is one of which its handle knows that it is of that kind; an encoder has a recorder of its kind, which is open
+-- for it. A pass is what the calls make that begin one.
 abbrev pub IsOf : Kind → Object → Type 0
-IsOf kind (object.Made handle recorder) = (kind_of handle.info ≡ kind) × (kind ≡ kinds.Encoder → IsOpenFor handle.reference recorder)
+IsOf kind (object.Made handle recorder) = (kind_of handle.info ≡ kind) × (has_recorder kind ≡ true → IsOpenAs kind handle.reference recorder)
 IsOf kind (object.Pass encoder number) = is_pass kind ≡ true
 
 -- something of a kind stands at a place
@@ -95,10 +128,13 @@ pub record IsSeenOn (sight : Sight) (made : Made ℕ) (on : ℕ) (command : Comm
   pub encoder : IsOpenFor (reference_at sight.own (stand_seen sight on).encoder) (recorder_at sight.own (stand_seen sight on).encoder)
   pub found : All (IsSeenAs sight made) (named_on place command)
 
--- what a call of the device names is seen, and the encoder that it ends has a recorder, which is open for it
+-- What a call of the device names is seen, and the encoder that it ends has a recorder, which is open for it. Its event has the verb
+-- of the call, so that a finish ends a command encoder and a finishBundle a bundle encoder; and it makes what the call makes.
 pub record IsSeenBy (sight : Sight) (made : Made ℕ) (request : RequestOf ℕ) : Type 0 where
   pub found : All (IsSeenAs sight made) (asked_of request)
   pub ends : (encoder : ℕ) → ended_by request ≡ Some encoder → IsOpenFor (reference_at sight.own (place_in sight encoder)) (recorder_at sight.own (place_in sight encoder))
+  pub verb : verb_of (event_sent sight request) ≡ verb_of (event_asked (request_seen sight request))
+  pub makes : option_map kind_of (info_sent sight request) ≡ kind_made request
 
 abbrev pub CallIsFound : Sight → Made ℕ → BoundCall → Type 0
 CallIsFound sight made (Record on command slot) = IsSeenOn sight made on command

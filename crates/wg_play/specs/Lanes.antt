@@ -3,6 +3,7 @@ use Rattle.std.specs.Prelude.{ℕ, ◌+◌, List, [], ◌∷◌, ◌++◌, lengt
 use Rattle.std.specs.Option.{option_map_or}
 use Rattle.wg_types.specs.Handles.{HandleValue}
 use Rattle.wg_types.specs.declared.commands.CommandOf.{CommandOf}
+use Rattle.wg_types.specs.declared.handles.Info.{Info}
 use Rattle.wg_types.specs.Commands.{Command, map_refs}
 use Rattle.wg_types.specs.Requests.{map_refs as map_asked}
 use Rattle.wg_types.specs.declared.replies.Answer.{Answer}
@@ -14,7 +15,7 @@ use Rattle.wg_history.specs.declared.events.Event.TheVariants.{Late}
 use Rattle.wg_script.specs.CallOf.{BoundCall}
 use Rattle.wg_script.specs.declared.calls.CallOf.TheVariants.{Record, Ask}
 use Rattle.wg_names.specs.Bound.{made_in}
-use Rattle.wg_calls.specs.Calls.{event_asked, finish_of, handle_made}
+use Rattle.wg_calls.specs.Calls.{event_asked, info_asked, finish_of, known_of_finish, handle_of}
 use Rattle.wg_play.specs.declared.objects.Object.{Object}
 use Rattle.wg_play.specs.declared.objects.Stand.{Stand}
 use Rattle.wg_play.specs.Objects.{reference_at, recorder_at, stand_at, is_late_on, recorded_on, begun_by, taken_on, ended_by, object_of}
@@ -43,11 +44,16 @@ kept sight (Ask request made) = None
 
 -- ---- events
 
--- The finish of the encoder of a recorder, with what that has kept. Each encoder that a script ends has a recorder, which is open,
--- so that the other cases, with another event, are not met.
+-- The finish of the encoder of a recorder, with what that has kept, which is a finishBundle where the recorder has targets. Each
+-- encoder that a script ends has a recorder, which is open, so that the other cases, with another event, are not met.
 abbrev pub finish_by : Option RecorderValue → Event → Event
 finish_by None other = other
 finish_by (Some recorder) other = option_map_or (λ encoder. finish_of encoder recorder) recorder.encoder other
+
+-- and what is known of that which it makes, likewise
+abbrev pub finish_known : Option RecorderValue → Option Info → Option Info
+finish_known None other = other
+finish_known (Some recorder) other = option_map_or (λ encoder. Some (known_of_finish recorder)) recorder.encoder other
 
 -- a call of the device, with the handle of each object in place of its slot
 abbrev pub request_seen : Sight → RequestOf ℕ → RequestOf HandleValue
@@ -56,6 +62,10 @@ request_seen sight request = map_asked (handle_in_sight sight) request
 -- the event that it is
 abbrev pub event_sent : Sight → RequestOf ℕ → Event
 event_sent sight request = option_map_or (λ encoder. finish_by (recorder_at sight.own (place_in sight encoder)) (event_asked (request_seen sight request))) (ended_by request) (event_asked (request_seen sight request))
+
+-- what is known of the object that it makes, if it makes one
+abbrev pub info_sent : Sight → RequestOf ℕ → Option Info
+info_sent sight request = option_map_or (λ encoder. finish_known (recorder_at sight.own (place_in sight encoder)) (info_asked (request_seen sight request))) (ended_by request) (info_asked (request_seen sight request))
 
 -- the event that a call is; a recording call is one where it is late
 abbrev pub event_of : Sight → BoundCall → Event
@@ -67,10 +77,14 @@ abbrev pub taken_by : Sight → BoundCall → Sight
 taken_by sight (Record on command made) = noted_on sight (stand_seen sight on) (command_seen sight command) made
 taken_by sight (Ask request made) = option_map_or (λ encoder. record sight { own = taken_on sight.own (place_in sight encoder) }) (ended_by request) sight
 
+-- the handle of what was made by this answer, of which so much is known, if something was made
+abbrev pub handle_known : ℕ → Option Info → Answer → Option HandleValue
+handle_known serial info answer = option_and_then (λ known. handle_of serial known answer) info
+
 -- the handle of what a call has made that was answered so, if it makes something that has a slot
 abbrev pub handle_kept : ℕ → Sight → BoundCall → Answer → Option HandleValue
 handle_kept serial sight (Record on command made) answer = None
-handle_kept serial sight (Ask request made) answer = option_and_then (λ slot. handle_made serial (request_seen sight request) answer) made
+handle_kept serial sight (Ask request made) answer = option_and_then (λ slot. handle_known serial (info_sent sight request) answer) made
 
 -- what the lane sees once the event was answered: what it has made has the next slot
 abbrev pub with_handle : Sight → Option HandleValue → Sight

@@ -1,5 +1,6 @@
--- Which recording calls are late, looking back over the calls of their lane.
-use Rattle.std.specs.Prelude.{◌≡◌, ℕ, ◌+◌, List, [], ◌∷◌, ◌++◌, Bool, true, false, ◌==◌, ◌&&◌, ◌||◌, if◌then◌else◌, Option, Some, None, unwrap_or, is_some, length, map, reverse, All}
+-- Which recording calls are late, looking back over the calls of their lane. An encoder is one of either kind, a command encoder or a
+-- bundle encoder.
+use Rattle.std.specs.Prelude.{◌≡◌, ℕ, ◌+◌, List, [], ◌∷◌, ◌++◌, Bool, true, false, ◌==◌, ◌&&◌, ◌||◌, if◌then◌else◌, Option, Some, None, unwrap_or, is_some, length, map, All}
 use Rattle.std.specs.Option.{option_map_or}
 use Rattle.std.specs.List.{flat_map, list_any}
 use Rattle.wg_types.specs.Commands.{kind_begun}
@@ -8,8 +9,7 @@ use Rattle.wg_types.specs.declared.commands.On.{On}
 use Rattle.wg_types.specs.declared.commands.On.TheVariants.{Encoder, Pass}
 use Rattle.wg_types.specs.declared.replies.Answer.{Answer}
 use Rattle.wg_types.specs.declared.replies.Answer.TheVariants.{Made, Queued, Promised, Plain, BadCompletion}
-use Rattle.wg_model.specs.Walk.{has_ended}
-use Rattle.wg_encoder.specs.Recorders.{RecorderValue}
+use Rattle.wg_encoder.specs.Recorders.{RecorderValue, pass_ended as ended_within}
 use Rattle.wg_script.specs.CallOf.{BoundCall}
 use Rattle.wg_script.specs.declared.calls.CallOf.TheVariants.{Record, Ask}
 use Rattle.wg_names.specs.Bound.{made_in, IsBound}
@@ -79,7 +79,7 @@ encoder_of (call ∷ calls) slot = unwrap_or (begun_as slot call) (encoder_of ca
 -- whether the pass on which a recording call stands has ended, by the walk over what its encoder's recorder has kept
 abbrev pub pass_ended : On → Option RecorderValue → Bool
 pass_ended Encoder recorder = false
-pass_ended (Pass number) recorder = option_map_or (λ kept. has_ended (reverse kept.commands) number) recorder false
+pass_ended (Pass number) recorder = option_map_or (λ kept. ended_within kept.targets kept.commands number) recorder false
 
 abbrev pub has_pass_ended : List Object → Stand → Bool
 has_pass_ended objects stand = pass_ended stand.on (recorder_at objects stand.encoder)

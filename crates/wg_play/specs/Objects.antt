@@ -1,4 +1,5 @@
--- What the calls of a lane have made, each at its place, from 0 on.
+-- What the calls of a lane have made, each at its place, from 0 on. An encoder is one of either kind, a command encoder or a bundle
+-- encoder, which has no passes.
 use Rattle.std.specs.Prelude.{ℕ, nat_lt, not, ◌||◌, List, [], ◌∷◌, Option, Some, None, option_and_then, option_map, slice_get, slice_set, if◌then◌else◌, Bool, true, false}
 use Rattle.std.specs.Option.{option_map_or}
 use Rattle.wg_types.specs.Handles.{HandleValue}
@@ -9,9 +10,9 @@ use Rattle.wg_types.specs.declared.commands.On.{On}
 use Rattle.wg_types.specs.declared.commands.On.TheVariants.{Encoder, Pass}
 use Rattle.wg_types.specs.Commands.{Command, kind_begun}
 use Rattle.wg_types.specs.declared.requests.RequestOf.{RequestOf}
-use Rattle.wg_types.specs.declared.requests.RequestOf.TheVariants.{CreateBuffer, CreateTexture, CreateView, CreateSampler, CreateBindGroupLayout, CreatePipelineLayout, CreateBindGroup, CreateComputePipeline, CreateRenderPipeline, CreateQuerySet, CreateEncoder, Finish, Submit, WriteBuffer, WriteTexture, Destroy, Drop, Complete, PushErrorScope, PopErrorScope, Lose, WorkDone, MapAsync, Unmap}
+use Rattle.wg_types.specs.declared.requests.RequestOf.TheVariants.{CreateBuffer, CreateTexture, CreateView, CreateSampler, CreateBindGroupLayout, CreatePipelineLayout, CreateBindGroup, CreateComputePipeline, CreateRenderPipeline, CreateQuerySet, CreateEncoder, CreateBundleEncoder, Finish, FinishBundle, Submit, WriteBuffer, WriteTexture, Destroy, Drop, Complete, PushErrorScope, PopErrorScope, Lose, WorkDone, MapAsync, Unmap}
 use Rattle.wg_encoder.specs.Recorders.{RecorderValue, is_late, recorded}
-use Rattle.wg_calls.specs.Calls.{opened_for, taken_out}
+use Rattle.wg_calls.specs.Calls.{opened_for, opened_with, taken_out}
 use Rattle.wg_play.specs.declared.objects.Object.{Object}
 use Rattle.wg_play.specs.declared.objects.Object.TheVariants as object
 use Rattle.wg_play.specs.declared.objects.Stand.{Stand}
@@ -90,6 +91,7 @@ taken_on objects place = with_recorder objects place taken_out
 -- the encoder that a call of the device ends, if it ends one
 abbrev pub ended_by : RequestOf ℕ → Option ℕ
 ended_by (Finish encoder) = Some encoder
+ended_by (FinishBundle encoder) = Some encoder
 ended_by (CreateBuffer known) = None
 ended_by (CreateTexture known) = None
 ended_by (CreateView texture asked) = None
@@ -101,6 +103,7 @@ ended_by (CreateComputePipeline layout iface) = None
 ended_by (CreateRenderPipeline layout desc) = None
 ended_by (CreateQuerySet known) = None
 ended_by CreateEncoder = None
+ended_by (CreateBundleEncoder targets) = None
 ended_by (Submit buffers) = None
 ended_by (WriteBuffer buffer offset size) = None
 ended_by (WriteTexture texture spot layout size data_size) = None
@@ -114,9 +117,10 @@ ended_by WorkDone = None
 ended_by (MapAsync buffer mode offset size) = None
 ended_by (Unmap buffer) = None
 
--- the recorder of an object that was made, if it is an encoder
+-- the recorder of an object that was made, if it is an encoder; that of a bundle encoder has its targets
 abbrev pub recorder_for : ObjRef → Info → Option RecorderValue
 recorder_for encoder info.Encoder = Some (opened_for encoder)
+recorder_for encoder (info.BundleEncoder targets) = Some (opened_with targets encoder)
 recorder_for encoder (info.Buffer known) = None
 recorder_for encoder (info.Texture known) = None
 recorder_for encoder (info.View known) = None
@@ -128,6 +132,7 @@ recorder_for encoder (info.Compute known) = None
 recorder_for encoder (info.Render known) = None
 recorder_for encoder (info.Queries known) = None
 recorder_for encoder info.CommandBuffer = None
+recorder_for encoder (info.Bundle known) = None
 
 -- an object that was made, an encoder with a recorder that has kept nothing
 abbrev pub object_of : HandleValue → Object

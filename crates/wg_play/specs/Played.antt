@@ -10,9 +10,10 @@ use Rattle.wg_types.specs.declared.wanted.Kind.{Kind}
 use Rattle.wg_types.specs.declared.wanted.Wanted.{Wanted}
 use Rattle.wg_history.specs.declared.events.Event.TheVariants.{Late}
 use Rattle.wg_history.specs.declared.events.Setup.{Setup}
-use Rattle.wg_history.specs.Entries.{Entry, Past}
+use Rattle.wg_history.specs.Entries.{Entry, Past, verb_of}
 use Rattle.wg_history.specs.Rules.{is_genuine}
 use Rattle.wg_history.specs.Answers.{Run}
+use Rattle.wg_calls.specs.Calls.{event_asked}
 use Rattle.wg_script.specs.CallOf.{BoundCall}
 use Rattle.wg_script.specs.declared.calls.CallOf.TheVariants.{Record, Ask}
 use Rattle.wg_names.specs.Bound.{IsBound}
@@ -20,7 +21,7 @@ use Rattle.wg_names.specs.Uses.{made_of, uses_of}
 use Rattle.wg_play.specs.declared.objects.Object.{Object}
 use Rattle.wg_play.specs.Objects.{reference_at}
 use Rattle.wg_play.specs.Sights.{Sight, handle_in_sight}
-use Rattle.wg_play.specs.Lanes.{stand_seen, event_sent, gathered}
+use Rattle.wg_play.specs.Lanes.{stand_seen, request_seen, event_sent, gathered}
 use Rattle.wg_play.specs.Turns.{made_by, callers_of}
 use Rattle.wg_play.specs.Late.{Answered, after_calls, slots_before, finishes, encoder_of, has_pass_ended}
 use Rattle.wg_play.specs.Found.{ended_from}
@@ -90,11 +91,12 @@ pub record IsRecordedAs (sight : Sight) (before : List BoundCall) (on : ℕ) (fo
   pub late : is_some found ≡ is_late_after sight before on
   pub event : (entry : Entry) → found ≡ Some entry → entry.event ≡ Late (reference_at sight.own (stand_seen sight on).encoder)
 
--- every other call became one, which is its event
+-- every other call became one, which is its event, and has the verb of the call
 pub record IsAskedAs (sight : Sight) (request : RequestOf ℕ) (found : Option Entry) : Type 0 where
   pub entry : Entry
   pub is : found ≡ Some entry
   pub event : entry.event ≡ event_sent sight request
+  pub verb : verb_of entry.event ≡ verb_of (event_asked (request_seen sight request))
 
 abbrev pub IsPlayedAs : Sight → List BoundCall → BoundCall → Option Entry → Type 0
 IsPlayedAs sight before (Record on command made) found = IsRecordedAs sight before on found

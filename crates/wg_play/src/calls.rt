@@ -57,7 +57,7 @@ pub fn ended_by(request: &RequestOf<u32>) -> Option<u32>
     ensures { result ≡ ended_by request.now }
 {
     match request {
-        RequestOf::Finish { encoder } => Some(*encoder),
+        RequestOf::Finish { encoder } | RequestOf::FinishBundle { encoder } => Some(*encoder),
         _ => None,
     }
 }

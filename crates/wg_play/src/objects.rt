@@ -1,4 +1,5 @@
-//! What the calls of a lane have made, each at its place.
+//! What the calls of a lane have made, each at its place. An encoder is one of either kind, a command
+//! encoder or a bundle encoder, which has no passes.
 ghost use Rattle.std.specs.Prelude.{◌≡◌, true, [], option_to_list, slice_get, vec_len, vec_capacity, IfOk, OnOk, OnErr};
 ghost use Rattle.std.specs.Option.{option_map, option_map_or};
 ghost use Rattle.wg_play.specs.declared.objects.Object.TheVariants.{Pass};
@@ -7,7 +8,7 @@ ghost use Rattle.wg_play.specs.Objects.{handle_at, reference_at, recorder_in, ch
 
 use std::alloc::Global;
 use std::sync::Arc;
-use wg_calls::recorder_for;
+use wg_calls::{bundle_recorder_for, recorder_for};
 use wg_encoder::{Noted, Recorder};
 use wg_entry::NoMemory;
 use wg_types::commands::{Command, On};
@@ -172,11 +173,15 @@ pub fn begun_by(
 }
 
 /// The recorder of an object that was made, if it is an encoder.
-fn recorder_of(alloc: Global, handle: &Handle) -> Option<Recorder>
-    ensures { result ≡ recorder_for handle.now.reference handle.now.info }
+fn recorder_of(alloc: Global, handle: &Handle) -> Result<Option<Recorder>, NoMemory>
+    ensures { IfOk result (λ recorder. recorder ≡ recorder_for handle.now.reference handle.now.info) }
 {
     match handle.info() {
-        Info::Encoder => Some(recorder_for(alloc, handle)),
+        Info::Encoder => Ok(Some(recorder_for(alloc, handle))),
+        Info::BundleEncoder(targets) => {
+            let targets = targets.share()?;
+            Ok(Some(bundle_recorder_for(alloc, handle, targets)))
+        }
         Info::Buffer(_)
         | Info::Texture(_)
         | Info::View(_)
@@ -187,14 +192,15 @@ fn recorder_of(alloc: Global, handle: &Handle) -> Option<Recorder>
         | Info::Compute(_)
         | Info::Render(_)
         | Info::Queries(_)
-        | Info::CommandBuffer => None,
+        | Info::CommandBuffer
+        | Info::Bundle(_) => Ok(None),
     }
 }
 
-/// An object that was made. It takes no memory.
-pub fn object_of(alloc: Global, handle: Handle) -> Object
-    ensures { result ≡ object_of handle }
+/// An object that was made.
+pub fn object_of(alloc: Global, handle: Handle) -> Result<Object, NoMemory>
+    ensures { IfOk result (λ object. object ≡ object_of handle) }
 {
-    let recorder = recorder_of(alloc, &handle);
-    Object::Made { handle, recorder }
+    let recorder = recorder_of(alloc, &handle)?;
+    Ok(Object::Made { handle, recorder })
 }

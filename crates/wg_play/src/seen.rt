@@ -56,7 +56,10 @@ impl Seen<'_> {
         ensures unchanged { OnErr result (sight_of self.new ≡ sight_of self.old) }
     {
         match handle {
-            Some(handle) => self.add(object_of(alloc, handle)),
+            Some(handle) => {
+                let object = object_of(alloc, handle)?;
+                self.add(object)
+            }
             None => Ok(()),
         }
     }
