@@ -1,10 +1,11 @@
 //! Bundles on a device, with ample memory: what the pass does that executes one, and what executing bundles
 //! unsets.
-ghost use Rattle.std.specs.Prelude.{◌≡◌, ◌+◌, ◌<◌, ◌≤◌, IfSome, vec_len, vec_capacity};
-ghost use Rattle.wg_turn.specs.Passes.{IsPassOf, callers_of, calls_of, number_of};
+ghost use Rattle.std.specs.Prelude.{◌≡◌, ◌+◌, ◌<◌, ◌≤◌};
+ghost use Rattle.wg_turn.specs.Passes.{IsPassOf, calls_of, number_of};
 
 use crate::queries::is_step;
 use crate::recorders::note;
+use crate::threads::opened;
 use std::alloc::Global;
 use std::process::Abort;
 use std::sync::Wait;
@@ -360,21 +361,12 @@ fn call<R: Wait + Abort>(
     Some((submitted, [once, again]))
 }
 
-/// A device with its pass, and the list that had it.
-fn opened(alloc: Global) -> Option<(Device, Vec<DevicePass>, DevicePass)>
-    ensures device { IfSome result (λ t. (callers_of t.0.lock ≡ 1) × (vec_len t.1 ≡ 0) × (1 ≤ vec_capacity t.1)) }
-    ensures pass { IfSome result (λ t. IsPassOf t.0.lock t.2 × (number_of t.2 ≡ 0) × (calls_of t.2 ≡ 0)) }
-{
-    let (device, mut passes) = Device::open(alloc, 1_000_000, 1, 1).ok()?;
-    let pass = passes.pop().unwrap();
-    Some((device, passes, pass))
-}
-
-/// What is told of the calls, and what the device leaves.
+/// What is told of the calls of one of two callers, and what the device leaves.
 fn closed<R: Wait + Abort>(rt: &R, alloc: Global) -> Option<(Option<Told>, Ended)> {
-    let (device, mut passes, mut pass) = opened(alloc)?;
-    let told = call(rt, alloc, &device, &mut pass);
-    passes.push_reserved(pass);
+    let (device, mut passes, mut first, second) = opened(alloc)?;
+    let told = call(rt, alloc, &device, &mut first);
+    passes.push_reserved(first);
+    passes.push_reserved(second);
     Some((told, device.close(passes)))
 }
 
