@@ -97,9 +97,7 @@ class Beside:
         made = [call]
         for _, name in call.names():
             finish = self.script.made.get(name.what)
-            if finish is not None and calls.ends_encoder(finish.word):
-                place = self.script.places.get(finish.value.member("on").what)
-                made += place.commands if place else []
+            made += self.script.recorded_in(finish) if finish is not None else []
         return [each for each in made if calls.step_of(each.word) and not each.is_empty()]
 
     def named(self, sort, number):

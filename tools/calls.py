@@ -11,6 +11,7 @@ LATER = {word for words in TABLE["later"].values() for word in words}
 BEGINS = set(TABLE["passes"]["begin"])
 END = TABLE["passes"]["end"]
 PIPELINES = TABLE["passes"]["pipelines"]
+ENCODERS = {call["ends"] for call in CALLS.values() if "ends" in call}
 OBJECTS = TABLE["objects"]
 FORMS = TABLE["forms"]
 
@@ -126,7 +127,13 @@ def records(word):
 
 
 def ends_encoder(word):
-    return CALLS.get(word, {}).get("ends") == "encoder"
+    """Whether the call ends an encoder, be it one of a bundle."""
+    return CALLS.get(word, {}).get("ends") is not None
+
+
+def makes_encoder(word):
+    """Whether the call makes an encoder, be it one of a bundle."""
+    return makes(word) in ENCODERS
 
 
 def groups(word):
@@ -137,6 +144,11 @@ def groups(word):
 def query(word):
     """Whether the call `begins` or `ends` an occlusion query; None where it does neither."""
     return CALLS.get(word, {}).get("query")
+
+
+def executes(word):
+    """Whether the call executes bundles, which unsets what is set."""
+    return CALLS.get(word, {}).get("executes", False)
 
 
 def step_of(word):

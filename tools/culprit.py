@@ -1,4 +1,4 @@
-"""Finds the command that a finish's fault is about, by asking the program about shorter recordings of the encoder.
+"""Finds the command that a finish's fault is about, by asking the program about shorter recordings of the encoder, be it one of a bundle.
 
 A command makes no fault when it is recorded: the first rule that is unmet stays with the encoder, and the finish tells
 it. So the script is cut behind the finish, and of the encoder's recording its first commands alone are kept. The first
@@ -16,7 +16,7 @@ PASS, GROUP = 182, 183
 OPEN = {PASS, GROUP}
 # The rule that nothing is used that was dropped: of an encoder that has ended well it is about what its commands name.
 DROPPED = 11
-# The rule that every usage scope is compatible, which is that of one dispatch or of one render pass.
+# The rule that every usage scope is compatible, which is that of one dispatch, of one render pass or of one bundle.
 SCOPE = 184
 # The rules that are the finish's own, and not those of a command.
 OF_FINISH = OPEN | {DROPPED, SCOPE}
@@ -51,14 +51,16 @@ class Cuts:
             self.needed = None
 
     def makers(self):
-        """The calls that make what the encoder's commands name, and what those name in turn, and the drops of all that."""
+        """The calls that make what the encoder's commands name, and what those name in turn, of a bundle what is recorded in it, and the drops of
+        all that."""
         found, waiting = {self.encoder.call, *self.commands, self.finish}, [self.encoder.call, *self.commands]
         while waiting:
             for _, name in waiting.pop().names():
                 maker = self.script.made.get(name.what)
                 if maker is not None and maker not in found:
-                    found.add(maker)
-                    waiting.append(maker)
+                    made = [maker, *self.script.recorded_in(maker)]
+                    found.update(made)
+                    waiting += made
         named = {call.gives for call in found}
         return found | {call for call in self.script.calls if call.word == "drop" and {name.what for _, name in call.names()} <= named}
 
@@ -152,7 +154,7 @@ def find(beside, finish, rule, program):
     if found is None:
         return None
     call = cuts.commands[found - 1]
-    return Found(call, found, len(cuts.commands), len(cuts.asked), said_of(rule, beside.script.begin_of(call) is not None))
+    return Found(call, found, len(cuts.commands), len(cuts.asked), said_of(rule, beside.script.drawn_on(call)))
 
 
 def told(beside, rule, cause):
@@ -160,7 +162,7 @@ def told(beside, rule, cause):
     if cause.about is None:
         return None
     call, number, total = cause.about
-    return Found(call, number, total, 0, said_of(rule, beside.script.begin_of(call) is not None))
+    return Found(call, number, total, 0, said_of(rule, beside.script.drawn_on(call)))
 
 
 def broken(rule, word, found):
@@ -192,9 +194,10 @@ def opener(cuts, rule, closed):
     return opening[0] if is_it else None
 
 
-def said_of(rule, is_of_render_pass):
+def said_of(rule, drawn_on):
     if rule == DROPPED:
         return "names what was dropped before the encoder was made"
     if rule == SCOPE:
-        return "makes the usage scope of its pass one that is not compatible" if is_of_render_pass else "has the first usage scope that is not compatible"
+        whole = {None: None, "render pass": "pass", "bundle encoder": "bundle"}[drawn_on and calls.makes(drawn_on.word)]
+        return f"makes the usage scope of its {whole} one that is not compatible" if whole else "has the first usage scope that is not compatible"
     return "opens what is still open" if rule in OPEN else "invalidated the encoder"

@@ -23,8 +23,8 @@ WITH_LAYOUT = ("bind group", "compute pipeline", "render pipeline")
 # The rules of a dispatch or a draw on what is set where it comes, and that of a command while a pass is open.
 OF_SET = {culprit.SCOPE, 340, 341, 342, 350, 351, 352, 353}
 LOCKED = 240
-# The rules of a pipeline that is set, on what its pass draws to.
-OF_TARGETS = {320, 321}
+# The rules of a pipeline that is set, and of bundles that are executed, on what their pass or bundle draws to.
+OF_TARGETS = {320, 321, 370, 371}
 ACCESSES = {
     "read": "reads",
     "write": "writes",
@@ -155,24 +155,37 @@ class Explained:
             self.layouts([name.what for _, name in found.call.names()])
         if number in OF_TARGETS:
             self.attached_at(found.call)
+            self.drawn_by(found.call)
             self.layouts([name.what for key, name in found.call.names() if key != "on"])
         if number in OF_SET:
             self.set_at(found.call, number == culprit.SCOPE)
 
     def attached_at(self, call):
-        """What is attached to the render pass of a call, if it is on one."""
-        begin = self.beside.script.begin_of(call)
-        if begin is not None:
-            self.say(f"    attached there, at {self.beside.script.where(begin)}: {self.beside.script.said(begin)}")
+        """What is attached to the render pass of a call, or to what its bundle draws, if it is on one of these."""
+        on = self.beside.script.drawn_on(call)
+        if on is not None:
+            how = "attached there" if on.word in calls.BEGINS else "to be drawn to there"
+            self.say(f"    {how}, at {self.beside.script.where(on)}: {self.beside.script.said(on)}")
+
+    def drawn_by(self, call):
+        """To what the bundles draw that a call executes, each once."""
+        script, executed = self.beside.script, [name.what for _, name in call.names()] if calls.executes(call.word) else []
+        for name in dict.fromkeys(executed):
+            finish = script.made.get(name)
+            place = script.places.get(scripts.string_of(finish.value, "on")) if finish is not None else None
+            if place is not None and calls.ends_encoder(finish.word):
+                self.say(f"    {name}: made by {finish.word} at {script.where(finish)}, of {script.said(place.call)}")
 
     def set_at(self, call, is_of_scope):
-        """What is set where a dispatch or a draw comes, with the layouts of it all; of the scope of a render pass all that it has attached and set."""
-        is_whole = is_of_scope and self.beside.script.begin_of(call) is not None
+        """What is set where a dispatch or a draw comes, with the layouts of it all; of the scope of a render pass or a bundle all that it has
+        attached, set and executed."""
+        is_whole = is_of_scope and self.beside.script.drawn_on(call) is not None
         if is_whole:
             self.attached_at(call)
         setters, names = self.beside.script.set_before(call) if is_whole else self.beside.script.set_at(call), []
         for setter in setters:
-            self.say(f"    set there, at {self.beside.script.where(setter)}: {self.beside.script.said(setter)}")
+            how = "executed" if calls.executes(setter.word) else "set"
+            self.say(f"    {how} there, at {self.beside.script.where(setter)}: {self.beside.script.said(setter)}")
             names += [name.what for key, name in setter.names() if key != "on"]
         if not setters:
             self.say("    nothing is set there")
@@ -191,7 +204,7 @@ class Explained:
         if number in OF_LAYOUTS:
             self.layouts(names)
         if number in (180, 190, 192, 193, 203, 210, 225):
-            self.before(call, self.reached(call), {180: ("finish",), 190: ("submit",)}.get(number, ("destroy",)))
+            self.before(call, self.reached(call), {180: ("finish", "finishBundle"), 190: ("submit",)}.get(number, ("destroy",)))
             self.say(*[f"    {line}" for line in self.scopes.maps.of_fault(entry, sorted(self.reached(call)))])
 
     def layouts(self, names):
@@ -242,7 +255,8 @@ class Explained:
                 self.say(f"    {name}: {other.word} at {self.beside.script.where(other)}")
 
     def reached(self, call):
-        """The names that a call uses, those that the commands of the command buffers among them use, and what is bound in bind groups and of what views are."""
+        """The names that a call uses, those that the commands of the command buffers and bundles among them use, and what is bound in bind groups and of
+        what views are."""
         script, waiting, names = self.beside.script, [name.what for _, name in call.names()], set()
         while waiting:
             name = waiting.pop()
@@ -252,9 +266,8 @@ class Explained:
             names.add(name)
             if calls.makes(maker.word) in ("bind group", "view"):
                 waiting += [each.what for _, each in maker.names()]
-            if calls.ends_encoder(maker.word) and maker.word != call.word:
-                place = script.places.get(scripts.string_of(maker.value, "on"))
-                waiting += [each.what for command in (place.commands if place else []) for _, each in command.names()]
+            if maker.word != call.word:
+                waiting += [each.what for command in script.recorded_in(maker) for _, each in command.names()]
         return names
 
     def trace(self):

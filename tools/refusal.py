@@ -321,12 +321,12 @@ def used_names(refusal, text, call, top):
             return refusal.at(value.start, f"the name {value.what} under {key}", f"the name of {calls.either(kinds)}", is_one)
         if refusal.rule == 12 and is_visible and key == "on" and maker.place[:2] != user.place[:2]:
             made = f"{value.what} was made in phase {maker.place[0]}, lane {maker.place[1]}, at {script.where(maker)}: {script.said(maker)}"
-            return refusal.at(value.start, f"the name {value.what} under on", "an encoder or a pass that this lane made in this phase", made)
+            return refusal.at(value.start, f"the name {value.what} under on", "an encoder, a bundle encoder or a pass that this lane made in this phase", made)
     return refusal
 
 
 def of_pass(script, user, kinds):
-    """Of the kinds of pipelines that a call takes just the one of the kind of pass that it stands on."""
+    """Of the kinds of pipelines that a call takes just the one of the kind of pass or encoder that it stands on."""
     maker = script.made.get(scripts.string_of(user.value, "on"))
     wanted = calls.PIPELINES.get(calls.makes(maker.word)) if maker is not None else None
     return [wanted] if wanted in kinds else kinds

@@ -1,4 +1,4 @@
-"""A script as its writer sees it: each call with its place, its text and its names, and what is recorded on each encoder."""
+"""A script as its writer sees it: each call with its place, its text and its names, and what is recorded on each encoder, be it one of a bundle."""
 
 import calls
 
@@ -64,7 +64,7 @@ def string_of(value, key):
 
 
 class Place:
-    """An encoder or a pass, on which calls record, with the calls that ended it. A pass has the encoder that it was begun on."""
+    """An encoder, a bundle encoder or a pass, on which calls record, with the calls that ended it. A pass has the encoder that it was begun on."""
 
     def __init__(self, call, encoder=None):
         self.call = call
@@ -98,10 +98,10 @@ class Script:
             self.record(call)
 
     def record(self, call):
-        """Notes what a call does to the encoders and passes, as far as the order of the calls alone decides it."""
+        """Notes what a call does to the encoders, bundle encoders and passes, as far as the order of the calls alone decides it."""
         on = string_of(call.value, "on")
         place = self.places.get(on)
-        if calls.makes(call.word) == "encoder":
+        if calls.makes_encoder(call.word):
             self.places[call.gives] = Place(call)
         elif place is not None and calls.ends_encoder(call.word):
             place.finish = place.finish or call
@@ -128,25 +128,37 @@ class Script:
             encoder.open_pass = None
 
     def set_at(self, call):
-        """What is set of a pass where a call records on it: the last setPipeline, the last setBindGroup of each index and setVertexBuffer of each
-        slot, least indexes and slots first, and the last setIndexBuffer."""
+        """What is set of a pass or a bundle where a call records on it: the last setPipeline, the last setBindGroup of each index and
+        setVertexBuffer of each slot, least indexes and slots first, and the last setIndexBuffer. Bundles that are executed unset all of it."""
         found = {}
-        for command in self.set_before(call):
-            at = SETS[command.word]
-            found[list(SETS).index(command.word), command.number(at, 0) if at else 0] = command
+        for command in self.before(call):
+            if command.word in SETS:
+                at = SETS[command.word]
+                found[list(SETS).index(command.word), command.number(at, 0) if at else 0] = command
+            elif calls.executes(command.word):
+                found = {}
         return [found[at] for at in sorted(found)]
 
-    def begin_of(self, call):
-        """The begin of the render pass on which a call records, or None where it is on none."""
+    def recorded_in(self, call):
+        """The commands of what a call makes, where it is a finish of an encoder, or of a bundle encoder; else none."""
+        place = self.places.get(string_of(call.value, "on")) if calls.ends_encoder(call.word) else None
+        return place.commands if place is not None else []
+
+    def drawn_on(self, call):
+        """The call that made what a call draws on: the begin of a render pass, or the making of a bundle encoder; or None where it is on neither."""
         place = self.places.get(string_of(call.value, "on"))
-        return place.call if place is not None and calls.makes(place.call.word) == "render pass" else None
+        return place.call if place is not None and calls.makes(place.call.word) in ("render pass", "bundle encoder") else None
 
     def set_before(self, call):
-        """What a call's pass has set before it, overwritten or not, in order."""
+        """What a call's pass or bundle has set or executed before it, overwritten or not, in order."""
+        return [command for command in self.before(call) if command.word in SETS or calls.executes(command.word)]
+
+    def before(self, call):
+        """The commands of the pass or bundle of a call that come before it."""
         place = self.places[string_of(call.value, "on")]
-        commands = place.encoder.commands if place.encoder else []
+        commands = (place.encoder or place).commands
         before = commands[: commands.index(call)] if call in commands else commands
-        return [command for command in before if string_of(command.value, "on") == place.name and command.word in SETS]
+        return [command for command in before if string_of(command.value, "on") == place.name]
 
     def where(self, call):
         return self.text.where(call.value.start)

@@ -15,6 +15,7 @@ from model import (  # noqa: E402, F401
     attachments,
     bound_groups,
     buffers,
+    bundles,
     calls,
     cells,
     copies,

@@ -212,6 +212,26 @@ def test_drawn():
         check(words in told, f"explain of render passes does not say `{words}`:\n{told.partition('TRACE')[2]}")
 
 
+def test_bundled():
+    """What explain says of render bundles: what a step uses through one, and of a fault what unset the pipeline, and to what a bundle draws."""
+    data = (TOP / "examples/render-bundle.json").read_bytes()
+    trace = explain.explain(places.Text(data, "S"), data, asked)[0].partition("\nTRACE")[2]
+    for words in (
+        "barrier  points: copy-dst -> input\nbarrier  colors: clear -> constant\nstep 2   renderPass, operation 2, of the call at 24:5\n",
+        "step 3   renderPass, operation 2, of the call at 27:5\n",
+        "         reads colors bytes 0 to 255\n\nrelease  the memory of colors\n",
+    ):
+        check(words in trace, f"explain of render-bundle does not say `{words}`:\n{trace}")
+    data = (TOP / "examples/draw-after-a-bundle.json").read_bytes()
+    told = explain.explain(places.Text(data, "S"), data, asked)[0]
+    for words in (
+        'no pipeline is set on "p" (15:5) where the draw comes: the executeBundles at 17:5 unset it. Set one again.\n',
+        'depthReadOnly of "q" (22:5) is true, and that of "recorder" (10:5), of which "bundle" (13:5) was made, is false.',
+        "    bundle: made by finishBundle at S:13:5, of ",
+    ):
+        check(words in told, f"explain of draw-after-a-bundle does not say `{words}`:\n{told}")
+
+
 def test_queried():
     """What explain says of query sets: which queries a step touches, which call a step is of, and the release."""
     data = (TOP / "examples/occlusion-query.json").read_bytes()

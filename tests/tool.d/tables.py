@@ -42,12 +42,18 @@ def test_calls():
     test_objects(*[text.partition(f"\n### {title}\n")[2].split("\n### ")[0] for title in ("Bindings", "Render pipelines", "Render passes")])
     later = set(re.findall(r"`(\w+)`", text.split("\n### Calls that are not built yet\n")[1]))
     check(calls.LATER == later, f"tools/calls.json: not the calls to come of docs/script.md: {sorted(calls.LATER ^ later)}")
-    said = re.search(r"`on` names an encoder; a pass in (.*?); and either of the two in (.*?)\. The pass has to be a compute pass in (.*?), and a render pass in (.*?) and the four draws;", text)
-    of_passes, of_both, of_compute, of_render = ([set(re.findall(r"`(\w+)`", words)) for words in said.groups()]) if said else (set(),) * 4
-    of_render |= {word for word in of_passes if word.startswith("draw")}
+    said = re.search(
+        r"`on` names an encoder; a bundle encoder in (.*?); a pass in (.*?); and an encoder or a pass in (.*?)\. The pass has to be a compute pass in (.*?), and a render pass in "
+        r"(.*?) and the four draws; .*? It may be a bundle encoder as well in (.*?)\.",
+        text,
+    )
+    of_ends, of_passes, of_both, of_compute, of_render, of_bundles = ([set(re.findall(r"`(\w+)`", words)) for words in said.groups()]) if said else (set(),) * 6
+    draws = {word for word in of_passes if word.startswith("draw")}
+    of_render, of_bundles = of_render | draws, of_bundles | draws
     for word in calls.CALLS:
         passes = ["compute pass"] if word in of_compute else ["render pass"] if word in of_render else ["compute pass", "render pass"]
-        kinds = passes if word in of_passes else ["encoder", *passes] if word in of_both else ["encoder"]
+        kinds = passes if word in of_passes else ["encoder", *passes] if word in of_both else ["bundle encoder"] if word in of_ends else ["encoder"]
+        kinds += ["bundle encoder"] if word in of_bundles else []
         own = calls.keys_of(word).get("on")
         check(own is None or own.kinds() == kinds, f"tools/calls.json: `on` of {word} is not {calls.either(kinds)}, as docs/script.md says")
         check(own is None or calls.records(word) or calls.ends_encoder(word), f"tools/calls.json: {word} has `on`, and is neither recorded nor a finish")

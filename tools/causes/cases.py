@@ -8,7 +8,7 @@ from .making import RULES, listed
 
 # How a thing stands in a call, by the key of a list, and what it is called where it stands alone under a key that is no word for it.
 IN_LISTS = {"entries": "bound by entry {}", "colors": "among the colors", "depth": "the view of depth"}
-CALLED = {"on": "encoder", "queries": "query set"}
+CALLED = {"on": "encoder", "queries": "query set", "bundles": "bundle"}
 # The calls that make what has memory.
 WITH_MEMORY = ("createBuffer", "createTexture", "createQuerySet")
 
@@ -16,8 +16,8 @@ WITH_MEMORY = ("createBuffer", "createTexture", "createQuerySet")
 class Case:
     """A rule that is unmet: the history up to its entry, the call of the entry, and the command that brought it where it is one of an encoder.
 
-    `played` is the call that the rule is of: the command, or the call of the entry. `earlier` has the commands before it on the same encoder
-    or pass, `open_pass` the pass that is open where it comes, and `commands` all of the encoder that a finish ends."""
+    `played` is the call that the rule is of: the command, or the call of the entry. `earlier` has the commands before it on the same encoder,
+    pass or bundle encoder, `open_pass` the pass that is open where it comes, and `commands` all of the encoder that a finish ends."""
 
     def __init__(self, play, entry, played=None, earlier=(), open_pass=None, commands=()):
         self.play = play
@@ -75,7 +75,7 @@ class Case:
 
     @functools.cached_property
     def settings(self):
-        """What is set of the pass where the command comes."""
+        """What is set of the pass or the bundle where the command comes."""
         found = self.second.passes.Settings()
         for command in self.earlier:
             found.take(command)
@@ -140,13 +140,16 @@ class Play:
     def case(self, played):
         """The case of an entry that has a fault."""
         history, encoder = self.turns.history, played.uses.get("on")
-        if played.do != "finish" or history.is_dropped(encoder) or history.finishes(encoder)[0] is not played:
+        is_finish = played.do in second.calls.FINISHES and encoder.is_valid
+        if not is_finish or history.is_dropped(encoder) or history.finishes(encoder)[0] is not played:
             return Case(self, played)
         commands = history.commands_on(encoder)
         return self.blamed(played, commands) or Case(self, played, commands=commands)
 
     def blamed(self, finish, commands):
         """The case of the command that invalidated an encoder, or None where none did."""
+        if finish.uses["on"].do == "createBundleEncoder":
+            return self.blamed_among(finish, None, commands, commands)
         walk = second.passes.Walk()
         for command in commands:
             place = command.uses["on"]
@@ -165,9 +168,13 @@ class Play:
         passes, first_unmet = second.passes, second.rules.first_unmet
         if first_unmet(begin.do, passes.begin_rules(begin)) is not None:
             return Case(self, finish, begin, [], None, commands)
-        settings = passes.Settings()
+        return self.blamed_among(finish, begin, inside, commands)
+
+    def blamed_among(self, finish, begin, inside, commands):
+        """The same of the commands of a pass alone, or of those of a bundle encoder, which have no begin."""
+        settings = second.passes.Settings()
         for number, command in enumerate(inside):
-            if first_unmet(command.do, passes.command_rules(command, settings)) is not None:
+            if second.rules.first_unmet(command.do, second.passes.command_rules(command, settings)) is not None:
                 return Case(self, finish, command, inside[:number], begin, commands)
             settings.take(command)
         return None

@@ -1,6 +1,7 @@
 """The rules of vertex and index buffers, and of indirect and other draws."""
 
 from .making import Cause, at_most, first, fits, lacks, multiple, plural, rule
+from .settings import unset_before
 
 INDEX, VERTEX, INDIRECT = 16, 32, 256
 
@@ -82,18 +83,20 @@ def vertex_buffers_set(case):
     missing = [at for at, _ in asked if at not in case.settings.vertex_buffers]
     if not missing:
         return None
-    said = f"no vertex buffer is set at slot {missing[0]}, and {case.named(pipeline)} has {plural(len(asked), 'vertex buffer')}"
-    return Cause(said, {"slot": missing[0], "missing": missing, "pipeline": pipeline.call["as"], "buffers": len(asked)}, "Set one before.")
+    unset, again = unset_before(case, "setVertexBuffer", slot=missing[0])
+    said = f"no vertex buffer is set at slot {missing[0]}, and {case.named(pipeline)} has {plural(len(asked), 'vertex buffer')}{unset}"
+    return Cause(said, {"slot": missing[0], "missing": missing, "pipeline": pipeline.call["as"], "buffers": len(asked)}, f"Set one {again}.")
 
 
 @rule(352)
 def index_buffer_set(case):
     if case.settings.index_buffer is not None:
         return None
+    unset, again = unset_before(case, "setIndexBuffer")
     return Cause(
-        f"no index buffer is set on {case.named(case.uses['on'])} where the {case.do} comes",
+        f"no index buffer is set on {case.named(case.uses['on'])} where the {case.do} comes{unset}",
         {"pass": case.uses["on"].call["as"], "call": case.do},
-        "Set one before.",
+        f"Set one {again}.",
     )
 
 

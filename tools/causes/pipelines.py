@@ -4,6 +4,7 @@ import bits
 from .layouts import twice
 from .making import Cause, first, listed, plural, rule
 
+MOST_COLORS = 8
 OF_KINDS = ("type", "sample", "dim", "multi", "access", "format")
 
 
@@ -131,15 +132,20 @@ def placed(case, where, place, number, attribute, one):
 
 @rule(163)
 def targets(case):
-    formats = case.call["targets"]
-    if len(formats) > 8:
-        return Cause(f"targets has {len(formats)} items, and at most 8 are allowed", {"targets": len(formats), "most": 8})
+    return wrong_colors(case, "target", case.call["targets"])
+
+
+def wrong_colors(case, word, formats):
+    """What is wrong with the formats of targets of a pipeline, or of colors of a bundle encoder, where some may be null: there are too many, or
+    one has no color."""
+    if len(formats) > MOST_COLORS:
+        return Cause(f"{word}s has {len(formats)} items, and at most {MOST_COLORS} are allowed", {f"{word}s": len(formats), "most": MOST_COLORS})
     for place, format in enumerate(formats):
         if format is not None and not case.second.formats.is_color(format):
             return Cause(
-                f"target {place} is {format}, which has {case.aspects(format)} and no color",
-                {"target": place, "format": format},
-                "Give it as the format of depth.",
+                f"{word} {place} is {format}, which has {case.aspects(format)} and no color",
+                {word: place, "format": format},
+                "Give it as the format of depth." if word == "target" else "Give it as depth.",
             )
     return None
 
@@ -164,24 +170,30 @@ def depth(case):
 
 @rule(165)
 def something(case):
-    if case.call["depth"] is not None or any(format is not None for format in case.call["targets"]):
+    return nothing(case, "target", case.call["targets"])
+
+
+def nothing(case, word, formats):
+    """Nothing is drawn to."""
+    if case.call["depth"] is not None or any(format is not None for format in formats):
         return None
-    given = "targets is empty" if not case.call["targets"] else "each target is null"
-    return Cause(
-        f"{given}, and depth is left out, so that nothing is drawn to",
-        {"targets": len(case.call["targets"]), "depth": False},
-        "Give a target or depth.",
-    )
+    given = f"{word}s is empty" if not formats else f"each {word} is null"
+    return Cause(f"{given}, and depth is left out, so that nothing is drawn to", {f"{word}s": len(formats), "depth": False}, f"Give a {word} or depth.")
 
 
 @rule(166)
 def samples(case):
+    depth = case.call["depth"]
+    return wrong_samples(case, "target", case.call["targets"], depth and depth["format"])
+
+
+def wrong_samples(case, word, formats, depth):
+    """What is wrong with a count of samples: it is none, or a format does not allow it."""
     count = case.call["samples"]
     if count not in (1, 4):
         return Cause(f"samples is {count}, and 1 or 4 is asked for", {"samples": count, "allowed": [1, 4]})
-    depth = case.call["depth"]
-    drawn = [(f"target {place}", format) for place, format in enumerate(case.call["targets"]) if format is not None]
-    drawn += [("depth", depth["format"])] if depth is not None else []
+    drawn = [(f"{word} {place}", format) for place, format in enumerate(formats) if format is not None]
+    drawn += [("depth", depth)] if depth is not None else []
     for where, format in drawn:
         if count == 4 and not case.second.formats.may_have_four_samples(format):
             allowed = [name for name in case.second.formats.FORMATS if case.second.formats.may_have_four_samples(name)]

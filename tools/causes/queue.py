@@ -10,7 +10,7 @@ TEXTURE_DST = 2
 
 @rule(11)
 def dropped(case):
-    """A call names what was dropped; a finish, that a command of its encoder names what was dropped before the encoder was made."""
+    """A call names what was dropped; a finish, of a bundle too, that a command of its encoder names what was dropped before the encoder was made."""
     if case.is_of_commands:
         return first(dropped_before(case, command) for command in case.commands)
     for key, thing in case.named_things():
@@ -73,9 +73,18 @@ def used(case, *words):
         for command in case.history.commands_of(commands):
             for _, thing in command.named():
                 for resource in case.second.history.resources_in(thing):
-                    by = f"the {command.do} at {case.place(command)}" + ("" if thing is resource else f", through {case.named(thing)}")
-                    found.setdefault(resource, f", which is used by {by},")
+                    through = "" if thing is resource else f", through {case.named(thing)}" + in_bundle(case, thing, resource)
+                    found.setdefault(resource, f", which is used by the {command.do} at {case.place(command)}{through},")
     return [(thing, by) for thing, by in found.items() if thing.do in words]
+
+
+def in_bundle(case, bundle, resource):
+    """The first command of a bundle that uses a resource, in words; none of what is no bundle."""
+    for command in case.history.commands_of(bundle):
+        for _, thing in command.named():
+            if resource in case.second.history.resources_in(thing):
+                return f", by the {command.do} at {case.place(command)}" + ("" if thing is resource else f", through {case.named(thing)}")
+    return ""
 
 
 @rule(192)

@@ -5,6 +5,10 @@ import collections
 from .making import Cause, rule
 
 
+# What has one scope as a whole, in words, by the call that begins or makes it.
+WHOLE = {"beginRenderPass": "the render pass", "finishBundle": "the bundle that is finished"}
+
+
 class Use:
     """A use of a part in a scope: the usage, the words that tell of what it comes, and the command with its place."""
 
@@ -31,6 +35,21 @@ def of_command(case, command):
     return [(cell, Use(case, usage, f"the {command.do} at {case.place(command)}", command)) for cell, usage, _ in touches]
 
 
+def of_executed(case, command):
+    """What an executeBundles brings: what the bundles use, each bundle once, with the command that brought it there."""
+    found = []
+    for bundle in dict.fromkeys(command.uses["bundles"]):
+        for cell, use in of_drawing(case, case.history.commands_of(bundle)):
+            found.append((cell, Use(case, use.usage, f"{use.words} in {case.named(bundle)}, executed at {case.place(command)}", command)))
+    return found
+
+
+def of_drawing(case, commands):
+    """What the commands of a render pass or of a bundle bring, in their order."""
+    of = {"setBindGroup": of_setting, "executeBundles": of_executed}
+    return [use for command in commands for use in of.get(command.do, of_command)(case, command)]
+
+
 def of_attachments(case, begin):
     """What is attached to a render pass."""
     found, at = [], case.place(begin)
@@ -47,7 +66,10 @@ def of_attachments(case, begin):
 
 
 def scopes_of(case):
-    """Each dispatch and each render pass of an encoder, with all uses of its scope."""
+    """Each dispatch and each render pass of an encoder, with all uses of its scope; of a bundle encoder the one scope, with its finish."""
+    if case.entry.do == "finishBundle":
+        yield case.entry, of_drawing(case, case.commands)
+        return
     bound_groups, passes = case.second.bound_groups, case.second.passes
     on, settings = passes.Walk(case.commands).on, collections.defaultdict(passes.Settings)
     for command in case.commands:
@@ -56,8 +78,7 @@ def scopes_of(case):
             found = [use for _, setting in bound_groups.asked_for(settings[place]) for use in of_setting(case, setting)]
             yield command, found + of_command(case, command)
         elif command.do == "beginRenderPass":
-            inside = [use for each in on[command] for use in (of_setting if each.do == "setBindGroup" else of_command)(case, each)]
-            yield command, of_attachments(case, command) + inside
+            yield command, of_attachments(case, command) + of_drawing(case, on[command])
         settings[place].take(command)
 
 
@@ -68,9 +89,9 @@ def clash(case, uses):
 
 
 def brought_by(case, command, uses):
-    """The command with which a scope is no longer compatible: of a render pass that of the first use that clashes with one before it."""
+    """The command with which a scope is no longer compatible: of a render pass or a bundle that of the first use that clashes with one before it."""
     first = {}
-    for cell, use in uses if command.do == "beginRenderPass" else []:
+    for cell, use in uses if command.do in WHOLE else []:
         if clash(case, [first.setdefault(case.second.cells.part_of(cell), use), use]):
             return use.command
     return command
@@ -90,8 +111,9 @@ def scope(case):
 
 
 def clashing(case, command, part, one, other, about):
-    what = "the render pass" if command.do == "beginRenderPass" else f"the {command.do}"
+    what = WHOLE.get(command.do, f"the {command.do}")
     said = f"{case.part(part)} is used as {one.usage} by {one.words}, and as {other.usage} by {other.words}, in the one scope of {what} at {case.place(command)}"
     values = {**case.part_values(part), "first": one.usage, "firstBy": one.at, "other": other.usage, "otherBy": other.at, "scope": case.place(command)}
-    remedy = "Use them in two render passes." if command.do == "beginRenderPass" else "Use them in two dispatches, or bind both for reading alone."
+    remedies = {"beginRenderPass": "Use them in two render passes.", "finishBundle": "Use them in two bundles, and execute these in two render passes."}
+    remedy = remedies.get(command.do, "Use them in two dispatches, or bind both for reading alone.")
     return Cause(said, values, remedy, about=about)

@@ -68,7 +68,18 @@ def pipeline(case):
     if case.settings.pipeline is not None:
         return None
     place = case.uses["on"]
-    return Cause(f"no pipeline is set on {case.named(place)} where the {case.do} comes", {"pass": place.call["as"], "call": case.do}, "Set one before.")
+    values = {"pass": place.call["as"], "call": case.do}
+    unset, again = unset_before(case, "setPipeline")
+    return Cause(f"no pipeline is set on {case.named(place)} where the {case.do} comes{unset}", values, f"Set one {again}.")
+
+
+def unset_before(case, word, **keys):
+    """Words for the bundles that unset what a command has set before, if there are such; and whether it is to be set before or again."""
+    was_set, by = False, None
+    for command in case.earlier:
+        was_set = was_set or command.do == word and all(command.call[key] == held for key, held in keys.items())
+        by = command if was_set and command.do == "executeBundles" else by
+    return (f": the executeBundles at {case.place(by)} unset it", "again") if by else ("", "before")
 
 
 def asked_groups(case):
@@ -84,7 +95,8 @@ def groups_set(case):
         asks = f"{case.named(pipeline)} asks there for {case.named(layout)}"
         values = {"index": at, "pipeline": pipeline.call["as"], "layout": layout.call["as"]}
         if setting is None:
-            return Cause(f"no bind group is set at index {at}, and {asks}", values, "Set one before.")
+            unset, again = unset_before(case, "setBindGroup", index=at)
+            return Cause(f"no bind group is set at index {at}, and {asks}{unset}", values, f"Set one {again}.")
         group = setting.uses["group"]
         other = group.uses["layout"]
         why = difference(layout, other)

@@ -9,6 +9,7 @@ use Rattle.wg_types.specs.Bindings.{entries_named}
 use Rattle.wg_types.specs.declared.bindings.GroupEntryOf.{GroupEntryOf}
 use Rattle.wg_types.specs.Requests.{named, kind_made}
 use Rattle.wg_types.specs.declared.wanted.Wanted.{Wanted}
+use Rattle.wg_types.specs.declared.handles.Info.{Info}
 use Rattle.wg_types.specs.declared.handles.ObjRef.{ObjRef}
 use Rattle.wg_types.specs.declared.replies.Reply.{Reply}
 use Rattle.wg_types.specs.declared.requests.RequestOf.{RequestOf}
@@ -70,11 +71,12 @@ finished_genuine lock old new encoder recorder handle reply act made =
     subst (λ (past : Past). is_genuine (setup_of lock) past handle ≡ true) (sym end.back)
     (genuine_finish (setup_of lock) (entry (number_of old) (finish_of encoder recorder) reply) end.past recorder.targets encoder (recording_of recorder) handle refl end.replied made)
 
-pub finished_gives : (lock : Lock) (old new : DevicePass) (encoder : ObjRef) (recorder : RecorderValue) (reply : Reply) → IsAct lock old new (finish_of encoder recorder) reply
-    → is_some (handle_of (setup_of lock).serial (known_of_finish recorder) reply.answer) ≡ true
-finished_gives lock old new encoder recorder reply act =
+pub finished_gives : (lock : Lock) (old new : DevicePass) (encoder : ObjRef) (recorder : RecorderValue) (known : Info) (reply : Reply) → IsAct lock old new (finish_of encoder recorder) reply
+    → known ≡ known_of_finish recorder → is_some (handle_of (setup_of lock).serial known reply.answer) ≡ true
+finished_gives lock old new encoder recorder known reply act is =
     let end = ended lock old new (finish_of encoder recorder) reply act in
-    gives_finish (setup_of lock) (entry (number_of old) (finish_of encoder recorder) reply) end.past recorder.targets encoder (recording_of recorder) refl end.replied
+    ap (λ (info : Info). is_some (handle_of (setup_of lock).serial info reply.answer)) is
+    ∙ gives_finish (setup_of lock) (entry (number_of old) (finish_of encoder recorder) reply) end.past recorder.targets encoder (recording_of recorder) refl end.replied
 
 -- What a call names is genuine.
 

@@ -1,5 +1,5 @@
 -- What has happened while the lanes of a generated script run, and what their entries are.
-use Rattle.std.proofs.Common.{◌≡◌, ◌≤◌, ◌<◌, ℕ, suc, ◌+◌, ◌%◌, ◌==◌, nat_lt, Bool, true, false, Option, Some, None, List, [], ◌∷◌}
+use Rattle.std.proofs.Common.{◌≡◌, ◌≤◌, ◌<◌, ℕ, ◌+◌, ◌%◌, ◌==◌, nat_lt, true, false, Some, None, [], ◌∷◌}
 use Rattle.std.specs.Prelude.{count_by}
 use Rattle.wg_types.specs.Handles.{HandleValue}
 use Rattle.wg_types.specs.declared.commands.CommandOf.TheVariants.{CopyBufferToBuffer}
@@ -60,7 +60,7 @@ copy spot = CopyBufferToBuffer (buffer_handle spot.source) spot.offset (buffer_h
 
 -- the finish of encoder n, which has kept one copy
 abbrev pub finish : ℕ → Spot → Event
-finish n spot = event.Finish (ref n) (record { device = 1; commands = (on.Encoder, copy spot) ∷ [] })
+finish n spot = event.Finish (ref n) (record { device = 1; targets = None; commands = (on.Encoder, copy spot) ∷ [] })
 
 abbrev pub submit : ℕ → Event
 submit n = event.Submit (ref n ∷ [])

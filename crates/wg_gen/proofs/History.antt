@@ -374,7 +374,7 @@ create_calm past who calm = calm_same (entry_of who event.CreateEncoder (made pa
 -- ---- a finish
 
 -- a copy between two buffers meets its rules
-copy_met : (spot : Spot) → IsSpot spot → Verdict 1 ((on.Encoder, copy spot) ∷ []) ≡ None
+copy_met : (spot : Spot) → IsSpot spot → Verdict 1 None ((on.Encoder, copy spot) ∷ []) ≡ None
 copy_met spot good =
     let aligned = ap (λ (m : ℕ). m == 0 && m == 0 && 128 % 4 == 0) good.aligned in
     let fits = ap (λ (b : Bool). b && b) (spot_fits spot.offset 128 good.fits (omega arith)) in
@@ -395,21 +395,21 @@ no_scope : (b : Bool) → is_none (first_clash (if b then [] else [])) ≡ true
 no_scope true = refl
 no_scope false = refl
 
-encoder_met : (past : Past) (who n : ℕ) → Calm 8 past → Encodes past who n → first_unmet (encoder_rules device past (ref n)) ≡ None
+encoder_met : (past : Past) (who n : ℕ) → Calm 8 past → Encodes past who n → first_unmet (encoder_rules device past is_encoder (ref n)) ≡ None
 encoder_met past who n calm encoder =
     let own = own_known past n is_encoder info.Encoder encoder.info refl in
     let undropped = undropped_met 8 past n calm in
     let open_ = ap not encoder.open_ in
-    none_unmet (encoder_rules device past (ref n)) (own, (undropped, (encoder.valid, (open_, tt))))
+    none_unmet (encoder_rules device past is_encoder (ref n)) (own, (undropped, (encoder.valid, (open_, tt))))
 
 -- what the encoder has kept
 abbrev recorded : Spot → RecordingValue
-recorded spot = record { device = 1; commands = (on.Encoder, copy spot) ∷ [] }
+recorded spot = record { device = 1; targets = None; commands = (on.Encoder, copy spot) ∷ [] }
 
 recording_met : (past : Past) (n : ℕ) (spot : Spot) → Calm 8 past → IsSpot spot → first_unmet (recording_rules device past n (recorded spot)) ≡ None
 recording_met past n spot calm good =
     let genuine = ap₂ (λ (source target : Bool). not ((source || (target || false)) || false)) (unbarred past n spot.source calm good.source) (unbarred past n spot.target calm good.target) in
-    let compatible = no_scope (is_none (Verdict 1 (recorded spot).commands) && true) in
+    let compatible = no_scope (is_none (Verdict 1 None (recorded spot).commands) && true) in
     none_unmet (recording_rules device past n (recorded spot)) (refl, (refl, (genuine, (compatible, tt))))
 
 finish_met : (past : Past) (who n : ℕ) (spot : Spot) → Calm 8 past → IsSpot spot → Encodes past who n → first_rule device past (finish n spot) ≡ None

@@ -7,7 +7,7 @@ use Rattle.wg_types.specs.declared.handles.Info.TheVariants as info
 use Rattle.wg_types.specs.declared.replies.Reply.{Reply}
 use Rattle.wg_history.specs.declared.events.Event.TheVariants as event
 use Rattle.wg_history.specs.Entries.{Entry, Past}
-use Rattle.wg_history.specs.Objects.{is_making, count, maker, info_at, is_own, is_valid, is_made_valid, is_encoder, is_command_buffer}
+use Rattle.wg_history.specs.Objects.{is_making, count, maker, info_at, is_own, is_valid, is_made_valid, takes_commands, is_command_buffer}
 use Rattle.wg_history.specs.Rules.{has_finished, ends_encoder, is_consumed, consumes}
 use Rattle.wg_history.proofs.Makers.{maker_stays, info_stays, maker_new, made_more}
 use Rattle.wg_history.proofs.Unborn.{ended_new, consumed_new}
@@ -113,7 +113,7 @@ named_own past who n m kind its h =
     subst (λ k. MadeBy past who k) same its
 
 pub finish_own : (past : Past) (who n : ℕ) (spot : Spot) (reply : Reply) → Encodes past who n → IsOwn past (entry_of who (finish n spot) reply)
-finish_own past who n spot reply its = record { ends = λ m h. named_own past who n m is_encoder its.by h; submits = λ m h. absurd (true≢false (sym h)) }
+finish_own past who n spot reply its = record { ends = λ m h. named_own past who n m takes_commands its.by h; submits = λ m h. absurd (true≢false (sym h)) }
 
 pub submit_own : (past : Past) (who n : ℕ) (reply : Reply) → Submits past who n → IsOwn past (entry_of who (submit n) reply)
 submit_own past who n reply its = record { ends = λ m h. absurd (true≢false (sym h)); submits = λ m h. by_head m (or_cases (n == m && is_own device past is_command_buffer (ref n)) false h) }

@@ -9,12 +9,13 @@ use Rattle.wg_types.specs.Commands.{Command}
 use Rattle.wg_types.specs.declared.commands.On.TheVariants as on
 use Rattle.wg_types.specs.declared.commands.CommandOf.{CommandOf}
 use Rattle.wg_types.specs.declared.commands.CommandOf.TheVariants.{CopyBufferToBuffer}
+use Rattle.wg_types.specs.declared.handles.Info.{Info}
 use Rattle.wg_types.specs.declared.handles.Info.TheVariants as info
 use Rattle.wg_types.specs.declared.replies.Answer.{Answer}
 use Rattle.wg_types.specs.declared.replies.Answer.TheVariants.{Made}
 use Rattle.wg_types.specs.declared.replies.Reply.{Reply}
 use Rattle.wg_types.specs.declared.requests.RequestOf.TheVariants.{Finish, Submit, Complete}
-use Rattle.wg_encoder.specs.Recorders.{RecorderValue, after_take}
+use Rattle.wg_encoder.specs.Recorders.{RecorderValue, after_take, targets_left}
 use Rattle.wg_calls.specs.Calls.{opened_for, handle_of}
 use Rattle.wg_history.specs.declared.events.Event.{Event}
 use Rattle.wg_history.specs.declared.events.Event.TheVariants as event
@@ -25,7 +26,7 @@ use Rattle.wg_play.specs.declared.objects.Object.TheVariants as object
 use Rattle.wg_play.specs.declared.objects.Stand.{Stand}
 use Rattle.wg_play.specs.Objects.{handle_in, handle_at, unknown, changed, recorder_at, with_recorder, stand_at, is_late_by, is_late_on, recorded_by, recorded_on, taken_on}
 use Rattle.wg_play.specs.Sights.{Sight, handle_in_sight}
-use Rattle.wg_play.specs.Lanes.{Lane, kept, command_seen, stand_seen, noted_on, finish_by, with_handle, settled, settle, next_at, next_event, after_at, after_reply}
+use Rattle.wg_play.specs.Lanes.{Lane, kept, command_seen, stand_seen, noted_on, finish_by, finish_known, handle_known, with_handle, settled, settle, next_at, next_event, after_at, after_reply}
 use Rattle.wg_play.proofs.Slots.{with_tail, recorder_new, stand_encoder}
 use Rattle.wg_gen.specs.declared.draws.Spot.{Spot}
 use Rattle.wg_gen.specs.Generator.{iterations, buffer_info, eight, creation, destruction}
@@ -66,7 +67,7 @@ at_second (x ∷ before) one two = at_second before one two
 
 -- an encoder that has kept a copy
 abbrev kept_recorder : ℕ → Spot → RecorderValue
-kept_recorder n spot = record { device = 1; encoder = Some (ref n); commands = (on.Encoder, copy spot) ∷ []; takes = 0; passes = 0 }
+kept_recorder n spot = record { device = 1; targets = None; encoder = Some (ref n); commands = (on.Encoder, copy spot) ∷ []; takes = 0; passes = 0 }
 
 abbrev keeper : ℕ → Spot → Object
 keeper n spot = object.Made (encoder_handle n) (Some (kept_recorder n spot))
@@ -146,7 +147,7 @@ pub finish_next : (others : List Object) (first : ℕ) (before : List Object) (n
 finish_next others first before n spot spots sees is =
     let own : List Object = before ++ keeper n spot ∷ [] in
     let seen : HandleValue = handle_in_sight (sight_with others first own) (first + length before) in
-    let without : Event = event.Finish seen.reference (record { device = seen.reference.device; commands = [] }) in
+    let without : Event = event.Finish seen.reference (record { device = seen.reference.device; targets = None; commands = [] }) in
     ap (λ (lane : Lane). next_at lane) (open_settled others first before n spot spots sees is)
     ∙ ap (λ (place : ℕ). Some (finish_by (recorder_at own place) without)) (place_back first (length before))
     ∙ ap (λ (r : Option RecorderValue). Some (finish_by r without)) (recorder_new before (keeper n spot))
@@ -157,11 +158,14 @@ finish_after others first before n spot spots m reply sees is made =
     let slot : ℕ = first + length before in
     let own : List Object = before ++ keeper n spot ∷ [] in
     let left : List BoundCall = Ask (Submit ((slot + 1) ∷ [])) None ∷ iterations (slot + 2) spots in
-    let take : RecorderValue → RecorderValue = λ r. record r { commands = []; takes = after_take r.takes } in
+    let take : RecorderValue → RecorderValue = λ r. record r { targets = targets_left r.targets; commands = []; takes = after_take r.takes } in
+    let known : Option RecorderValue → Option Info = λ r. finish_known r (Some info.CommandBuffer) in
+    let after : ℕ → Option Info → Answer → Lane = λ place k a. lane_with left (with_handle (sight_with others first (taken_on own place)) (handle_known 1 k a)) in
     ap (λ (lane : Lane). after_at 1 lane reply) (open_settled others first before n spot spots sees is)
-    ∙ ap (λ (a : Answer). lane_with left (with_handle (sight_with others first (taken_on own (slot - first))) (handle_of 1 info.CommandBuffer a))) made
-    ∙ ap (λ (os : List Object). lane_with left (sight_with others first (os ++ command_buffer m ∷ [])))
-    (ap (λ (place : ℕ). taken_on own place) (place_back first (length before)) ∙ change_last before (keeper n spot) take)
+    ∙ ap (λ (place : ℕ). after place (known (recorder_at own place)) reply.answer) (place_back first (length before))
+    ∙ ap (λ (r : Option RecorderValue). after (length before) (known r) reply.answer) (recorder_new before (keeper n spot))
+    ∙ ap (λ (a : Answer). after (length before) (Some info.CommandBuffer) a) made
+    ∙ ap (λ (os : List Object). lane_with left (sight_with others first (os ++ command_buffer m ∷ []))) (change_last before (keeper n spot) take)
     ∙ ap (λ (os : List Object). lane_with left (sight_with others first os)) (append_assoc before (spent n ∷ []) (command_buffer m ∷ []))
 
 -- ---- with a command buffer

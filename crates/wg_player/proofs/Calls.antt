@@ -3,6 +3,7 @@ use Rattle.std.proofs.Common.{◌≡◌, ℕ, Bool, true, false, List, [], ◌�
 use Rattle.wg_types.specs.declared.commands.CommandOf.{CommandOf}
 use Rattle.wg_types.specs.Commands.{Command}
 use Rattle.wg_types.specs.Handles.{HandleValue}
+use Rattle.wg_types.specs.declared.handles.Info.{Info}
 use Rattle.wg_types.specs.declared.handles.ObjRef.{ObjRef}
 use Rattle.wg_types.specs.declared.replies.Reply.{Reply}
 use Rattle.wg_types.specs.declared.requests.RequestOf.{RequestOf}
@@ -14,12 +15,11 @@ use Rattle.wg_history.specs.Entries.{Entry}
 use Rattle.wg_turn.specs.Entries.{entry}
 use Rattle.wg_turn.specs.Passes.{own_of, number_of}
 use Rattle.wg_device.specs.Fronts.{Lock, DevicePass, IsAct}
-use Rattle.wg_calls.specs.Calls.{handle_made}
 use Rattle.wg_script.specs.declared.calls.CallOf.TheVariants.{Record, Ask}
 use Rattle.wg_play.specs.declared.objects.Stand.{Stand}
 use Rattle.wg_play.specs.Objects.{reference_at, is_late_on}
 use Rattle.wg_play.specs.Sights.{Sight}
-use Rattle.wg_play.specs.Lanes.{command_seen, stand_seen, noted_on, kept, request_seen, event_sent, taken_by, with_handle}
+use Rattle.wg_play.specs.Lanes.{command_seen, stand_seen, noted_on, kept, event_sent, info_sent, handle_known, taken_by, with_handle}
 use Rattle.wg_player.specs.Moves.{HasAsked, HasPlayed}
 
 -- ---- recording calls
@@ -74,9 +74,9 @@ kept_on serial sight after on command made stand found own stands commands keeps
 
 -- ---- calls of the device
 
-pub asked_as : (serial : ℕ) (lock : Lock) (old new : DevicePass) (sent : Event) (asked : RequestOf HandleValue) (handle : Option HandleValue) (reply : Reply)
-    → IsAct lock old new sent reply → handle ≡ handle_made serial asked reply.answer → HasAsked serial sent asked handle (own_of old) (own_of new)
-asked_as serial lock old new sent asked handle reply act is = record {
+pub asked_as : (serial : ℕ) (lock : Lock) (old new : DevicePass) (sent : Event) (known : Option Info) (handle : Option HandleValue) (reply : Reply)
+    → IsAct lock old new sent reply → handle ≡ handle_known serial known reply.answer → HasAsked serial sent known handle (own_of old) (own_of new)
+asked_as serial lock old new sent known handle reply act is = record {
   entry = entry (number_of old) sent reply;
   grown = act.own;
   event_is = refl;
@@ -85,7 +85,7 @@ asked_as serial lock old new sent asked handle reply act is = record {
 
 -- a call of the device, with what it made under a slot
 pub sent_made : (serial : ℕ) (sight taken after : Sight) (request : RequestOf ℕ) (slot : ℕ) (handle : Option HandleValue) (own own_after : List Entry)
-    → HasAsked serial (event_sent sight request) (request_seen sight request) handle own own_after → taken ≡ taken_by sight (Ask request None) → after ≡ with_handle taken handle
+    → HasAsked serial (event_sent sight request) (info_sent sight request) handle own own_after → taken ≡ taken_by sight (Ask request None) → after ≡ with_handle taken handle
     → HasPlayed serial sight after (Ask request (Some slot)) own own_after
 sent_made serial sight taken after request slot handle own own_after asked took is = inl (record {
   entry = asked.entry;
@@ -97,7 +97,7 @@ sent_made serial sight taken after request slot handle own own_after asked took 
 
 -- and with none
 pub sent_plain : (serial : ℕ) (sight after : Sight) (request : RequestOf ℕ) (handle : Option HandleValue) (own own_after : List Entry)
-    → HasAsked serial (event_sent sight request) (request_seen sight request) handle own own_after → after ≡ taken_by sight (Ask request None)
+    → HasAsked serial (event_sent sight request) (info_sent sight request) handle own own_after → after ≡ taken_by sight (Ask request None)
     → HasPlayed serial sight after (Ask request None) own own_after
 sent_plain serial sight after request handle own own_after asked took = inl (record {
   entry = asked.entry;

@@ -6,28 +6,27 @@ use Rattle.wg_history.specs.declared.events.Event.{Event}
 use Rattle.wg_turn.specs.Passes.{IsPassOf, IsSamePass, own_of}
 use Rattle.wg_device.specs.Fronts.{Lock, DevicePass, setup_of, front_in, IsSoundIn}
 use Rattle.wg_types.specs.Handles.{HandleValue}
-use Rattle.wg_types.specs.declared.requests.RequestOf.{RequestOf}
-use Rattle.wg_calls.specs.Calls.{handle_made}
+use Rattle.wg_types.specs.declared.handles.Info.{Info}
 use Rattle.wg_script.specs.CallOf.{BoundCall}
 use Rattle.wg_play.specs.declared.seen.Seen.{Seen}
 use Rattle.wg_play.specs.Sights.{Sight, sight_of}
-use Rattle.wg_play.specs.Lanes.{Lane, event_of, answered_by, kept, settle, next_event, after_reply}
+use Rattle.wg_play.specs.Lanes.{Lane, handle_known, event_of, answered_by, kept, settle, next_event, after_reply}
 
 -- the entries are the lane's events in order, and take it to another
 abbrev pub Goes : ℕ → Lane → List Entry → Lane → Type 0
 Goes serial w [] v = settle w ≡ settle v
 Goes serial w (e ∷ es) v = (next_event w ≡ Some e.event) × Goes serial (after_reply serial w e.reply) es v
 
--- A pass made one entry, of this event, and the handle is of what the device made, if it made something, for a call that asked so.
-pub record HasAsked (serial : ℕ) (event : Event) (asked : RequestOf HandleValue) (handle : Option HandleValue) (made made_after : List Entry) : Type 0 where
+-- A pass made one entry, of this event, and the handle is of what the device made, if it made something, of which so much is known.
+pub record HasAsked (serial : ℕ) (event : Event) (known : Option Info) (handle : Option HandleValue) (made made_after : List Entry) : Type 0 where
   pub entry : Entry
   pub grown : made_after ≡ made ++ entry ∷ []
   pub event_is : entry.event ≡ event
-  pub handle_is : handle ≡ handle_made serial asked entry.reply.answer
+  pub handle_is : handle ≡ handle_known serial known entry.reply.answer
 
 -- so it was with a pass of a device, between two moments
-abbrev pub HasAskedBy : Lock → Event → RequestOf HandleValue → Option HandleValue → DevicePass → DevicePass → Type 0
-HasAskedBy lock event asked handle old new = HasAsked (setup_of lock).serial event asked handle (own_of old) (own_of new)
+abbrev pub HasAskedBy : Lock → Event → Option Info → Option HandleValue → DevicePass → DevicePass → Type 0
+HasAskedBy lock event known handle old new = HasAsked (setup_of lock).serial event known handle (own_of old) (own_of new)
 
 -- a pass made one entry, that of a call
 pub record HasSent (serial : ℕ) (sight sight_after : Sight) (call : BoundCall) (made made_after : List Entry) : Type 0 where

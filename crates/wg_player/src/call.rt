@@ -1,10 +1,9 @@
 //! One call of a lane.
 ghost use Rattle.std.specs.Prelude.{◌≡◌, Some, None, IfOk, OnOk};
-ghost use Rattle.wg_types.specs.declared.handles.Info.TheVariants.{CommandBuffer};
 ghost use Rattle.wg_calls.specs.Calls.{event_asked, info_asked, taken_out};
 ghost use Rattle.wg_device.specs.Fronts.{CanCall, HasCalled};
 ghost use Rattle.wg_script.specs.declared.calls.CallOf.TheVariants.{Record, Ask};
-ghost use Rattle.wg_play.specs.Lanes.{event_sent, finish_by, request_seen, taken_by};
+ghost use Rattle.wg_play.specs.Lanes.{event_sent, info_sent, finish_by, finish_known, taken_by};
 ghost use Rattle.wg_play.specs.Objects.{changed, recorder_in, recorder_at, taken_on};
 ghost use Rattle.wg_play.specs.Sights.{SeesSame, sight_of};
 ghost use Rattle.wg_player.specs.Moves.{HasAskedBy, HasPlayedBy};
@@ -61,13 +60,13 @@ fn ask(
 ) -> Result<Option<Handle>, NoMemory>
     requires { CanCall device.now.lock pass.old }
     ensures called { HasCalled device.now.lock pass.old pass.new }
-    ensures done { IfOk result (λ handle. HasAskedBy device.now.lock (event_asked asked.now) asked.now handle pass.old pass.new) }
+    ensures done { IfOk result (λ handle. HasAskedBy device.now.lock (event_asked asked.now) (info_asked asked.now) handle pass.old pass.new) }
 {
     let (handle, _) = device.ask(rt, pass, asked)?;
     Ok(handle)
 }
 
-/// Ends the encoder of a recorder.
+/// Ends the encoder of a recorder, be it a bundle encoder.
 fn finish(
     rt: &impl Wait,
     device: &Device,
@@ -75,11 +74,10 @@ fn finish(
     recorder: &mut Recorder,
     asked: &RequestOf<Handle>,
 ) -> Result<Option<Handle>, NoMemory>
-    requires pass { CanCall device.now.lock pass.old }
-    requires asked { info_asked asked.now ≡ Some CommandBuffer }
+    requires { CanCall device.now.lock pass.old }
     ensures called { HasCalled device.now.lock pass.old pass.new }
     ensures done { IfOk result (λ handle. HasAskedBy device.now.lock
-        (finish_by (Some recorder.old) (event_asked asked.now)) asked.now handle pass.old pass.new) }
+        (finish_by (Some recorder.old) (event_asked asked.now)) (finish_known (Some recorder.old) (info_asked asked.now)) handle pass.old pass.new) }
     ensures taken { OnOk result (recorder.new ≡ taken_out recorder.old) }
 {
     if recorder.encoder().is_none() {
@@ -98,11 +96,10 @@ fn finish_in(
     object: &mut Object,
     asked: &RequestOf<Handle>,
 ) -> Result<Option<Handle>, NoMemory>
-    requires pass { CanCall device.now.lock pass.old }
-    requires asked { info_asked asked.now ≡ Some CommandBuffer }
+    requires { CanCall device.now.lock pass.old }
     ensures called { HasCalled device.now.lock pass.old pass.new }
     ensures done { IfOk result (λ handle. HasAskedBy device.now.lock
-        (finish_by (recorder_in object.old) (event_asked asked.now)) asked.now handle pass.old pass.new) }
+        (finish_by (recorder_in object.old) (event_asked asked.now)) (finish_known (recorder_in object.old) (info_asked asked.now)) handle pass.old pass.new) }
     ensures taken { OnOk result (object.new ≡ changed object.old taken_out) }
 {
     match object {
@@ -123,11 +120,10 @@ fn finish_on(
     place: u32,
     asked: &RequestOf<Handle>,
 ) -> Result<Option<Handle>, NoMemory>
-    requires pass { CanCall device.now.lock pass.old }
-    requires asked { info_asked asked.now ≡ Some CommandBuffer }
+    requires { CanCall device.now.lock pass.old }
     ensures called { HasCalled device.now.lock pass.old pass.new }
     ensures done { IfOk result (λ handle. HasAskedBy device.now.lock
-        (finish_by (recorder_at own.old.items place) (event_asked asked.now)) asked.now handle pass.old pass.new) }
+        (finish_by (recorder_at own.old.items place) (event_asked asked.now)) (finish_known (recorder_at own.old.items place) (info_asked asked.now)) handle pass.old pass.new) }
     ensures taken { OnOk result (own.new.items ≡ taken_on own.old.items place) }
 {
     let index = place as usize;
@@ -149,7 +145,7 @@ fn send_request(
     ensures called { HasCalled device.now.lock pass.old pass.new }
     ensures same { SeesSame seen.old seen.new }
     ensures done { IfOk result (λ handle. HasAskedBy device.now.lock
-        (event_sent (sight_of seen.old) request.now) (request_seen (sight_of seen.old) request.now) handle pass.old pass.new) }
+        (event_sent (sight_of seen.old) request.now) (info_sent (sight_of seen.old) request.now) handle pass.old pass.new) }
     ensures taken { OnOk result (sight_of seen.new ≡ taken_by (sight_of seen.old) (Ask request.now None)) }
 {
     let alloc = *seen.own.allocator();

@@ -343,7 +343,12 @@ fn verdict(rt: &impl Abort, alloc: Global, made: &Made, again: bool) -> Option<O
 type Told = (Option<Answer>, [Option<Option<u16>>; 2]);
 
 /// What the submit answers, and the verdicts without the second draw and with it.
-fn call<R: Wait + Abort>(rt: &R, alloc: Global, device: &Device, pass: &mut DevicePass) -> Option<Told>
+fn call<R: Wait + Abort>(
+    rt: &R,
+    alloc: Global,
+    device: &Device,
+    pass: &mut DevicePass,
+) -> Option<Told>
     requires { IsPassOf device.now.lock pass.old × (calls_of pass.old ≡ 0) }
     ensures pass { IsPassOf device.now.lock pass.new }
     ensures number { number_of pass.new ≡ number_of pass.old }
