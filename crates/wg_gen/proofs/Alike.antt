@@ -1,5 +1,5 @@
 -- The phases of a generated script one after another, and how much their history has.
-use Rattle.std.proofs.Common.{◌≡◌, ◌≤◌, ◌<◌, ℕ, zero, suc, ◌+◌, ◌*◌, Bool, true, false, ◌&&◌, Option, Some, None, List, [], ◌∷◌, ◌++◌, length, reverse, map, set, refl, sym, ap, subst, ◌∙◌, arith, append_assoc, append-nil, cond, if◌then◌else◌}
+use Rattle.std.proofs.Common.{◌≡◌, ◌≤◌, ◌<◌, ℕ, zero, suc, ◌+◌, ◌*◌, Bool, true, false, ◌&&◌, Option, Some, None, List, [], ◌∷◌, ◌++◌, length, reverse, map, refl, sym, ap, subst, ◌∙◌, arith, append_assoc, append-nil, cond, if◌then◌else◌}
 use Rattle.std.specs.Prelude.{is_none, option_and_then, option_map, count_by}
 use Rattle.std.proofs.lemmas.List.{reverse-append, reverse-reverse, length-reverse, length-append}
 use Rattle.std.proofs.lemmas.List.Sums.{sum_by_push, sum_by-cons}
@@ -12,24 +12,24 @@ use Rattle.wg_history.specs.Entries.{Entry, Past}
 use Rattle.wg_history.specs.Objects.{count}
 use Rattle.wg_history.specs.Operations.{is_queued, issued}
 use Rattle.wg_history.specs.Answers.{reply_to}
-use Rattle.wg_history.specs.Traces.{Trace, trace_after}
+use Rattle.wg_history.specs.Traces.{trace_after}
 use Rattle.wg_script.specs.CallOf.{BoundCall}
 use Rattle.wg_script.specs.declared.calls.CallOf.TheVariants.{Ask}
 use Rattle.wg_play.specs.declared.objects.Object.{Object}
-use Rattle.wg_play.specs.Lanes.{Lane, next_event, after_reply, settle, count_made, starts, starts_from, gathered}
+use Rattle.wg_play.specs.Lanes.{Lane, next_event, settle, count_made, starts, starts_from, gathered}
 use Rattle.wg_play.specs.Turns.{taken, phase_by}
-use Rattle.wg_play.specs.Play.{after_, phases_by, Play}
+use Rattle.wg_play.specs.Play.{after_, phases_by}
 use Rattle.wg_gen.specs.declared.draws.Spot.{Spot}
-use Rattle.wg_gen.specs.Generator.{spots, eight, creation, destruction, iterations, lane_of, lanes_from, ending, phases_of, generated}
+use Rattle.wg_gen.specs.Generator.{spots, eight, creation, iterations, lane_of, lanes_from, ending, phases_of}
 use Rattle.wg_gen.specs.Counts.{Counts, is_issue, is_fault, is_free, counts_in}
-use Rattle.wg_gen.specs.Alike.{MayGenerate, counts_for, CountsAlike}
+use Rattle.wg_gen.specs.Alike.{counts_for, CountsAlike}
 use Rattle.wg_gen.proofs.Facts.{device, create_buffer, destroy, made, plain, entry_of, Calm, Ended}
 use Rattle.wg_gen.proofs.Spots.{spots_are, spots_length}
-use Rattle.wg_gen.proofs.Stages.{between, lane_in, SeesBuffers, creations, destructions, buffers_below, creating, destroying}
+use Rattle.wg_gen.proofs.Stages.{between, SeesBuffers, destructions, buffers_below, creating, destroying}
 use Rattle.wg_gen.proofs.History.{calm_none, buffer_answer, buffer_calm}
 use Rattle.wg_gen.proofs.Ends.{complete_answer, complete_ended, destroy_answer, destroy_ended}
 use Rattle.wg_gen.proofs.Steps.{creating_none, creating_next, creating_after, buffers_at, buffers_length, destroying_none, destroying_next, destroying_after, complete_next, complete_after, creations_are, destructions_are}
-use Rattle.wg_gen.proofs.Going.{Way, turn, lane_number, all_through, phase_keeps, IsTurn, turn_is, IsAt, AllAt, Goes, goes_on, all_over}
+use Rattle.wg_gen.proofs.Going.{Way, turn, lane_number, all_through, phase_keeps, IsAt, AllAt, Goes, goes_on, all_over}
 
 -- ---- a phase of one lane
 
