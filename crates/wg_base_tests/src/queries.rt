@@ -1,9 +1,8 @@
-//! Query sets and their queries: how many a set has and what they take of memory, each rule of the queries
-//! of a pass and of a resolve unmet and just met, and numbers that no script has.
+//! Query sets: how many queries one has, and each rule of the queries of a pass and of a resolve, unmet and
+//! just met.
 use std::alloc::Global;
 use std::sync::Arc;
 use wg_copy::check;
-use wg_formats::bytes_of;
 use wg_limits::default_limits;
 use wg_queries::{Occlusion, check_create};
 use wg_types::NoMemory;
@@ -16,17 +15,6 @@ fn a_set_has_at_most_4096_queries(rt: HostRuntime) {
     for (count, rule) in [(0, None), (4096, None), (4097, Some(170))] {
         assert!(rt; check_create(&QueriesInfo { count }, &limits) == rule);
     }
-}
-
-/// What a set of so many queries takes of the budget.
-fn bytes(count: u32) -> Option<u64> {
-    bytes_of(&Info::Queries(QueriesInfo { count }))
-}
-
-#[test]
-fn a_query_takes_eight_bytes(rt: HostRuntime) {
-    let bytes = [bytes(0), bytes(1), bytes(4096), bytes(u32::MAX)];
-    assert!(rt; bytes == [Some(0), Some(8), Some(32768), Some(34_359_738_360)]);
 }
 
 type Rules = [Result<Option<u16>, NoMemory>; 8];
@@ -91,10 +79,9 @@ fn rule_between(
     })
 }
 
-/// The rule of a resolve of a set of so many queries to a buffer of so many bytes with these usages.
+/// The rule of a resolve of a set of three queries to a buffer of so many bytes with these usages.
 fn rule_of(
     alloc: Global,
-    set: u32,
     range: (u32, u32),
     (size, usage): (u64, u32),
     offset: u64,
@@ -104,7 +91,7 @@ fn rule_of(
         usage,
         mapped: false,
     });
-    let queries = object(alloc, 7, Info::Queries(QueriesInfo { count: set }))?;
+    let queries = object(alloc, 7, Info::Queries(QueriesInfo { count: 3 }))?;
     let buffer = object(alloc, 3, info)?;
     Ok(rule_between(queries, range, buffer, offset))
 }
@@ -122,17 +109,6 @@ fn resolves_have_their_rules(rt: HostRuntime) {
         ((0, 3), (280, 512), 255, Some(282)),
         ((0, 3), (279, 512), 256, Some(283)),
     ] {
-        assert!(rt; rule_of(rt.alloc(), 3, range, buffer, offset) == Ok(rule));
+        assert!(rt; rule_of(rt.alloc(), range, buffer, offset) == Ok(rule));
     }
-}
-
-/// The greatest multiple of 256 that has 64 bits.
-const GREATEST: u64 = u64::MAX - 255;
-
-#[test]
-fn results_past_every_number_fit_nothing(rt: HostRuntime) {
-    let whole = (u64::MAX, 512);
-    let just = rule_of(rt.alloc(), 32, (0, 31), whole, GREATEST);
-    let past = rule_of(rt.alloc(), 32, (0, 32), whole, GREATEST);
-    assert!(rt; (just, past) == (Ok(None), Ok(Some(283))));
 }

@@ -1,10 +1,8 @@
 -- The phases of a generated script one after another, and how much their history has.
-use Rattle.std.proofs.Common.{◌≡◌, ◌≤◌, ◌<◌, ℕ, zero, suc, ◌+◌, ◌*◌, ◌%◌, ◌/◌, ◌==◌, Bool, true, false, ◌&&◌, Option, Some, None, List, [], ◌∷◌, ◌++◌, length, reverse, map, set, refl, sym, ap, subst, ◌∙◌, arith, append_assoc, append-nil, cond, if◌then◌else◌}
-use Rattle.std.specs.Prelude.{All, is_none, option_and_then, option_map, count_by}
+use Rattle.std.proofs.Common.{◌≡◌, ◌≤◌, ◌<◌, ℕ, zero, suc, ◌+◌, ◌*◌, Bool, true, false, ◌&&◌, Option, Some, None, List, [], ◌∷◌, ◌++◌, length, reverse, map, refl, sym, ap, subst, ◌∙◌, arith, append_assoc, append-nil, cond, if◌then◌else◌}
+use Rattle.std.specs.Prelude.{is_none, option_and_then, option_map, count_by}
 use Rattle.std.proofs.lemmas.List.{reverse-append, reverse-reverse, length-reverse, length-append}
 use Rattle.std.proofs.lemmas.List.Sums.{sum_by_push, sum_by-cons}
-use Rattle.std.proofs.lemmas.Bool.{ne_eqb}
-use Rattle.std.proofs.lemmas.List.Elements.{All-nil, All-cons}
 use Rattle.wg_types.specs.declared.replies.Answer.TheVariants.{Made}
 use Rattle.wg_types.specs.declared.replies.Reply.{Reply}
 use Rattle.wg_types.specs.declared.requests.RequestOf.TheVariants.{Complete}
@@ -14,23 +12,24 @@ use Rattle.wg_history.specs.Entries.{Entry, Past}
 use Rattle.wg_history.specs.Objects.{count}
 use Rattle.wg_history.specs.Operations.{is_queued, issued}
 use Rattle.wg_history.specs.Answers.{reply_to}
-use Rattle.wg_history.specs.Traces.{Trace, trace_after}
+use Rattle.wg_history.specs.Traces.{trace_after}
 use Rattle.wg_script.specs.CallOf.{BoundCall}
 use Rattle.wg_script.specs.declared.calls.CallOf.TheVariants.{Ask}
 use Rattle.wg_play.specs.declared.objects.Object.{Object}
-use Rattle.wg_play.specs.Lanes.{Lane, next_event, after_reply, settle, count_made, starts, starts_from, gathered}
+use Rattle.wg_play.specs.Lanes.{Lane, next_event, settle, count_made, starts, starts_from, gathered}
 use Rattle.wg_play.specs.Turns.{taken, phase_by}
-use Rattle.wg_play.specs.Play.{after_, phases_by, Play}
+use Rattle.wg_play.specs.Play.{after_, phases_by}
 use Rattle.wg_gen.specs.declared.draws.Spot.{Spot}
-use Rattle.wg_gen.specs.Generator.{next, drawn, spot_by, spot_at, spots, eight, creation, destruction, iterations, lane_of, lanes_from, ending, phases_of, generated}
+use Rattle.wg_gen.specs.Generator.{spots, eight, creation, iterations, lane_of, lanes_from, ending, phases_of}
 use Rattle.wg_gen.specs.Counts.{Counts, is_issue, is_fault, is_free, counts_in}
-use Rattle.wg_gen.specs.Alike.{MayGenerate, counts_for, CountsAlike}
-use Rattle.wg_gen.proofs.Facts.{device, IsSpot, create_buffer, destroy, made, plain, entry_of, Calm, Ended}
-use Rattle.wg_gen.proofs.Stages.{between, lane_in, SeesBuffers, creations, destructions, buffers_below, creating, destroying}
+use Rattle.wg_gen.specs.Alike.{counts_for, CountsAlike}
+use Rattle.wg_gen.proofs.Facts.{device, create_buffer, destroy, made, plain, entry_of, Calm, Ended}
+use Rattle.wg_gen.proofs.Spots.{spots_are, spots_length}
+use Rattle.wg_gen.proofs.Stages.{between, SeesBuffers, destructions, buffers_below, creating, destroying}
 use Rattle.wg_gen.proofs.History.{calm_none, buffer_answer, buffer_calm}
 use Rattle.wg_gen.proofs.Ends.{complete_answer, complete_ended, destroy_answer, destroy_ended}
 use Rattle.wg_gen.proofs.Steps.{creating_none, creating_next, creating_after, buffers_at, buffers_length, destroying_none, destroying_next, destroying_after, complete_next, complete_after, creations_are, destructions_are}
-use Rattle.wg_gen.proofs.Going.{Way, turn, lane_number, all_through, phase_keeps, IsTurn, turn_is, IsAt, AllAt, Goes, goes_on, all_over}
+use Rattle.wg_gen.proofs.Going.{Way, turn, lane_number, all_through, phase_keeps, IsAt, AllAt, Goes, goes_on, all_over}
 
 -- ---- a phase of one lane
 
@@ -120,23 +119,6 @@ created s k zero is end = subst (λ (m : ℕ). Creates m 0 s) (omega (arith, is.
 created s k (suc n) is end = absurd (cc (sym (creating_next k n) ∙ one_through (creating k (suc n)) (sym (ap all_through is.lanes) ∙ end)))
 
 -- ---- the lanes begin
-
-spot_is : (first second third : ℕ) → IsSpot (spot_by first second third)
-spot_is first second third = record {
-  source = omega arith;
-  target = omega arith;
-  differ = ne_eqb (first % 8) ((first % 8 + 1 + second % 7) % 8) (λ same. absurd (omega (arith, same)));
-  aligned = omega arith;
-  fits = omega arith;
-}
-
-spots_are : (n state : ℕ) → All IsSpot (spots n state)
-spots_are zero state = All-nil IsSpot
-spots_are (suc n) state = All-cons IsSpot (spot_at state) (spots n (next (next (next state)))) (spot_is (drawn state) (drawn (next state)) (drawn (next (next state)))) (spots_are n (next (next (next state))))
-
-spots_length : (n state : ℕ) → length (spots n state) ≡ n
-spots_length zero state = refl
-spots_length (suc n) state = ap suc (spots_length n (next (next (next state))))
 
 -- each iteration makes two objects
 iterations_make : (slot : ℕ) (list : List Spot) → count_made (iterations slot list) ≡ 2 * length list

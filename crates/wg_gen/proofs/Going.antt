@@ -1,5 +1,5 @@
 -- The lanes of a generated script take turns: each is at a stage, and a turn of one leaves the others at theirs.
-use Rattle.std.proofs.Common.{◌≡◌, ◌≤◌, ◌<◌, ℕ, zero, suc, ◌+◌, ◌*◌, Bool, true, false, ◌&&◌, Option, Some, None, List, [], ◌∷◌, ◌++◌, length, set, refl, sym, ap, subst, ◌∙◌, arith, if◌then◌else◌}
+use Rattle.std.proofs.Common.{◌≡◌, ◌<◌, ℕ, zero, suc, ◌+◌, ◌*◌, Bool, true, false, ◌&&◌, Option, Some, None, List, [], ◌∷◌, ◌++◌, length, set, refl, sym, ap, subst, ◌∙◌, arith, if◌then◌else◌}
 use Rattle.std.specs.Prelude.{All, is_none, option_and_then}
 use Rattle.std.proofs.lemmas.List.Elements.{All-head, All-tail}
 use Rattle.wg_types.specs.declared.replies.Reply.{Reply}
@@ -10,7 +10,7 @@ use Rattle.wg_history.specs.Objects.{count}
 use Rattle.wg_history.specs.Operations.{issued}
 use Rattle.wg_history.specs.Answers.{reply_to}
 use Rattle.wg_play.specs.declared.objects.Object.{Object}
-use Rattle.wg_play.specs.Lanes.{Lane, next_event, after_reply}
+use Rattle.wg_play.specs.Lanes.{Lane, next_event}
 use Rattle.wg_play.specs.Turns.{Midway, lane_at, taken, turned, through, phase_by}
 use Rattle.wg_play.specs.Play.{after_}
 use Rattle.wg_gen.specs.declared.draws.Spot.{Spot}

@@ -21,7 +21,7 @@ use Rattle.wg_model.specs.Rules.{Rule, first_unmet, AreMet}
 use Rattle.wg_model.specs.Buffers.{copy_dst, has_usage, create_buffer_rules}
 use Rattle.wg_model.specs.Equality.{same_bool}
 use Rattle.wg_model.specs.Commands.{command_rules, no_buffer}
-use Rattle.wg_model.specs.Recorded.{buffers_of, textures_of, any_named}
+use Rattle.wg_model.specs.Recorded.{buffers_of, textures_of, query_sets_of, any_named}
 use Rattle.wg_model.specs.Scopes.{first_clash}
 use Rattle.wg_model.specs.Walk.{Verdict}
 use Rattle.wg_encoder.specs.Recorders.{RecordingValue}
@@ -445,7 +445,7 @@ submit_met past who n calm buffer =
     let undropped = undropped_met 8 past n calm in
     let fresh = ap (λ (b : Bool). not (b || false)) buffer.fresh in
     let free = ap not (unused buffers_of (is_busy device past) past (idle 8 past calm) (ref n ∷ [])) in
-    let whole = ap not (unused textures_of (is_destroyed device past) past calm.whole (ref n ∷ [])) in
+    let whole = ap₂ (λ (textures sets : Bool). not (textures || sets)) (unused textures_of (is_destroyed device past) past calm.whole (ref n ∷ [])) (unused query_sets_of (is_destroyed device past) past calm.whole (ref n ∷ [])) in
     none_unmet (submit_list device past (ref n ∷ [])) (own, (undropped, (buffer.valid, (fresh, (refl, (free, (whole, tt)))))))
 
 pub submit_answer : (past : Past) (who n : ℕ) → Calm 8 past → Submits past who n → reply_to device past (submit n) ≡ queued past

@@ -1,4 +1,5 @@
 pub mod Facts
+pub mod Spots
 pub mod Stages
 pub mod History
 pub mod Own
@@ -6,3 +7,4 @@ pub mod Ends
 pub mod Steps
 pub mod Going
 pub mod Alike
+pub mod Bound

@@ -1,20 +1,19 @@
 -- Where a lane of a generated script is on its way.
-use Rattle.std.proofs.Common.{◌≡◌, ◌≤◌, ◌<◌, ℕ, zero, suc, ◌+◌, true, Option, Some, None, List, [], ◌∷◌, ◌++◌, length}
+use Rattle.std.proofs.Common.{◌≡◌, ◌≤◌, ◌<◌, ℕ, zero, suc, ◌+◌, true, Some, None, List, [], ◌∷◌, ◌++◌, length}
 use Rattle.wg_types.specs.Handles.{HandleValue}
-use Rattle.wg_types.specs.declared.commands.On.TheVariants as on
 use Rattle.wg_types.specs.declared.commands.CommandOf.TheVariants.{CopyBufferToBuffer}
 use Rattle.wg_types.specs.declared.handles.Info.TheVariants as info
-use Rattle.wg_types.specs.declared.requests.RequestOf.TheVariants.{CreateEncoder, Finish, Submit, WriteBuffer}
+use Rattle.wg_types.specs.declared.requests.RequestOf.TheVariants.{CreateEncoder, Finish, Submit}
 use Rattle.wg_calls.specs.Calls.{opened_for}
 use Rattle.wg_script.specs.CallOf.{BoundCall}
 use Rattle.wg_script.specs.declared.calls.CallOf.TheVariants.{Record, Ask}
 use Rattle.wg_play.specs.declared.objects.Object.{Object}
 use Rattle.wg_play.specs.declared.objects.Object.TheVariants as object
-use Rattle.wg_play.specs.Objects.{handle_at, recorded_by, changed}
+use Rattle.wg_play.specs.Objects.{handle_at}
 use Rattle.wg_play.specs.Lanes.{Lane}
 use Rattle.wg_gen.specs.declared.draws.Spot.{Spot}
 use Rattle.wg_gen.specs.Generator.{iterations, creation, destruction}
-use Rattle.wg_gen.proofs.Facts.{ref, buffer_handle, copy}
+use Rattle.wg_gen.proofs.Facts.{ref, buffer_handle}
 
 -- ---- objects
 

@@ -1,5 +1,6 @@
 //! The calls of the generated script.
 ghost use Rattle.std.specs.Prelude.{◌≡◌, ◌+◌, ◌*◌, ◌^◌, ◌≤◌, ◌<◌, ◌++◌, ◌∷◌, [], IfOk, map};
+ghost use Rattle.wg_names.specs.Bound.{IsBound};
 ghost use Rattle.wg_gen.specs.Alike.{MayGenerate};
 ghost use Rattle.wg_gen.specs.Generator.{eight, creation, destruction, iteration, iterations, lane_of, lanes_from, ending, phases_of, spots, generated};
 
@@ -155,7 +156,8 @@ fn lanes(alloc: Global, count: u32, lanes: u32) -> Result<BoundPhase, NoMemory>
 /// those that names would have in reading order.
 pub fn script(alloc: Global, count: u32, lanes: u32) -> Result<Script, NoMemory>
     requires { MayGenerate count lanes }
-    ensures { IfOk result (λ script. script ≡ generated count lanes) }
+    ensures made { IfOk result (λ script. script ≡ generated count lanes) }
+    ensures bound { IfOk result (λ script. IsBound script.phases) }
 {
     let mut phases = Items::new(alloc);
     phases.push(one(alloc, creations(alloc)?)?)?;

@@ -114,7 +114,7 @@ clear_buffer_rules buffer offset size =
 abbrev pub query_bytes : ℕ
 query_bytes = 8
 
--- resolveQuerySet (WebGPU, "Query Set Resolution"): 280 the buffer has QUERY_RESOLVE; 281 the first query is one of the set, and
+-- resolveQuerySet (WebGPU, "resolveQuerySet"): 280 the buffer has QUERY_RESOLVE; 281 the first query is one of the set, and
 -- so are all; 282 the offset is a multiple of 256; 283 the results fit the buffer.
 abbrev pub resolve_set_rules : HandleValue → ℕ → ℕ → HandleValue → ℕ → List Rule
 resolve_set_rules queries first count buffer offset =

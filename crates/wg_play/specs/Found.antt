@@ -36,6 +36,7 @@ is_pass kinds.PipelineLayout = false
 is_pass kinds.Group = false
 is_pass kinds.Compute = false
 is_pass kinds.Render = false
+is_pass kinds.Queries = false
 is_pass kinds.Encoder = false
 is_pass kinds.CommandBuffer = false
 is_pass kinds.ComputePass = true

@@ -268,11 +268,7 @@ fn answers<R: Wait>(rt: &R, alloc: Global) -> Option<((Pair, Pair), Queued, Last
     let buffer = of_buffer(rt, &device, &mut pass);
     let queries = of_queries(rt, &device, &mut pass);
     let scope = of_scope(rt, &device, &mut pass);
-    Some((
-        (texture, pipelines),
-        (submitted, buffer),
-        (queries, scope),
-    ))
+    Some(((texture, pipelines), (submitted, buffer), (queries, scope)))
 }
 
 #[test]

@@ -10,12 +10,12 @@ use Rattle.wg_core.specs.Cores.{CoreValue}
 use Rattle.wg_turn.specs.declared.lock.close.Closed.{Closed}
 use Rattle.wg_turn.specs.Closings.{entries_of, passes_of, state_of}
 use Rattle.wg_script.specs.declared.draft.Script.{Script}
+use Rattle.wg_names.specs.Bound.{IsBound}
 use Rattle.wg_play.specs.Turns.{callers_of}
 use Rattle.wg_play.specs.Play.{setup_of, callers_for, Play}
 use Rattle.wg_player.specs.Whole.{IsPlayedOut}
 use Rattle.wg_gen.specs.Generator.{generated, phases_of}
-use Rattle.wg_gen.specs.Counts.{counts_in}
-use Rattle.wg_gen.specs.Alike.{MayGenerate, counts_for, CountsAlike}
+use Rattle.wg_gen.specs.Alike.{MayGenerate, CountsAlike}
 use Rattle.wg_top.specs.Words.{lanes_in}
 use Rattle.wg_top.specs.Line.{counted_text, line_of}
 use Rattle.wg_top.specs.Ending.{Taking, IsPlayedOn, IsCounted, TakesLine}
@@ -27,8 +27,8 @@ pub record WasPlayed (script : Script) (ended : Closed CoreValue) : Type 0 where
   pub callers : passes_of ended ≡ callers_for script.phases
   pub out : IsPlayedOut (setup_of script) script.phases (passes_of ended) (state_of ended) (entries_of ended)
 
-pub played_on : (script : Script) (ended : Closed CoreValue) → WasPlayed script ended → IsPlayedOn script ended
-played_on script ended was = record { setup = was.setup; callers = was.callers; out = was.out; played = is_played (setup_of script) (state_of ended) was.setup }
+pub played_on : (script : Script) (ended : Closed CoreValue) → WasPlayed script ended → IsBound script.phases → IsPlayedOn script ended
+played_on script ended was bound = record { setup = was.setup; callers = was.callers; out = was.out; through = was.out.through bound; played = is_played (setup_of script) (state_of ended) was.setup }
 
 -- the same line, said of the device's setup
 line_is : (lanes : Option ℕ) (setup : Setup) (core : CoreValue) (history : List Entry) (trace : List Item) → core.setup ≡ setup
@@ -50,10 +50,10 @@ module _ (count : ℕ) (lanes : Option ℕ) (taking : Taking) (script : Script) 
   was_generated : WasPlayed (generated count (lanes_in lanes)) ended
   was_generated = subst (λ (s : Script). WasPlayed s ended) same was
 
-  pub is_counted : MayGenerate count (lanes_in lanes) → CountsAlike → (history : List Entry) (trace : List Item) → history ≡ (state_of ended).history → trace ≡ Trace (state_of ended).setup (state_of ended).history
+  pub is_counted : IsBound script.phases → MayGenerate count (lanes_in lanes) → CountsAlike → (history : List Entry) (trace : List Item) → history ≡ (state_of ended).history → trace ≡ Trace (state_of ended).setup (state_of ended).history
       → Appends taking.old taking.new (counted_text lanes history trace) → IsCounted count lanes taking ended
-  is_counted may alike history trace printed traced written = record {
-    on = played_on (generated count (lanes_in lanes)) ended was_generated;
+  is_counted bound may alike history trace printed traced written = record {
+    on = played_on (generated count (lanes_in lanes)) ended was_generated (subst (λ (s : Script). IsBound s.phases) same bound);
     written = subst (λ (text : List ℕ). Appends taking.old taking.new text) (line_is lanes (setup_of (generated count (lanes_in lanes))) (state_of ended) history trace was_generated.setup printed traced) written;
     alone = played_alone count (lanes_in lanes) ended was_generated;
     alike = alike count (lanes_in lanes) may (callers_of (state_of ended).history) (state_of ended).history was_generated.out.play;
