@@ -15,7 +15,8 @@ use Rattle.wg_play.specs.Turns.{callers_of}
 use Rattle.wg_play.specs.Play.{setup_of, callers_for, Play}
 use Rattle.wg_player.specs.Whole.{IsPlayedOut}
 use Rattle.wg_gen.specs.Generator.{generated, phases_of}
-use Rattle.wg_gen.specs.Alike.{MayGenerate, CountsAlike}
+use Rattle.wg_gen.specs.Counts.{counts_in}
+use Rattle.wg_gen.specs.Alike.{MayGenerate, counts_for, CountsAlike}
 use Rattle.wg_top.specs.Words.{lanes_in}
 use Rattle.wg_top.specs.Line.{counted_text, line_of}
 use Rattle.wg_top.specs.Ending.{Taking, IsPlayedOn, IsCounted, TakesLine}
