@@ -48,12 +48,15 @@ def taken_before(beside, call):
 
 
 def rule_with(script, lane, kept):
-    """The rule that the finish which ends a lane has with the first commands of its encoder alone, among the calls that make objects and drop them.
+    """The rule that the finish which ends a lane has with the first commands of its encoder alone, among the calls that make objects, bundles with
+    what is recorded in them too, and drop them.
 
     What these commands leave open is closed."""
     own, makers = recorded(lane)[0], [n for n, call in enumerate(lane) if call["do"].startswith("create")]
     drops = [n for n, call in enumerate(lane) if call["do"] == "drop" and call["object"] in {lane[maker]["as"] for maker in makers}]
-    left = {*makers, *drops, *own[:kept], len(lane) - 1}
+    bundle_encoders = {lane[maker]["as"] for maker in makers if lane[maker]["do"] == "createBundleEncoder"} - {lane[-1].get("on")}
+    bundled = [n for n, call in enumerate(lane) if call.get("on") in bundle_encoders]
+    left = {*makers, *drops, *bundled, *own[:kept], len(lane) - 1}
     cut = [call for n, call in enumerate(lane) if n in left]
     _, begin, pushes, active = recorded(cut)
     for name in [cut[n]["as"] for n in begin] + [cut[-1]["on"]]:

@@ -178,7 +178,8 @@ def orders_of(path):
     return total
 
 
-RECORDING = re.compile(r"copy|clear|begin|set|dispatch|draw|end$|pushDebug|popDebug")
+RECORDING = re.compile(r"copy|clear|resolve|begin|set|dispatch|draw|execute|end$|endOcclusion|pushDebug|popDebug")
+PASSES, FINISHES = ("beginComputePass", "beginRenderPass"), ("finish", "finishBundle")
 
 
 def is_event(lane, number):
@@ -187,8 +188,8 @@ def is_event(lane, number):
     if not RECORDING.match(call["do"]):
         return True
     before = lane[:number]
-    encoder = next((one["on"] for one in before if one["do"].startswith("begin") and one["as"] == call["on"]), call["on"])
-    return any(one["do"] == "finish" and one["on"] == encoder or one["do"] == "end" and one["on"] == call["on"] for one in before)
+    encoder = next((one["on"] for one in before if one["do"] in PASSES and one["as"] == call["on"]), call["on"])
+    return any(one["do"] in FINISHES and one["on"] == encoder or one["do"] == "end" and one["on"] == call["on"] for one in before)
 
 
 def test_statuses(folder):
