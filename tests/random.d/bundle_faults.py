@@ -3,12 +3,17 @@ those of the bundles that a render pass executes. As in `pass_faults`, what they
 
 import copy
 
-from bundling import ASPECTS, create_call, executes, new_bundle, own_target
-from dispatching import named
+from bundling import ASPECTS, bundle_of, create_call, executes, new_bundle, own_target, parts_of
+from dispatching import named, new_layout
+from drawing import sampled_attachment
+from grouping import usable
 from pass_faults import GREATEST_32, WORK, first_or_any, places
 from resources import COLOR_FORMATS, DEPTH_FORMATS
 from targets import FOUR_COLORS, MOST_COLORS, Target
+from targets import parts_of as spot_parts
 
+# INDEX, VERTEX, UNIFORM and STORAGE.
+DRAWN_AND_BOUND = 16 | 32 | 64 | 128
 ONE_COLORS = [format for format in COLOR_FORMATS if format not in FOUR_COLORS]
 
 
@@ -151,4 +156,41 @@ def unset(world, encoder, on, calls):
         calls.insert(at, none if random.random() < 0.5 else executes(world, on, target, False))
 
 
-EXECUTE_FAULTS = [other_targets] * 4 + [not_read_only] * 3 + [invalid_bundle, unset, unset]
+def beside_the_pass(world, encoder, on, calls):
+    """A bundle that uses a buffer which the pass uses, or samples what it attaches, in the same role or in one that clashes."""
+    random, target = world.random, target_of(world, calls[0])
+    if target is None:
+        return
+    target.uses.update({part: "attachment" for part in attached_parts(world, calls[0])})
+    group = sampled_attachment(world, target, True) if random.random() < 0.4 else None
+    shared = {part[1] for part, _ in parts_of(world, calls[1:-1]) if part[0] == "b"}
+    buffers = [thing for thing in usable(world, world.buffers) if thing.name in shared and thing.call["usage"] & DRAWN_AND_BOUND == DRAWN_AND_BOUND]
+    if group is None and buffers:
+        thing = random.choice(buffers)
+        group = storage_of(world, thing) if random.random() < 0.5 and thing.call["size"] >= 16 else None
+        setting = random.choice([{"do": "setVertexBuffer", "slot": 7}, {"do": "setIndexBuffer", "format": "uint16", "offset": thing.call["size"] // 2 * 2}])
+        body = [setting | {"buffer": thing.name}]
+    if group is not None:
+        body = [{"do": "setBindGroup", "index": 3, "group": group.name}]
+    if group is not None or buffers:
+        insert(world, on, calls, [bundle_of(world, own_target(world, target), body)])
+
+
+def storage_of(world, buffer):
+    """A group that binds the first bytes of a buffer as storage, which is written or not."""
+    kind = {"kind": world.random.choice(["storage", "storage", "read-only-storage"]), "dynamic": False, "minSize": 0}
+    layout = new_layout(world, [{"binding": 0, "visibility": world.random.choice([0, 2])} | kind])
+    group = world.make("k", {"do": "createBindGroup", "layout": layout.name, "entries": [{"binding": 0, "buffer": buffer.name, "size": 16}]}, True)
+    group.bound, group.shape = [(layout.entries[0], [("b", buffer.name, 0, 16)])], layout.shape
+    world.groups.append(group)
+    return group
+
+
+def attached_parts(world, begin):
+    """The subresources of the views that a begin attaches, where their mip level and layer are known."""
+    views = [named(world.views, color["view"]) for color in begin["colors"] if color is not None]
+    found = [(view.of[0], view.of[1]["baseMip"], view.of[1].get("baseLayer", 0)) for view in views if hasattr(view, "of")]
+    return [part for spot in found for part in spot_parts(spot)]
+
+
+EXECUTE_FAULTS = [other_targets] * 4 + [not_read_only] * 3 + [invalid_bundle, unset, unset] + [beside_the_pass] * 4

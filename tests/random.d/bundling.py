@@ -128,17 +128,25 @@ def new_bundle(world, target, is_any=False, wanted=None, spoil=None):
     if random.random() < 0.01:
         world.drop(encoder)
     encoder.good = encoder.good and good
-    thing = finished(world, encoder, calls[-1])
-    thing.target = Target(target.begin, target.formats, target.depth, target.samples, target.read_only, {})
-    thing.parts = parts_of(world, body)
-    thing.names, thing.behind = names, {part[1] for part, _ in thing.parts}
-    return thing
+    return finished(world, encoder, target, body)
 
 
-def finished(world, encoder, finish):
+def bundle_of(world, target, body):
+    """A bundle of an encoder with some calls, each without what it is on."""
+    encoder = world.bundle_encoder(target.begin)
+    for call in body:
+        world.add(call | {"on": encoder.name})
+    return finished(world, encoder, target, body)
+
+
+def finished(world, encoder, target, body):
     """The finish of a bundle encoder, and at times calls on it after that, or a second finish."""
     random = world.random
     thing = world.finish_bundle(encoder)
+    thing.target = Target(target.begin, target.formats, target.depth, target.samples, target.read_only, {})
+    thing.parts = parts_of(world, body)
+    thing.names = {value for call in body for value in call.values() if isinstance(value, str)} - {encoder.name}
+    thing.behind = {part[1] for part, _ in thing.parts}
     if random.random() < 0.04:
         world.add(late_call(world) | {"on": encoder.name})
     if random.random() < 0.02:
