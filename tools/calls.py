@@ -108,11 +108,6 @@ def unbuilt(word):
     return CALLS.get(word, {}).get("unbuilt", {})
 
 
-def unbuilt_keys(word):
-    """The keys that a call is not built for yet: each as a list, of the key alone or of the key of a list and that of an object in it."""
-    return [path.split() for path in CALLS.get(word, {}).get("unbuilt keys", [])]
-
-
 def is_known(word):
     return word in CALLS or word in LATER
 

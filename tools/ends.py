@@ -1,6 +1,7 @@
 """How the tool may end: the exit statuses, and an end with a message."""
 
-SAME, DIFFERENT, WORDS, REFUSED, UNREAD, UNWRITTEN, NO_MEMORY, TOO_LARGE, NOT_BUILT, NO_ANSWER, TOO_MANY = range(11)
+# Those of the program, up to BAD_TRACE, with DIFFERENT in a place that it leaves free, and then those of the tool.
+SAME, DIFFERENT, WORDS, REFUSED, UNREAD, UNWRITTEN, NO_MEMORY, TOO_LARGE, DIFFERS, BAD_TRACE, TOO_MANY, NOT_BUILT, NO_ANSWER = range(13)
 
 # What the program's own statuses mean where it writes nothing.
 SILENT = {

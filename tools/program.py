@@ -13,6 +13,7 @@ import unproved
 NAMED = "WGSIM_PROGRAM"
 SHORTEST = building.SHORTEST
 OWN = {0, ends.WORDS, ends.REFUSED, ends.UNREAD, ends.UNWRITTEN, ends.NO_MEMORY, ends.TOO_LARGE}
+OF_CHECK = {0, ends.UNREAD, ends.UNWRITTEN, ends.NO_MEMORY, ends.TOO_LARGE, ends.DIFFERS, ends.BAD_TRACE}
 
 
 class Program:
@@ -62,16 +63,20 @@ class Program:
             self.answers[data] = self.run(data)
         return self.answers[data]
 
-    def run(self, data):
+    def check(self, data):
+        """The status of a check of a trace, and what it wrote."""
+        return self.run(data, "check", OF_CHECK)
+
+    def run(self, data, word="run", own=OWN):
         if not self.is_kept():
-            answer = unproved.first(data)
+            answer = unproved.first(data, word)
             if answer is not None:
                 return answer
         try:
-            ran = subprocess.run([self.path, "run"], input=data, capture_output=True)
+            ran = subprocess.run([self.path, word], input=data, capture_output=True)
         except OSError as error:
             raise ends.End(ends.NOT_BUILT, f"{self.path} cannot be run: {error.strerror}") from None
-        if ran.returncode not in OWN:
+        if ran.returncode not in own:
             said = ran.stderr.decode("utf-8", "replace")
             raise ends.End(ends.NO_ANSWER, f"{said}{self.said} had no answer: it ended with {ran.returncode}")
         return ran.returncode, ran.stdout

@@ -9,13 +9,16 @@ import re
 
 import calls
 import lacking
+import limits
 import rules
 import script as scripts
 from places import NotJson, escaped
 
 NAME = re.compile(r"[A-Za-z0-9_]{1,64}")
 PARTS = ("phase", "lane", "call")
-LIMITS = {"budget": "a whole number from 0 to 9007199254740991, in decimal digits alone", "phases": "a list of phases"}
+TOP = {"budget": "a whole number from 0 to 9007199254740991, in decimal digits alone", "phases": "a list of phases"}
+MAY_STAND = ("limits",)
+TOP_KEYS = "the keys budget and phases, with or without limits, and no other"
 
 
 class Refusal:
@@ -71,27 +74,41 @@ def reached(top, place):
 
 def at_top(refusal, text, top):
     if top.kind != "object":
-        return refusal.at(top.start, kind_of(top), "an object with exactly the keys budget and phases")
-    if refusal.rule == 13:
-        return not_built_at_top(refusal, top)
+        return refusal.at(top.start, kind_of(top), f"an object with {TOP_KEYS}")
+    if refusal.rule == 14:
+        return wrong_limits(refusal, text, top.member("limits"))
     if refusal.rule == 3:
         return refusal.at(top.member("phases").start, f"{len(top.member('phases').what)} phases", "at most 1024 phases")
-    for name, expected in LIMITS.items():
+    for name, expected in TOP.items():
         if top.member(name) is None:
             return refusal.at(top.start, f"no key {name}", f"the key {name}: {expected}")
     for key, _ in top.what:
-        if key.what not in LIMITS:
-            return refusal.at(key.start, f"the key {quoted(key.what)}", "exactly the keys budget and phases", near(key.what, LIMITS))
+        if key.what not in TOP and key.what not in MAY_STAND:
+            return refusal.at(key.start, f"the key {quoted(key.what)}", TOP_KEYS, near(key.what, [*TOP, *MAY_STAND]))
     budget, phases = top.member("budget"), top.member("phases")
     if not is_whole(budget, 53):
-        return refusal.at(budget.start, f"{text.of(budget)[:60]} under budget", LIMITS["budget"])
-    return refusal.at(phases.start, f"{kind_of(phases)} under phases", LIMITS["phases"])
+        return refusal.at(budget.start, f"{text.of(budget)[:60]} under budget", TOP["budget"])
+    return refusal.at(phases.start, f"{kind_of(phases)} under phases", TOP["phases"])
 
 
-def not_built_at_top(refusal, top):
-    if top.key("limits") is not None:
-        return refusal.at(top.key("limits").start, "the key limits", "no such key: it is not built yet")
-    return refusal.at(top.start, None, "nothing that is not built yet")
+def wrong_limits(refusal, text, asked):
+    """What is wrong with the limits that a script asks for: each name with the number that was asked for, the default and the best."""
+    if asked.kind != "object":
+        return refusal.by("`limits` that is no object").at(asked.start, f"{kind_of(asked)} under limits", "an object from names of limits to whole numbers")
+    for name in dict.fromkeys(key.what for key, _ in asked.what):
+        key, value, limit = asked.key(name), asked.member(name), limits.TABLE.get(name)
+        if limit is None:
+            refusal.by("A name of `limits` that the table of limits lacks")
+            return refusal.at(key.start, f"the name {quoted(name)}", "the name of a limit that a script can ask for: docs/script.md has them", near(name, limits.TABLE))
+        found = f"{shown(text.of(value))} for {name}, whose default is {limit.default} and whose best is {limit.best}"
+        if not is_whole(value, 53):
+            refusal.by("A limit that is no whole number in range")
+            return refusal.at(value.start, found, "a whole number from 0 to 9007199254740991, in decimal digits alone")
+        wrong = limit.wrong(int(value.what))
+        if wrong is not None:
+            refusal.by(wrong)
+            return refusal.at(value.start, found, limit.expected())
+    return refusal
 
 
 def at_phase(refusal, text, top):
@@ -140,21 +157,7 @@ def not_built(refusal, text, call, top):
         if value is not None and value.kind == "string" and value.what == word:
             refusal.by(f"The word `{word}` as the `{name}` of a pipeline, which is not built yet")
             return refusal.at(value.start, f"the word {quoted(word)} under {name}", f"{calls.keys_of(do.what)[name].expected()}: this word is not built yet", lacking.LACKING)
-    for path in calls.unbuilt_keys(do.what if do is not None else None):
-        for key in keys_at(call, path):
-            where = f"`{do.what}`" if len(path) == 1 else f"an object in the list `{path[0]}` of a `{do.what}`"
-            refusal.by(f"The key `{key.what}` of {where}, which is not built yet")
-            return refusal.at(key.start, f"the key {key.what}", "no such key: it is not built yet", lacking.LACKING)
     return refusal
-
-
-def keys_at(call, path):
-    """The keys of a call at a path: the key of that name, or those of that name of the objects in the list under the first."""
-    if len(path) == 1:
-        return [call.key(path[0])] if call.key(path[0]) else []
-    value = call.member(path[0])
-    items = value.what if value is not None and value.kind == "list" else []
-    return [item.key(path[1]) for item in items if item.kind == "object" and item.key(path[1])]
 
 
 def keys_of_call(refusal, text, call, top):

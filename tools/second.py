@@ -23,6 +23,7 @@ from model import (  # noqa: E402, F401
     formats,
     groups,
     history,
+    limits,
     maps,
     memory,
     passes,
@@ -46,14 +47,14 @@ class Played:
 
     def __init__(self, data, name):
         self.name = name
-        self.budget, self.phases, refusal = answers.read(data)
+        self.setup, self.phases, refusal = answers.read(data)
         self.refusal = refusal[1] if refusal else None
         if refusal and refusal[0] == answers.TOO_LARGE:
             raise ends.End(ends.TOO_LARGE, f"{name}: {ends.SILENT[ends.TOO_LARGE]}")
         self.places = {id(call): place for lanes in self.phases or [] for lane in lanes for place, call in lane}
 
     def begin(self):
-        return turns.Turns(self.budget, self.phases)
+        return turns.Turns(self.setup, self.phases)
 
     def place(self, played):
         """The phase, the lane and the number of a call that was played."""

@@ -28,6 +28,7 @@ usage: wgsim run [FILE]       plays a script and writes the program's report, by
                               with --json for a machine, with --report of a report that is there and not of a new play
        wgsim picture [--report REPORT] [FILE]
                               the trace as one HTML page: steps, barriers, clears and releases
+       wgsim check [TRACE]    whether the barriers of a report, or of a trace, are enough: agrees, differs or bad trace
        wgsim diff [--script FILE] A B
                               compares two reports, entry by entry and step by step; a script in the place of a
                               report is played first
@@ -46,14 +47,15 @@ exit status: 0 the report was written, the two reports are the same, the report 
              1 diff, verify, judge: it is not so; run --callers: the callers are no order of the script
              2 the words are not as above      3 the script is refused
              4 an input could not be read      5 the output could not be written
-             6 there was no memory             7 the script has more than 4,194,304 bytes
-             8 the program could not be built, or is not proved    9 the program, or an unproved run, had no answer
+             6 there was no memory             7 the script has more than 4,194,304 bytes, or the trace more than 67,108,864
+             8 check: the trace differs       9 check: the text is no trace
             10 outcomes: there are too many orders of turns
+            11 the program could not be built, or is not proved    12 the program, or an unproved run, had no answer
 
 docs/tool.md has an example of each command, docs/script.md the form of scripts, docs/report.md that of reports,
 and docs/rules.md every rule. examples/README.md says what each example shows.
 """
-MOST = {"run": 1, "gen": 2, "explain": 1, "picture": 1, "rules": 1, "diff": 2, "verify": 2, "outcomes": 1, "judge": 1, "script": 2, "words": 1, "prove": 0}
+MOST = {"run": 1, "check": 1, "gen": 2, "explain": 1, "picture": 1, "rules": 1, "diff": 2, "verify": 2, "outcomes": 1, "judge": 1, "script": 2, "words": 1, "prove": 0}
 LEAST = {
     "gen": (1, "a number of iterations"), "script": (1, "a number of iterations"), "diff": (2, "two files"), "verify": (2, "a script and a report"),
     "judge": (1, "a folder"), "words": (1, "words or a number"),
@@ -143,13 +145,13 @@ def callers_in(word):
     return [int(caller) for caller in callers]
 
 
-def opened(name):
+def opened(name, what="a script"):
     """An input as an open file of bytes."""
     if name == "-":
         if sys.stdin is None:
             raise ends.End(ends.UNREAD, "standard input is closed")
         if sys.stdin.isatty():
-            building.say("reading a script from the terminal; end it with control and D")
+            building.say(f"reading {what} from the terminal; end it with control and D")
         return sys.stdin.buffer
     try:
         if os.path.isdir(name):
@@ -176,6 +178,16 @@ def run(words):
     if not program.is_unproved:
         program.become(["run"], file)
     status, out = program.ask(file.read())
+    write(out)
+    return status
+
+
+def check(words):
+    file = opened(words.rest[0] if words.rest else "-", "a report or a trace")
+    program = Program(words.is_unproved)
+    if not program.is_unproved:
+        program.become(["check"], file)
+    status, out = program.check(file.read())
     write(out)
     return status
 
@@ -337,7 +349,7 @@ def write(data):
 
 
 COMMANDS = {
-    "run": run, "outcomes": outcomes, "verify": verified, "gen": generated, "script": script, "judge": judged, "explain": explained, "picture": picture,
+    "run": run, "check": check, "outcomes": outcomes, "verify": verified, "gen": generated, "script": script, "judge": judged, "explain": explained, "picture": picture,
     "diff": diff, "rules": show_rules, "words": bits_of, "prove": prove, "--version": version, "--help": show_help,
 }
 # The commands that ask no program, or not the proved one.

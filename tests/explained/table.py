@@ -48,10 +48,18 @@ def call(line):
     return f'{{"do":"{word}"' + "".join(f',"{name}":{value(held)}' for name, _, held in pairs) + "}"
 
 
-def script(budget, before, lines, after):
+def script(top, before, lines, after):
     """A script of one lane, with a call in each line from the second on."""
     calls = [call(line) for line in [*before, *lines, *after]]
-    return f'{{"budget":{budget},"phases":[[[\n' + ",\n".join(calls) + "]]]}"
+    return f'{{{top},"phases":[[[\n' + ",\n".join(calls) + "]]]}"
+
+
+def top_of(lines):
+    """The keys beside the phases of a script: its budget, and the limits that it asks for."""
+    budget = next((int(line.split()[1]) for line in lines if line.startswith("budget ")), 1000000)
+    asked = [pair.split("=") for line in lines if line.startswith("limits ") for pair in line.split()[1].split(",")]
+    pairs = ",".join(f'"{name}":{number}' for name, number in asked)
+    return f'"budget":{budget}' + (f',"limits":{{{pairs}}}' if asked else "")
 
 
 def blocks(text):
@@ -86,9 +94,8 @@ def cases_of(path):
             after = lines
         else:
             said = [line[2:] for line in lines if line.startswith("> ")]
-            budget = next((int(line.split()[1]) for line in lines if line.startswith("budget ")), 1000000)
-            own = [line for line in lines if not line.startswith(("> ", "budget "))]
-            text = "\n".join(map(repeated, own)) if head.startswith("script ") else script(budget, before, own, after)
+            own = [line for line in lines if not line.startswith(("> ", "budget ", "limits "))]
+            text = "\n".join(map(repeated, own)) if head.startswith("script ") else script(top_of(lines), before, own, after)
             yield Case(path.name, number, head, text, said)
 
 

@@ -1,5 +1,7 @@
 """What the program answers to the bytes of a script, and whether a report is one of those that the script can have."""
 
+from . import history
+from . import judge
 from . import names
 from . import report
 from . import script
@@ -9,23 +11,29 @@ DONE, BAD_SCRIPT, TOO_LARGE = 0, 3, 7
 
 
 def read(data):
-    """The budget and the phases of a script; and where it is refused, the status and the text that is written then, or None."""
+    """The setup of a script, which is its budget and its limits, and its phases; and where it is refused, the status and the text that is
+    written then, or None."""
     if len(data) > script.MOST_BYTES:
         return None, None, (TOO_LARGE, "")
     try:
-        budget, phases = script.read(data)
+        budget, limits, phases = script.read(data)
         names.bind(phases)
     except script.Refused as refused:
         return None, None, (BAD_SCRIPT, report.refusal(refused))
-    return budget, phases, None
+    return history.Setup(budget, limits), phases, None
 
 
 def answer(data, choose=turns.only_one):
     """The exit status, and the text that is written. Of several callers that may have a turn one is chosen; as a rule there is to be one."""
-    budget, phases, refusal = read(data)
+    setup, phases, refusal = read(data)
     if refusal is not None:
         return refusal
-    return DONE, report.report(turns.play_chosen(budget, phases, choose))
+    return DONE, report.report(turns.play_chosen(setup, phases, choose))
+
+
+def check(data):
+    """The exit status, and the text that is written, where a text is checked."""
+    return (TOO_LARGE, "") if len(data) > judge.MOST_BYTES else judge.check(data)
 
 
 def callers_of(found):
@@ -47,11 +55,11 @@ def callers_of(found):
 def differences(data, status, found):
     """What is wrong with a status and a report that were found, in a line, or None; and the status and the report that were to be found, in the
     order of turns of the one that was, as far as they are known."""
-    budget, phases, wanted = read(data)
+    setup, phases, wanted = read(data)
     if status != (DONE if wanted is None else wanted[0]):
         return f"its status is {status}, and is to be {DONE if wanted is None else wanted[0]}", wanted
     try:
-        wanted = wanted or (DONE, report.report(turns.play(budget, phases, callers_of(found))))
+        wanted = wanted or (DONE, report.report(turns.play(setup, phases, callers_of(found))))
     except turns.NotLegal as error:
         return f"its order is not legal: {error}", None
     if found == wanted[1].encode():

@@ -5,11 +5,13 @@ The colors of a pass are the dictionaries that the script has, with all of their
 
 from . import formats
 from . import textures
-from .cells import in_texture
+from .cells import do_meet, in_slices, in_texture
+from .limits import of_all as limits_of_all
 from .rules import at_most
 
-MOST_COLORS = 8
+MOST_COLORS = limits_of_all("maxColorAttachments")
 FLAT_DIMS = ("2d", "2d-array")
+COLOR_DIMS = ("2d", "2d-array", "3d")
 
 # How an attachment is accessed, by its load and its store.
 ACCESSES = {("load", "store"): "both", ("load", "discard"): "readdrop", ("clear", "store"): "write", ("clear", "discard"): "drop"}
@@ -41,7 +43,9 @@ def begin_rules(begin):
     yield at_most(300, "colors", len(begin.call["colors"]), MOST_COLORS)
     yield 301, "something is attached", colors != [] or depth != []
     for view in views:
-        yield from color_rules(302, "color", view)
+        yield from color_rules(302, "color", view, COLOR_DIMS)
+    for color, view, _ in colors:
+        yield from slice_rules(color["depthSlice"], view)
     for view in depth:
         yield from depth_rules(view)
         yield from load_rules(begin.call["depth"], texture_of(view)["format"])
@@ -52,16 +56,28 @@ def begin_rules(begin):
             yield from resolve_rules(view, resolve)
 
 
-def color_rules(number, which, view):
-    """Rule 302, which is asked of a resolve view by rule 307."""
+def color_rules(number, which, view, dims):
+    """Rule 302, which is asked of a resolve view by rule 307, of fewer dimensions."""
     yield number, f"RENDER_ATTACHMENT, {which}", texture_of(view)["usage"] & textures.RENDER_ATTACHMENT != 0
     yield number, f"format, {which}", formats.is_color(texture_of(view)["format"])
-    yield from flat_rules(number, which, view)
+    yield from flat_rules(number, which, view, dims)
 
 
-def flat_rules(number, which, view):
+def slice_rules(depth_slice, view):
+    """Rule 308: a slice is given of a 3d view and of no other, and the mip level has it."""
+    is_3d = textures.told(view)["dim"] == "3d"
+    yield 308, f"depthSlice, {'3d' if is_3d else '2d or 2d-array'}", (depth_slice is not None) == is_3d
+    if is_3d:
+        yield at_most(308, "depthSlice", depth_slice, depth_of_level(view) - 1)
+
+
+def depth_of_level(view):
+    return formats.extent(texture_of(view), textures.told(view)["baseMip"])[2]
+
+
+def flat_rules(number, which, view, dims):
     told = textures.told(view)
-    yield number, f"dimension {told['dim']}, {which}", told["dim"] in FLAT_DIMS
+    yield number, f"dimension {told['dim']}, {which}", told["dim"] in dims
     yield number, f"one mip, {which}", told["mips"] == 1
     yield number, f"one layer, {which}", told["layers"] == 1
 
@@ -72,7 +88,7 @@ def depth_rules(view):
     yield 303, "RENDER_ATTACHMENT", texture_of(view)["usage"] & textures.RENDER_ATTACHMENT != 0
     yield 303, "format", not formats.is_color(format)
     yield 303, "all aspects", formats.named_aspects(format, textures.told(view)["aspect"]) == formats.aspects_of(format)
-    yield from flat_rules(303, "depth", view)
+    yield from flat_rules(303, "depth", view, FLAT_DIMS)
 
 
 def load_rules(depth, format):
@@ -98,24 +114,24 @@ def alike_rules(views):
 
 
 def apart_rules(colors, depth):
-    """Rule 306: no subresource is attached twice."""
-    attached = [("color", view) for _, view, _ in colors]
-    attached += [("resolve view", resolve) for _, _, resolve in colors if resolve is not None]
-    attached += [("depth", view) for view in depth]
-    for number, (one, view) in enumerate(attached):
-        for other, second in attached[number + 1:]:
-            yield 306, f"{one} and {other}", not set(cells_of(view)) & set(cells_of(second))
+    """Rule 306: no cell is attached twice, be it a subresource or a slice. A resolve view attaches all cells that it has."""
+    attached = [("color" if color["depthSlice"] is None else "slice", cells_of(view, color["depthSlice"])) for color, view, _ in colors]
+    attached += [(f"resolve view {textures.told(resolve)['dim']}", cells_of(resolve)) for _, _, resolve in colors if resolve is not None]
+    attached += [("depth", cells_of(view)) for view in depth]
+    for number, (one, cells) in enumerate(attached):
+        for other, others in attached[number + 1:]:
+            yield 306, f"{one} and {other}", not any(do_meet(cell, found) for cell in cells for found in others)
 
 
-def cells_of(view):
-    """The subresources that a view has."""
-    return [cell for cell, _, _ in touches_of_view(view, None, None)]
+def cells_of(view, depth_slice=None):
+    """The cells that a view attaches: all that it has, or the one slice that is given."""
+    return [cell for cell, _, _ in touches_of_view(view, None, None, depth_slice)]
 
 
 def resolve_rules(view, resolve):
     """Rule 307, on the view of a color and its resolve view."""
     yield 307, "samples of the color", texture_of(view)["samples"] == 4
-    yield from color_rules(307, "resolve view", resolve)
+    yield from color_rules(307, "resolve view", resolve, FLAT_DIMS)
     yield 307, "samples", texture_of(resolve)["samples"] == 1
     yield 307, "same format", texture_of(resolve)["format"] == texture_of(view)["format"]
     for name, one, two in zip(("width", "height"), width_and_height(view), width_and_height(resolve)):
@@ -144,7 +160,7 @@ def touches(begin):
     """What a pass touches of what is attached to it."""
     found = []
     for color, view, resolve in colors_of(begin):
-        found += touches_of_view(view, "attachment", ACCESSES[color["load"], color["store"]])
+        found += touches_of_view(view, "attachment", ACCESSES[color["load"], color["store"]], color["depthSlice"])
         if resolve is not None:
             found += touches_of_view(resolve, "attachment", "write")
     for view in depth_of(begin):
@@ -162,5 +178,9 @@ def touches_of_depth(depth, view):
     return found
 
 
-def touches_of_view(view, usage, kind):
-    return in_texture(view.uses["texture"], textures.subresources_of_view(view), usage, kind)
+def touches_of_view(view, usage, kind, depth_slice=None):
+    """The subresources of a view, or of a 3d one the slice of its mip level that is given."""
+    texture, subresources = view.uses["texture"], textures.subresources_of_view(view)
+    if depth_slice is None:
+        return in_texture(texture, subresources, usage, kind)
+    return [touch for aspect, mip, _ in subresources for touch in in_slices(texture, aspect, mip, depth_slice, 1, usage, kind)]

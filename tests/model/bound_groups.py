@@ -6,20 +6,20 @@ from . import buffers
 from . import groups
 from . import textures
 from .cells import do_meet, in_buffer, in_texture
+from .limits import of_all as limits_of_all
 from .rules import at_most
 
-MOST_GROUPS = 4
-OFFSET_ALIGNMENT = 256
+MOST_GROUPS = limits_of_all("maxBindGroups")
 
 
 def set_rules(index, group, offsets):
     """The own rules of setBindGroup."""
     yield at_most(325, "index", index, MOST_GROUPS - 1)
-    count = len([entry for entry in layout_of(group) if entry.get("dynamic")])
-    yield 326, "no offset is missing", len(offsets) >= count
-    yield 326, "no offset too many", len(offsets) <= count
-    for offset in offsets:
-        yield 327, "offset", offset % OFFSET_ALIGNMENT == 0
+    dynamic = dynamic_of(group)
+    yield 326, "no offset is missing", len(offsets) >= len(dynamic)
+    yield 326, "no offset too many", len(offsets) <= len(dynamic)
+    for entry, offset in zip(dynamic, offsets):
+        yield 327, "offset", offset % groups.ALIGNMENTS[entry["kind"]] == 0
     for asked, entry, thing, move in bindings(group, offsets):
         if asked["kind"] in groups.BUFFER_KINDS:
             offset, size, word = groups.range_of(entry, thing)
@@ -33,12 +33,16 @@ def layout_of(group):
     return group.uses["layout"].call["entries"]
 
 
+def dynamic_of(group):
+    """The dynamic entries of the layout of a bind group, by ascending binding."""
+    return sorted((entry for entry in layout_of(group) if entry.get("dynamic")), key=lambda entry: entry["binding"])
+
+
 def bindings(group, offsets):
     """What a group binds that is set with some offsets: the entry of its layout, its own entry, the object, and by how much a range
     is moved. Offsets are dealt out to dynamic entries by ascending binding."""
     asked = {entry["binding"]: entry for entry in layout_of(group)}
-    dynamic = sorted(binding for binding, entry in asked.items() if entry.get("dynamic"))
-    moves = dict(zip(dynamic, offsets))
+    moves = dict(zip([entry["binding"] for entry in dynamic_of(group)], offsets))
     bound = zip(group.call["entries"], group.uses["entries"])
     return [(asked[entry["binding"]], entry, thing, moves.get(entry["binding"], 0)) for entry, thing in bound]
 

@@ -1,6 +1,7 @@
 """The rules of calls on buffers."""
 
-GREATEST_SIZE = 268_435_456
+from .rules import at_most
+
 MAP_READ, MAP_WRITE, COPY_SRC, COPY_DST = 1, 2, 4, 8
 ALL_USAGES = 1023
 
@@ -15,13 +16,13 @@ def rest(buffer, is_valid, offset):
     return max(buffer["size"] - offset, 0) if is_valid else 0
 
 
-def create_rules(call):
+def create_rules(call, limits):
     usage = call["usage"]
     yield 100, "some usage", usage != 0
     yield 100, "known usages", usage <= ALL_USAGES
     yield 101, "MAP_READ", not usage & MAP_READ or usage & ~(MAP_READ | COPY_DST) == 0
     yield 102, "MAP_WRITE", not usage & MAP_WRITE or usage & ~(MAP_WRITE | COPY_SRC) == 0
-    yield 103, "size", call["size"] <= GREATEST_SIZE
+    yield at_most(103, "size", call["size"], limits["maxBufferSize"])
     yield 104, "mapped size", not call["mapped"] or call["size"] % 4 == 0
 
 

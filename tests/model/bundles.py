@@ -2,9 +2,10 @@
 
 from . import attachments
 from . import formats
+from .limits import of_all as limits_of_all
 from .rules import at_most
 
-MOST_COLORS = 8
+MOST_COLORS = limits_of_all("maxColorAttachments")
 ASPECTS = ("depth", "stencil")
 
 

@@ -123,7 +123,7 @@ def depth_state_keys(item):
 
 
 def color_keys(item):
-    return [("view", VIEW, NEEDED), ("resolve", VIEW, None), ("load", LOAD, NEEDED), ("store", STORE, NEEDED)]
+    return [("view", VIEW, NEEDED), ("depthSlice", WORD32, None), ("resolve", VIEW, None), ("load", LOAD, NEEDED), ("store", STORE, NEEDED)]
 
 
 def depth_keys(item):

@@ -130,10 +130,9 @@ def subresources(texture, aspects, mip, origin, size):
 
 
 def covers_all(texture, mip, size):
-    """A copy covers all texels of each subresource that it is to: the whole width and height of the level, and the whole depth
-    of a 3D one."""
-    width, height, depth = formats.extent(texture, mip)
-    return size[:2] == [width, height] and (texture["dim"] != "3d" or size[2] == depth)
+    """A copy covers all texels of each cell that it is to: the whole width and height of the level."""
+    width, height, _ = formats.extent(texture, mip)
+    return size[:2] == [width, height]
 
 
 def has_no_texel(size):

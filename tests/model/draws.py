@@ -3,10 +3,11 @@
 from . import buffers
 from . import formats
 from .cells import in_buffer, set_in_buffer
+from .limits import of_all as limits_of_all
 from .rules import at_most
 
 VERTEX, INDEX, INDIRECT = 32, 16, 256
-SLOTS = 8
+SLOTS = limits_of_all("maxVertexBuffers")
 
 # The bytes of an index, by its format.
 INDEX_BYTES = {"uint16": 2, "uint32": 4}

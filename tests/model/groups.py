@@ -8,6 +8,7 @@ from . import buffers
 from . import formats
 from . import textures
 from .calls import bound_by
+from .limits import of_all as limits_of_all
 from .rules import at_most
 
 VERTEX, FRAGMENT, COMPUTE = 1, 2, 4
@@ -15,25 +16,37 @@ STAGES = {"vertex": VERTEX, "fragment": FRAGMENT, "compute": COMPUTE}
 ALL_STAGES = VERTEX | FRAGMENT | COMPUTE
 UNIFORM, STORAGE = 64, 128
 
-BINDINGS = 1000
-MOST_LAYOUTS = 4
-ALIGNMENT = 256
+MOST_LAYOUTS = limits_of_all("maxBindGroups")
 STORAGE_KINDS = ("storage", "read-only-storage")
 
-# What a stage may see: the kinds that are counted together, and how many there may be.
+# What a stage may see: the kinds that are counted together, and the limit that says how many there may be.
 SEEN_LIMITS = {
-    "textures": (("texture",), 16),
-    "samplers": (("sampler",), 16),
-    "storage buffers": (STORAGE_KINDS, 8),
-    "storage textures": (("storage-texture",), 4),
-    "uniform buffers": (("uniform",), 12),
+    "textures": (("texture",), "maxSampledTexturesPerShaderStage"),
+    "samplers": (("sampler",), "maxSamplersPerShaderStage"),
+    "storage buffers": (STORAGE_KINDS, "maxStorageBuffersPerShaderStage"),
+    "storage textures": (("storage-texture",), "maxStorageTexturesPerShaderStage"),
+    "uniform buffers": (("uniform",), "maxUniformBuffersPerShaderStage"),
 }
 
-# How many buffers may be dynamic, whatever stages see them.
-DYNAMIC_LIMITS = {"uniform buffers": (("uniform",), 8), "storage buffers": (STORAGE_KINDS, 4)}
+# The limits that say how many buffers may be dynamic, whatever stages see them.
+DYNAMIC_LIMITS = {
+    "uniform buffers": (("uniform",), "maxDynamicUniformBuffersPerPipelineLayout"),
+    "storage buffers": (STORAGE_KINDS, "maxDynamicStorageBuffersPerPipelineLayout"),
+}
 
-# Of each kind of buffer the usage that is asked for, and the greatest size that may be bound.
-BUFFER_KINDS = {"uniform": (UNIFORM, 65_536), "storage": (STORAGE, 134_217_728), "read-only-storage": (STORAGE, 134_217_728)}
+# Of each kind of buffer the usage that is asked for, and the limit that says how many bytes may be bound.
+BUFFER_KINDS = {
+    "uniform": (UNIFORM, "maxUniformBufferBindingSize"),
+    "storage": (STORAGE, "maxStorageBufferBindingSize"),
+    "read-only-storage": (STORAGE, "maxStorageBufferBindingSize"),
+}
+
+# Of each kind of buffer of what offsets have to be multiples, as what is bound begins.
+ALIGNMENTS = {
+    "uniform": limits_of_all("minUniformBufferOffsetAlignment"),
+    "storage": limits_of_all("minStorageBufferOffsetAlignment"),
+    "read-only-storage": limits_of_all("minStorageBufferOffsetAlignment"),
+}
 
 # What has to be bound for each kind.
 WANTED = {
@@ -45,12 +58,12 @@ WANTED = {
 ALSO_SAMPLED = {("float", "unfilterable-float"), ("depth", "unfilterable-float")}
 
 
-def layout_rules(entries):
+def layout_rules(entries, limits):
     """The rules of createBindGroupLayout."""
     bindings = [entry["binding"] for entry in entries]
     yield 130, "bindings", len(set(bindings)) == len(bindings)
     for binding in bindings:
-        yield at_most(131, "binding", binding, BINDINGS - 1)
+        yield at_most(131, "binding", binding, limits["maxBindingsPerBindGroup"] - 1)
     for entry in entries:
         yield at_most(132, "visibility", entry["visibility"], ALL_STAGES)
     for entry in entries:
@@ -64,8 +77,8 @@ def layout_rules(entries):
         if entry["kind"] == "storage-texture":
             yield 135, "dimension of a storage texture" if is_flat(entry) else entry["dim"], is_flat(entry)
             yield 135, f"{entry['access']} access", formats.has_access(entry["format"], entry["access"])
-    yield from seen_rules(136, entries)
-    yield from dynamic_rules(137, entries)
+    yield from seen_rules(136, entries, limits)
+    yield from dynamic_rules(137, entries, limits)
 
 
 def is_written(entry):
@@ -84,30 +97,30 @@ def is_flat(entry):
     return entry["dim"] not in ("cube", "cube-array")
 
 
-def seen_rules(number, entries):
+def seen_rules(number, entries, limits):
     """Rules 136 and 141: what each stage sees of each sort."""
     for stage, bit in STAGES.items():
-        for sort, (kinds, most) in SEEN_LIMITS.items():
+        for sort, (kinds, limit) in SEEN_LIMITS.items():
             count = sum(entry["kind"] in kinds and entry["visibility"] & bit != 0 for entry in entries)
-            yield at_most(number, f"{stage} {sort}", count, most)
+            yield at_most(number, f"{stage} {sort}", count, limits[limit])
 
 
-def dynamic_rules(number, entries):
+def dynamic_rules(number, entries, limits):
     """Rules 137 and 142: what is dynamic of each sort."""
-    for sort, (kinds, most) in DYNAMIC_LIMITS.items():
+    for sort, (kinds, limit) in DYNAMIC_LIMITS.items():
         count = sum(entry["kind"] in kinds and entry["dynamic"] for entry in entries)
-        yield at_most(number, f"dynamic {sort}", count, most)
+        yield at_most(number, f"dynamic {sort}", count, limits[limit])
 
 
-def pipeline_layout_rules(layouts):
+def pipeline_layout_rules(layouts, limits):
     """The rules of createPipelineLayout on the entries of its layouts, after those on each layout."""
     yield at_most(140, "layouts", len(layouts), MOST_LAYOUTS)
     entries = [entry for layout in layouts for entry in layout]
-    yield from seen_rules(141, entries)
-    yield from dynamic_rules(142, entries)
+    yield from seen_rules(141, entries, limits)
+    yield from dynamic_rules(142, entries, limits)
 
 
-def group_rules(layout, bound):
+def group_rules(layout, bound, limits):
     """The rules of createBindGroup on the entries of its layout, and on pairs of an entry and what it binds, after those on each
     object."""
     wanted = {entry["binding"]: entry for entry in layout}
@@ -119,7 +132,7 @@ def group_rules(layout, bound):
     for asked, entry, _ in together:
         yield 151, asked["kind"], bound_by(entry) == WANTED[asked["kind"]]
     in_buffers = [(asked, thing.call, *range_of(entry, thing)) for asked, entry, thing in together if asked["kind"] in BUFFER_KINDS]
-    yield from buffer_rules(in_buffers)
+    yield from buffer_rules(in_buffers, limits)
     yield from view_rules([(asked, thing) for asked, _, thing in together if asked["kind"] in ("texture", "storage-texture")])
     for asked, _, thing in together:
         if asked["kind"] == "sampler":
@@ -134,16 +147,16 @@ def range_of(entry, buffer):
     return entry["offset"], entry["size"], "size"
 
 
-def buffer_rules(in_buffers):
+def buffer_rules(in_buffers, limits):
     """Rules 152, 153 and 154, on what is asked, a buffer, an offset, a size, and a word for the size."""
     for asked, buffer, _, _, _ in in_buffers:
         yield 152, asked["kind"], buffer["usage"] & BUFFER_KINDS[asked["kind"]][0] != 0
-    for _, buffer, offset, size, word in in_buffers:
-        yield 153, "offset", offset % ALIGNMENT == 0
+    for asked, buffer, offset, size, word in in_buffers:
+        yield 153, "offset", offset % ALIGNMENTS[asked["kind"]] == 0
         yield 153, f"{word} is not 0", size != 0
         yield 153, "just the end of the range" if offset + size == buffer["size"] else "range", buffers.fits(buffer, offset, size)
     for asked, _, _, size, word in in_buffers:
-        yield at_most(154, f"{asked['kind']} {word}", size, BUFFER_KINDS[asked["kind"]][1])
+        yield at_most(154, f"{asked['kind']} {word}", size, limits[BUFFER_KINDS[asked["kind"]][1]])
         if asked["kind"] in STORAGE_KINDS:
             yield 154, f"{asked['kind']} {word}, a multiple of 4", size % 4 == 0
         if asked["minSize"] > 0:

@@ -100,9 +100,18 @@ def resources_in(thing):
     return [found for bound in thing.uses["entries"] for found in resources_in(bound)] if thing.do == "createBindGroup" else []
 
 
-class History:
-    def __init__(self, budget):
+class Setup:
+    """What a device is opened with: the bytes of its budget, and its limits by their names."""
+
+    def __init__(self, budget, limits):
         self.budget = budget
+        self.limits = limits
+
+
+class History:
+    def __init__(self, setup):
+        self.budget = setup.budget
+        self.limits = setup.limits
         self.objects = []
         self.names = {}
         self.with_entry = []

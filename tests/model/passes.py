@@ -10,9 +10,10 @@ from . import queries
 from .calls import BEGINS, DISPATCHES, DRAWS
 from .cells import part_of
 from .draws import INDIRECT_BYTES
+from .limits import of_all as limits_of_all
 from .rules import at_most, first_unmet
 
-MOST_COUNT = 65_535
+MOST_COUNT = limits_of_all("maxComputeWorkgroupsPerDimension")
 
 # The usages that agree with each other on one part; storage and attachment agree with themselves alone.
 READ_TOGETHER = {"input", "constant", "storage-read", "attachment-read"}

@@ -3,13 +3,11 @@
 from . import formats
 from .draws import attribute_end
 from .groups import COMPUTE, STAGES
+from .limits import of_all as limits_of_all
 from .rules import at_most
 
-MOST_VERTEX_BUFFERS = 8
-MOST_ATTRIBUTES = 16
-MOST_STRIDE = 2048
-LOCATIONS = 16
-MOST_TARGETS = 8
+MOST_VERTEX_BUFFERS = limits_of_all("maxVertexBuffers")
+MOST_TARGETS = limits_of_all("maxColorAttachments")
 
 
 def compute_rules(layouts, iface):
@@ -30,12 +28,12 @@ def used_rules(layouts, used, stage):
             yield 160, f"{key} of {used['kind']}", found[0][key] == used[key]
 
 
-def render_rules(layouts, call):
+def render_rules(layouts, call, limits):
     """The own rules of createRenderPipeline."""
     for used in call["iface"]:
         yield from used_rules(layouts, used, STAGES[used["stage"]])
-    yield from vertex_buffer_rules(call["buffers"])
-    yield from attribute_rules(call["buffers"])
+    yield from vertex_buffer_rules(call["buffers"], limits)
+    yield from attribute_rules(call["buffers"], limits)
     targets = [format for format in call["targets"] if format is not None]
     yield at_most(163, "targets", len(call["targets"]), MOST_TARGETS)
     for format in targets:
@@ -51,25 +49,25 @@ def render_rules(layouts, call):
             yield 166, "format", formats.may_have_four_samples(format)
 
 
-def vertex_buffer_rules(vertex_buffers):
+def vertex_buffer_rules(vertex_buffers, limits):
     """Rule 161."""
     yield at_most(161, "vertex buffers", len(vertex_buffers), MOST_VERTEX_BUFFERS)
-    yield at_most(161, "attributes", sum(len(one["attributes"]) for one in vertex_buffers), MOST_ATTRIBUTES)
+    yield at_most(161, "attributes", sum(len(one["attributes"]) for one in vertex_buffers), limits["maxVertexAttributes"])
     for one in vertex_buffers:
         yield 161, "a multiple of 4", one["stride"] % 4 == 0
-        yield at_most(161, "stride", one["stride"], MOST_STRIDE)
+        yield at_most(161, "stride", one["stride"], limits["maxVertexBufferArrayStride"])
 
 
-def attribute_rules(vertex_buffers):
+def attribute_rules(vertex_buffers, limits):
     """Rule 162."""
     locations = [attribute["location"] for one in vertex_buffers for attribute in one["attributes"]]
     for location in locations:
-        yield at_most(162, "location", location, LOCATIONS - 1)
+        yield at_most(162, "location", location, limits["maxVertexAttributes"] - 1)
     yield 162, "locations", len(set(locations)) == len(locations)
     for one in vertex_buffers:
         for attribute in one["attributes"]:
             where = "stride 0" if one["stride"] == 0 else "stride"
-            yield at_most(162, f"end, {where}", attribute_end(attribute), one["stride"] or MOST_STRIDE)
+            yield at_most(162, f"end, {where}", attribute_end(attribute), one["stride"] or limits["maxVertexBufferArrayStride"])
             step = 2 if formats.VERTEX_FORMATS[attribute["format"]] == 2 else 4
             yield 162, f"offset, a multiple of {step}", attribute["offset"] % step == 0
 

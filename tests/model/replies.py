@@ -103,9 +103,9 @@ def rules_of(history, played):
     if played.do in RECORDING:
         return iter([(LATE_RULE, "in time", False)])
     if played.do == "createBuffer":
-        return making_rules(history, call, buffers.create_rules(call))
+        return making_rules(history, call, buffers.create_rules(call, history.limits))
     if played.do == "createTexture":
-        return making_rules(history, call, textures.create_rules(call))
+        return making_rules(history, call, textures.create_rules(call, history.limits))
     if played.do == "createQuerySet":
         return making_rules(history, call, queries.create_rules(call))
     if played.do == "createView":
@@ -113,16 +113,16 @@ def rules_of(history, played):
         view = textures.view_of(call, texture.call, texture.is_valid)
         return of_object(history, "texture", texture, textures.view_rules(view, texture.call))
     if played.do == "createBindGroupLayout":
-        return groups.layout_rules(call["entries"])
+        return groups.layout_rules(call["entries"], history.limits)
     if played.do == "createPipelineLayout":
         layouts = [layout.call["entries"] for layout in uses["layouts"]]
-        return of_objects(history, [("layout", layout) for layout in uses["layouts"]], groups.pipeline_layout_rules(layouts))
+        return of_objects(history, [("layout", layout) for layout in uses["layouts"]], groups.pipeline_layout_rules(layouts, history.limits))
     if played.do == "createBindGroup":
         return bind_group_rules(history, call, uses)
     if played.do == "createComputePipeline":
         return of_object(history, "layout", uses["layout"], pipelines.compute_rules(layouts_of(uses["layout"]), call["iface"]))
     if played.do == "createRenderPipeline":
-        return of_object(history, "layout", uses["layout"], pipelines.render_rules(layouts_of(uses["layout"]), call))
+        return of_object(history, "layout", uses["layout"], pipelines.render_rules(layouts_of(uses["layout"]), call, history.limits))
     if played.do == "writeBuffer":
         return of_object(history, "target", uses["buffer"], write_buffer_rules(history, call, uses["buffer"]))
     if played.do == "writeTexture":
@@ -177,7 +177,7 @@ def bind_group_rules(history, call, uses):
     destroyed or mapped breaks none."""
     bound = list(zip(call["entries"], uses["entries"]))
     named = [("layout", uses["layout"])] + [(bound_by(entry), thing) for entry, thing in bound]
-    return of_objects(history, named, groups.group_rules(uses["layout"].call["entries"], bound))
+    return of_objects(history, named, groups.group_rules(uses["layout"].call["entries"], bound, history.limits))
 
 
 def write_buffer_rules(history, call, buffer):

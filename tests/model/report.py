@@ -62,6 +62,8 @@ def step_lines(number, step):
 
 def place_of(thing):
     """A part or cell as a row: what it is of, and its first and last place. A whole buffer or query set has no place."""
+    if thing[0] == "s":
+        return (thing[1], "s", *thing[2:4]), thing[4], thing[5]
     if thing[0] != "t":
         low, high = thing[2:] or (0, 0)
         return (thing[1], thing[0]), low, high
@@ -92,7 +94,7 @@ def part_text(place):
 
 def cell_text(place):
     (number, sort, *rest), low, high = place
-    if sort != "t":
+    if not rest:
         return f"{sort} {number} {low} {high}"
     aspect, mip = rest
-    return f"t {number} {ASPECTS[aspect]} {mip} {low} {high}"
+    return f"{sort} {number} {ASPECTS[aspect]} {mip} {low} {high}"

@@ -1,10 +1,11 @@
-"""The first reading of a script: rules 1 to 8 and 13.
+"""The first reading of a script: rules 1 to 8, 13 and 14.
 
-The first refusal that is found is the answer. At the top the rules are tested in the order 1, 13, 2, 3; then the script
+The first refusal that is found is the answer. At the top the rules are tested in the order 1, 2, 14, 3; then the script
 is gone through in order, of each phase and of each lane 4 is tested when it is come to, and of each call 5, 6, 13, 7 and 8.
 """
 
 from . import json_text
+from . import limits
 from .calls import CALLS, FLAG, KIND, NAME, NEEDED, THREE, UNBUILT, WHOLE, WITH_KIND, WORD32, WORDS32
 from .rules import note
 
@@ -34,20 +35,34 @@ def ask(rule, what, is_met, place=()):
 
 
 def read(data):
-    """The budget of a script, and its phases, each a list of lanes, and each lane a list of pairs of a place and a call whose left out keys
-    have their values."""
+    """The budget of a script, its limits, and its phases, each a list of lanes, and each lane a list of pairs of a place and a call whose left
+    out keys have their values."""
     top = read_json(data)
-    ask(13, "limits", not (type(top) is dict and "limits" in top))
     ask(2, "object", type(top) is dict)
-    ask(2, "two keys", set(top) == {"budget", "phases"})
+    ask(2, "needed keys", {"budget", "phases"} <= set(top))
+    ask(2, "no other key", set(top) <= {"budget", "limits", "phases"})
     ask(2, "budget", is_whole(top["budget"], GREATEST_WHOLE))
     ask(2, "list of phases", type(top["phases"]) is list)
+    asked = read_limits(top.get("limits", {}))
     ask(3, "phases", len(top["phases"]) <= MOST_PHASES)
     phases, calls = [], 0
     for number, phase in enumerate(top["phases"]):
         phases.append(read_phase(number, phase, calls))
         calls += sum(map(len, phases[-1]))
-    return top["budget"], phases
+    return top["budget"], asked, phases
+
+
+def read_limits(asked):
+    """Rule 14: the limits of the device that a script asks for are no better than the best. The answer is what they are then."""
+    ask(14, "object", type(asked) is dict)
+    for name, value in asked.items():
+        ask(14, "name of a limit", name in limits.DEFAULTS)
+        ask(14, f"whole number, {name}", is_whole(value, GREATEST_WHOLE))
+        if name in limits.ALIGNMENTS:
+            ask(14, f"power of two, {name}", limits.is_alignment(value))
+        best = limits.BEST[name]
+        ask(14, f"just the best {name}" if value == best else name, not limits.is_better(name, value, best))
+    return limits.given(asked)
 
 
 def read_json(data):
@@ -83,17 +98,10 @@ def read_call(place, call):
     ask(13, "call", do in CALLS, place)
     if do in ("createComputePipeline", "createRenderPipeline"):
         ask(13, "auto", call.get("layout") != "auto", place)
-    if do == "beginRenderPass":
-        ask(13, "depthSlice", not has_depth_slice(call.get("colors")), place)
     keys = CALLS[do]
     ask(7, "unknown key", set(call) <= {"do"} | {key for key, _, _ in keys}, place)
     ask(7, "missing key", all(key in call for key, _, default in keys if default is NEEDED), place)
     return {"do": do, **read_values(place, "", call, keys)}
-
-
-def has_depth_slice(colors):
-    """Some item of a list is an object with the key `depthSlice`."""
-    return type(colors) is list and any(type(item) is dict and "depthSlice" in item for item in colors)
 
 
 def read_values(place, where, value, keys):

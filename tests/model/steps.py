@@ -5,7 +5,7 @@ from . import formats
 from . import passes
 from . import queries
 from . import recording
-from .cells import in_buffer, in_texture, is_empty, part_of
+from .cells import in_buffer, in_slices, in_texture, is_empty, part_of
 from .maps import host_accesses
 
 # Usages in printed order.
@@ -111,13 +111,20 @@ def one_aspect(call, texture):
 
 def from_texture(texture, aspects, mip, origin, size):
     """What a copy is from is used as copy-src and read."""
-    return in_texture(texture, copies.subresources(texture.call, aspects, mip, origin, size), "copy-src", "read")
+    return in_copy(texture, aspects, mip, origin, size, "copy-src", "read")
+
+
+def in_copy(texture, aspects, mip, origin, size, usage, kind):
+    """The cells that a copy touches: of a 3D texture as many slices as its depth from its origin on, of another one its subresources."""
+    if texture.call["dim"] == "3d":
+        return [touch for aspect in aspects for touch in in_slices(texture, aspect, mip, origin[2], size[2], usage, kind)]
+    return in_texture(texture, copies.subresources(texture.call, aspects, mip, origin, size), usage, kind)
 
 
 def filled(texture, aspects, mip, origin, size):
     """What a copy is to is used as copy-dst and written; read too where the copy leaves some of it as it was."""
     kind = "write" if copies.covers_all(texture.call, mip, size) else "both"
-    return in_texture(texture, copies.subresources(texture.call, aspects, mip, origin, size), "copy-dst", kind)
+    return in_copy(texture, aspects, mip, origin, size, "copy-dst", kind)
 
 
 def to_texture(played, key, call):

@@ -1,22 +1,19 @@
 """The rules of createTexture and createView, and what a view is of which keys are left out."""
 
 from . import formats
+from .rules import at_most
 
 COPY_SRC, COPY_DST, TEXTURE_BINDING, STORAGE_BINDING, RENDER_ATTACHMENT = 1, 2, 4, 8, 16
 ALL_USAGES = 31
-GREATEST_1D = 8192
-GREATEST_2D = 8192
-GREATEST_3D = 2048
-MOST_LAYERS = 256
 
 
-def create_rules(call):
+def create_rules(call, limits):
     usage = call["usage"]
     yield 110, "some usage", usage != 0
     yield 110, "known usages", usage <= ALL_USAGES
     for name, length in zip(("width", "height", "depth"), call["size"]):
         yield 111, name, length >= 1
-    yield from limit_rules(call["dim"], *call["size"])
+    yield from limit_rules(call["dim"], *call["size"], limits)
     yield from mip_rules(call)
     yield 114, "samples", call["samples"] in (1, 4)
     if call["samples"] == 4:
@@ -28,20 +25,19 @@ def create_rules(call):
         yield 118, "storage access", formats.has_storage_access(call["format"])
 
 
-def limit_rules(dim, width, height, depth):
+def limit_rules(dim, width, height, depth, limits):
     """Rule 112: width, height, and depth or layers are within the limits of the dimension."""
     if dim == "1d":
-        yield 112, "1d width", width <= GREATEST_1D
+        yield at_most(112, "1d width", width, limits["maxTextureDimension1D"])
         yield 112, "1d height", height == 1
         yield 112, "1d depth", depth == 1
     elif dim == "2d":
-        yield 112, "2d width", width <= GREATEST_2D
-        yield 112, "2d height", height <= GREATEST_2D
-        yield 112, "2d layers", depth <= MOST_LAYERS
+        yield at_most(112, "2d width", width, limits["maxTextureDimension2D"])
+        yield at_most(112, "2d height", height, limits["maxTextureDimension2D"])
+        yield at_most(112, "2d layers", depth, limits["maxTextureArrayLayers"])
     else:
-        yield 112, "3d width", width <= GREATEST_3D
-        yield 112, "3d height", height <= GREATEST_3D
-        yield 112, "3d depth", depth <= GREATEST_3D
+        for name, length in (("width", width), ("height", height), ("depth", depth)):
+            yield at_most(112, f"3d {name}", length, limits["maxTextureDimension3D"])
 
 
 def mip_rules(call):

@@ -24,8 +24,8 @@ def trace_of(history):
 
 
 class Cells:
-    """A set of cells: of each buffer and query set the runs of bytes or queries that are in it, in order and with gaps between them,
-    and subresources."""
+    """A set of cells: of each buffer, query set and mip level of a 3D texture the runs of bytes, queries or slices that are in it, in order and
+    with gaps between them, and subresources."""
 
     def __init__(self):
         self.runs = collections.defaultdict(lambda: ([], []))
@@ -36,9 +36,10 @@ class Cells:
         if cell[0] == "t":
             self.subresources.add(cell)
             return
-        lows, highs = self.runs[cell[:2]]
-        first, last = bisect.bisect_left(highs, cell[2]), bisect.bisect_right(lows, cell[3])
-        low, high = min([cell[2], *lows[first:last][:1]]), max([cell[3], *highs[first:last][-1:]])
+        (*owner, begin, end) = cell
+        lows, highs = self.runs[tuple(owner)]
+        first, last = bisect.bisect_left(highs, begin), bisect.bisect_right(lows, end)
+        low, high = min([begin, *lows[first:last][:1]]), max([end, *highs[first:last][-1:]])
         lows[first:last], highs[first:last] = [low], [high]
 
     def remove(self, cell):
@@ -46,20 +47,22 @@ class Cells:
         if cell[0] == "t":
             self.subresources.discard(cell)
             return
-        lows, highs = self.runs[cell[:2]]
-        first, last = bisect.bisect_right(highs, cell[2]), bisect.bisect_left(lows, cell[3])
-        left = [(low, high) for low, high in ((min([cell[2], *lows[first:last]]), cell[2]), (cell[3], max([cell[3], *highs[first:last]]))) if low < high]
+        (*owner, begin, end) = cell
+        lows, highs = self.runs[tuple(owner)]
+        first, last = bisect.bisect_right(highs, begin), bisect.bisect_left(lows, end)
+        left = [(low, high) for low, high in ((min([begin, *lows[first:last]]), begin), (end, max([end, *highs[first:last]]))) if low < high]
         lows[first:last], highs[first:last] = [low for low, _ in left], [high for _, high in left]
 
     def outside(self, cell):
         """The pieces of a cell that are not in the set."""
         if cell[0] == "t":
             return [] if cell in self.subresources else [cell]
-        lows, highs = self.runs[cell[:2]]
-        first, last = bisect.bisect_right(highs, cell[2]), bisect.bisect_left(lows, cell[3])
-        ends = [cell[2], *highs[first:last]]
-        begins = [*lows[first:last], cell[3]]
-        return [(*cell[:2], low, high) for low, high in zip(ends, begins) if low < high]
+        (*owner, begin, end) = cell
+        lows, highs = self.runs[tuple(owner)]
+        first, last = bisect.bisect_right(highs, begin), bisect.bisect_left(lows, end)
+        ends = [begin, *highs[first:last]]
+        begins = [*lows[first:last], end]
+        return [(*owner, low, high) for low, high in zip(ends, begins) if low < high]
 
 
 class Trace:
@@ -95,7 +98,7 @@ def add_group(trace, group):
 
 def add_clear(trace, cells, at):
     """A clear uses its parts as `clear` and writes its cells; one of no cells is no step."""
-    runs = [(*part, low, high) for part, (lows, highs) in cells.runs.items() for low, high in zip(lows, highs)]
+    runs = [(*owner, low, high) for owner, (lows, highs) in cells.runs.items() for low, high in zip(lows, highs)]
     found = runs + list(cells.subresources)
     if found:
         add_step(trace, Step(at, "clear", [(cell, "clear", "write") for cell in found]))

@@ -57,8 +57,8 @@ def stretches_of(lane):
 class Turns:
     """A script that is being played, with the stretches of each lane of the phase in which it is."""
 
-    def __init__(self, budget, phases):
-        self.history = History(budget)
+    def __init__(self, setup, phases):
+        self.history = History(setup)
         self.phases = phases
         self.phase = -1
         self.lanes, self.rests = [], []
@@ -94,9 +94,9 @@ class Turns:
         self.leave()
 
 
-def play(budget, phases, callers):
+def play(setup, phases, callers):
     """The history of a script in an order. What is wrong with the order is told of its first entry that no order has there."""
-    turns = Turns(budget, phases)
+    turns = Turns(setup, phases)
     for number, caller in enumerate(callers):
         open_lanes = turns.open_lanes()
         if not open_lanes:
@@ -111,9 +111,9 @@ def play(budget, phases, callers):
     return turns.history
 
 
-def play_chosen(budget, phases, choose):
+def play_chosen(setup, phases, choose):
     """The history of a script in which each turn is of the caller that is chosen of those that have a further event."""
-    turns = Turns(budget, phases)
+    turns = Turns(setup, phases)
     while turns.open_lanes():
         turns.take(choose(turns.open_lanes()))
     return turns.history

@@ -3,6 +3,7 @@
 Keys with their usual value are sometimes left out of an entry; `told` does that, when the call is added to the script.
 """
 
+from limiting import of as limit
 from resources import COLOR_FORMATS, DEPTH_FORMATS, STORAGE_FORMATS, VIEW_DIMS
 
 GREATEST_32 = 2**32 - 1
@@ -14,16 +15,27 @@ BUFFER_KINDS = ["uniform", "storage", "read-only-storage"]
 KINDS = [*BUFFER_KINDS, "sampler", "texture", "storage-texture"]
 FLAT_DIMS = ["1d", "2d", "2d-array", "3d"]
 READ_WRITE_FORMATS = ["r32uint", "r32float"]
-MOST_SIZE = {"uniform": 65_536, "storage": 134_217_728, "read-only-storage": 134_217_728}
+SIZE_LIMITS = {"uniform": "maxUniformBufferBindingSize", "storage": "maxStorageBufferBindingSize", "read-only-storage": "maxStorageBufferBindingSize"}
 
-# The sorts of bindings that are counted together: their kinds, how many a stage may see, and how many may be dynamic.
+# The sorts of bindings that are counted together: their kinds, and the limits of how many a stage may see, and how many may be dynamic.
 COUNTED = {
-    "texture": (["texture"], 16, None),
-    "sampler": (["sampler"], 16, None),
-    "storage buffer": (["storage", "read-only-storage"], 8, 4),
-    "storage texture": (["storage-texture"], 4, None),
-    "uniform buffer": (["uniform"], 12, 8),
+    "texture": (["texture"], "maxSampledTexturesPerShaderStage", None),
+    "sampler": (["sampler"], "maxSamplersPerShaderStage", None),
+    "storage buffer": (["storage", "read-only-storage"], "maxStorageBuffersPerShaderStage", "maxDynamicStorageBuffersPerPipelineLayout"),
+    "storage texture": (["storage-texture"], "maxStorageTexturesPerShaderStage", None),
+    "uniform buffer": (["uniform"], "maxUniformBuffersPerShaderStage", "maxDynamicUniformBuffersPerPipelineLayout"),
 }
+
+
+def most_size(kind):
+    """How many bytes may be bound of a kind of buffer, or of one of a kind that may be of the default size."""
+    return min(limit(SIZE_LIMITS[kind]), limit("maxBufferSize"))
+
+
+def counted(sort):
+    """Of a sort of bindings its kinds, how many a stage may see, and how many may be dynamic, or None."""
+    kinds, seen, dynamic = COUNTED[sort]
+    return kinds, limit(seen), None if dynamic is None else limit(dynamic)
 
 USUAL = {"dynamic": False, "minSize": 0, "type": "filtering", "sample": "float", "dim": "2d", "multi": False, "access": "write-only", "offset": 0}
 
@@ -37,7 +49,7 @@ def some_kind(random, word=None):
     """A good kind of a binding, with all of its keys."""
     word = word or random.choice(KINDS)
     if word in BUFFER_KINDS:
-        least = random.choice([0, 0, 0, 0, 4, 16, 256, 257, MOST_SIZE[word], MOST_SIZE[word] - 4])
+        least = random.choice([0, 0, 0, 0, 4, 16, 256, 257, most_size(word), most_size(word) - 4])
         return {"kind": word, "dynamic": random.random() < 0.2, "minSize": least}
     if word == "sampler":
         return {"kind": word, "type": random.choice(SAMPLERS)}
@@ -65,7 +77,7 @@ def with_binding(random, kinds, first=0):
     """Entries of some kinds, each with a binding of its own, from a first one on, or at times at the limit."""
     bindings = list(range(first, first + len(kinds)))
     if random.random() < 0.1 and bindings:
-        bindings[-1] = 999
+        bindings[-1] = limit("maxBindingsPerBindGroup") - 1
     random.shuffle(bindings)
     return [{"binding": binding, "visibility": some_visibility(random, kind)} | kind for binding, kind in zip(bindings, kinds)]
 
@@ -108,7 +120,7 @@ def unseen_entries(random, sort, stage):
 def border_of_stage(random, more=0):
     """Entries of which a stage sees just as many as it may of one sort, or so many more."""
     sort, stage = random.choice(list(COUNTED)), random.choice([1, 2, 4])
-    entries = seen_entries(random, sort, stage, COUNTED[sort][1] + more) + unseen_entries(random, sort, stage)
+    entries = seen_entries(random, sort, stage, counted(sort)[1] + more) + unseen_entries(random, sort, stage)
     random.shuffle(entries)
     return entries
 
@@ -122,7 +134,7 @@ def border_of_dynamic(random, more=0):
     """Just as many dynamic buffers of one sort as there may be, or so many more, and others that are not dynamic."""
     sort = random.choice(["uniform buffer", "storage buffer"])
     others = [of_sort(random, sort) | {"dynamic": False} for _ in range(random.randint(0, 3))]
-    entries = dynamic_entries(random, sort, COUNTED[sort][2] + more) + with_binding(random, others, 30)
+    entries = dynamic_entries(random, sort, counted(sort)[2] + more) + with_binding(random, others, 30)
     random.shuffle(entries)
     return entries
 
@@ -153,7 +165,7 @@ def binding_twice(random, entries):
 
 
 def binding_past(random, entries):
-    entry_for(random, entries, None)["binding"] = random.choice([1000, 1000, 1001, GREATEST_32])
+    entry_for(random, entries, None)["binding"] = limit("maxBindingsPerBindGroup") + random.choice([0, 0, 1, 1000]) if random.random() < 0.8 else GREATEST_32
 
 
 def unknown_stage(random, entries):

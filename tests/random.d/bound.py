@@ -1,6 +1,7 @@
 """What the entries of a bind group bind: good objects for what a layout asks, at the border of a rule, and ones that leave one unmet."""
 
-from bindings import BUFFER_KINDS, GREATEST_32, MOST_SIZE, SAMPLERS, other_value, some_kind, told
+from bindings import BUFFER_KINDS, GREATEST_32, SAMPLERS, most_size, other_value, some_kind, told
+from limiting import of as limit
 from resources import COLOR_FORMATS, STORAGE_FORMATS
 
 ALIGNMENT = 256
@@ -61,7 +62,7 @@ def bind(world, asked, faults=()):
 
 def buffer_range(random, asked, faults):
     """The size of a buffer, and an offset and a size that is left out or not; as good as the faults let them be."""
-    kind, most = asked["kind"], MOST_SIZE[asked["kind"]]
+    kind, most = asked["kind"], most_size(asked["kind"])
     step = 1 if kind == "uniform" else 4
     least = -(-max(asked["minSize"], 1) // step) * step
     size = min(random.choice([least, least, least + step, 256, 256, most, most - step]) if least < most else most, most)
@@ -96,7 +97,7 @@ def bind_buffer(world, asked, faults):
     usage = random.choice([12, 28, 192 ^ bit | 12]) if "usage" in faults else random.choice([bit, bit | 12, bit | 12, 204])
     thing = found_buffer(world, bit, offset, size) if not faults else None
     if thing is None:
-        thing = world.buffer("invalid" not in faults, size=min(wanted, 2**28), usage=usage, mapped=random.random() < 0.05 and wanted % 4 == 0)
+        thing = world.buffer("invalid" not in faults, size=min(wanted, limit("maxBufferSize")), usage=usage, mapped=random.random() < 0.05 and wanted % 4 == 0)
     return {"buffer": thing.name, "offset": offset} | ({} if size is None else {"size": size}), thing
 
 

@@ -8,6 +8,7 @@ from bindings import is_written, told
 from bound import TEXTURE_BINDING
 from dispatching import INDIRECT, buffers_in, kit_layouts, moved, new_layout, offsets_for, pick, set_call, size_of, view_of
 from grouping import pipeline_layout_of, usable, used_by
+from limiting import of as limit
 from targets import ASPECTS_OF, signature
 
 INDEX, VERTEX = 16, 32
@@ -19,7 +20,7 @@ ATTRIBUTE_BYTES = {
     "uint8x2": 2, "uint8x4": 4, "unorm8x4": 4, "uint16x2": 4, "float16x2": 4, "float32": 4, "uint32": 4, "sint32": 4, "float16x4": 8,
     "float32x2": 8, "float32x3": 12, "float32x4": 16,
 }
-MOST_BUFFERS, MOST_ATTRIBUTES, MOST_STRIDE = 8, 16, 2048
+MOST_BUFFERS = limit("maxVertexBuffers")
 # As what colors are sampled that are not sampled as float, or have four samples.
 COLOR_SAMPLES = {"r32uint": "uint"}
 USUAL = {"step": "vertex", "iface": [], "buffers": [], "targets": [], "samples": 1, "depthWrite": False, "stencilWrite": False}
@@ -48,13 +49,14 @@ def some_attribute(random, room, location):
 def some_vertex_buffers(random):
     """The vertex buffers of a pipeline: strides of 0 and of the most too, and at times as many buffers or attributes as there may be."""
     count = random.choice([0, 0, 1, 1, 1, 2, 2, 3, MOST_BUFFERS])
-    locations = random.sample(range(16), 16)
-    room = MOST_ATTRIBUTES if random.random() < 0.1 else min(count * 3, MOST_ATTRIBUTES)
+    most_attributes, most_stride = limit("maxVertexAttributes"), limit("maxVertexBufferArrayStride")
+    locations = random.sample(range(most_attributes), most_attributes)
+    room = most_attributes if random.random() < 0.1 else min(count * 3, most_attributes)
     found = []
     for _ in range(count):
-        stride = random.choice([4, 4, 8, 8, 12, 16, 16, 20, 0, MOST_STRIDE if random.random() < 0.2 else 24])
-        most = min(room, len(locations), random.choice([0, 1, 1, 2, 2, 3, 16]))
-        space = stride or (MOST_STRIDE if random.random() < 0.15 else 16)
+        stride = random.choice([4, 4, 8, 8, 12, 16, 16, 20, 0, most_stride // 4 * 4 if random.random() < 0.2 else 24])
+        most = min(room, len(locations), random.choice([0, 1, 1, 2, 2, 3, most_attributes]))
+        space = stride or (most_stride if random.random() < 0.15 else 16)
         attributes = [some_attribute(random, space, locations.pop()) for _ in range(most)]
         room -= most
         found.append({"stride": stride, "step": random.choice(["vertex", "vertex", "instance"]), "attributes": attributes})

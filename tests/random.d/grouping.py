@@ -2,11 +2,12 @@
 need; with drops, destroys, writes, submits, error scopes and loss among them."""
 
 from bindings import (
-    COMPUTE, COUNTED, GREATEST_32, KINDS, SAMPLERS, border_of_dynamic, border_of_stage, dynamic_entries, of_sort, other_value, parts_of,
+    COMPUTE, COUNTED, GREATEST_32, KINDS, SAMPLERS, border_of_dynamic, border_of_stage, counted, dynamic_entries, of_sort, other_value, parts_of,
     seen_entries, some_entries, some_kind, spoil_entries, told, with_binding,
 )
 from bound import bound_entries, faults_for, sampler
 from commands import clear_buffer, copy_buffer, write_buffer
+from limiting import of as limit
 from world import World
 from worlds import complete, last_before_loss, maps, scope
 
@@ -78,7 +79,7 @@ def bad_layout(world):
 def shared_limit(random, more):
     """Lists of entries that together have just as many of one sort as there may be, or so many more."""
     sort, stage = random.choice(list(COUNTED)), random.choice([1, 2, 4])
-    kinds, most, dynamic = COUNTED[sort]
+    kinds, most, dynamic = counted(sort)
     if dynamic is not None and random.random() < 0.6:
         return parts_of(random, dynamic_entries(random, sort, dynamic + more))
     return parts_of(random, seen_entries(random, sort, stage, most + more))
@@ -87,7 +88,7 @@ def shared_limit(random, more):
 def twice_limit(random, more):
     """The entries of one layout that stands there twice; an odd one more in a second."""
     sort, stage = random.choice(list(COUNTED)), random.choice([1, 2, 4])
-    kinds, most, dynamic = COUNTED[sort]
+    kinds, most, dynamic = counted(sort)
     if dynamic is not None and random.random() < 0.6:
         return dynamic_entries(random, sort, dynamic // 2), dynamic_entries(random, sort, more)
     return seen_entries(random, sort, stage, most // 2), seen_entries(random, sort, stage, more)
@@ -97,8 +98,8 @@ def past_several(world):
     """Layouts that leave several rules unmet: what a stage sees, what is dynamic, and at times their number or one of them."""
     random = world.random
     sort = random.choice(["uniform buffer", "storage buffer"])
-    lists = parts_of(random, seen_entries(random, *random.choice([("texture", 1), ("sampler", 2), ("storage texture", 4)]), 17), 2)
-    lists += parts_of(random, dynamic_entries(random, sort, COUNTED[sort][2] + 1), 2)
+    lists = parts_of(random, seen_entries(random, *random.choice([("texture", 1), ("sampler", 2), ("storage texture", 4)]), limit("maxSampledTexturesPerShaderStage") + 1), 2)
+    lists += parts_of(random, dynamic_entries(random, sort, counted(sort)[2] + 1), 2)
     random.shuffle(lists)
     layouts = [layout_of(world, part, True) for part in lists]
     change = random.randrange(4)

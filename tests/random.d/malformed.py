@@ -1,6 +1,7 @@
 """Scripts that break a rule of scripts: good ones with one or two changes to calls, names, the top, or the text itself."""
 
 import grouping
+import limiting
 import passing
 import worlds
 from json_forms import Pairs, Raw, text_of
@@ -32,6 +33,7 @@ GOOD_NAMES = ["a" * 64, "_", "0", "9" * 64, "Z_z9", "do", "as"]
 
 def malformed(random):
     """The bytes of a script with one or two faults, the first of which is what the answer tells."""
+    asked = limiting.ask(random, 0.15)
     length, kind = random.choice([3, 12, 30]), random.choices(["bound", "passes", "renders", "queries", "bundles", "others"], [5, 3, 5, 3, 5, 4])[0]
     has_objects = kind in ("bound", "renders", "queries", "bundles")
     if kind in ("passes", "renders", "queries", "bundles"):
@@ -39,9 +41,9 @@ def malformed(random):
         calls = passing.passes(random, 1, *many)[1]
     else:
         calls = grouping.groups(random)[1][:length] if kind == "bound" else worlds.mixed(random, length)
-    top = {"budget": random.choice([0, 1, 1000000, WHOLE_LIMIT]), "phases": [[calls]]}
+    top = {"budget": random.choice([0, 1, 1000000, WHOLE_LIMIT]), "phases": [[calls]]} | ({} if asked is None else {"limits": asked})
     for _ in range(random.choice([1, 1, 1, 2, 2, 3])):
-        top = random.choices([of_call, of_names, of_top, same], [14, 5, 2, 1] if has_objects else [10, 6, 3, 1])[0](random, top, calls)
+        top = random.choices([of_call, of_names, of_top, of_limits, same], [14, 5, 2, 2, 1] if has_objects else [10, 6, 3, 3, 1])[0](random, top, calls)
     text = text_of(top, random)
     if random.random() < 0.15:
         text = of_text(random, text)
@@ -258,12 +260,12 @@ def automatic(random, call):
 
 
 def sliced(random, call):
-    """A begin of a render pass with a key that is not built yet, or with that in another place, and something else wrong or not; `queries` stands
+    """A begin of a render pass with a slice, good or not, or with its key in another place, and something else wrong or not; `queries` stands
     behind what else the begin has."""
     color, colors = {"view": "v", "load": "load", "store": "store"}, [None]
-    slice = {"depthSlice": random.choice([0, None, "x"])}
+    slice = {"depthSlice": random.choice([0, 1, WORD_LIMIT, WORD_LIMIT + 1, None, "x", -1, 1.5, True, [], Raw(random.choice(NUMBERS))])}
     places = [
-        {"colors": [color | slice]}, {"colors": [None, slice]}, {"colors": [5, [slice], slice]}, {"colors": [[slice]]}, {"colors": slice},
+        {"colors": [color | slice]}, {"colors": [color | slice]}, {"colors": [None, color, color | slice]}, {"colors": [None, slice]}, {"colors": [5, [slice], slice]}, {"colors": [[slice]]}, {"colors": slice},
         {"depth": {"view": "v"} | slice}, slice, {"colors": [color, color | {"queries": 0}]}, {"colors": [None] * 1024 + [slice]},
     ]
     places += [{"queries": value} for value in ("q", None, 0, [])]
@@ -407,7 +409,7 @@ def rename_inside(random, call, other):
 
 def of_top(random, top, calls):
     """The top, the phases or the lanes are not as they should be."""
-    top = dict(top) if isinstance(top, dict) else {"budget": 1, "phases": []}
+    top = dict(top.pairs) if isinstance(top, Pairs) else dict(top) if isinstance(top, dict) else {"budget": 1, "phases": []}
     change = random.randrange(10)
     if change == 0:
         top["budget"] = random.choice([*VALUES, Raw(random.choice(NUMBERS))])
@@ -428,6 +430,17 @@ def of_top(random, top, calls):
     elif change == 8:
         return {"phases": [[calls], [calls]]} if random.random() < 0.5 else {"phases": [1, 2], "x": 1}
     return top
+
+
+def of_limits(random, top, calls):
+    """The limits that are asked for are faulty, as a rule, at times beside what is wrong at the top or with the first phase."""
+    top = dict(top.pairs) if isinstance(top, Pairs) else dict(top) if isinstance(top, dict) else {"budget": 1, "phases": []}
+    top["limits"] = limiting.faulty(random) if random.random() < 0.85 else {name: limiting.good(random, name) for name in limiting.DEFAULTS}
+    more = random.choice([{}] * 8 + [{"budget": -1}, {"phases": 5}, {"phases": [[]] * 1025}, {"phases": [7]}, {"phases": [[[{"do": "present"}]]]}, {"x": 1}])
+    pairs = list((top | more).items())
+    if random.random() < 0.15:
+        pairs.insert(random.randint(0, len(pairs)), ("limits", random.choice([{}, None, limiting.faulty(random)])))
+    return Pairs(pairs)
 
 
 def of_text(random, text):

@@ -221,28 +221,29 @@ def outside(world, plan):
 
 
 def image_copy(world, encoder, good):
-    """A copy of a layer of a mip level of what was bound: to another layer, or from or to a buffer."""
+    """A copy of a layer of a mip level of what was bound, or of a slice or some slices: to another layer, or from or to a buffer."""
     random = world.random
     images = [thing for thing in usable(world, world.textures) if not thing.destroyed and thing.call["samples"] == 1]
     image = pick(world, [thing for thing in images if thing.call["usage"] & 3 == 3 and thing.call["format"] in COLOR_FORMATS])
     if image is None:
         return
     mip = random.randrange(image.call["mips"])
-    width, height, _ = extent(image.call, mip)
-    layers = image.call["size"][2] if image.call["dim"] == "2d" else 1
+    width, height, layers = extent(image.call, mip)
     at, other = random.randrange(layers), random.randrange(layers)
     size = [width, random.choice([height, height, 1]), 1]
-    if at != other:
+    if at != other and image.call["dim"] == "2d":
         call = {"do": "copyTextureToTexture", "on": encoder.name, "source": image.name, "target": image.name, "size": size}
         world.add(call | {"sourceMip": mip, "targetMip": mip, "sourceOrigin": [0, 0, at], "targetOrigin": [0, 0, other]})
         return
-    bytes_of = 256 * (size[1] - 1) + width * TEXELS[image.call["format"]]
+    if image.call["dim"] == "3d":
+        size[2] = random.choice([1, 1, layers - at])
+    bytes_of = 256 * (size[1] * size[2] - 1) + width * TEXELS[image.call["format"]]
     buffers = [thing for thing in usable(world, world.buffers) if not thing.destroyed and not thing.mapped]
     buffer = pick(world, [thing for thing in buffers if thing.call["usage"] & 12 == 12 and thing.call["size"] >= bytes_of])
     if buffer is not None:
         word = random.choice(["copyBufferToTexture", "copyTextureToBuffer"])
         spot = {"texture": image.name, "mip": mip, "origin": [0, 0, at], "size": size}
-        world.add({"do": word, "on": encoder.name, "buffer": buffer.name, "bytesPerRow": 256} | spot)
+        world.add({"do": word, "on": encoder.name, "buffer": buffer.name, "bytesPerRow": 256, "rowsPerImage": size[1]} | spot)
 
 
 def end_gone(random, plan):

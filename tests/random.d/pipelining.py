@@ -2,10 +2,11 @@
 
 from bindings import GREATEST_32, told
 from drawing import (
-    ATTRIBUTE_BYTES, MOST_ATTRIBUTES, MOST_BUFFERS, MOST_STRIDE, STAGES, add_render_pipeline, some_attribute, some_iface, some_vertex_buffers,
+    ATTRIBUTE_BYTES, MOST_BUFFERS, STAGES, add_render_pipeline, some_attribute, some_iface, some_vertex_buffers,
     without_usual,
 )
 from grouping import layout_of, not_offered, pipeline_layout_of, some_pipeline_layout, used_by
+from limiting import of as limit
 from resources import COLOR_FORMATS, DEPTH_FORMATS
 from targets import ASPECTS_OF, FOUR_COLORS, MOST_COLORS
 
@@ -53,13 +54,13 @@ def border(random, buffers):
     if kind == 0:
         buffers += [{"stride": 0, "step": "instance", "attributes": []} for _ in range(MOST_BUFFERS - len(buffers))]
     elif kind == 1:
-        fill(random, buffers, MOST_ATTRIBUTES)
+        fill(random, buffers, limit("maxVertexAttributes"))
     elif kind == 2 and buffers:
-        random.choice(buffers)["stride"] = MOST_STRIDE
+        random.choice(buffers)["stride"] = limit("maxVertexBufferArrayStride") // 4 * 4
     elif kind == 3:
-        free = [location for location in range(16) if location not in locations_in(buffers)]
+        free = [location for location in range(limit("maxVertexAttributes")) if location not in locations_in(buffers)]
         if len(buffers) < MOST_BUFFERS and free:
-            buffers.append({"stride": 0, "step": "vertex", "attributes": [some_attribute(random, MOST_STRIDE, free[-1])]})
+            buffers.append({"stride": 0, "step": "vertex", "attributes": [some_attribute(random, limit("maxVertexBufferArrayStride"), free[-1])]})
 
 
 def locations_in(buffers):
@@ -73,7 +74,7 @@ def fill(random, buffers, count):
     free = [location for location in range(count) if location not in locations_in(buffers)]
     for location in free[:count - len(locations_in(buffers))]:
         one = random.choice(buffers)
-        one["attributes"].append(some_attribute(random, one["stride"] or MOST_STRIDE, location))
+        one["attributes"].append(some_attribute(random, one["stride"] or limit("maxVertexBufferArrayStride"), location))
 
 
 def some_with_attribute(random, buffers):
@@ -103,17 +104,18 @@ def too_many_buffers(random, call, layout):
 
 
 def too_many_attributes(random, call, layout):
-    fill(random, call["buffers"], MOST_ATTRIBUTES + random.choice([1, 1, 3]))
+    fill(random, call["buffers"], limit("maxVertexAttributes") + random.choice([1, 1, 3]))
 
 
 def wrong_stride(random, call, layout):
     one, _ = some_with_attribute(random, call["buffers"])
-    past = [MOST_STRIDE + 4, MOST_STRIDE + 4, MOST_STRIDE + 1, GREATEST_32 - 3, GREATEST_32]
+    most = limit("maxVertexBufferArrayStride")
+    past = [most // 4 * 4 + 4, most // 4 * 4 + 4, most + 1, GREATEST_32 - 3, GREATEST_32]
     one["stride"] = random.choice([one["stride"] + 1, one["stride"] + 2, *past])
 
 
 def wrong_location(random, call, layout):
-    some_with_attribute(random, call["buffers"])[1]["location"] = random.choice([16, 16, 17, GREATEST_32])
+    some_with_attribute(random, call["buffers"])[1]["location"] = random.choice([limit("maxVertexAttributes")] * 2 + [limit("maxVertexAttributes") + 1, GREATEST_32])
 
 
 def location_twice(random, call, layout):
@@ -127,7 +129,7 @@ def past_stride(random, call, layout):
     one, attribute = some_with_attribute(random, call["buffers"])
     if random.random() < 0.3:
         one["stride"] = 0
-    room = one["stride"] or MOST_STRIDE
+    room = one["stride"] or limit("maxVertexBufferArrayStride")
     step = 2 if ATTRIBUTE_BYTES[attribute["format"]] == 2 else 4
     first = (room - ATTRIBUTE_BYTES[attribute["format"]]) // step * step + step
     attribute["offset"] = random.choice([first, first, first, room, GREATEST_32 - 3, GREATEST_32])

@@ -26,8 +26,120 @@ def change_begin(change):
         if attached(calls[0]):
             begin = copy.deepcopy(calls[0])
             change(world, begin)
+            if world.random.random() < 0.85:
+                mend_slices(world, begin)
             calls[0] = begin
     return fault
+
+
+def mend_slices(world, begin):
+    """Slices are given where another view is attached that is 3d, and are not given where it is not; so that the fault is what was wanted."""
+    for color in begin["colors"]:
+        if color is not None and not color.pop("isMeant", False):
+            if dim_at(world, color["view"]) != "3d":
+                color.pop("depthSlice", None)
+            elif "depthSlice" not in color:
+                color["depthSlice"] = 0
+
+
+def dim_at(world, name):
+    """The dimension of the texture of a view."""
+    view = named(world.views, name)
+    return view.texture.call["dim"] if hasattr(view, "texture") else "2d"
+
+
+def change_slices(change):
+    """A fault of the slices of a begin, of which some are given wrongly and stay so."""
+    @change_begin
+    def fault(world, begin):
+        colors = [color for color in begin["colors"] if color is not None]
+        if colors:
+            changed = change(world, begin, colors)
+            if changed is not None:
+                changed["isMeant"] = True
+        for color in colors:
+            if world.random.random() < 0.1:
+                color["isMeant"] = True
+    return without_marks(fault)
+
+
+def without_marks(fault):
+    """A fault that leaves no mark of its own in the begin."""
+    def unmarked(world, encoder, on, calls):
+        fault(world, encoder, on, calls)
+        for color in calls[0].get("colors", []):
+            if color is not None:
+                color.pop("isMeant", None)
+    return unmarked
+
+
+def with_volume(world, begin, colors):
+    """A color of the begin that is a slice; where there is none one is attached beside the others, or in place of one."""
+    random = world.random
+    found = [color for color in colors if dim_at(world, color["view"]) == "3d"]
+    if found:
+        return random.choice(found)
+    width, height, samples, format = size_at(world, colors[0]["view"])
+    texture = {"size": [width, height, random.choice([1, 2, 4])], "usage": 23, "format": format, "dim": "3d", "mips": 1, "samples": 1}
+    view = new_view(world, texture, {"mips": 1})
+    color = {"view": view.name, "depthSlice": random.randrange(texture["size"][2]), "load": "clear", "store": "store"}
+    if samples == 4:
+        begin.pop("depth", None)
+        begin["colors"] = [color]
+    elif len(begin["colors"]) < MOST_COLORS:
+        begin["colors"].insert(random.randint(0, len(begin["colors"])), color)
+    else:
+        begin["colors"][begin["colors"].index(colors[0])] = color
+    return color
+
+
+def slices_at(world, name):
+    """How many slices the mip level has that a 3d view attaches."""
+    view = named(world.views, name)
+    return max(view.texture.call["size"][2] >> view.of[1]["baseMip"], 1)
+
+
+@change_slices
+def wrong_slice(world, begin, colors):
+    """Rule 308: a slice that the mip level does not have, or none, or one of a view that is not 3d."""
+    random = world.random
+    if random.random() < 0.25:
+        color = random.choice(colors)
+        color["depthSlice"] = random.choice([0, 0, 0, 1, GREATEST_32])
+        return color
+    color = with_volume(world, begin, colors)
+    if random.random() < 0.3:
+        color.pop("depthSlice", None)
+    else:
+        whole = named(world.views, color["view"]).texture.call["size"][2]
+        color["depthSlice"] = random.choice([slices_at(world, color["view"])] * 3 + [slices_at(world, color["view"]) + 1, whole - 1, whole, 2**31, GREATEST_32])
+    return color
+
+
+@change_slices
+def slice_twice(world, begin, colors):
+    """Rule 306 on slices: one twice by one view or two, or of a texture that is a resolve view too; and slices beside each other, which may be."""
+    random = world.random
+    color = with_volume(world, begin, colors)
+    view, count = named(world.views, color["view"]), slices_at(world, color["view"])
+    name = color["view"] if random.random() < 0.5 else volume_view(world, view, random.random() < 0.2)
+    several = [other for other in begin["colors"] if other is not None and other is not color]
+    if several and random.random() < 0.35:
+        random.choice(several)["resolve"] = name
+    elif len(begin["colors"]) < MOST_COLORS:
+        near = random.choice([color["depthSlice"]] * 3 + [min(color["depthSlice"] + 1, count - 1), 0, count - 1]) if "depthSlice" in color else 0
+        begin["colors"].append({"view": name, "depthSlice": near, "load": random.choice(LOADS), "store": random.choice(STORES)})
+    return None
+
+
+def volume_view(world, view, is_whole):
+    """Another view of the mip level of a 3d texture, or one of all of its levels."""
+    mip = view.of[1]["baseMip"]
+    call = {"dim": "3d", "baseMip": 0, "mips": view.texture.call["mips"]} if is_whole else {"dim": "3d", "baseMip": mip, "mips": 1}
+    thing = world.make("v", {"do": "createView", "texture": view.texture.name} | call, True)
+    thing.texture, thing.of = view.texture, (view.texture, call)
+    world.views.append(thing)
+    return thing.name
 
 
 def attached(begin):
@@ -66,7 +178,7 @@ def view_like(world, name, how=None, is_resolve=False):
         texture["size"][2] = 2
         view.update(dim="2d-array", layers=2)
     elif how == "dim" and not is_depth and random.random() < 0.5:
-        texture.update(dim="3d", samples=1, usage=22)
+        texture.update(dim="3d", samples=1, usage=22, size=[width, height, random.choice([1, 2, 4])])
         view["dim"] = "3d"
     elif how == "dim":
         texture.update(samples=1, size=[width, width, 6])
@@ -230,7 +342,9 @@ def wide_view(world, texture, mip, layer, is_wide):
     """A view of a subresource, alone or with all others of its texture."""
     call, layers = texture.call, texture.call["size"][2]
     view = {"dim": "2d", "baseMip": mip, "mips": 1, "baseLayer": layer, "layers": 1}
-    if is_wide and call["samples"] == 1:
+    if call["dim"] == "3d":
+        view = {"dim": "3d", "baseMip": 0 if is_wide else mip, "mips": call["mips"] if is_wide else 1, "baseLayer": 0, "layers": 1}
+    elif is_wide and call["samples"] == 1:
         view = {"dim": "2d-array", "baseMip": 0, "mips": call["mips"], "baseLayer": 0, "layers": layers}
     thing = world.make("v", {"do": "createView", "texture": texture.name} | view, True)
     thing.texture, thing.of = texture, (texture, view)
@@ -464,6 +578,7 @@ def other_kind(world, encoder, on, calls):
 
 BEGIN_FAULTS = [
     invalid_view, too_many_colors, nothing_attached, wrong_color, wrong_depth, wrong_loads, wrong_size, attached_twice, wrong_resolve,
+    wrong_slice, slice_twice,
 ]
 VERTEX_FAULTS = range_faults("setVertexBuffer", VERTEX, 4)
 INDEX_FAULTS = range_faults("setIndexBuffer", INDEX, 4)
@@ -475,7 +590,7 @@ DRAW_FAULTS = [
 PIPELINE_FAULTS = [invalid_render_pipeline] + [other_targets] * 5 + [writing_pipeline] * 3
 ORDER_FAULTS = [pop_too_many, push_too_many, dead_pass, dead_pass, dead_pass, dead_pass, on_encoder, on_encoder, shuffled]
 FAULTS = (
-    BEGIN_FAULTS * 3 + [wrong_color, wrong_depth, wrong_loads, wrong_size, attached_twice, attached_twice, wrong_resolve, wrong_resolve] * 2
+    BEGIN_FAULTS * 3 + [wrong_color, wrong_depth, wrong_loads, wrong_size, attached_twice, attached_twice, wrong_resolve, wrong_resolve, wrong_slice, slice_twice] * 2
     + SETTING_FAULTS + OFFSET_FAULTS + VERTEX_FAULTS * 3 + INDEX_FAULTS * 3 + DRAW_FAULTS * 2 + PIPELINE_FAULTS * 2 + ORDER_FAULTS * 2
     + QUERY_FAULTS
 )

@@ -2,7 +2,9 @@
 
 import copy
 
-GREATEST_BUFFER = 268_435_456
+from limiting import of as limit
+from model.limits import DEFAULTS
+
 COLOR_FORMATS = [
     "r8unorm", "rg8unorm", "rgba8unorm", "rgba8unorm-srgb", "bgra8unorm", "r32uint", "r32float", "rgba16float", "rgba32float",
 ]
@@ -10,17 +12,26 @@ DEPTH_FORMATS = ["depth16unorm", "depth24plus", "depth24plus-stencil8", "depth32
 STORAGE_FORMATS = ["rgba8unorm", "r32uint", "r32float", "rgba16float", "rgba32float"]
 SAMPLED_FORMATS = ["rgba8unorm", "rgba8unorm-srgb", "bgra8unorm", "rgba16float"] + DEPTH_FORMATS
 ONE_SAMPLE_FORMATS = ["r8unorm", "rg8unorm", "r32uint", "r32float", "rgba32float"]
-LIMITS = {"1d": [8192, 1, 1], "2d": [8192, 8192, 256], "3d": [2048, 2048, 2048]}
 MOST_QUERIES = 4096
 ASPECTS = ["all", "depth-only", "stencil-only"]
 VIEW_DIMS = ["1d", "2d", "2d-array", "cube", "cube-array", "3d"]
 
 
+def most_extents(dim):
+    """The greatest width, height, and depth or layers of a dimension."""
+    if dim == "3d":
+        return [limit("maxTextureDimension3D")] * 3
+    if dim == "1d":
+        return [limit("maxTextureDimension1D"), 1, 1]
+    return [limit("maxTextureDimension2D"), limit("maxTextureDimension2D"), limit("maxTextureArrayLayers")]
+
+
 def good_buffer(random):
-    size = random.choice([0, 4, 7, 8, 16, 16, 16, 32, 64, 256, 1024, 4096, 65536, GREATEST_BUFFER])
+    greatest = limit("maxBufferSize")
+    size = random.choice([0, 4, 7, 8, 16, 16, 16, 32, 64, 256, 1024, 4096, 65536, greatest])
     usage = random.choice([12, 12, 12, 12, 12, 4, 8, 1, 2, 9, 6, 1020, 12 + 16 * random.randrange(64)])
     call = {"do": "createBuffer", "size": size, "usage": usage}
-    if random.random() < 0.08 and size % 4 == 0 and size < GREATEST_BUFFER:
+    if random.random() < 0.08 and size % 4 == 0 and size < DEFAULTS["maxBufferSize"]:
         return call | {"mapped": True}
     return call | {"mapped": False} if random.random() < 0.1 else call
 
@@ -30,7 +41,7 @@ BUFFER_FAULTS = [
     lambda random, call: call.update(usage=1024 + random.choice([0, 12])),
     lambda random, call: call.update(usage=1 | random.choice([2, 4, 12, 16, 520])),
     lambda random, call: call.update(usage=2 | random.choice([8, 12, 32, 516])),
-    lambda random, call: call.update(size=GREATEST_BUFFER + 1),
+    lambda random, call: call.update(size=limit("maxBufferSize") + 1),
     lambda random, call: call.update(size=2**53 - 1),
     lambda random, call: call.update(size=random.choice([1, 2, 3, 6, 4094]), mapped=True),
 ]
@@ -53,7 +64,7 @@ def extents(random, dim):
             size[1] = size[0]
     if random.random() < 0.06:
         at = random.randrange(3)
-        size[at] = LIMITS[dim][at] - random.choice([0, 0, 1])
+        size[at] = most_extents(dim)[at] - random.choice([0, 0, 1])
     return [max(size[0], 1), 1, 1] if dim == "1d" else [max(length, 1) for length in size]
 
 
@@ -78,7 +89,7 @@ def good_texture(random, dim=None, samples=None, format=None, usage=None):
 
 def past_limit(at):
     def change(random, call):
-        call["size"][at] = LIMITS[call["dim"]][at] + 1
+        call["size"][at] = most_extents(call["dim"])[at] + 1
     return change
 
 

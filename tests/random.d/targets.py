@@ -1,4 +1,4 @@
-"""What is attached to render passes: textures of a few sizes, views of one mip level and layer, and begins of good passes."""
+"""What is attached to render passes: textures of a few sizes, views of one mip level and layer or slice, and begins of good passes."""
 
 from dispatching import pooled, view_of
 from regions import extent
@@ -75,29 +75,35 @@ def pool_target(world, format=None, samples=None, size=None):
     samples = samples or 1
     format = format or random.choice(COLOR_FORMATS + ["rgba8unorm"] * 4)
     width, height = size or random.choice(SIZES)
-    size = [width, height, 1 if samples == 4 else random.choice([1, 1, 2, 3])]
-    mips = 1 if samples == 4 else min(random.choice([1, 2, 3]), most_mips("2d", size))
+    dim = "3d" if samples == 1 and format in COLOR_FORMATS and random.random() < 0.25 else "2d"
+    size = [width, height, 1 if samples == 4 else random.choice([1, 2, 3, 4, 5, 8] if dim == "3d" else [1, 1, 2, 3])]
+    mips = 1 if samples == 4 else min(random.choice([1, 2, 3]), most_mips(dim, size))
     usage = RENDER_ATTACHMENT | random.choice([7, 7, 7, 4, 3, 0])
     if format in STORAGE_FORMATS and samples == 1 and random.random() < 0.5:
         usage |= 8
-    return world.texture_as(True, {"size": size, "usage": usage, "format": format, "dim": "2d", "mips": mips, "samples": samples})
+    return world.texture_as(True, {"size": size, "usage": usage, "format": format, "dim": dim, "mips": mips, "samples": samples})
 
 
-def spots(world, formats, samples=None, size=None):
-    """What can be attached: a texture, a mip level and a layer, of one of some formats, of a count of samples, and of a size."""
+def spots(world, formats, samples=None, size=None, dims=("2d", "3d")):
+    """What can be attached: a texture, a mip level and a layer, or a slice of a 3d one, of one of some formats, of a count of samples, and of a
+    size. Of many slices there are some."""
     found = []
     for thing in pooled(world, world.textures):
         call = thing.call
-        is_fit = call["usage"] & RENDER_ATTACHMENT and call["dim"] == "2d" and call["format"] in formats and samples in (None, call["samples"])
+        is_fit = call["usage"] & RENDER_ATTACHMENT and call["dim"] in dims and call["format"] in formats and samples in (None, call["samples"])
         for mip in range(call["mips"] if is_fit else 0):
-            if size is None or extent(call, mip)[:2] == size:
-                found += [(thing, mip, layer) for layer in range(call["size"][2])]
+            places = extent(call, mip)
+            if size is None or places[:2] == size:
+                some = range(places[2]) if places[2] <= 8 else [0, 1, places[2] // 2, places[2] - 1]
+                found += [(thing, mip, layer) for layer in some]
     return found
 
 
 def attached_view(world, spot, **wanted):
-    """A view of one mip level and layer, but for what is wanted otherwise."""
+    """A view of one mip level and layer, or of a 3d texture of one mip level, but for what is wanted otherwise."""
     random, (thing, mip, layer) = world.random, spot
+    if thing.call["dim"] == "3d":
+        return view_of(world, thing, {"dim": "3d", "aspect": "all", "baseMip": mip, "mips": 1, "baseLayer": 0, "layers": 1} | wanted)
     call = {"dim": random.choice(["2d", "2d", "2d", "2d-array"]), "aspect": "all", "baseMip": mip, "mips": 1, "baseLayer": layer, "layers": 1}
     if thing.call["samples"] == 4:
         call["dim"] = "2d"
@@ -108,6 +114,8 @@ def attached_view(world, spot, **wanted):
 
 def parts_of(spot):
     thing, mip, layer = spot
+    if thing.call["dim"] == "3d":
+        return {("t", thing.name, "color", mip, 0)}
     return {("t", thing.name, aspect, mip, layer) for aspect in ASPECTS_OF.get(thing.call["format"], ["color"])}
 
 
@@ -147,9 +155,11 @@ def color(world, spot, size, taken, uses):
     """An item of `colors`, with a resolve view where there is something for it."""
     random = world.random
     found = {"view": attached_view(world, spot).name, "load": random.choice(LOADS), "store": random.choice(STORES)}
+    if spot[0].call["dim"] == "3d":
+        found["depthSlice"] = spot[2]
     uses.update({part: "attachment" for part in parts_of(spot)})
     if spot[0].call["samples"] == 4 and random.random() < 0.7:
-        others = [other for other in spots(world, [spot[0].call["format"]], 1, size) if other not in taken]
+        others = [other for other in spots(world, [spot[0].call["format"]], 1, size, ("2d",)) if other not in taken]
         if others:
             other = random.choice(others)
             taken.add(other)

@@ -92,8 +92,8 @@ def test_statuses(folder):
     for name, words in ((empty, "has no script"), (file, "is no folder"), (folder / "missing", "there is no such folder")):
         told, said = ends_so(4, "judge", str(name))
         check(words in said and not told, f"judge of {name.name}: {said}")
-    told, _ = ends_so(9, "judge", str(scripts), environment={"WGSIM_PROGRAM": "/bin/false"})
-    check("script 0.json: no answer (status 9)" in told and "40 no answer" in told, f"judge by a program without an answer: {told}")
+    told, _ = ends_so(12, "judge", str(scripts), environment={"WGSIM_PROGRAM": "/bin/false"})
+    check("script 0.json: no answer (status 12)" in told and "40 no answer" in told, f"judge by a program without an answer: {told}")
     locked = scripts / "locked.json"
     locked.write_bytes(b"{}")
     locked.chmod(0)

@@ -3,6 +3,8 @@
 import html
 import html.parser
 import re
+import subprocess
+import sys
 
 import picture
 import places
@@ -89,6 +91,19 @@ def test_picture_of_a_report(folder):
             check(ran.returncode == 4 and not ran.stdout, f"wgsim {command} --report {report}: status {ran.returncode} and not 4")
         for words in (["--report"], ["--report", "-"], ["--report", "-", "-"]):
             check(wgsim(command, *words).returncode == 2, f"wgsim {command} {' '.join(words)}: the status is not 2")
+
+
+def test_checking():
+    """The log, the Python, the trace and the answers of docs/checking.md belong together."""
+    text = (TOP / "docs/checking.md").read_text(encoding="utf-8")
+    log, code, trace, answer = re.findall(r"^```(?:text|python)\n(.*?)^```$", text, re.M | re.S)
+    ran = subprocess.run([sys.executable, "-c", code], input=log.encode(), capture_output=True, timeout=60)
+    check(ran.stdout.decode() == trace, f"docs/checking.md: the log makes another trace: {ran.stdout}, {ran.stderr[-300:]}")
+    check(asked.program.check(trace.encode()) == (8, answer.encode()), f"docs/checking.md: {asked.program.check(trace.encode())} is said of its trace")
+    lines = log.splitlines()
+    mended = [*lines[:-1], re.search(r"with `(barrier .*?)` in front of the last line", text)[1], lines[-1]]
+    ran = subprocess.run([sys.executable, "-c", code], input="\n".join([*mended, ""]).encode(), capture_output=True, timeout=60)
+    check(asked.program.check(ran.stdout) == (0, b"agrees\n"), f"docs/checking.md: {asked.program.check(ran.stdout)} is said of the mended trace {ran.stdout}")
 
 
 def renumbered(report):

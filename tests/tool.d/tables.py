@@ -4,6 +4,7 @@ import re
 
 import bits
 import calls
+import limits
 import rules
 
 from common import EXAMPLES, TOP, check, wgsim
@@ -57,9 +58,6 @@ def test_calls():
         own = calls.keys_of(word).get("on")
         check(own is None or own.kinds() == kinds, f"tools/calls.json: `on` of {word} is not {calls.either(kinds)}, as docs/script.md says")
         check(own is None or calls.records(word) or calls.ends_encoder(word), f"tools/calls.json: {word} has `on`, and is neither recorded nor a finish")
-    said = re.search(r"The key `(\w+)` of an object in the list `(\w+)` of a `(\w+)` is not built yet", text)
-    inner, outer, word = said.groups() if said else [None] * 3
-    check(calls.unbuilt_keys(word) == [[outer, inner]], f"tools/calls.json: not the keys of {word} that are not built yet in docs/script.md")
 
 
 def test_objects(*parts):
@@ -93,6 +91,18 @@ def test_objects(*parts):
         check(re.findall(r"`([\w-]+)`", dict(rows).get(row, "")) == calls.WORDS[word], f"tools/calls.json: not the words of {row} of docs/script.md")
     said = re.search(r"`format` of a `setIndexBuffer` is `(\w+)` or `(\w+)`", parts[2])
     check(said and list(said.groups()) == calls.WORDS["index format"], "tools/calls.json: not the words of `format` of a setIndexBuffer of docs/script.md")
+
+
+def test_limits():
+    """The table of limits in docs/script.md is that of docs/limits.json, and tells the rules that docs/rules.json has of each."""
+    text = (TOP / "docs/script.md").read_text(encoding="utf-8").split("\n## Limits of the device\n")[1].split("\n## ")[0]
+    rows = re.findall(r"^\| (`.*?) \| (\d+) \| (\d+) \| (.*?) \|$", text, re.M)
+    shown = {name: (int(default), int(best)) for names, default, best, _ in rows for name in re.findall(r"`(\w+)`", names)}
+    check(shown == {name: (limit.default, limit.best) for name, limit in limits.TABLE.items()}, f"docs/script.md does not have the limits of docs/limits.json: {shown}")
+    for names, _, _, told in rows:
+        for name in re.findall(r"`(\w+)`", names):
+            asking = {number for rule in rules.RULES if f"`{name}`" in rule.asks for number in rule.numbers}
+            check(asking <= set(map(int, re.findall(r"\d+", told))), f"docs/script.md: {name} has not all rules that ask for it: {sorted(asking)}")
 
 
 def test_index():

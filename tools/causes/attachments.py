@@ -3,6 +3,7 @@
 from .making import Cause, first, lacks, plural, rule
 
 RENDER_ATTACHMENT = 16
+FLAT = ("2d", "2d-array")
 ASPECT_KEYS = {"depth": ("depthLoad", "depthStore", "depthReadOnly"), "stencil": ("stencilLoad", "stencilStore", "stencilReadOnly")}
 
 
@@ -40,8 +41,8 @@ def something(case):
     )
 
 
-def color_view(case, where, view):
-    """What rule 302 asks of the view of a color, and rule 307 of a resolve view."""
+def color_view(case, where, view, dims):
+    """What rule 302 asks of the view of a color, and rule 307, of fewer dimensions, of a resolve view."""
     texture = view.uses["texture"]
     lacking = lacks(case, texture, RENDER_ATTACHMENT, f"{where}: ")
     if lacking:
@@ -53,14 +54,15 @@ def color_view(case, where, view):
             {"view": view.call["as"], "format": format},
             "Attach it as depth." if where.startswith("color") else None,
         )
-    return flat(case, where, view)
+    return flat(case, where, view, dims)
 
 
-def flat(case, where, view):
-    """A view that is attached is 2d or 2d-array, with one mip level and one layer."""
+def flat(case, where, view, dims):
+    """A view that is attached is of one of some dimensions, with one mip level and one layer."""
     told = case.second.textures.told(view)
-    if told["dim"] not in ("2d", "2d-array"):
-        return Cause(f"{where}: {case.named(view)} has the dim {told['dim']}, and 2d or 2d-array is asked for", {"view": view.call["as"], "dim": told["dim"]})
+    if told["dim"] not in dims:
+        asked = " or ".join([", ".join(dims[:-1]), dims[-1]])
+        return Cause(f"{where}: {case.named(view)} has the dim {told['dim']}, and {asked} is asked for", {"view": view.call["as"], "dim": told["dim"], "allowed": list(dims)})
     for key, word in (("mips", "mip level"), ("layers", "layer")):
         if told[key] != 1:
             return Cause(
@@ -73,7 +75,30 @@ def flat(case, where, view):
 
 @rule(302)
 def color_views(case):
-    return first(color_view(case, f"color {place}", view) for place, _, view, _ in colors(case))
+    return first(color_view(case, f"color {place}", view, ("2d", "2d-array", "3d")) for place, _, view, _ in colors(case))
+
+
+@rule(308)
+def slices(case):
+    return first(slice_of(case, place, color["depthSlice"], view) for place, color, view, _ in colors(case))
+
+
+def slice_of(case, place, number, view):
+    """A slice is given of a 3d view alone, and the mip level has it."""
+    told = case.second.textures.told(view)
+    dim, depth = told["dim"], case.second.attachments.depth_of_level(view)
+    values = {"color": place, "view": view.call["as"], "dim": dim, "depthSlice": number}
+    if dim != "3d":
+        said = f"color {place}: {case.named(view)} has the dim {dim}, which has no slices, and depthSlice is {number}"
+        return None if number is None else Cause(said, values, "Leave depthSlice out; a layer is chosen by baseLayer of the view.")
+    values = {**values, "mip": told["baseMip"], "slices": depth}
+    if number is None:
+        said = f"color {place}: {case.named(view)} has the dim 3d, and depthSlice is left out"
+        return Cause(said, values, f"Give one from 0 to {depth - 1}." if depth > 1 else "Give 0, which is the only slice.")
+    if number >= depth:
+        said = f"color {place}: depthSlice is {number}, and mip level {told['baseMip']} of {case.named(view.uses['texture'])}, to which {case.named(view)} looks, has {plural(depth, 'slice')}"
+        return Cause(said, {**values, "most": depth - 1}, f"The greatest is {depth - 1}.")
+    return None
 
 
 @rule(303)
@@ -98,7 +123,7 @@ def depth_views(case):
             {"view": view.call["as"], "aspect": aspect, "format": format},
             "Make a view with the aspect all.",
         )
-    return flat(case, "depth", view)
+    return flat(case, "depth", view, FLAT)
 
 
 @rule(304)
@@ -145,18 +170,26 @@ def the(what):
 
 @rule(306)
 def apart(case):
-    """No subresource is attached twice: colors come first, then resolve views, then depth."""
-    found = colors(case)
-    views = [(f"color {place}", view) for place, _, view, _ in found]
-    views += [(f"the resolve view of color {place}", resolve) for place, _, _, resolve in found if resolve is not None]
-    views += [("depth", view) for view in case.second.attachments.depth_of(case.played)]
-    for number, (one, view) in enumerate(views):
-        for other, second in views[number + 1 :]:
-            both = [cell for cell in case.second.attachments.cells_of(view) if cell in case.second.attachments.cells_of(second)]
+    """No cell is attached twice, be it a subresource or a slice: colors come first, then resolve views, then depth."""
+    found, cells_of = colors(case), case.second.attachments.cells_of
+    views = [(f"color {place}", view, cells_of(view, color["depthSlice"])) for place, color, view, _ in found]
+    views += [(f"the resolve view of color {place}", resolve, cells_of(resolve)) for place, _, _, resolve in found if resolve is not None]
+    views += [("depth", view, cells_of(view)) for view in case.second.attachments.depth_of(case.played)]
+    for number, (one, view, cells) in enumerate(views):
+        for other, second, others in views[number + 1 :]:
+            both = first(common(case, cell, another) for cell in cells for another in others)
             if both:
-                values = {"first": view.call["as"], "other": second.call["as"], **case.part_values(both[0])}
-                return Cause(f"{one} ({case.named(view)}) and {other} ({case.named(second)}) both attach {case.part(both[0])}", values)
+                values = {"first": view.call["as"], "other": second.call["as"], **case.part_values(both)}
+                remedy = "Give each a slice of its own." if both[0] == "s" and one.startswith("color") and other.startswith("color") else None
+                return Cause(f"{one} ({case.named(view)}) and {other} ({case.named(second)}) both attach {case.part(both)}", values, remedy)
     return None
+
+
+def common(case, one, other):
+    """What two attached cells have in common: the subresource that they both are, or the slices that are in both; or None."""
+    if not case.second.cells.do_meet(one, other):
+        return None
+    return one if one[0] == "t" else (*one[:-2], max(one[-2], other[-2]), min(one[-1], other[-1]))
 
 
 @rule(307)
@@ -174,7 +207,7 @@ def resolve_of(case, place, view, resolve):
             {**values, "samples": color["samples"]},
             "Leave resolve out.",
         )
-    wrong = color_view(case, where, resolve)
+    wrong = color_view(case, where, resolve, FLAT)
     if wrong:
         return wrong
     if target["samples"] != 1:

@@ -1,7 +1,7 @@
 """The rules of createBuffer, and the budget, which textures have as well."""
 
 import bits
-from .making import Cause, at_most, known_usage, listed, multiple, plural, rule
+from .making import Cause, at_most, known_usage, limited, listed, multiple, plural, rule
 
 MAP_READ, MAP_WRITE, COPY_SRC, COPY_DST = 1, 2, 4, 8
 # How many of the things that take most of the budget are named.
@@ -36,7 +36,8 @@ def map_write(case):
 
 @rule(103)
 def size(case):
-    return at_most("size", case.call["size"], case.second.buffers.GREATEST_SIZE, remedy="Take several buffers.")
+    asked = case.call["size"]
+    return limited("maxBufferSize", asked, at_most("size", asked, case.history.limits["maxBufferSize"], remedy="Take several buffers."))
 
 
 @rule(104)

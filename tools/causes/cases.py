@@ -60,8 +60,11 @@ class Case:
         return self.history.objects[part[1]]
 
     def part(self, part):
-        """A part or a cell in words: a buffer, bytes of it, or a subresource of a texture. No rule tells of queries by their cells."""
+        """A part or a cell in words: a buffer, bytes of it, a subresource of a texture, or slices of one. No rule tells of queries by their cells."""
         named = self.named(self.object_of(part))
+        if part[0] == "s":
+            _, _, _, mip, low, high = part
+            return f"{named} mip {mip} slice {low}" if high - low == 1 else f"{named} mip {mip} slices {low} to {high - 1}"
         if part[0] == "t":
             aspect, mip, layer = part[2:]
             return f"{named} {self.second.formats.ASPECTS[aspect]} mip {mip} layer {layer}"
@@ -69,6 +72,8 @@ class Case:
 
     def part_values(self, part):
         values = {"object": self.object_of(part).call["as"]}
+        if part[0] == "s":
+            return {**values, "aspect": self.second.formats.ASPECTS[part[2]], "mip": part[3], "firstSlice": part[4], "lastSlice": part[5] - 1}
         if part[0] == "t":
             return {**values, "aspect": self.second.formats.ASPECTS[part[2]], "mip": part[3], "layer": part[4]}
         return {**values, "firstByte": part[2], "lastByte": part[3] - 1} if len(part) > 2 else values

@@ -1,7 +1,7 @@
 """The rules of createBindGroup."""
 
 from .layouts import twice
-from .making import Cause, fits, first, lacks, listed, multiple, rule, with_left_out
+from .making import Cause, first, fits, lacks, limited, listed, multiple, rule, with_left_out
 
 # In words, what an entry of a bind group may hold.
 HOLDS = {"buffer": "a buffer", "view": "a view", "sampler": "a sampler"}
@@ -108,14 +108,16 @@ def buffer_range(case):
 def buffer_size(case):
     groups, layout = case.second.groups, case.uses["layout"]
     for one, _, size, is_left_out in ranges(case):
-        kind, most = one.asked["kind"], groups.BUFFER_KINDS[one.asked["kind"]][1]
+        kind, limit = one.asked["kind"], groups.BUFFER_KINDS[one.asked["kind"]][1]
+        most = case.history.limits[limit]
         told, values = with_left_out("size", size, is_left_out), {"size": size, "kind": kind}
         if size > most:
-            return one.cause(
+            cause = one.cause(
                 f"{told} is above {most}, the most of a {kind} binding",
                 {**values, "most": most},
                 f"Give a size of at most {most}." if is_left_out else None,
             )
+            return limited(limit, size, cause)
         if kind in groups.STORAGE_KINDS and size % 4:
             return one.cause(
                 f"{told} is no multiple of 4, as {kind} asks",

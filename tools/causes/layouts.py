@@ -1,7 +1,7 @@
 """The rules of createBindGroupLayout and createPipelineLayout."""
 
 import bits
-from .making import Cause, listed, plural, rule
+from .making import Cause, limited, listed, plural, rule
 
 
 def entries(case):
@@ -34,12 +34,14 @@ def distinct(case):
 
 @rule(131)
 def binding_limit(case):
+    most = case.history.limits["maxBindingsPerBindGroup"] - 1
     for _, number, entry in entries(case):
-        if entry["binding"] > 999:
-            return Cause(
-                f"entry {number} has the binding {entry['binding']}, and the greatest is 999",
-                {"entry": number, "binding": entry["binding"], "most": 999},
+        if entry["binding"] > most:
+            cause = Cause(
+                f"entry {number} has the binding {entry['binding']}, and the greatest is {most}",
+                {"entry": number, "binding": entry["binding"], "most": most},
             )
+            return limited("maxBindingsPerBindGroup", entry["binding"] + 1, cause)
     return None
 
 
@@ -116,11 +118,12 @@ def seen(case, layouts):
     """Rules 136 and 141: what a stage sees too much of. `layouts` are pairs of words for a layout, or None, and its entries."""
     groups = case.second.groups
     for stage, bit in groups.STAGES.items():
-        for kinds, most in groups.SEEN_LIMITS.values():
+        for kinds, limit in groups.SEEN_LIMITS.values():
             counts = [(said, sum(entry["kind"] in kinds and entry["visibility"] & bit != 0 for entry in items)) for said, items in layouts]
             cause = too_many(
+                case,
                 counts,
-                most,
+                limit,
                 f"{stage.upper()} ({bit}) sees",
                 f"of {' and '.join(kinds)}",
                 {"stage": bit, "stageWord": stage.upper(), "kinds": list(kinds)},
@@ -132,22 +135,22 @@ def seen(case, layouts):
 
 def dynamic(case, layouts):
     """Rules 137 and 142: what is dynamic too often."""
-    for kinds, most in case.second.groups.DYNAMIC_LIMITS.values():
+    for kinds, limit in case.second.groups.DYNAMIC_LIMITS.values():
         counts = [(said, sum(entry["kind"] in kinds and entry["dynamic"] for entry in items)) for said, items in layouts]
-        cause = too_many(counts, most, "", f"of {' and '.join(kinds)} with dynamic true", {"kinds": list(kinds)})
+        cause = too_many(case, counts, limit, "", f"of {' and '.join(kinds)} with dynamic true", {"kinds": list(kinds)})
         if cause:
             return cause
     return None
 
 
-def too_many(counts, most, before, after, values):
-    total = sum(number for _, number in counts)
+def too_many(case, counts, limit, before, after, values):
+    total, most = sum(number for _, number in counts), case.history.limits[limit]
     if total <= most:
         return None
     by = ": " + listed(f"{number} in {said}" for said, number in counts if said and number) if counts[0][0] else ""
     many = f"{plural(total, 'entry') if total == 1 else f'{total} entries'} {after}"
     said = f"{before} {many}" if before else f"there are {many}"
-    return Cause(f"{said}, and at most {most} are allowed{by}", {**values, "count": total, "most": most})
+    return limited(limit, total, Cause(f"{said}, and at most {most} are allowed{by}", {**values, "count": total, "most": most}))
 
 
 @rule(136)

@@ -1,6 +1,7 @@
 """What a cause is, which function finds that of each rule, and conditions that many rules have in common."""
 
 import bits
+import limits
 
 
 class Cause:
@@ -99,6 +100,18 @@ def at_most(key, number, most, where="", remedy=None):
     if number <= most:
         return None
     return Cause(f"{where}{key} is {number}, and at most {most} is allowed", {key: number, "most": most}, remedy)
+
+
+def limited(name, needed, cause):
+    """A cause that a limit of the device brings, with the limit by its name, and whether a script may ask for as much as is needed."""
+    if cause is None:
+        return None
+    limit = limits.TABLE[name]
+    if needed <= limit.best:
+        told = f'The limit is {name}, and a script may ask for more: "limits": {{"{name}": {needed}}}.'
+    else:
+        told = f"The limit is {name}, and no script gets more than {limit.best}."
+    return Cause(cause.condition, {**cause.values, "limit": name, "best": limit.best}, f"{cause.remedy} {told}" if cause.remedy else told)
 
 
 def with_left_out(key, number, is_left_out):

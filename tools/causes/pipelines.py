@@ -2,7 +2,7 @@
 
 import bits
 from .layouts import twice
-from .making import Cause, first, listed, plural, rule
+from .making import Cause, first, limited, listed, plural, rule
 
 MOST_COLORS = 8
 OF_KINDS = ("type", "sample", "dim", "multi", "access", "format")
@@ -74,8 +74,10 @@ def vertex_buffers(case):
     buffers, attributes = case.call["buffers"], attributes_of(case)
     if len(buffers) > 8:
         return Cause(f"buffers has {len(buffers)} vertex buffers, and at most 8 are allowed", {"buffers": len(buffers), "most": 8})
-    if len(attributes) > 16:
-        return Cause(f"the vertex buffers have {len(attributes)} attributes together, and at most 16 are allowed", {"attributes": len(attributes), "most": 16})
+    most, widest = case.history.limits["maxVertexAttributes"], case.history.limits["maxVertexBufferArrayStride"]
+    if len(attributes) > most:
+        said = f"the vertex buffers have {len(attributes)} attributes together, and at most {most} are allowed"
+        return limited("maxVertexAttributes", len(attributes), Cause(said, {"attributes": len(attributes), "most": most}))
     for place, one in buffers_of(case):
         stride, low = one["stride"], one["stride"] - one["stride"] % 4
         if stride % 4:
@@ -84,20 +86,22 @@ def vertex_buffers(case):
                 {"buffer": place, "stride": stride, "multipleOf": 4},
                 f"The nearest multiples are {low} and {low + 4}.",
             )
-        if stride > 2048:
-            return Cause(f"buffer {place} has the stride {stride}, and at most 2048 is allowed", {"buffer": place, "stride": stride, "most": 2048})
+        if stride > widest:
+            said = f"buffer {place} has the stride {stride}, and at most {widest} is allowed"
+            return limited("maxVertexBufferArrayStride", stride, Cause(said, {"buffer": place, "stride": stride, "most": widest}))
     return None
 
 
 @rule(162)
 def attributes(case):
-    found = attributes_of(case)
+    found, most = attributes_of(case), case.history.limits["maxVertexAttributes"] - 1
     for where, place, number, attribute, _ in found:
-        if attribute["location"] > 15:
-            return Cause(
-                f"{where}the location is {attribute['location']}, and the greatest is 15",
-                {"buffer": place, "attribute": number, "location": attribute["location"], "most": 15},
+        if attribute["location"] > most:
+            cause = Cause(
+                f"{where}the location is {attribute['location']}, and the greatest is {most}",
+                {"buffer": place, "attribute": number, "location": attribute["location"], "most": most},
             )
+            return limited("maxVertexAttributes", attribute["location"] + 1, cause)
     pair = twice([attribute["location"] for _, _, _, attribute, _ in found])
     if pair:
         one, other = found[pair[0]], found[pair[1]]
@@ -113,13 +117,15 @@ def attributes(case):
 def placed(case, where, place, number, attribute, one):
     """An attribute ends past its stride, or stands at an odd offset."""
     size, offset = case.second.formats.VERTEX_FORMATS[attribute["format"]], attribute["offset"]
-    values, most = {"buffer": place, "attribute": number, "offset": offset, "format": attribute["format"], "bytes": size}, one["stride"] or 2048
+    values, widest = {"buffer": place, "attribute": number, "offset": offset, "format": attribute["format"], "bytes": size}, case.history.limits["maxVertexBufferArrayStride"]
+    most = one["stride"] or widest
     if offset + size > most:
-        limit = f"the stride is {one['stride']}" if one["stride"] else "the stride is 0, where at most 2048 is allowed"
-        return Cause(
+        limit = f"the stride is {one['stride']}" if one["stride"] else f"the stride is 0, where at most {widest} is allowed"
+        cause = Cause(
             f"{where}{attribute['format']} at offset {offset} ends at {offset} + {size} = {offset + size}, and {limit}",
             {**values, "end": offset + size, "most": most},
         )
+        return cause if one["stride"] else limited("maxVertexBufferArrayStride", offset + size, cause)
     step = min(4, size)
     if offset % step:
         return Cause(

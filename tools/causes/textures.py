@@ -1,11 +1,13 @@
 """The rules of createTexture."""
 
 import bits
-from .making import Cause, first, known_usage, listed, rule
+from .making import Cause, first, known_usage, limited, listed, rule
 
 # What the three numbers of a size are called, by the dimension.
 EXTENTS = {"1d": ("width", "height", "depth"), "2d": ("width", "height", "layers"), "3d": ("width", "height", "depth")}
-MOST = {"1d": (8192, 1, 1), "2d": (8192, 8192, 256), "3d": (2048, 2048, 2048)}
+# The limit of each of the three, by the dimension; None where it is 1.
+WIDE_1D, WIDE_2D, WIDE_3D = "maxTextureDimension1D", "maxTextureDimension2D", "maxTextureDimension3D"
+LIMITS = {"1d": (WIDE_1D, None, None), "2d": (WIDE_2D, WIDE_2D, "maxTextureArrayLayers"), "3d": (WIDE_3D, WIDE_3D, WIDE_3D)}
 STORAGE_BINDING, RENDER_ATTACHMENT = 8, 16
 
 
@@ -15,7 +17,7 @@ def usage(case):
 
 
 def extents(case):
-    return list(zip(EXTENTS[case.call["dim"]], case.call["size"], MOST[case.call["dim"]]))
+    return list(zip(EXTENTS[case.call["dim"]], case.call["size"], LIMITS[case.call["dim"]]))
 
 
 @rule(111)
@@ -29,13 +31,15 @@ def no_extent(case):
 @rule(112)
 def extent_limits(case):
     dim = case.call["dim"]
-    for name, length, most in extents(case):
+    for name, length, limit in extents(case):
+        most = case.history.limits[limit] if limit else 1
         if length > most:
-            asked = f"has a {name} of 1" if most == 1 else f"has at most {most}"
-            return Cause(
+            asked = f"has at most {most}" if limit else f"has a {name} of 1"
+            cause = Cause(
                 f"{name} is {length} in the size {case.call['size']}, and a {dim} texture {asked}",
                 {"extent": name, "is": length, "most": most, "dim": dim},
             )
+            return limited(limit, length, cause) if limit else cause
     return None
 
 

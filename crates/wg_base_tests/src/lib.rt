@@ -46,3 +46,5 @@ mod textures;
 mod tracker;
 #[cfg(test)]
 mod types;
+#[cfg(test)]
+mod verdicts;

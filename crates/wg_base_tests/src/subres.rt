@@ -1,5 +1,5 @@
 use std::alloc::Global;
-use wg_subres::{cells_of_copy, of_view, views_meet};
+use wg_subres::{cells_of_copy, cells_of_view, of_view, views_meet};
 use wg_types::NoMemory;
 use wg_types::formats::Format;
 use wg_types::handles::ObjRef;
@@ -96,4 +96,46 @@ fn runs_of_a_view_and_cells_of_a_copy(rt: HostRuntime) {
     let of_view = are(of_view(rt.alloc(), &view), &[run(Aspect::Depth), stencil]);
     assert!(rt; of_view);
     assert!(rt; copies(rt.alloc(), &spot, layer) == Ok(true));
+}
+
+/// The cells of a view of the second mip level of a 3D texture, of which a copy takes one slice.
+fn slices(alloc: Global) -> Result<bool, NoMemory> {
+    let volume = TextureInfo {
+        size: [4, 4, 6],
+        usage: 4,
+        format: Format::R32Float,
+        dim: TextureDim::Three,
+        mips: 2,
+        samples: 1,
+    };
+    let view = ViewInfo {
+        texture_info: volume,
+        dim: ViewDim::Three,
+        ..view_from(AspectWord::All, 1, 0)
+    };
+    let spot = TextureSpot {
+        mip: 1,
+        origin: [0, 0, 2],
+        aspect: AspectWord::All,
+    };
+    let part = cells_of_copy(alloc, 7, &volume, &spot, [1, 2, 1])?;
+    let whole = cells_of_view(alloc, &view)?;
+    let last = Cells::Slices {
+        object: 7,
+        mip: 1,
+        lo: 2,
+        hi: 3,
+    };
+    let all = Cells::Slices {
+        object: 7,
+        mip: 1,
+        lo: 0,
+        hi: 3,
+    };
+    Ok(part.as_slice() == [last].as_slice() && whole.as_slice() == [all].as_slice())
+}
+
+#[test]
+fn cells_of_3d_textures_are_slices(rt: HostRuntime) {
+    assert!(rt; slices(rt.alloc()) == Ok(true));
 }

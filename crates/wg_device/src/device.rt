@@ -4,7 +4,6 @@ ghost use Rattle.std.specs.Option.{is_some, option_map};
 ghost use Rattle.std.specs.Arc.{arc_value};
 ghost use mathlib.Core.List.{IsPrefix};
 ghost use Rattle.wg_types.specs.Requests.{named, kind_made};
-ghost use Rattle.wg_model.specs.Limits.{default_limits};
 ghost use Rattle.wg_encoder.specs.Recorders.{most_takes};
 ghost use Rattle.wg_turn.specs.Passes.{IsPassOf, AreFresh, AreSound, AreInOrder, FrontsAre, IsSamePass, IsWhole, callers_of, own_of, opened_with};
 ghost use Rattle.wg_turn.specs.Closings.{entries_of, passes_of, state_of};
@@ -21,6 +20,7 @@ use wg_encoder::{Recorder, Recording};
 use wg_entry::NoMemory;
 use wg_turn::{Closed, Pass, TurnLock};
 use wg_types::handles::{Handle, Info, ObjRef};
+use wg_types::limits::Limits;
 use wg_types::replies::{Answer, Reply};
 use wg_types::requests::RequestOf;
 
@@ -84,21 +84,23 @@ impl Device {
     ghost use Rattle.wg_history.specs.Answers.{Run};
 
     /// A device with nothing on it, and its passes in the order of their numbers. Its resources may have
-    /// `budget` bytes. The caller gives each device another serial.
+    /// `budget` bytes. The caller gives each device another serial. The limits are those of `wg_limits`: the
+    /// defaults, or what `asked` answers.
     pub fn open(
         alloc: Global,
         budget: u64,
         serial: u64,
+        limits: &Limits,
         callers: u32,
     ) -> Result<(Device, Vec<DevicePass>), NoMemory>
         requires { (0 < callers) × (callers ≤ 65536) }
-        ensures device { IfOk result (λ t. (setup_of t.0.lock ≡ record { serial = serial; budget = budget; limits = default_limits })
+        ensures device { IfOk result (λ t. (setup_of t.0.lock ≡ record { serial = serial; budget = budget; limits = limits.now })
             × ((opened_with t.0.lock).history ≡ []) × (callers_of t.0.lock ≡ callers)) }
         ensures passes { IfOk result (λ t. (vec_len t.1 ≡ callers) × AreFresh t.0.lock 0 t.1.items) }
         ensures fronts { IfOk result (λ t. FrontsAre history_of t.0.lock t.1.items []) }
         ensures sound { IfOk result (λ t. AreSound history_of (λ c. c.setup) Run t.0.lock t.1.items) }
     {
-        let (lock, passes) = TurnLock::open(alloc, Core::new(alloc, budget, serial), callers)?;
+        let (lock, passes) = TurnLock::open(alloc, Core::new(alloc, budget, serial, limits), callers)?;
         Ok((
             Device {
                 lock,

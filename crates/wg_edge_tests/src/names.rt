@@ -1,4 +1,4 @@
-//! Names become slots. Which names are refused is for the scripts of tests/cases.
+//! Names become slots, and a script has the limits that it asks for. What is refused is for the scripts of tests/cases.
 use std::alloc::Global;
 use wg_names::read_script;
 use wg_script::BoundCall;
@@ -57,4 +57,21 @@ fn slots_are_in_reading_order(rt: HostRuntime) {
         [Some(2), Some(1), Some(3)],
     ];
     assert!(rt; slots(rt.alloc()) == Some(wanted));
+}
+
+const LIMITED: &str =
+    "{\"budget\":5,\"limits\":{\"maxTextureArrayLayers\":512,\"maxBufferSize\":1},\"phases\":[]}";
+
+/// How many layers a texture of a script may have, and how many bytes a buffer.
+fn most(alloc: Global) -> Option<(u32, u64)> {
+    let script = read_script(alloc, LIMITED.as_bytes()).ok()?;
+    Some((
+        script.limits.max_texture_array_layers,
+        script.limits.max_buffer_size,
+    ))
+}
+
+#[test]
+fn limits_are_asked_for(rt: HostRuntime) {
+    assert!(rt; most(rt.alloc()) == Some((512, 268435456)));
 }

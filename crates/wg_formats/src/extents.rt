@@ -121,17 +121,10 @@ pub fn spot_fits(info: &TextureInfo, spot: &TextureSpot, size: [u32; 3]) -> bool
     spans(whole, size)
 }
 
-/// Whether a copy at a place covers all texels of each subresource that it is to.
+/// Whether a copy at a place covers all texels of each cell that it is to, a layer or a slice of the mip level.
 #[tactic(auto, unfolding(wg_model::specs::TexelCopies::covers_all))]
 pub fn covers_all(info: &TextureInfo, spot: &TextureSpot, size: [u32; 3]) -> bool
     ensures { result ≡ covers_all info.now spot.now size }
 {
-    let whole = extent(info, spot.mip);
-    if !spans(whole, size) {
-        return false;
-    }
-    match info.dim {
-        TextureDim::Three => size[2] == whole[2],
-        _ => true,
-    }
+    spans(extent(info, spot.mip), size)
 }

@@ -10,6 +10,7 @@ use Rattle.wg_types.specs.declared.replies.Answer.TheVariants.{Made, Queued, Pla
 use Rattle.wg_types.specs.declared.replies.Reply.{Reply}
 use Rattle.wg_types.specs.declared.steps.Sort.TheVariants as sort
 use Rattle.wg_types.specs.Commands.{Command}
+use Rattle.wg_limits.specs.Limits.{default_limits}
 use Rattle.wg_history.specs.declared.events.Event.{Event}
 use Rattle.wg_history.specs.declared.events.Event.TheVariants as event
 use Rattle.wg_history.specs.declared.events.Setup.{Setup}
@@ -29,7 +30,7 @@ use Rattle.wg_gen.specs.Counts.{is_fault, is_free}
 
 -- the device of a generated script
 abbrev pub device : Setup
-device = setup_with 1000000
+device = setup_with 1000000 default_limits
 
 -- ---- spots
 

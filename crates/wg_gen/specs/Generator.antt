@@ -3,6 +3,7 @@ use Rattle.std.specs.Prelude.{ℕ, zero, suc, ◌+◌, ◌*◌, ◌/◌, ◌%◌
 use Rattle.wg_types.specs.declared.handles.BufferInfo.{BufferInfo}
 use Rattle.wg_types.specs.declared.commands.CommandOf.TheVariants.{CopyBufferToBuffer}
 use Rattle.wg_types.specs.declared.requests.RequestOf.TheVariants.{CreateBuffer, CreateEncoder, Finish, Submit, WriteBuffer, Destroy, Complete}
+use Rattle.wg_limits.specs.Limits.{default_limits}
 use Rattle.wg_script.specs.CallOf.{BoundCall}
 use Rattle.wg_script.specs.declared.calls.CallOf.TheVariants.{Record, Ask}
 use Rattle.wg_script.specs.declared.draft.Script.{Script}
@@ -79,4 +80,4 @@ phases_of count lanes = (map creation eight ∷ []) ∷ lanes_from count 0 lanes
 
 -- the script of so many iterations in each of so many lanes
 abbrev pub generated : ℕ → ℕ → Script
-generated count lanes = record { budget = 1000000; phases = phases_of count lanes }
+generated count lanes = record { budget = 1000000; limits = default_limits; phases = phases_of count lanes }

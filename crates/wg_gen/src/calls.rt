@@ -6,6 +6,7 @@ ghost use Rattle.wg_gen.specs.Generator.{eight, creation, destruction, iteration
 
 use crate::draws::{Draws, Spot};
 use std::alloc::Global;
+use wg_limits::default_limits;
 use wg_script::{BoundCall, BoundLane, BoundPhase, CallOf, NoMemory, Script};
 use wg_types::commands::CommandOf;
 use wg_types::handles::BufferInfo;
@@ -165,6 +166,7 @@ pub fn script(alloc: Global, count: u32, lanes: u32) -> Result<Script, NoMemory>
     phases.push(one(alloc, ending(alloc, count * lanes)?)?)?;
     Ok(Script {
         budget: BUDGET,
+        limits: default_limits(),
         phases,
     })
 }

@@ -6,6 +6,7 @@ use Rattle.std.proofs.lemmas.Bool.{or_left, or_right}
 use Rattle.std.proofs.lemmas.List.Folds.{list_any-append}
 use Rattle.wg_types.specs.Handles.{HandleValue}
 use Rattle.wg_types.specs.Formats.{row}
+use Rattle.wg_types.specs.Textures.{depth}
 use Rattle.wg_types.specs.Bindings.{entry_of}
 use Rattle.wg_types.specs.Refs.{all_wanted}
 use Rattle.wg_types.specs.Commands.{Command, named}
@@ -21,6 +22,9 @@ use Rattle.wg_types.specs.declared.bindings.BoundResource.TheVariants.{Buffer as
 use Rattle.wg_types.specs.declared.groups.GroupInfo.{GroupInfo}
 use Rattle.wg_types.specs.declared.handles.ObjRef.{ObjRef}
 use Rattle.wg_types.specs.declared.handles.BufferInfo.{BufferInfo}
+use Rattle.wg_types.specs.declared.textures.TextureDim.{TextureDim}
+use Rattle.wg_types.specs.declared.textures.TextureDim.TheVariants as texture_dim
+use Rattle.wg_types.specs.declared.textures.TextureInfo.{TextureInfo}
 use Rattle.wg_types.specs.declared.textures.ViewInfo.{ViewInfo}
 use Rattle.wg_types.specs.declared.render.TargetInfo.{TargetInfo}
 use Rattle.wg_types.specs.declared.bundles.BundleInfo.{BundleInfo}
@@ -28,13 +32,13 @@ use Rattle.wg_types.specs.declared.bundles.BundleTouch.{BundleTouch}
 use Rattle.wg_types.specs.declared.bundles.BundleUse.{BundleUse}
 use Rattle.wg_types.specs.declared.bundles.BundleUse.TheVariants.{Input, Constant, StorageRead, Storage}
 use Rattle.wg_rows.specs.Rows.{EachRow, numbers}
-use Rattle.wg_rows.specs.Runs.{Aspect, PartRun, BufferPart, LayerParts, QueryPart, Cells, Bytes, Layers, Slices, Queries, part_sort, cell_sort, run_part}
+use Rattle.wg_rows.specs.Runs.{Aspect, Color, Depth, Stencil, PartRun, BufferPart, LayerParts, QueryPart, Cells, Bytes, Layers, Slices, Queries, part_sort, cell_sort, run_part}
 use Rattle.wg_rows.specs.Uses.{Kind, same_kind, printed_accesses}
 use Rattle.wg_rows.specs.Sets.{UseRow, sets}
 use Rattle.wg_rows.proofs.Cut.{each_append}
 use Rattle.wg_model.specs.Formats.{named_aspects}
-use Rattle.wg_model.specs.Textures.{layer_count}
-use Rattle.wg_model.specs.Subresources.{level_runs, aspect_runs, view_runs, run_cells}
+use Rattle.wg_model.specs.Textures.{layer_count, extent}
+use Rattle.wg_model.specs.Subresources.{level_runs, aspect_runs, view_runs, texture_cells, run_cells}
 use Rattle.wg_model.specs.Commands.{size_or_rest}
 use Rattle.wg_model.specs.Touches.{Touch, use_of, access_of, has_cells, deed_of}
 use Rattle.wg_model.specs.Bound.{Place, known_group, place_of, entry_places, places_in, set_places, kind_touch, resource_cells, place_touches}
@@ -206,31 +210,43 @@ numbers_lack word n (touch ∷ touches) each =
 
 -- views
 
-abbrev RunSpared : Word → ℕ → PartRun → Type 0
-RunSpared word n run = Spares word n (run_cells run)
+abbrev RunSpared : Word → ℕ → TextureInfo → PartRun → Type 0
+RunSpared word n info run = Spares word n (run_cells info run)
 
 abbrev LayersSpared : Word → ℕ → ℕ → Type 0
 LayersSpared word n object = (aspect : Aspect) (mip lo hi : ℕ) → Spares word n (Layers object aspect mip lo hi)
 
-levels_spared : (word : Word) (n object lo hi : ℕ) (mips : List ℕ) (aspect : Aspect) → LayersSpared word n object → EachRow (RunSpared word n) (level_runs object lo hi mips aspect)
-levels_spared word n object lo hi [] aspect e = tt
-levels_spared word n object lo hi (mip ∷ mips) aspect e = (e aspect mip lo hi, levels_spared word n object lo hi mips aspect e)
+slices_spared : (word : Word) (n object mip lo hi from to : ℕ) → Spares word n (Layers object Color mip lo hi) → Spares word n (Slices object mip from to)
+slices_spared buffer_word n object mip lo hi from to e = e
+slices_spared texture_word n object mip lo hi from to e = e
+slices_spared query_word n object mip lo hi from to e = e
 
-aspects_spared : (word : Word) (n object lo hi : ℕ) (mips : List ℕ) (aspects : List Aspect) → LayersSpared word n object → EachRow (RunSpared word n) (aspect_runs object lo hi mips aspects)
-aspects_spared word n object lo hi mips [] e = tt
-aspects_spared word n object lo hi mips (aspect ∷ aspects) e = each_append (RunSpared word n) (level_runs object lo hi mips aspect) (aspect_runs object lo hi mips aspects) (levels_spared word n object lo hi mips aspect e) (aspects_spared word n object lo hi mips aspects e)
+texture_spared : (word : Word) (n object : ℕ) (dim : TextureDim) (aspect : Aspect) (mip lo hi from to : ℕ) → LayersSpared word n object → Spares word n (texture_cells dim object aspect mip lo hi from to)
+texture_spared word n object texture_dim.Three Color mip lo hi from to e = slices_spared word n object mip lo hi from to (e Color mip lo hi)
+texture_spared word n object texture_dim.Three Depth mip lo hi from to e = e Depth mip lo hi
+texture_spared word n object texture_dim.Three Stencil mip lo hi from to e = e Stencil mip lo hi
+texture_spared word n object texture_dim.One aspect mip lo hi from to e = e aspect mip lo hi
+texture_spared word n object texture_dim.Two aspect mip lo hi from to e = e aspect mip lo hi
 
-view_spared : (word : Word) (n : ℕ) (view : ViewInfo) → LayersSpared word n view.texture.number → EachRow (RunSpared word n) (view_runs view)
+levels_spared : (word : Word) (n : ℕ) (info : TextureInfo) (object lo hi : ℕ) (mips : List ℕ) (aspect : Aspect) → LayersSpared word n object → EachRow (RunSpared word n info) (level_runs object lo hi mips aspect)
+levels_spared word n info object lo hi [] aspect e = tt
+levels_spared word n info object lo hi (mip ∷ mips) aspect e = (texture_spared word n object info.dim aspect mip lo hi 0 (depth (extent info mip)) e, levels_spared word n info object lo hi mips aspect e)
+
+aspects_spared : (word : Word) (n : ℕ) (info : TextureInfo) (object lo hi : ℕ) (mips : List ℕ) (aspects : List Aspect) → LayersSpared word n object → EachRow (RunSpared word n info) (aspect_runs object lo hi mips aspects)
+aspects_spared word n info object lo hi mips [] e = tt
+aspects_spared word n info object lo hi mips (aspect ∷ aspects) e = each_append (RunSpared word n info) (level_runs object lo hi mips aspect) (aspect_runs object lo hi mips aspects) (levels_spared word n info object lo hi mips aspect e) (aspects_spared word n info object lo hi mips aspects e)
+
+view_spared : (word : Word) (n : ℕ) (view : ViewInfo) → LayersSpared word n view.texture.number → EachRow (RunSpared word n view.texture_info) (view_runs view)
 unfolding view_runs
 view_spared word n view e = by_layers (nat_lt view.base_layer (min (view.base_layer + view.layers) (layer_count view.texture_info)))
   where
-    by_layers : (b : Bool) → EachRow (RunSpared word n) (if b then aspect_runs view.texture.number view.base_layer (min (view.base_layer + view.layers) (layer_count view.texture_info)) (numbers view.base_mip (min (view.base_mip + view.mips) view.texture_info.mips)) (named_aspects view.aspect (row view.texture_info.format).aspects) else [])
-    by_layers true = aspects_spared word n view.texture.number view.base_layer (min (view.base_layer + view.layers) (layer_count view.texture_info)) (numbers view.base_mip (min (view.base_mip + view.mips) view.texture_info.mips)) (named_aspects view.aspect (row view.texture_info.format).aspects) e
+    by_layers : (b : Bool) → EachRow (RunSpared word n view.texture_info) (if b then aspect_runs view.texture.number view.base_layer (min (view.base_layer + view.layers) (layer_count view.texture_info)) (numbers view.base_mip (min (view.base_mip + view.mips) view.texture_info.mips)) (named_aspects view.aspect (row view.texture_info.format).aspects) else [])
+    by_layers true = aspects_spared word n view.texture_info view.texture.number view.base_layer (min (view.base_layer + view.layers) (layer_count view.texture_info)) (numbers view.base_mip (min (view.base_mip + view.mips) view.texture_info.mips)) (named_aspects view.aspect (row view.texture_info.format).aspects) e
     by_layers false = tt
 
-runs_spared : (word : Word) (n : ℕ) (runs : List PartRun) → EachRow (RunSpared word n) runs → EachRow (Spares word n) (map run_cells runs)
-runs_spared word n [] each = tt
-runs_spared word n (run ∷ runs) each = (each.0, runs_spared word n runs each.1)
+runs_spared : (word : Word) (n : ℕ) (info : TextureInfo) (runs : List PartRun) → EachRow (RunSpared word n info) runs → EachRow (Spares word n) (map (run_cells info) runs)
+runs_spared word n info [] each = tt
+runs_spared word n info (run ∷ runs) each = (each.0, runs_spared word n info runs each.1)
 
 -- what groups bind
 
@@ -249,7 +265,7 @@ buffer_bytes query_word n buffer known offset size lo hi e = refl
 
 resource_spared : (word : Word) (n moved : ℕ) (resource : BoundResource) → Unbound word n resource → EachRow (Spares word n) (resource_cells moved resource)
 resource_spared word n moved (BoundBuffer buffer known offset size) e = (buffer_bytes word n buffer known offset size (offset + moved) (offset + moved + size) e, tt)
-resource_spared word n moved (BoundView view known) e = runs_spared word n (view_runs known) (view_spared word n known (view_layers word n view known e))
+resource_spared word n moved (BoundView view known) e = runs_spared word n known.texture_info (view_runs known) (view_spared word n known (view_layers word n view known e))
 resource_spared word n moved (BoundSampler sampler known) e = tt
 
 cells_spared : (word : Word) (n : ℕ) (kind : BindingKind) (cells : List Cells) → EachRow (Spares word n) cells → AreSpared word n (map (λ (run : Cells). (run, kind_touch kind)) cells)

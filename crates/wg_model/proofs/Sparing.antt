@@ -13,7 +13,7 @@ use Rattle.wg_types.specs.declared.commands.CommandOf.TheVariants.{BeginComputeP
 use Rattle.wg_types.specs.declared.mappings.Mapping.{Mapping}
 use Rattle.wg_types.specs.declared.textures.TextureInfo.{TextureInfo}
 use Rattle.wg_types.specs.declared.textures.TextureSpot.{TextureSpot}
-use Rattle.wg_rows.specs.Runs.{Aspect, Part, PartRun, Cells, Bytes, Layers, Slices, Queries, object_of}
+use Rattle.wg_rows.specs.Runs.{Aspect, Part, PartRun, Cells, Bytes, Layers, Slices, Queries, object_of, run_object}
 use Rattle.wg_orders.specs.Steps.{Step, StepPlace, set_of}
 use Rattle.wg_orders.specs.Laws.{Unused}
 use Rattle.wg_orders.proofs.Unused.{unused_none, unused_one, unused_append}
@@ -26,7 +26,7 @@ use Rattle.wg_model.specs.Touches.{Touch, Doing, placed, touching, step_of, targ
 use Rattle.wg_model.specs.Bound.{Place, known_group, entry_places, places_in, place_of, kind_touch, resource_cells, place_touches, set_places, index_places, has_entries, layouts_places, bound_touches}
 use Rattle.wg_model.specs.Settings.{settings, group_set, groups_set, layouts_set, indirect_touch}
 use Rattle.wg_model.specs.Compute.{dispatch_touches, compute_does}
-use Rattle.wg_model.specs.Attachments.{RenderBegin, ColorTarget, DepthTarget, attached_view, view_parts, attach_kind, attached, attachment_usage, resolve_touches, color_touches, depth_touch, depth_touches, targets_touches}
+use Rattle.wg_model.specs.Attachments.{RenderBegin, ColorTarget, DepthTarget, attached_view, handle_cells, sliced, color_cells, attach_kind, attached, attachment_usage, resolve_touches, color_touches, depth_touch, depth_touches, targets_touches}
 use Rattle.wg_model.specs.Render.{RenderSet, render_set, touches_over, command_touches, bound_group_touches, render_does, render_does_by}
 use Rattle.wg_types.specs.declared.bundles.BundleInfo.{BundleInfo}
 use Rattle.wg_types.specs.declared.bundles.BundleTouch.{BundleTouch}
@@ -40,7 +40,7 @@ use Rattle.wg_types.specs.declared.commands.Bracket.TheVariants as brackets
 use Rattle.wg_types.specs.declared.wanted.Wanted.{Wanted}
 use Rattle.wg_types.specs.declared.wanted.Wanted.TheVariants as wanted
 use Rattle.wg_rows.specs.Uses.{Usages, Kind, Write}
-use Rattle.wg_model.specs.Subresources.{level_runs, aspect_runs, view_runs, run_cells}
+use Rattle.wg_model.specs.Subresources.{level_runs, aspect_runs, view_runs, view_cells, run_cells}
 use Rattle.wg_model.specs.Formats.{named_aspects}
 use Rattle.wg_model.specs.Textures.{layer_count}
 use Rattle.wg_model.specs.Recorded.{write_buffer_step, write_texture_step, host_name, host_touches, bound_buffer, bound_texture, in_group, in_view, textures_as, query_sets_as, buffers_of, textures_of, query_sets_of, numbers_by, resources, uses_resource, buffers_as}
@@ -60,7 +60,7 @@ use Rattle.wg_types.specs.declared.commands.BoundGroup.{BoundGroup}
 use Rattle.wg_rows.specs.Rows.{EachRow, numbers}
 use Rattle.wg_model.specs.StepLaws.{RecordedSpare}
 use Rattle.wg_model.proofs.StepLaws.{each_joined, placed_deeds}
-use Rattle.wg_model.proofs.Touching.{cells_object, AreAway, touching_spares, copied_others, read_away, written_away, joined_away}
+use Rattle.wg_model.proofs.Touching.{cells_object, run_cells_object, AreAway, touching_spares, copied_others, read_away, written_away, joined_away}
 
 -- A step that uses no part of object n.
 abbrev pub Spares : ℕ → Step → Type 0
@@ -131,7 +131,7 @@ encoder_away _ n e = tt
 
 -- Views of other textures.
 abbrev RunAway : ℕ → PartRun → Type 0
-RunAway n run = cells_object (run_cells run) == n ≡ false
+RunAway n run = run_object run == n ≡ false
 
 levels_away : (n object lo hi : ℕ) (mips : List ℕ) (aspect : Aspect) → object == n ≡ false → EachRow (RunAway n) (level_runs object lo hi mips aspect)
 levels_away n object lo hi [] aspect e = tt
@@ -153,16 +153,16 @@ view_away n view e = by_layers (nat_lt view.base_layer (min (view.base_layer + v
 abbrev CellsAway : ℕ → List Cells → Type 0
 CellsAway n cells = EachRow (λ (run : Cells). cells_object run == n ≡ false) cells
 
-runs_away : (n : ℕ) (runs : List PartRun) → EachRow (RunAway n) runs → CellsAway n (map run_cells runs)
-runs_away n [] each = tt
-runs_away n (run ∷ runs) each = (each.0, runs_away n runs each.1)
+runs_away : (n : ℕ) (info : TextureInfo) (runs : List PartRun) → EachRow (RunAway n) runs → CellsAway n (map (run_cells info) runs)
+runs_away n info [] each = tt
+runs_away n info (run ∷ runs) each = (ap (λ o. o == n) (run_cells_object info run) ∙ each.0, runs_away n info runs each.1)
 
 abbrev Spared : ℕ → BoundResource → Type 0
 Spared n resource = list_any (λ r. r == n) (bound_buffer resource ++ bound_texture resource) ≡ false
 
 resource_away : (n moved : ℕ) (resource : BoundResource) → Spared n resource → CellsAway n (resource_cells moved resource)
 resource_away n moved (BoundBuffer buffer known offset size) e = (or_first (buffer.number == n) false e, tt)
-resource_away n moved (BoundView view known) e = runs_away n (view_runs known) (view_away n known (or_first (known.texture.number == n) false e))
+resource_away n moved (BoundView view known) e = runs_away n known.texture_info (view_runs known) (view_away n known (or_first (known.texture.number == n) false e))
 resource_away n moved (BoundSampler sampler known) e = tt
 
 touches_away : (n : ℕ) (kind : BindingKind) (cells : List Cells) → CellsAway n cells → AreAway n (map (λ (run : Cells). (run, kind_touch kind)) cells)
@@ -273,27 +273,39 @@ views_parted n (x ∷ xs) ys e =
     let rest = views_parted n xs ys both.1 in
     (none_both n (textures_as x.1 x.0) (numbers_by textures_as xs) both.0 rest.0, rest.1)
 
-attached_away : (n : ℕ) (how : Usages × Kind) (runs : List PartRun) → EachRow (RunAway n) runs → AreAway n (map (attached how) runs)
+attached_away : (n : ℕ) (how : Usages × Kind) (cells : List Cells) → CellsAway n cells → AreAway n (map (attached how) cells)
 attached_away n how [] each = tt
-attached_away n how (run ∷ runs) each = (each.0, attached_away n how runs each.1)
+attached_away n how (run ∷ cells) each = (each.0, attached_away n how cells each.1)
 
-known_away : (n : ℕ) (known : Option ViewInfo) → list_any (λ r. r == n) (in_view known) ≡ false → EachRow (RunAway n) (option_map_or view_runs known [])
+known_away : (n : ℕ) (known : Option ViewInfo) → list_any (λ r. r == n) (in_view known) ≡ false → CellsAway n (option_map_or view_cells known [])
 known_away n None e = tt
-known_away n (Some view) e = view_away n view (or_first (view.texture.number == n) false e)
+known_away n (Some view) e = runs_away n view.texture_info (view_runs view) (view_away n view (or_first (view.texture.number == n) false e))
 
-parts_away : (n : ℕ) (view : HandleValue) → list_any (λ r. r == n) (textures_as wanted.View view) ≡ false → EachRow (RunAway n) (view_parts view)
-parts_away n view e = known_away n (attached_view view) e
+handle_away : (n : ℕ) (view : HandleValue) → list_any (λ r. r == n) (textures_as wanted.View view) ≡ false → CellsAway n (handle_cells view)
+handle_away n view e = known_away n (attached_view view) e
+
+-- One slice is of the same texture.
+sliced_object : (slice : Option ℕ) (run : Cells) → cells_object (sliced slice run) ≡ cells_object run
+sliced_object None run = refl
+sliced_object (Some slice) (Bytes object lo hi) = refl
+sliced_object (Some slice) (Layers object aspect mip lo hi) = refl
+sliced_object (Some slice) (Slices object mip lo hi) = refl
+sliced_object (Some slice) (Queries object lo hi) = refl
+
+sliced_away : (n : ℕ) (slice : Option ℕ) (cells : List Cells) → CellsAway n cells → CellsAway n (map (sliced slice) cells)
+sliced_away n slice [] each = tt
+sliced_away n slice (run ∷ cells) each = (ap (λ o. o == n) (sliced_object slice run) ∙ each.0, sliced_away n slice cells each.1)
 
 resolve_away : (n : ℕ) (resolve : Option HandleValue) → SparesViews n (maybe_wanted wanted.View resolve) → AreAway n (resolve_touches resolve)
 resolve_away n None e = tt
-resolve_away n (Some view) e = attached_away n (attachment_usage, Write) (view_parts view) (parts_away n view (both_none n (textures_as wanted.View view) [] e).0)
+resolve_away n (Some view) e = attached_away n (attachment_usage, Write) (handle_cells view) (handle_away n view (both_none n (textures_as wanted.View view) [] e).0)
 
 color_away : (n : ℕ) (color : Option ColorTarget) → SparesViews n (color_named color) → AreAway n (color_touches color)
 color_away n None e = tt
 color_away n (Some target) e =
     let both = both_none n (textures_as wanted.View target.view) (numbers_by textures_as (maybe_wanted wanted.View target.resolve)) e in
-    joined_away n (map (attached (attachment_usage, attach_kind target.load target.store)) (view_parts target.view)) (resolve_touches target.resolve)
-    (attached_away n (attachment_usage, attach_kind target.load target.store) (view_parts target.view) (parts_away n target.view both.0))
+    joined_away n (map (attached (attachment_usage, attach_kind target.load target.store)) (color_cells target)) (resolve_touches target.resolve)
+    (attached_away n (attachment_usage, attach_kind target.load target.store) (color_cells target) (sliced_away n target.depth_slice (handle_cells target.view) (handle_away n target.view both.0)))
     (resolve_away n target.resolve both.1)
 
 colors_away : (n : ℕ) (colors : List (Option ColorTarget)) → SparesViews n (flat_map color_named colors) → AreAway n (flat_map color_touches colors)
@@ -302,13 +314,13 @@ colors_away n (color ∷ colors) e =
     let both = views_parted n (color_named color) (flat_map color_named colors) e in
     joined_away n (color_touches color) (flat_map color_touches colors) (color_away n color both.0) (colors_away n colors both.1)
 
-depth_parts_away : (n : ℕ) (target : DepthTarget) (runs : List PartRun) → EachRow (RunAway n) runs → AreAway n (map (depth_touch target) runs)
-depth_parts_away n target [] each = tt
-depth_parts_away n target (run ∷ runs) each = (each.0, depth_parts_away n target runs each.1)
+depth_cells_away : (n : ℕ) (target : DepthTarget) (cells : List Cells) → CellsAway n cells → AreAway n (map (depth_touch target) cells)
+depth_cells_away n target [] each = tt
+depth_cells_away n target (run ∷ cells) each = (each.0, depth_cells_away n target cells each.1)
 
 depth_away : (n : ℕ) (depth : Option DepthTarget) → SparesViews n (depth_named depth) → AreAway n (depth_touches depth)
 depth_away n None e = tt
-depth_away n (Some target) e = depth_parts_away n target (view_parts target.view) (parts_away n target.view (both_none n (textures_as wanted.View target.view) [] e).0)
+depth_away n (Some target) e = depth_cells_away n target (handle_cells target.view) (handle_away n target.view (both_none n (textures_as wanted.View target.view) [] e).0)
 
 targets_away : (n : ℕ) (begin : RenderBegin) → SparesCommand n (BeginRenderPass begin) → AreAway n (targets_touches begin)
 unfolding targets_touches

@@ -36,7 +36,7 @@ use Rattle.wg_model.specs.Bound.{Place, kind_touch, resource_cells, place_touche
 use Rattle.wg_model.specs.Bound.{set_places}
 use Rattle.wg_model.specs.Settings.{Settings, settings, layouts_set, indirect_touch}
 use Rattle.wg_model.specs.Compute.{compute_does, dispatch_touches}
-use Rattle.wg_model.specs.Attachments.{RenderBegin, ColorTarget, DepthTarget, view_parts, attach_kind, attached, attachment_usage, resolve_touches, color_touches, aspect_how, depth_how, run_aspect, depth_touch, depth_touches, targets_touches}
+use Rattle.wg_model.specs.Attachments.{RenderBegin, ColorTarget, DepthTarget, handle_cells, color_cells, attach_kind, attached, attachment_usage, resolve_touches, color_touches, aspect_how, depth_how, cells_aspect, depth_touch, depth_touches, targets_touches}
 use Rattle.wg_model.specs.Render.{RenderSet, render_set, touches_over, command_touches, bound_group_touches, render_does, render_does_by}
 use Rattle.wg_types.specs.declared.bundles.BundleInfo.{BundleInfo}
 use Rattle.wg_types.specs.declared.bundles.BundleTouch.{BundleTouch}
@@ -52,7 +52,6 @@ use Rattle.wg_types.specs.declared.commands.Bracket.TheVariants as brackets
 use Rattle.wg_types.specs.Commands.{bracket}
 use Rattle.wg_types.specs.declared.render.LoadOp.{LoadOp}
 use Rattle.wg_types.specs.declared.render.StoreOp.{StoreOp}
-use Rattle.wg_rows.specs.Runs.{PartRun}
 use Rattle.wg_rows.specs.Uses.{Usages, kind_writes, only_reads}
 use Rattle.wg_model.specs.Recorded.{write_buffer_step, write_texture_step, host_name, host_touches, host_step}
 use Rattle.wg_model.specs.StepLaws.{IsOwnStep, WritesAreDeclared, RecordedAreDeclared}
@@ -180,17 +179,17 @@ compute_own set _ = tt
 abbrev IsFair : Usages × Kind → Type 0
 IsFair how = kind_writes how.1 ≡ true → only_reads how.0 ≡ false
 
-attached_own : (how : Usages × Kind) → IsFair how → (runs : List PartRun) → AreProper (map (attached how) runs)
+attached_own : (how : Usages × Kind) → IsFair how → (cells : List Cells) → AreProper (map (attached how) cells)
 attached_own how fair [] = tt
-attached_own how fair (run ∷ runs) = (fair, attached_own how fair runs)
+attached_own how fair (run ∷ cells) = (fair, attached_own how fair cells)
 
 resolve_own : (resolve : Option HandleValue) → AreProper (resolve_touches resolve)
 resolve_own None = tt
-resolve_own (Some view) = attached_own (attachment_usage, Write) (λ e. refl) (view_parts view)
+resolve_own (Some view) = attached_own (attachment_usage, Write) (λ e. refl) (handle_cells view)
 
 color_own : (color : Option ColorTarget) → AreProper (color_touches color)
 color_own None = tt
-color_own (Some target) = joined_proper (map (attached (attachment_usage, attach_kind target.load target.store)) (view_parts target.view)) (resolve_touches target.resolve) (attached_own (attachment_usage, attach_kind target.load target.store) (λ e. refl) (view_parts target.view)) (resolve_own target.resolve)
+color_own (Some target) = joined_proper (map (attached (attachment_usage, attach_kind target.load target.store)) (color_cells target)) (resolve_touches target.resolve) (attached_own (attachment_usage, attach_kind target.load target.store) (λ e. refl) (color_cells target)) (resolve_own target.resolve)
 
 colors_own : (colors : List (Option ColorTarget)) → AreProper (flat_map color_touches colors)
 colors_own [] = tt
@@ -205,13 +204,13 @@ depth_fair target aspect.Color = aspect_fair target.depth_read_only target.depth
 depth_fair target aspect.Depth = aspect_fair target.depth_read_only target.depth_load target.depth_store
 depth_fair target aspect.Stencil = aspect_fair target.stencil_read_only target.stencil_load target.stencil_store
 
-parts_own : (target : DepthTarget) (runs : List PartRun) → AreProper (map (depth_touch target) runs)
-parts_own target [] = tt
-parts_own target (run ∷ runs) = (depth_fair target (run_aspect run), parts_own target runs)
+aspects_own : (target : DepthTarget) (cells : List Cells) → AreProper (map (depth_touch target) cells)
+aspects_own target [] = tt
+aspects_own target (run ∷ cells) = (depth_fair target (cells_aspect run), aspects_own target cells)
 
 depth_own : (depth : Option DepthTarget) → AreProper (depth_touches depth)
 depth_own None = tt
-depth_own (Some target) = parts_own target (view_parts target.view)
+depth_own (Some target) = aspects_own target (handle_cells target.view)
 
 targets_own : (begin : RenderBegin) → AreProper (targets_touches begin)
 unfolding targets_touches

@@ -1,12 +1,12 @@
 -- The attachments of render passes (WebGPU, "Render Pass Encoder Creation" and "Render Pass Attachments"): the rules of the
 -- begin, to what the pass draws, and what the attachments touch.
-use Rattle.std.specs.Prelude.{ℕ, ◌==◌, nat_le, Bool, true, false, not, ◌&&◌, ◌||◌, List, [], ◌∷◌, ◌++◌, map, Option, Some, None, is_some, unwrap_or, option_map, length, if◌then◌else◌}
+use Rattle.std.specs.Prelude.{ℕ, ◌+◌, ◌==◌, nat_le, nat_lt, Bool, true, false, not, ◌&&◌, ◌||◌, List, [], ◌∷◌, ◌++◌, map, Option, Some, None, is_some, unwrap_or, option_map, length, if◌then◌else◌}
 use Rattle.std.specs.List.{list_all, list_any, flat_map}
 use Rattle.std.specs.Option.{option_map_or, option_to_list}
 use Rattle.wg_types.specs.Handles.{HandleValue}
 use Rattle.wg_types.specs.Commands.{Command, render_begun}
 use Rattle.wg_types.specs.Formats.{row, same_format}
-use Rattle.wg_types.specs.Textures.{width, height}
+use Rattle.wg_types.specs.Textures.{width, height, depth}
 use Rattle.wg_types.specs.declared.handles.Info.{Info}
 use Rattle.wg_types.specs.declared.handles.Info.TheVariants as info
 use Rattle.wg_types.specs.declared.parts.Aspect.{Aspect}
@@ -23,14 +23,14 @@ use Rattle.wg_types.specs.declared.render.ColorTargetOf.{ColorTargetOf}
 use Rattle.wg_types.specs.declared.render.DepthTargetOf.{DepthTargetOf}
 use Rattle.wg_types.specs.declared.render.RenderBeginOf.{RenderBeginOf}
 use Rattle.wg_types.specs.declared.render.TargetInfo.{TargetInfo}
-use Rattle.wg_rows.specs.Runs.{PartRun, BufferPart, LayerParts, QueryPart}
+use Rattle.wg_rows.specs.Runs.{Cells, Bytes, Layers, Slices, Queries}
 use Rattle.wg_rows.specs.Uses.{Usages, Kind, Read, Write, Both, Drop, ReadDrop}
 use Rattle.wg_model.specs.Rules.{Rule}
 use Rattle.wg_model.specs.Equality.{same_bool}
 use Rattle.wg_model.specs.Buffers.{has_usage}
 use Rattle.wg_model.specs.Formats.{is_color, has_depth, has_stencil, named_aspects}
 use Rattle.wg_model.specs.Textures.{render_attachment, extent}
-use Rattle.wg_model.specs.Subresources.{view_runs, views_meet, run_cells}
+use Rattle.wg_model.specs.Subresources.{views_meet, view_cells}
 use Rattle.wg_model.specs.Making.{no_view}
 use Rattle.wg_model.specs.Touches.{Touch}
 
@@ -83,16 +83,28 @@ color_view target = attachment_of target.view
 abbrev pub drawn_views : RenderBegin → List ViewInfo
 drawn_views begin = map color_view (colors_given begin) ++ option_to_list (option_map depth_view begin.depth)
 
+-- A view that is attached, with the one slice of it that is, if one is given; else all of it is.
+abbrev pub Attached : Type 0
+Attached = ViewInfo × Option ℕ
+
+abbrev pub attached_whole : ViewInfo → Attached
+attached_whole view = (view, None)
+
+-- a color attachment's own view, of a 3d one the slice that is given
+abbrev pub color_attached : ColorTarget → Attached
+color_attached target = (color_view target, target.depth_slice)
+
 -- the views of a color attachment: its own, and that to which it is resolved
-abbrev pub target_views : ColorTarget → List ViewInfo
-target_views target = color_view target ∷ option_to_list (option_map attachment_of target.resolve)
+abbrev pub target_views : ColorTarget → List Attached
+target_views target = color_attached target ∷ option_to_list (option_map (λ (resolve : HandleValue). attached_whole (attachment_of resolve)) target.resolve)
 
 -- all views that are attached
-abbrev pub attached_views : RenderBegin → List ViewInfo
-attached_views begin = flat_map target_views (colors_given begin) ++ option_to_list (option_map depth_view begin.depth)
+abbrev pub attached_views : RenderBegin → List Attached
+attached_views begin =
+    flat_map target_views (colors_given begin) ++ option_to_list (option_map (λ (target : DepthTarget). attached_whole (depth_view target)) begin.depth)
 
--- What a view has to be that is drawn to: of a texture with RENDER_ATTACHMENT, of dimension 2d or 2d-array, with one mip level
--- and one layer.
+-- What a view has to be that is drawn to: of a texture with RENDER_ATTACHMENT, of dimension 2d or 2d-array, or for colors 3d,
+-- with one mip level and one layer.
 
 abbrev pub is_flat : ViewDim → Bool
 is_flat One = false
@@ -102,11 +114,24 @@ is_flat Cube = false
 is_flat CubeArray = false
 is_flat Three = false
 
+abbrev pub is_deep : ViewDim → Bool
+is_deep One = false
+is_deep Two = false
+is_deep TwoArray = false
+is_deep Cube = false
+is_deep CubeArray = false
+is_deep Three = true
+
 abbrev pub is_renderable : ViewInfo → Bool
-is_renderable view = has_usage view.texture_info.usage render_attachment && (is_flat view.dim && (view.mips == 1 && view.layers == 1))
+is_renderable view = has_usage view.texture_info.usage render_attachment && (view.mips == 1 && view.layers == 1)
 
 abbrev pub color_fits : ViewInfo → Bool
-color_fits view = is_renderable view && is_color view.texture_info.format
+color_fits view = is_renderable view && ((is_flat view.dim || is_deep view.dim) && is_color view.texture_info.format)
+
+-- whether a slice is given exactly where the view is 3d, and is one of its mip level
+abbrev pub slice_fits : Attached → Bool
+slice_fits (view, None) = not (is_deep view.dim)
+slice_fits (view, Some slice) = is_deep view.dim && nat_lt slice (depth (extent view.texture_info view.base_mip))
 
 -- whether a view has all aspects of its texture's format
 abbrev pub has_all_aspects : ViewInfo → Bool
@@ -114,7 +139,7 @@ has_all_aspects view =
     length (named_aspects view.aspect (row view.texture_info.format).aspects) == length (named_aspects All (row view.texture_info.format).aspects)
 
 abbrev pub depth_attachment_fits : ViewInfo → Bool
-depth_attachment_fits view = is_renderable view && (not (is_color view.texture_info.format) && has_all_aspects view)
+depth_attachment_fits view = is_renderable view && (is_flat view.dim && (not (is_color view.texture_info.format) && has_all_aspects view))
 
 -- whether load and store of an aspect are given exactly where they are wanted
 abbrev pub ops_fit : Bool → Option LoadOp → Option StoreOp → Bool
@@ -144,18 +169,29 @@ abbrev pub all_alike : List ViewInfo → Bool
 all_alike [] = true
 all_alike (view ∷ views) = list_all (are_alike view) views
 
--- whether no subresource is in two of the views
-abbrev pub views_are_apart : List ViewInfo → Bool
-views_are_apart [] = true
-views_are_apart (view ∷ views) = not (list_any (views_meet view) views) && views_are_apart views
+-- whether two attachments of one 3D texture may have a slice in common
+abbrev pub slices_meet : Option ℕ → Option ℕ → Bool
+slices_meet (Some slice) (Some other) = slice == other
+slices_meet _ _ = true
 
--- whether a view of 4 samples may be resolved to another: to one of 1 sample that can be drawn to, of the same format and extent
+-- Whether two attachments have a cell in common: their views have a subresource in common, and of that no two slices.
+abbrev pub attached_meet : Attached → Attached → Bool
+attached_meet a b = views_meet a.0 b.0 && slices_meet a.1 b.1
+
+-- whether no cell is in two of the attachments
+abbrev pub attached_are_apart : List Attached → Bool
+attached_are_apart [] = true
+attached_are_apart (view ∷ views) = not (list_any (attached_meet view) views) && attached_are_apart views
+
+-- whether a view of 4 samples may be resolved to another: to one of 1 sample that can be drawn to and is 2d or 2d-array, of the
+-- same format and extent
 abbrev pub resolves_to : ViewInfo → ViewInfo → Bool
 resolves_to view target =
     view.texture_info.samples == 4
     && (target.texture_info.samples == 1
     && (color_fits target
-    && (same_format view.texture_info.format target.texture_info.format && same_extent view target)))
+    && (is_flat target.dim
+    && (same_format view.texture_info.format target.texture_info.format && same_extent view target))))
 
 abbrev pub resolve_fits : ColorTarget → Bool
 resolve_fits target = option_map_or (λ (resolve : HandleValue). resolves_to (color_view target) (attachment_of resolve)) target.resolve true
@@ -165,21 +201,23 @@ abbrev pub most_colors : ℕ
 most_colors = 8
 
 -- beginRenderPass: 300 there are no more color attachments than may be, those left out too; 301 some attachment is given; 302
--- each color view can be drawn to and has a color format; 303 so can the depth view, which has a depth or stencil format and
--- all its aspects; 304 load and store of depth and of stencil are given exactly where the format has it and it is not only
--- read; 305 extents and counts of samples are equal; 306 no subresource is attached twice, resolve targets included; 307 what
--- is resolved goes to a view that will do.
+-- each color view can be drawn to, is 2d, 2d-array or 3d, and has a color format; 308 a slice is given exactly where a color
+-- view is 3d, and is below the depth of its mip level; 303 the depth view can be drawn to, is 2d or 2d-array, and has a depth or
+-- stencil format and all its aspects; 304 load and store of depth and of stencil are given exactly where the format has it and
+-- it is not only read; 305 extents and counts of samples are equal; 306 no cell is attached twice, resolve targets included; 307
+-- what is resolved goes to a view that will do.
 unfoldable pub begin_rules : RenderBegin → List Rule
 begin_rules begin =
     (300, nat_le (length begin.colors) most_colors)
     ∷ ((301, list_any (λ (color : Option ColorTarget). is_some color) begin.colors || is_some begin.depth)
     ∷ ((302, list_all (λ (target : ColorTarget). color_fits (color_view target)) (colors_given begin))
+    ∷ ((308, list_all (λ (target : ColorTarget). slice_fits (color_attached target)) (colors_given begin))
     ∷ ((303, option_map_or (λ (target : DepthTarget). depth_attachment_fits (depth_view target)) begin.depth true)
     ∷ ((304, option_map_or depth_ops_fit begin.depth true)
     ∷ ((305, all_alike (drawn_views begin))
-    ∷ ((306, views_are_apart (attached_views begin))
+    ∷ ((306, attached_are_apart (attached_views begin))
     ∷ ((307, list_all resolve_fits (colors_given begin))
-    ∷ [])))))))
+    ∷ []))))))))
 
 -- what the begin of a pass begins with, which for what begins no render pass is nothing
 abbrev pub no_begin : RenderBegin
@@ -205,7 +243,7 @@ targets_of begin = record {
   stencil_read_only = option_map_or (λ (target : DepthTarget). target.stencil_read_only) begin.depth false;
 }
 
--- What attachments touch: each subresource of their views.
+-- What attachments touch: the cells of their views, or one slice of a 3d view.
 
 abbrev pub attachment_usage : Usages
 attachment_usage = record { 0 = 16 }
@@ -213,8 +251,16 @@ attachment_usage = record { 0 = 16 }
 abbrev pub attachment_read_usage : Usages
 attachment_read_usage = record { 0 = 32 }
 
-abbrev pub view_parts : HandleValue → List PartRun
-view_parts handle = option_map_or view_runs (attached_view handle) []
+abbrev pub handle_cells : HandleValue → List Cells
+handle_cells handle = option_map_or view_cells (attached_view handle) []
+
+-- one slice of what are slices, if one is given
+abbrev pub sliced : Option ℕ → Cells → Cells
+sliced (Some slice) (Slices object mip lo hi) = Slices object mip slice (slice + 1)
+sliced _ cells = cells
+
+abbrev pub color_cells : ColorTarget → List Cells
+color_cells target = map (sliced target.depth_slice) (handle_cells target.view)
 
 -- how an attachment is accessed: read where it is loaded, and left unset where it is discarded
 abbrev pub attach_kind : LoadOp → StoreOp → Kind
@@ -223,17 +269,17 @@ attach_kind Clear Store = Write
 attach_kind Load Discard = ReadDrop
 attach_kind Clear Discard = Drop
 
-abbrev pub attached : Usages × Kind → PartRun → Touch
-attached how run = (run_cells run, how)
+abbrev pub attached : Usages × Kind → Cells → Touch
+attached how cells = (cells, how)
 
 -- a resolve target is written
 abbrev pub resolve_touches : Option HandleValue → List Touch
 resolve_touches None = []
-resolve_touches (Some view) = map (attached (attachment_usage, Write)) (view_parts view)
+resolve_touches (Some view) = map (attached (attachment_usage, Write)) (handle_cells view)
 
 abbrev pub color_touches : Option ColorTarget → List Touch
 color_touches None = []
-color_touches (Some target) = map (attached (attachment_usage, attach_kind target.load target.store)) (view_parts target.view) ++ resolve_touches target.resolve
+color_touches (Some target) = map (attached (attachment_usage, attach_kind target.load target.store)) (color_cells target) ++ resolve_touches target.resolve
 
 -- how an aspect is accessed: it is read alone, or as its load and store say, which rule 304 asks for there
 abbrev pub aspect_how : Bool → Option LoadOp → Option StoreOp → Usages × Kind
@@ -245,17 +291,18 @@ depth_how target aspect.Color = aspect_how target.depth_read_only target.depth_l
 depth_how target aspect.Depth = aspect_how target.depth_read_only target.depth_load target.depth_store
 depth_how target aspect.Stencil = aspect_how target.stencil_read_only target.stencil_load target.stencil_store
 
-abbrev pub run_aspect : PartRun → Aspect
-run_aspect (BufferPart object) = aspect.Color
-run_aspect (LayerParts object of mip lo hi) = of
-run_aspect (QueryPart object) = aspect.Color
+abbrev pub cells_aspect : Cells → Aspect
+cells_aspect (Bytes object lo hi) = aspect.Color
+cells_aspect (Layers object of mip lo hi) = of
+cells_aspect (Slices object mip lo hi) = aspect.Color
+cells_aspect (Queries object lo hi) = aspect.Color
 
-abbrev pub depth_touch : DepthTarget → PartRun → Touch
-depth_touch target run = attached (depth_how target (run_aspect run)) run
+abbrev pub depth_touch : DepthTarget → Cells → Touch
+depth_touch target cells = attached (depth_how target (cells_aspect cells)) cells
 
 abbrev pub depth_touches : Option DepthTarget → List Touch
 depth_touches None = []
-depth_touches (Some target) = map (depth_touch target) (view_parts target.view)
+depth_touches (Some target) = map (depth_touch target) (handle_cells target.view)
 
 unfoldable pub targets_touches : RenderBegin → List Touch
 targets_touches begin = flat_map color_touches begin.colors ++ depth_touches begin.depth

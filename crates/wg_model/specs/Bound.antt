@@ -178,7 +178,7 @@ unfoldable pub bound_rules : List GroupLayoutInfo → List (Option BoundGroup) �
 bound_rules layouts groups = (341, layouts_fit layouts groups 0) ∷ ((342, are_clear (layouts_places layouts groups 0)) ∷ [])
 
 -- What is bound is used and accessed as the kind of its binding says, whatever stages see it: each cell of a bound range and
--- each subresource of a view.
+-- each cell of a view's subresources.
 abbrev pub buffer_touch : BufferBinding → Usages × Kind
 buffer_touch Uniform = (constant_usage, Read)
 buffer_touch Storage = (storage_usage, Both)

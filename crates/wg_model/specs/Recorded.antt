@@ -128,6 +128,7 @@ reaching wanted.Pass = no_resource
 reaching wanted.Binding = no_resource
 reaching wanted.Drawing = no_resource
 reaching wanted.Recording = no_resource
+reaching wanted.Canvas = no_resource
 reaching wanted.Object = no_resource
 
 -- the numbers of the buffers that are reached

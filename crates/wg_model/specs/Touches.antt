@@ -112,8 +112,8 @@ written_cells kind cells = (cells, (copy_dst_usage, kind))
 abbrev pub bytes_at : ℕ → ℕ → ℕ → Cells
 bytes_at object offset size = Bytes object offset (offset + size)
 
--- The subresources that a copy is to are written where it covers all of each, and else read and written, since what it
--- leaves stays.
+-- The cells that a copy is to are written where it covers all of each, and else read and written, since what it leaves
+-- stays.
 abbrev pub target_kind : TextureInfo → TextureSpot → List ℕ → Kind
 target_kind info spot size = if covers_all info spot size then Write else Both
 
@@ -140,12 +140,12 @@ abbrev pub buffer_to_buffer_touches : ℕ → ℕ → ℕ → ℕ → ℕ → Li
 buffer_to_buffer_touches source source_offset target target_offset size =
     read_cells (bytes_at source source_offset size) ∷ range_touches target target_offset size
 
--- What copyBufferToTexture touches: the range is read, and the subresources are copied to.
+-- What copyBufferToTexture touches: the range is read, and the cells are copied to.
 abbrev pub buffer_to_texture_touches : ℕ → DataLayout → ℕ → TextureInfo → TextureSpot → List ℕ → List Touch
 buffer_to_texture_touches buffer layout texture info spot size =
     read_cells (bytes_at buffer layout.offset (layout_bytes layout (texel_to spot.aspect info.format) size)) ∷ copied_to texture info spot size
 
--- What copyTextureToBuffer touches: the range is copied to, and the subresources are read.
+-- What copyTextureToBuffer touches: the range is copied to, and the cells are read.
 abbrev pub range_written : ℕ → ℕ → ℕ → ℕ → List ℕ → Touch
 range_written buffer offset taken bytes size = written_cells (range_kind taken bytes size) (bytes_at buffer offset taken)
 
@@ -156,7 +156,7 @@ abbrev pub texture_to_buffer_touches : ℕ → DataLayout → ℕ → TextureInf
 texture_to_buffer_touches buffer layout texture info spot size =
     range_copied_to buffer layout (texel_from spot.aspect info.format) size ∷ copied_from texture info spot size
 
--- What copyTextureToTexture touches: the subresources of the source are read, those of the target are copied to.
+-- What copyTextureToTexture touches: the cells of the source are read, those of the target are copied to.
 abbrev pub texture_to_texture_touches : ℕ → TextureInfo → TextureSpot → ℕ → TextureInfo → TextureSpot → List ℕ → List Touch
 texture_to_texture_touches source from_info from target to_info to size = copied_from source from_info from size ++ copied_to target to_info to size
 

@@ -71,7 +71,7 @@ map_phases f phases = map (map_phase f) phases
 
 -- the script that a draft is: the same calls, with the slot of each name in place of it, where no name is refused
 abbrev pub script_from : Draft → Result Script Stop
-script_from draft = phases_bound draft.phases >>= λ names. Ok (record { budget = draft.budget; phases = map_phases (slot_in names) draft.phases })
+script_from draft = phases_bound draft.phases >>= λ names. Ok (record { budget = draft.budget; limits = draft.limits; phases = map_phases (slot_in names) draft.phases })
 
 -- the script that the bytes are, or the rule that they break first, with its place
 abbrev pub script_of : List ℕ → Result Script Stop

@@ -39,6 +39,7 @@ wants_own wanted.Pass = true
 wants_own wanted.Binding = true
 wants_own wanted.Drawing = true
 wants_own wanted.Recording = true
+wants_own wanted.Canvas = true
 wants_own wanted.Object = false
 
 -- the name that a call makes

@@ -124,6 +124,7 @@ pub fn bind(alloc: Global, draft: Draft) -> Result<Script, ScriptFault>
     let phases = bound_phases(alloc, &known, draft.phases.as_slice())?;
     Ok(Script {
         budget: draft.budget,
+        limits: draft.limits,
         phases,
     })
 }

@@ -150,7 +150,8 @@ fn wants_own(wanted: Wanted) -> bool
         | Wanted::Pass
         | Wanted::Binding
         | Wanted::Drawing
-        | Wanted::Recording => true,
+        | Wanted::Recording
+        | Wanted::Canvas => true,
         Wanted::Buffer
         | Wanted::Texture
         | Wanted::View

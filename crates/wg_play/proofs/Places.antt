@@ -1,10 +1,10 @@
 -- Which commands begin passes, and what a command stands on.
-use Rattle.std.proofs.Common.{◌≡◌, true, Some, refl, ◌⊎◌, inl, inr}
+use Rattle.std.proofs.Common.{◌≡◌, true, false, Some, refl, ◌⊎◌, inl, inr}
 use Rattle.wg_types.specs.declared.wanted.Kind.{Kind}
 use Rattle.wg_types.specs.declared.wanted.Kind.TheVariants as kind
 use Rattle.wg_types.specs.declared.wanted.Wanted.{Wanted}
 use Rattle.wg_types.specs.declared.wanted.Wanted.TheVariants as wanted
-use Rattle.wg_types.specs.Wanted.{admits}
+use Rattle.wg_types.specs.Wanted.{admits, is_wanted}
 use Rattle.wg_types.specs.declared.commands.Bracket.{Bracket}
 use Rattle.wg_types.specs.declared.commands.Bracket.TheVariants as brackets
 use Rattle.wg_types.specs.declared.commands.CommandOf.{CommandOf}
@@ -90,32 +90,37 @@ is_bundle_encoder _ e = absurd (cc)
 abbrev EncoderOrPass : Kind → Type 0
 EncoderOrPass k = (has_recorder k ≡ true) ⊎ (is_pass k ≡ true)
 
--- what asks for the lane's own is met by encoders and passes alone
-admitted : (w : Wanted) (k : Kind) → wants_own w ≡ true → admits w k ≡ true → EncoderOrPass k
-admitted wanted.Encoder kind.Encoder p e = inl refl
-admitted wanted.BundleEncoder kind.BundleEncoder p e = inl refl
-admitted wanted.ComputePass kind.ComputePass p e = inr refl
-admitted wanted.RenderPass kind.RenderPass p e = inr refl
-admitted wanted.Pass kind.ComputePass p e = inr refl
-admitted wanted.Pass kind.RenderPass p e = inr refl
-admitted wanted.Binding kind.ComputePass p e = inr refl
-admitted wanted.Binding kind.RenderPass p e = inr refl
-admitted wanted.Binding kind.BundleEncoder p e = inl refl
-admitted wanted.Drawing kind.RenderPass p e = inr refl
-admitted wanted.Drawing kind.BundleEncoder p e = inl refl
-admitted wanted.Recording kind.Encoder p e = inl refl
-admitted wanted.Recording kind.BundleEncoder p e = inl refl
-admitted wanted.Recording kind.ComputePass p e = inr refl
-admitted wanted.Recording kind.RenderPass p e = inr refl
-admitted wanted.Encoder _ p e = absurd (cc)
-admitted wanted.BundleEncoder _ p e = absurd (cc)
-admitted wanted.ComputePass _ p e = absurd (cc)
-admitted wanted.RenderPass _ p e = absurd (cc)
-admitted wanted.Pass _ p e = absurd (cc)
-admitted wanted.Binding _ p e = absurd (cc)
-admitted wanted.Drawing _ p e = absurd (cc)
-admitted wanted.Recording _ p e = absurd (cc)
-admitted _ k p e = absurd (cc)
+-- no command stands on a canvas
+no_canvas : {R : Type 0} (command : CommandOf R) → is_wanted wanted.Canvas (place_wanted command) ≡ false
+no_canvas command = grind arith
+
+-- what asks for the lane's own, and is no canvas, is met by encoders and passes alone
+admitted : (w : Wanted) (k : Kind) → wants_own w ≡ true → is_wanted wanted.Canvas w ≡ false → admits w k ≡ true → EncoderOrPass k
+admitted wanted.Encoder kind.Encoder p n e = inl refl
+admitted wanted.BundleEncoder kind.BundleEncoder p n e = inl refl
+admitted wanted.ComputePass kind.ComputePass p n e = inr refl
+admitted wanted.RenderPass kind.RenderPass p n e = inr refl
+admitted wanted.Pass kind.ComputePass p n e = inr refl
+admitted wanted.Pass kind.RenderPass p n e = inr refl
+admitted wanted.Binding kind.ComputePass p n e = inr refl
+admitted wanted.Binding kind.RenderPass p n e = inr refl
+admitted wanted.Binding kind.BundleEncoder p n e = inl refl
+admitted wanted.Drawing kind.RenderPass p n e = inr refl
+admitted wanted.Drawing kind.BundleEncoder p n e = inl refl
+admitted wanted.Recording kind.Encoder p n e = inl refl
+admitted wanted.Recording kind.BundleEncoder p n e = inl refl
+admitted wanted.Recording kind.ComputePass p n e = inr refl
+admitted wanted.Recording kind.RenderPass p n e = inr refl
+admitted wanted.Encoder _ p n e = absurd (cc)
+admitted wanted.BundleEncoder _ p n e = absurd (cc)
+admitted wanted.ComputePass _ p n e = absurd (cc)
+admitted wanted.RenderPass _ p n e = absurd (cc)
+admitted wanted.Pass _ p n e = absurd (cc)
+admitted wanted.Binding _ p n e = absurd (cc)
+admitted wanted.Drawing _ p n e = absurd (cc)
+admitted wanted.Recording _ p n e = absurd (cc)
+admitted wanted.Canvas _ p n e = absurd (cc)
+admitted _ k p n e = absurd (cc)
 
 pub stands_on : {R : Type 0} (command : CommandOf R) (k : Kind) → admits (place_wanted command) k ≡ true → EncoderOrPass k
-stands_on command k e = admitted (place_wanted command) k (place_own command) e
+stands_on command k e = admitted (place_wanted command) k (place_own command) (no_canvas command) e

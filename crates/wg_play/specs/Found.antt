@@ -46,6 +46,8 @@ is_pass kinds.CommandBuffer = false
 is_pass kinds.Bundle = false
 is_pass kinds.ComputePass = true
 is_pass kinds.RenderPass = true
+is_pass kinds.Canvas = false
+is_pass kinds.CanvasTexture = false
 
 -- the kinds of encoders, each of which has a recorder and is ended by a finish of its own
 abbrev pub has_recorder : Kind → Bool
@@ -65,6 +67,8 @@ has_recorder kinds.CommandBuffer = false
 has_recorder kinds.Bundle = false
 has_recorder kinds.ComputePass = false
 has_recorder kinds.RenderPass = false
+has_recorder kinds.Canvas = false
+has_recorder kinds.CanvasTexture = false
 
 -- the kind of the encoder of a recorder: a bundle encoder where that has targets
 abbrev pub recorder_kind : RecorderValue → Kind

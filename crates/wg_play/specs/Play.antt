@@ -1,7 +1,7 @@
 -- To play a script: its lanes take turns, and the history is what an order of turns gives.
 use Rattle.std.specs.Prelude.{◌≡◌, ℕ, ◌≤◌, nat_lt, List, [], ◌∷◌, ◌++◌, reverse, length, Option, Some, None, option_map, option_and_then, if◌then◌else◌}
 use Rattle.wg_types.specs.declared.replies.Reply.{Reply}
-use Rattle.wg_model.specs.Limits.{default_limits}
+use Rattle.wg_types.specs.declared.limits.Limits.{Limits}
 use Rattle.wg_history.specs.declared.events.Setup.{Setup}
 use Rattle.wg_history.specs.Entries.{Entry, Past}
 use Rattle.wg_script.specs.CallOf.{BoundCall}
@@ -10,12 +10,12 @@ use Rattle.wg_play.specs.declared.objects.Object.{Object}
 use Rattle.wg_play.specs.Lanes.{Lane, next_event, after_reply, starts, gathered}
 use Rattle.wg_play.specs.Turns.{made_by, AllGive, all_after, phase_by}
 
--- The device has the serial 1, the script's budget and the limits of every device.
-abbrev pub setup_with : ℕ → Setup
-setup_with budget = record { serial = 1; budget = budget; limits = default_limits }
+-- The device has the serial 1, and the script's budget and limits.
+abbrev pub setup_with : ℕ → Limits → Setup
+setup_with budget limits = record { serial = 1; budget = budget; limits = limits }
 
 abbrev pub setup_of : Script → Setup
-setup_of script = setup_with script.budget
+setup_of script = setup_with script.budget script.limits
 
 -- the most lanes that a phase has, or n where that is more
 abbrev pub most_lanes : ℕ → List (List (List BoundCall)) → ℕ

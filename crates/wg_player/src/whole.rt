@@ -59,7 +59,7 @@ pub fn play<T: Wait + Threads + Sync, G: Gate + Sync>(
 {
     let phases = script.phases.as_slice();
     let callers = callers_for(phases)?;
-    let (device, passes) = Device::open(alloc, script.budget, SERIAL, callers)?;
+    let (device, passes) = Device::open(alloc, script.budget, SERIAL, &script.limits, callers)?;
     let passes = play_phases(rt, alloc, gate, &device, phases, passes)?;
     Ok(device.close(passes))
 }

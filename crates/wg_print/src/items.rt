@@ -46,7 +46,8 @@ fn put_part<W: Sink>(out: &mut Out<'_, W>, part: PartRun)
     }
 }
 
-fn put_cells<W: Sink>(out: &mut Out<'_, W>, cells: Cells)
+/// Puts a run of cells. Once a write has failed this does nothing.
+pub fn put_cells<W: Sink>(out: &mut Out<'_, W>, cells: Cells)
     ensures same_reference { reference out.new ≡ reference out.old }
     ensures text { Puts (seen W.taken W.faults out.old) (seen W.taken W.faults out.new)
         (cells_text cells) }

@@ -10,6 +10,6 @@ mod usage_sets;
 mod words;
 
 pub use entries::{entry, put_entry};
-pub use items::{item, put_item};
+pub use items::{item, put_cells, put_item};
 pub use pieces::{Piece, line, put_all, put_line};
 pub use printing::Out;

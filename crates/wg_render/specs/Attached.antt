@@ -3,7 +3,7 @@ use Rattle.std.specs.Prelude.{◌≡◌, Bool, ◌&&◌, List, Option, ◌++◌,
 use Rattle.std.specs.List.{flat_map}
 use Rattle.std.specs.Option.{option_to_list}
 use Rattle.wg_types.specs.declared.textures.ViewInfo.{ViewInfo}
-use Rattle.wg_model.specs.Attachments.{ColorTarget, DepthTarget, color_view, depth_view, target_views, views_are_apart}
+use Rattle.wg_model.specs.Attachments.{ColorTarget, DepthTarget, Attached, attached_whole, color_view, depth_view, target_views, attached_are_apart}
 
 -- the color attachments that are not left out
 abbrev pub given_of : List (Option ColorTarget) → List ColorTarget
@@ -17,11 +17,15 @@ depth_views depth = option_to_list (option_map depth_view depth)
 abbrev pub drawn_in : List (Option ColorTarget) → Option DepthTarget → List ViewInfo
 drawn_in colors depth = map color_view (given_of colors) ++ depth_views depth
 
--- all views that are attached
-abbrev pub attached_in : List (Option ColorTarget) → Option DepthTarget → List ViewInfo
-attached_in colors depth = flat_map target_views (given_of colors) ++ depth_views depth
+-- the same as one that is attached whole
+abbrev pub depth_attached : Option DepthTarget → List Attached
+depth_attached depth = option_to_list (option_map (λ (target : DepthTarget). attached_whole (depth_view target)) depth)
 
--- The answer to whether views share no subresource among themselves and with those that come after them. These are not looked
+-- all that is attached
+abbrev pub attached_in : List (Option ColorTarget) → Option DepthTarget → List Attached
+attached_in colors depth = flat_map target_views (given_of colors) ++ depth_attached depth
+
+-- The answer to whether attachments share no cell among themselves and with those that come after them. These are not looked
 -- at among themselves.
-abbrev pub AreApartBefore : List ViewInfo → List ViewInfo → Bool → Type 0
-AreApartBefore views later answer = views_are_apart (views ++ later) ≡ (answer && views_are_apart later)
+abbrev pub AreApartBefore : List Attached → List Attached → Bool → Type 0
+AreApartBefore views later answer = attached_are_apart (views ++ later) ≡ (answer && attached_are_apart later)

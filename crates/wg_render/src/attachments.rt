@@ -3,8 +3,7 @@ ghost use Rattle.std.specs.Prelude.{◌≡◌, ◌||◌, true, is_some};
 ghost use Rattle.std.specs.List.{list_all, list_any};
 ghost use Rattle.std.specs.Option.{option_map_or};
 ghost use Rattle.wg_model.specs.Rules.{first_unmet};
-ghost use Rattle.wg_model.specs.Subresources.{views_meet};
-ghost use Rattle.wg_model.specs.Attachments.{color_view, depth_view, target_views, is_flat, is_renderable, color_fits, has_all_aspects, depth_attachment_fits, ops_fit, depth_ops_fit, same_extent, are_alike, all_alike, views_are_apart, resolves_to, resolve_fits, begin_rules};
+ghost use Rattle.wg_model.specs.Attachments.{color_view, color_attached, depth_view, target_views, is_flat, is_deep, is_renderable, color_fits, slice_fits, slices_meet, attached_meet, has_all_aspects, depth_attachment_fits, ops_fit, depth_ops_fit, same_extent, are_alike, all_alike, attached_are_apart, resolves_to, resolve_fits, begin_rules};
 ghost use Rattle.wg_render.specs.Attached.{given_of, drawn_in, attached_in, AreApartBefore};
 
 use crate::views::{ColorTarget, DepthTarget, RenderBegin, view_of};
@@ -29,21 +28,41 @@ fn is_flat(dim: ViewDim) -> bool
     }
 }
 
-/// Whether a view may be drawn to, whatever its format.
+/// Whether a view of this dimension is drawn to by slices.
+fn is_deep(dim: ViewDim) -> bool
+    ensures { result ≡ is_deep dim }
+{
+    match dim {
+        ViewDim::Three => true,
+        ViewDim::One | ViewDim::Two | ViewDim::TwoArray | ViewDim::Cube | ViewDim::CubeArray =>
+            false,
+    }
+}
+
+/// Whether a view may be drawn to, whatever its dimension and format.
 fn is_renderable(view: &ViewInfo) -> bool
     ensures { result ≡ is_renderable view.now }
 {
-    view.texture_info.usage & RENDER_ATTACHMENT != 0
-        && is_flat(view.dim)
-        && view.mips == 1
-        && view.layers == 1
+    view.texture_info.usage & RENDER_ATTACHMENT != 0 && view.mips == 1 && view.layers == 1
 }
 
 /// Whether a view may be a color attachment.
 fn color_fits(view: &ViewInfo) -> bool
     ensures { result ≡ color_fits view.now }
 {
-    is_renderable(view) && is_color(view.texture_info.format)
+    is_renderable(view)
+        && (is_flat(view.dim) || is_deep(view.dim))
+        && is_color(view.texture_info.format)
+}
+
+/// Whether a slice is given exactly where a view is 3d, and is one of its mip level.
+fn slice_fits(view: &ViewInfo, slice: Option<u32>) -> bool
+    ensures { result ≡ slice_fits (view.now, slice) }
+{
+    match slice {
+        Some(slice) => { is_deep(view.dim) && slice < extent(&view.texture_info, view.base_mip)[2] }
+        None => !is_deep(view.dim),
+    }
 }
 
 /// Whether a view has all aspects of its texture's format.
@@ -58,7 +77,10 @@ fn has_all_aspects(view: &ViewInfo) -> bool
 fn depth_fits(view: &ViewInfo) -> bool
     ensures { result ≡ depth_attachment_fits view.now }
 {
-    is_renderable(view) && !is_color(view.texture_info.format) && has_all_aspects(view)
+    is_renderable(view)
+        && is_flat(view.dim)
+        && !is_color(view.texture_info.format)
+        && has_all_aspects(view)
 }
 
 /// Whether load and store are given exactly where they are wanted.
@@ -102,6 +124,7 @@ fn resolves_to(view: &ViewInfo, target: &ViewInfo) -> bool
     view.texture_info.samples == 4
         && target.texture_info.samples == 1
         && color_fits(target)
+        && is_flat(target.dim)
         && view.texture_info.format == target.texture_info.format
         && same_extent(view, target)
 }
@@ -137,6 +160,19 @@ fn colors_fit(colors: &[Option<ColorTarget>]) -> bool
     for color in colors {
         let Some(target) = color else { continue };
         if !color_fits(&view_of(&target.view)) {
+            return false;
+        }
+    }
+    true
+}
+
+/// Whether a slice is given exactly where a color view is 3d, and is one of its mip level.
+fn slices_fit(colors: &[Option<ColorTarget>]) -> bool
+    ensures { result ≡ list_all (λ target. slice_fits (color_attached target)) (given_of colors.now) }
+{
+    for color in colors {
+        let Some(target) = color else { continue };
+        if !slice_fits(&view_of(&target.view), target.depth_slice) {
             return false;
         }
     }
@@ -184,29 +220,56 @@ fn all_alike(colors: &[Option<ColorTarget>], depth: &Option<DepthTarget>) -> boo
     true
 }
 
-/// Whether a view has a subresource in common with one of those that are attached.
-fn meets_some(view: &ViewInfo, colors: &[Option<ColorTarget>], depth: &Option<DepthTarget>) -> bool
-    ensures { result ≡ list_any (views_meet view.now) (attached_in colors.now depth.now) }
+/// Whether two attachments of one 3D texture may have a slice in common.
+fn slices_meet(slice: Option<u32>, other: Option<u32>) -> bool
+    ensures { result ≡ slices_meet slice other }
+{
+    match (slice, other) {
+        (Some(slice), Some(other)) => slice == other,
+        _ => true,
+    }
+}
+
+/// Whether two attachments have a cell in common.
+fn attached_meet(
+    view: &ViewInfo,
+    slice: Option<u32>,
+    other: &ViewInfo,
+    other_slice: Option<u32>,
+) -> bool
+    ensures { result ≡ attached_meet (view.now, slice) (other.now, other_slice) }
+{
+    views_meet(view, other) && slices_meet(slice, other_slice)
+}
+
+/// Whether an attachment has a cell in common with one of those that are attached.
+fn meets_some(
+    view: &ViewInfo,
+    slice: Option<u32>,
+    colors: &[Option<ColorTarget>],
+    depth: &Option<DepthTarget>,
+) -> bool
+    ensures { result ≡ list_any (attached_meet (view.now, slice)) (attached_in colors.now depth.now) }
 {
     for color in colors {
         let Some(target) = color else { continue };
-        if views_meet(view, &view_of(&target.view)) {
+        if attached_meet(view, slice, &view_of(&target.view), target.depth_slice) {
             return true;
         }
         if let Some(resolve) = &target.resolve {
-            if views_meet(view, &view_of(resolve)) {
+            if attached_meet(view, slice, &view_of(resolve), None) {
                 return true;
             }
         }
     }
     match depth {
-        Some(target) => views_meet(view, &view_of(&target.view)),
+        Some(target) => attached_meet(view, slice, &view_of(&target.view), None),
         None => false,
     }
 }
 
-/// Whether a color attachment's views have no subresource in common, and none with those that are
-/// attached behind it.
+/// Whether a color attachment's views have no cell in common, and none with those that are attached
+/// behind it.
 fn is_apart(
     target: &ColorTarget,
     colors: &[Option<ColorTarget>],
@@ -215,22 +278,24 @@ fn is_apart(
     ensures { AreApartBefore (target_views target.now) (attached_in colors.now depth.now) result }
 {
     let view = view_of(&target.view);
-    if meets_some(&view, colors, depth) {
+    let slice = target.depth_slice;
+    if meets_some(&view, slice, colors, depth) {
         return false;
     }
     match &target.resolve {
         Some(resolve) => {
             let resolve = view_of(resolve);
-            !views_meet(&view, &resolve) && !meets_some(&resolve, colors, depth)
+            !attached_meet(&view, slice, &resolve, None)
+                && !meets_some(&resolve, None, colors, depth)
         }
         None => true,
     }
 }
 
-/// Whether no subresource is attached twice.
+/// Whether no cell is attached twice.
 #[tactic(auto, using(crate::proofs::Alike::attached_cons))]
 fn are_apart(colors: &[Option<ColorTarget>], depth: &Option<DepthTarget>) -> bool
-    ensures { result ≡ views_are_apart (attached_in colors.now depth.now) }
+    ensures { result ≡ attached_are_apart (attached_in colors.now depth.now) }
 {
     for (i, color) in colors.iter().enumerate() {
         let Some(target) = color else { continue };
@@ -276,6 +341,9 @@ pub fn check_begin(begin: &RenderBegin) -> Option<u16>
     }
     if !colors_fit(colors) {
         return Some(302);
+    }
+    if !slices_fit(colors) {
+        return Some(308);
     }
     if !depth_view_fits(&begin.depth) {
         return Some(303);

@@ -2,17 +2,17 @@
 ghost use Rattle.std.specs.Prelude.{◌≡◌, ◌++◌, false, map, option_map, IfOk, OnOk};
 ghost use Rattle.std.specs.List.{flat_map};
 ghost use Rattle.std.specs.Option.{option_map_or};
-ghost use Rattle.wg_model.specs.Attachments.{color_view, depth_view, samples_of, targets_of, view_parts, attach_kind, attached, resolve_touches, color_touches, aspect_how, depth_how, run_aspect, depth_touch, depth_touches, targets_touches};
+ghost use Rattle.wg_model.specs.Attachments.{color_view, depth_view, samples_of, targets_of, handle_cells, sliced, attach_kind, attached, resolve_touches, color_touches, aspect_how, depth_how, cells_aspect, depth_touch, depth_touches, targets_touches};
 ghost use Rattle.wg_render.specs.Attached.{drawn_in};
 
 use crate::views::{ColorTarget, DepthTarget, RenderBegin, attached_view, view_of};
 use std::alloc::Global;
-use wg_subres::{PartRuns, of_view, run_cells};
+use wg_subres::cells_of_view;
 use wg_types::NoMemory;
 use wg_types::formats::Format;
 use wg_types::handles::Handle;
 use wg_types::items::Items;
-use wg_types::parts::{Aspect, Kind, PartRun};
+use wg_types::parts::{Aspect, Cells, Kind};
 use wg_types::render::{LoadOp, StoreOp, TargetInfo};
 use wg_types::steps::{Touch, Touches};
 use wg_types::usages::Usages;
@@ -100,26 +100,47 @@ pub fn targets_of(alloc: Global, begin: &RenderBegin) -> Result<TargetInfo, NoMe
     })
 }
 
-/// The subresources of a view.
-fn view_parts(alloc: Global, handle: &Handle) -> Result<PartRuns, NoMemory>
-    ensures { IfOk result (λ parts. parts ≡ view_parts handle.now) }
+/// The cells of a view.
+fn handle_cells(alloc: Global, handle: &Handle) -> Result<Items<Cells>, NoMemory>
+    ensures { IfOk result (λ cells. cells ≡ handle_cells handle.now) }
 {
     match attached_view(handle) {
         Some(view) => {
-            let parts = of_view(alloc, view)?;
-            return Ok(parts);
+            let cells = cells_of_view(alloc, view)?;
+            return Ok(cells);
         }
         None => return Ok(Items::new(alloc)),
     }
 }
 
-/// The aspect of a run of subresources.
-fn run_aspect(run: PartRun) -> Aspect
-    ensures { result ≡ run_aspect run }
+/// One slice of what are slices, if one is given. One past which no number is, which rule 308 refuses,
+/// is answered as want of memory.
+fn sliced(slice: Option<u32>, cells: Cells) -> Result<Cells, NoMemory>
+    ensures { IfOk result (λ found. found ≡ sliced slice cells) }
 {
-    match run {
-        PartRun::Texture { aspect, .. } => aspect,
-        PartRun::Buffer { .. } | PartRun::Queries { .. } => Aspect::Color,
+    match (slice, cells) {
+        (Some(slice), Cells::Slices { object, mip, .. }) => match slice.checked_add(1) {
+            Some(hi) => {
+                return Ok(Cells::Slices {
+                    object,
+                    mip,
+                    lo: slice,
+                    hi,
+                });
+            }
+            None => return Err(NoMemory),
+        },
+        _ => return Ok(cells),
+    }
+}
+
+/// The aspect of cells of a texture.
+fn cells_aspect(cells: Cells) -> Aspect
+    ensures { result ≡ cells_aspect cells }
+{
+    match cells {
+        Cells::Layers { aspect, .. } => aspect,
+        _ => Aspect::Color,
     }
 }
 
@@ -135,27 +156,30 @@ fn attach_kind(load: LoadOp, store: StoreOp) -> Kind
     }
 }
 
-/// Adds subresources that are all attached so.
+/// Adds cells, or one slice of them, that are all attached so.
 fn push_attached(
     touches: &mut Touches,
     how: (Usages, Kind),
-    runs: &[PartRun],
+    slice: Option<u32>,
+    cells: &[Cells],
 ) -> Result<(), NoMemory>
-    ensures { OnOk result (touches.new ≡ touches.old ++ map (attached how) runs.now) }
+    ensures { OnOk result (touches.new ≡ touches.old ++ map (attached how) (map (sliced slice) cells.now)) }
 {
-    for run in runs {
-        touches.push((run_cells(*run), how))?;
+    for run in cells {
+        touches.push((sliced(slice, *run)?, how))?;
     }
     Ok(())
 }
 
 /// Adds the view to which an attachment is resolved.
+#[tactic(auto, using(crate::proofs::Alike::sliced_whole))]
 fn push_resolve(touches: &mut Touches, alloc: Global, view: &Option<Handle>) -> Result<(), NoMemory>
     ensures { OnOk result (touches.new ≡ touches.old ++ resolve_touches view.now) }
 {
     let Some(view) = view else { return Ok(()) };
-    let runs = view_parts(alloc, view)?;
-    push_attached(touches, (Usages::ATTACHMENT, Kind::Write), runs.as_slice())
+    let cells = handle_cells(alloc, view)?;
+    let how = (Usages::ATTACHMENT, Kind::Write);
+    push_attached(touches, how, None, cells.as_slice())
 }
 
 /// Adds a color attachment, if there is one.
@@ -167,9 +191,9 @@ fn push_color(
     ensures { OnOk result (touches.new ≡ touches.old ++ color_touches color.now) }
 {
     let Some(target) = color else { return Ok(()) };
-    let runs = view_parts(alloc, &target.view)?;
+    let cells = handle_cells(alloc, &target.view)?;
     let how = (Usages::ATTACHMENT, attach_kind(target.load, target.store));
-    push_attached(touches, how, runs.as_slice())?;
+    push_attached(touches, how, target.depth_slice, cells.as_slice())?;
     push_resolve(touches, alloc, &target.resolve)
 }
 
@@ -220,21 +244,21 @@ fn depth_how(target: &DepthTarget, aspect: Aspect) -> (Usages, Kind)
     }
 }
 
-fn depth_touch(target: &DepthTarget, run: PartRun) -> Touch
-    ensures { result ≡ depth_touch target.now run }
+fn depth_touch(target: &DepthTarget, cells: Cells) -> Touch
+    ensures { result ≡ depth_touch target.now cells }
 {
-    (run_cells(run), depth_how(target, run_aspect(run)))
+    (cells, depth_how(target, cells_aspect(cells)))
 }
 
-/// Adds subresources of a depth attachment, each as its aspect is attached.
+/// Adds cells of a depth attachment, each as its aspect is attached.
 fn push_aspects(
     touches: &mut Touches,
     target: &DepthTarget,
-    runs: &[PartRun],
+    cells: &[Cells],
 ) -> Result<(), NoMemory>
-    ensures { OnOk result (touches.new ≡ touches.old ++ map (depth_touch target.now) runs.now) }
+    ensures { OnOk result (touches.new ≡ touches.old ++ map (depth_touch target.now) cells.now) }
 {
-    for run in runs {
+    for run in cells {
         touches.push(depth_touch(target, *run))?;
     }
     Ok(())
@@ -249,12 +273,12 @@ fn push_depth(
     ensures { OnOk result (touches.new ≡ touches.old ++ depth_touches depth.now) }
 {
     let Some(target) = depth else { return Ok(()) };
-    let runs = view_parts(alloc, &target.view)?;
-    push_aspects(touches, target, runs.as_slice())
+    let cells = handle_cells(alloc, &target.view)?;
+    push_aspects(touches, target, cells.as_slice())
 }
 
-/// What the attachments of a render pass touch: each subresource of their views (WebGPU, "Render Pass
-/// Attachments").
+/// What the attachments of a render pass touch: the cells of their views, or one slice of a 3d view
+/// (WebGPU, "Render Pass Attachments").
 #[tactic(auto, unfolding(wg_model::specs::Attachments::targets_touches))]
 pub fn targets_touches(alloc: Global, begin: &RenderBegin) -> Result<Touches, NoMemory>
     ensures { IfOk result (λ touches. touches ≡ targets_touches begin.now) }

@@ -33,12 +33,12 @@ before_trans (x ∷ xs) (y ∷ ys) (z ∷ zs) e h = by_case (or_cases (nat_lt x 
         let y_is_z : y ≡ z = eqb-true y z yz_tests.0 in
         or_right (nat_lt x z) ((x == z) && list_before xs zs) (and_from (x == z) (list_before xs zs) (eq-eqb x z (x_is_y ∙ y_is_z)) (rest xy_tests.1 yz_tests.1))
 
-data Compared (xs ys : List ℕ) : Type 0 where
+pub data Compared (xs ys : List ℕ) : Type 0 where
   Less_than : list_before xs ys ≡ true → Compared xs ys
   Same_line : xs ≡ ys → Compared xs ys
   More_than : list_before ys xs ≡ true → Compared xs ys
 
-compare_lines : (xs ys : List ℕ) → Compared xs ys
+pub compare_lines : (xs ys : List ℕ) → Compared xs ys
 compare_lines [] [] = Same_line refl
 compare_lines [] (y ∷ ys) = Less_than refl
 compare_lines (x ∷ xs) [] = More_than refl

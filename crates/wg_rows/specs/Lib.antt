@@ -7,3 +7,4 @@ pub mod Uses
 pub mod Sets
 pub mod Order
 pub mod Laws
+pub mod Once

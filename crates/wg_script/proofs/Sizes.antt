@@ -1,14 +1,14 @@
 -- A draft that was read has few phases, and each phase few lanes.
 use Rattle.std.proofs.Common.{◌≡◌, ℕ, ◌+◌, ◌≤◌, suc, List, [], ◌∷◌, length, Bool, true, false, Option, Some, None, Result, Ok, Err, refl, ap, subst, arith}
-use Rattle.std.specs.Prelude.{All, codes, nat_le, if◌then◌else◌, option_and_then}
+use Rattle.std.specs.Prelude.{All, nat_le, if◌then◌else◌}
 use Rattle.std.proofs.lemmas.Bool.{leb-true}
 use Rattle.std.proofs.lemmas.List.Elements.{All-nil, All-cons}
 use Rattle.serde_json.specs.Data.{Data, Items, no_items, item}
 use Rattle.serde_json.specs.Events.{items_len}
-use Rattle.serde_json.specs.Find.{get, as_array}
+use Rattle.serde_json.specs.Find.{as_array}
 use Rattle.wg_script.specs.CallOf.{Call}
 use Rattle.wg_script.specs.Giving.{◌>>=◌}
-use Rattle.wg_script.specs.Draft.{Stop, each, lane_of, phase_items, phase_of, check_built, check_top, budget_of, phases_from, phases_of, top_of, json_of, draft_read, draft_of}
+use Rattle.wg_script.specs.Draft.{Stop, each, lane_of, phase_items, phase_of, check_top, budget_of, listed_of, limits_of, phases_of, top_of, json_of, draft_read, draft_of}
 use Rattle.wg_script.specs.Sizes.{IsSized}
 use Rattle.wg_script.specs.declared.draft.Draft.{Draft}
 use Rattle.wg_script.specs.declared.draft.Place.TheVariants as place
@@ -73,18 +73,15 @@ few_phases ds x true few e =
     record { phases = omega arith; lanes = read.all }
 few_phases ds x false few e = absurd (cc)
 
-phases_few : (items : Option Items) (x : List (List (List Call)) × ℕ) → phases_from items ≡ Ok x → IsSized x.0
-phases_few None x e = absurd (cc)
-phases_few (Some ds) x e = few_phases ds x (nat_le (items_len ds) 1024) refl e
-
 top_sized : (d : Data) (draft : Draft) → top_of d ≡ Ok draft → IsSized draft.phases
 unfolding top_of
 top_sized d draft e =
-    let built = both (check_built d) (λ _. check_top d >>= λ _. budget_of d >>= λ budget. phases_of d >>= λ phases. Ok (record { budget = budget; phases = phases.0 })) draft e in
-    let fine = both (check_top d) (λ _. budget_of d >>= λ budget. phases_of d >>= λ phases. Ok (record { budget = budget; phases = phases.0 })) draft built.2 in
-    let budget = both (budget_of d) (λ budget. phases_of d >>= λ phases. Ok (record { budget = budget; phases = phases.0 })) draft fine.2 in
-    let phases = both (phases_of d) (λ phases. Ok (record { budget = budget.0; phases = phases.0 })) draft budget.2 in
-    let sized = phases_few (option_and_then as_array (get (codes "phases") d)) phases.0 phases.1 in
+    let fine = both (check_top d) (λ _. budget_of d >>= λ budget. listed_of d >>= λ listed. limits_of d >>= λ limits. phases_of listed >>= λ phases. Ok (record { budget = budget; limits = limits; phases = phases.0 })) draft e in
+    let budget = both (budget_of d) (λ budget. listed_of d >>= λ listed. limits_of d >>= λ limits. phases_of listed >>= λ phases. Ok (record { budget = budget; limits = limits; phases = phases.0 })) draft fine.2 in
+    let listed = both (listed_of d) (λ listed. limits_of d >>= λ limits. phases_of listed >>= λ phases. Ok (record { budget = budget.0; limits = limits; phases = phases.0 })) draft budget.2 in
+    let limits = both (limits_of d) (λ limits. phases_of listed.0 >>= λ phases. Ok (record { budget = budget.0; limits = limits; phases = phases.0 })) draft listed.2 in
+    let phases = both (phases_of listed.0) (λ phases. Ok (record { budget = budget.0; limits = limits.0; phases = phases.0 })) draft limits.2 in
+    let sized = few_phases listed.0 phases.0 (nat_le (items_len listed.0) 1024) refl phases.1 in
     let same : phases.0.0 ≡ draft.phases = cc (phases.2) in
     let P : List (List (List Call)) → Type 0 = λ all. IsSized all in
     subst P same sized

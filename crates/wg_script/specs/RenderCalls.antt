@@ -1,13 +1,12 @@
 -- The calls on render pipelines, render passes and draws: for each its keys, and what each holds, in the order in which they
 -- are read.
-use Rattle.std.specs.Prelude.{ℕ, codes, Bool, false, is_some, if◌then◌else◌, Option, Some, None, option_and_then, Result, Ok, Err, ⊤}
-use Rattle.serde_json.specs.Data.{Data, Items}
-use Rattle.serde_json.specs.Find.{get, as_array}
+use Rattle.std.specs.Prelude.{ℕ, codes, Result, Ok}
+use Rattle.serde_json.specs.Data.{Data}
 use Rattle.wg_types.specs.declared.commands.CommandOf.TheVariants.{BeginRenderPass, SetVertexBuffer, SetIndexBuffer, Draw, DrawIndexed, DrawIndirect, DrawIndexedIndirect}
 use Rattle.wg_types.specs.declared.requests.RequestOf.TheVariants.{CreateRenderPipeline}
 use Rattle.wg_script.specs.Giving.{◌>>=◌}
 use Rattle.wg_script.specs.Values.{whole_at, whole_or, whole_if, most_whole, most_short, name_at}
-use Rattle.wg_script.specs.Lists.{list_at, list_or_empty, any_item, null_or, item_if, name_item}
+use Rattle.wg_script.specs.Lists.{list_at, list_or_empty, null_or, item_if, name_item}
 use Rattle.wg_script.specs.Words.{word_at}
 use Rattle.wg_script.specs.RenderWords.{index_format_words}
 use Rattle.wg_script.specs.BindingEntries.{staged_entry_of}
@@ -36,18 +35,6 @@ create_render_of d = check_layout_built d >>= λ fine. read_by create_render_key
 
 -- ---- render passes
 
--- whether a color attachment names a slice of a 3D texture
-abbrev pub has_slice : Data → Bool
-has_slice d = is_some (get (codes "depthSlice") d)
-
-abbrev pub any_slice : Option Items → Bool
-any_slice None = false
-any_slice (Some ds) = any_item has_slice ds
-
--- script rule 13: the pass is to draw to slices of 3D textures, which is not built yet
-abbrev pub check_pass_built : Data → Result ⊤ ℕ
-check_pass_built d = if any_slice (option_and_then as_array (get (codes "colors") d)) then Err 13 else Ok tt
-
 -- beginRenderPass: a color attachment that is null is left out, and the name that the call makes is that of the pass
 abbrev pub begin_render_pass_keys : Reader Call
 begin_render_pass_keys = gives (λ on colors depth queries made. beginning on (BeginRenderPass (record { colors = colors; depth = depth; queries = queries })) made)
@@ -58,7 +45,7 @@ begin_render_pass_keys = gives (λ on colors depth queries made. beginning on (B
     ▹ need (codes "as") name_at
 
 unfoldable pub begin_render_pass_of : Data → Result Call ℕ
-begin_render_pass_of d = check_pass_built d >>= λ fine. read_by begin_render_pass_keys d
+begin_render_pass_of d = read_by begin_render_pass_keys d
 
 -- ---- what is set
 

@@ -9,6 +9,7 @@ mod call_reading;
 mod calling;
 mod calls;
 mod draft;
+mod limits;
 mod lists;
 mod name;
 mod pass_calls;

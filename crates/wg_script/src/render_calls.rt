@@ -1,10 +1,7 @@
 //! Reads the calls on render pipelines, render passes and draws: a function for each, with its keys.
-ghost use Rattle.std.specs.Prelude.{◌≡◌, is_some, codes};
-ghost use Rattle.std.specs.List.{list_any};
-ghost use Rattle.serde_json.specs.View.{view, items_view};
+ghost use Rattle.serde_json.specs.View.{view};
 ghost use Rattle.wg_script.specs.Giving.{Gives};
-ghost use Rattle.wg_script.specs.Lists.{any_item};
-ghost use Rattle.wg_script.specs.RenderCalls.{create_render_of, has_slice, check_pass_built, begin_render_pass_of, set_vertex_buffer_of, set_index_buffer_of, draw_of, draw_indexed_of, draw_indirect_of, draw_indexed_indirect_of};
+ghost use Rattle.wg_script.specs.RenderCalls.{create_render_of, begin_render_pass_of, set_vertex_buffer_of, set_index_buffer_of, draw_of, draw_indexed_of, draw_indirect_of, draw_indexed_indirect_of};
 
 use crate::binding_calls::check_layout_built;
 use crate::binding_entries::staged_or_empty;
@@ -44,44 +41,11 @@ pub fn create_render_pipeline(alloc: Global, call: &Value) -> Result<Call, Refus
         }, made))
 }
 
-/// Whether a color attachment names a slice of a 3D texture. What is no object names none.
-fn has_slice(color: &Value) -> bool
-    ensures { result ≡ has_slice (view color.now) }
-{
-    color.get("depthSlice").is_some()
-}
-
-fn some_slice(colors: &[Value]) -> bool
-    ensures { result ≡ list_any (λ v. has_slice (view v)) colors.now }
-{
-    colors.iter().any(has_slice)
-}
-
-/// Whether some color attachment names a slice of a 3D texture.
-#[tactic(auto, using(crate::proofs::Lengths::any_slice_of_view))]
-fn any_slice(colors: &[Value]) -> bool
-    ensures { result ≡ any_item has_slice (items_view colors.now) }
-{
-    some_slice(colors)
-}
-
-/// Script rule 13: refuses a render pass that is to draw to slices of 3D textures (WebGPU,
-/// "GPURenderPassColorAttachment", `depthSlice`), which is not built yet.
-fn check_pass_built(call: &Value) -> Result<(), u8>
-    ensures { result ≡ check_pass_built (view call.now) }
-{
-    match call.get("colors").and_then(Value::as_array) {
-        Some(colors) if any_slice(colors) => Err(13),
-        _ => Ok(()),
-    }
-}
-
 /// Reads `beginRenderPass`.
 #[tactic(auto, unfolding(crate::specs::RenderCalls::begin_render_pass_of))]
 pub fn begin_render_pass(alloc: Global, call: &Value) -> Result<Call, Refusal>
     ensures { Gives result (begin_render_pass_of (view call.now)) }
 {
-    check_pass_built(call)?;
     reading!(call:
         need on = name_at(alloc, "on");
         need colors = list_at(alloc, "colors");

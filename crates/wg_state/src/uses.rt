@@ -179,6 +179,7 @@ impl Gather<Handle, Used> for Resources {
             | Wanted::Binding
             | Wanted::Drawing
             | Wanted::Recording
+            | Wanted::Canvas
             | Wanted::Object => Ok(()),
         }
     }

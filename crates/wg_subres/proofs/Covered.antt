@@ -6,13 +6,17 @@ use Rattle.std.proofs.lemmas.Bool.Decides.{nat_tests}
 use Rattle.std.proofs.lemmas.List.Folds.{list_any-append}
 use Rattle.std.proofs.lemmas.List.Concat.{flat_map-cons}
 use Rattle.wg_rows.specs.Rows.{in_range, count_up, numbers}
+use Rattle.wg_types.specs.declared.textures.TextureInfo.{TextureInfo}
+use Rattle.wg_types.specs.declared.textures.TextureSpot.{TextureSpot}
+use Rattle.wg_types.specs.declared.textures.ViewInfo.{ViewInfo}
 use Rattle.wg_types.specs.Formats.{row}
-use Rattle.wg_rows.specs.Runs.{Aspect, aspect_number, Buffer, Subresource, QuerySet, PartRun, LayerParts, covers_part, Cells, Layers, Cell, part_of, covers, run_part}
+use Rattle.wg_rows.specs.Runs.{Aspect, aspect_number, Part, Buffer, Subresource, QuerySet, PartRun, LayerParts, covers_part, Cells, Cell, part_of, covers, run_part}
 use Rattle.wg_rows.proofs.Lying.{cells_lie}
 use Rattle.wg_model.specs.Formats.{named_aspects}
 use Rattle.wg_model.specs.Textures.{layer_count}
-use Rattle.wg_model.specs.Subresources.{level_runs, aspect_runs, view_runs, first_layer, end_layer, copied_cells, copy_runs, is_aspect_of}
-use Rattle.wg_subres.specs.Has.{is_covered, is_accessed, ViewsCover, CopiesCover, CopiedCellsLie}
+use Rattle.wg_model.specs.Subresources.{level_runs, aspect_runs, view_runs, view_cells, first_layer, end_layer, copied_cells, copy_runs, is_aspect_of}
+use Rattle.wg_subres.specs.Has.{view_has, copy_has, is_covered, is_accessed, ViewsCover, CopiesCover, ViewCellsLie, CopiedCellsLie}
+use Rattle.wg_subres.proofs.Lying.{copied_layers, runs_of_copy, runs_of_view}
 
 -- Ranges.
 pub range_none : (first m : ℕ) → in_range first (first + 0) m ≡ false
@@ -138,46 +142,44 @@ one_layer true false e z = refl
 one_layer true true false z = refl
 one_layer true true true z = refl
 
-copy_covers : (object mip lo hi : ℕ) (aspects : List Aspect) (o : ℕ) (a : Aspect) (m l : ℕ) → list_any (λ run. covers_part run (Subresource o a m l)) (map run_part (map (λ aspect. Layers object aspect mip lo hi) aspects)) ≡ (object == o) && (is_aspect_of a aspects && ((mip == m) && in_range lo hi l))
+copy_covers : (object mip lo hi : ℕ) (aspects : List Aspect) (o : ℕ) (a : Aspect) (m l : ℕ) → list_any (λ run. covers_part run (Subresource o a m l)) (map (λ aspect. LayerParts object aspect mip lo hi) aspects) ≡ (object == o) && (is_aspect_of a aspects && ((mip == m) && in_range lo hi l))
 unfolding covers_part
 copy_covers object mip lo hi [] o a m l = none_second (object == o) ((mip == m) && in_range lo hi l)
 copy_covers object mip lo hi (aspect ∷ aspects) o a m l =
     ap₂ (λ b c. b || c) (one_layer (object == o) (aspect_number aspect == aspect_number a) (mip == m) (in_range lo hi l)) (copy_covers object mip lo hi aspects o a m l)
     ∙ or_second (object == o) (aspect_number aspect == aspect_number a) (is_aspect_of a aspects) ((mip == m) && in_range lo hi l)
 
-copy_no_buffer : (object mip lo hi : ℕ) (aspects : List Aspect) (o : ℕ) → list_any (λ run. covers_part run (Buffer o)) (map run_part (map (λ aspect. Layers object aspect mip lo hi) aspects)) ≡ false
+copy_no_buffer : (object mip lo hi : ℕ) (aspects : List Aspect) (o : ℕ) → list_any (λ run. covers_part run (Buffer o)) (map (λ aspect. LayerParts object aspect mip lo hi) aspects) ≡ false
 unfolding covers_part
 copy_no_buffer object mip lo hi [] o = refl
 copy_no_buffer object mip lo hi (aspect ∷ aspects) o = ap₂ (λ b c. b || c) (no_line (object == o) (in_range lo hi 0)) (copy_no_buffer object mip lo hi aspects o)
 
-copy_no_queries : (object mip lo hi : ℕ) (aspects : List Aspect) (o : ℕ) → list_any (λ run. covers_part run (QuerySet o)) (map run_part (map (λ aspect. Layers object aspect mip lo hi) aspects)) ≡ false
+copy_no_queries : (object mip lo hi : ℕ) (aspects : List Aspect) (o : ℕ) → list_any (λ run. covers_part run (QuerySet o)) (map (λ aspect. LayerParts object aspect mip lo hi) aspects) ≡ false
 unfolding covers_part
 copy_no_queries object mip lo hi [] o = refl
 copy_no_queries object mip lo hi (aspect ∷ aspects) o = ap₂ (λ b c. b || c) (no_line (object == o) (in_range lo hi 0)) (copy_no_queries object mip lo hi aspects o)
 
-layers_cover : (b : Bool) (object mip lo hi : ℕ) (aspects : List Aspect) → nat_lt lo hi ≡ b → (o : ℕ) (a : Aspect) (m l : ℕ) → list_any (λ run. covers_part run (Subresource o a m l)) (map run_part (if b then map (λ aspect. Layers object aspect mip lo hi) aspects else [])) ≡ (object == o) && (is_aspect_of a aspects && ((mip == m) && in_range lo hi l))
+layers_cover : (b : Bool) (object mip lo hi : ℕ) (aspects : List Aspect) → nat_lt lo hi ≡ b → (o : ℕ) (a : Aspect) (m l : ℕ) → list_any (λ run. covers_part run (Subresource o a m l)) (if b then map (λ aspect. LayerParts object aspect mip lo hi) aspects else []) ≡ (object == o) && (is_aspect_of a aspects && ((mip == m) && in_range lo hi l))
 layers_cover true object mip lo hi aspects e o a m l = copy_covers object mip lo hi aspects o a m l
 layers_cover false object mip lo hi aspects e o a m l =
     none_fourth (object == o) (is_aspect_of a aspects) (mip == m)
     ∙ ap (λ c. (object == o) && (is_aspect_of a aspects && ((mip == m) && c))) (sym (range_empty lo hi l e))
 
-if_no_cells : (test : PartRun → Bool) (b : Bool) (cells : List Cells) → list_any test (map run_part cells) ≡ false → list_any test (map run_part (if b then cells else [])) ≡ false
-if_no_cells test true cells none = none
-if_no_cells test false cells none = refl
-
-pub copies_cover : CopiesCover
-unfolding copied_cells copy_runs
-copies_cover texture info spot size (Buffer o) =
-    if_no_cells (λ run. covers_part run (Buffer o)) (nat_lt (first_layer info.dim spot.origin) (end_layer info.dim spot.origin size)) (map (λ aspect. Layers texture aspect spot.mip (first_layer info.dim spot.origin) (end_layer info.dim spot.origin size)) (named_aspects spot.aspect (row info.format).aspects))
+layers_have : (texture : ℕ) (info : TextureInfo) (spot : TextureSpot) (size : List ℕ) (part : Part) → is_covered (copied_layers texture info spot size) part ≡ copy_has texture info spot size part
+layers_have texture info spot size (Buffer o) =
+    if_none (λ run. covers_part run (Buffer o)) (nat_lt (first_layer info.dim spot.origin) (end_layer info.dim spot.origin size)) (map (λ aspect. LayerParts texture aspect spot.mip (first_layer info.dim spot.origin) (end_layer info.dim spot.origin size)) (named_aspects spot.aspect (row info.format).aspects))
     (copy_no_buffer texture spot.mip (first_layer info.dim spot.origin) (end_layer info.dim spot.origin size) (named_aspects spot.aspect (row info.format).aspects) o)
-copies_cover texture info spot size (QuerySet o) =
-    if_no_cells (λ run. covers_part run (QuerySet o)) (nat_lt (first_layer info.dim spot.origin) (end_layer info.dim spot.origin size)) (map (λ aspect. Layers texture aspect spot.mip (first_layer info.dim spot.origin) (end_layer info.dim spot.origin size)) (named_aspects spot.aspect (row info.format).aspects))
+layers_have texture info spot size (QuerySet o) =
+    if_none (λ run. covers_part run (QuerySet o)) (nat_lt (first_layer info.dim spot.origin) (end_layer info.dim spot.origin size)) (map (λ aspect. LayerParts texture aspect spot.mip (first_layer info.dim spot.origin) (end_layer info.dim spot.origin size)) (named_aspects spot.aspect (row info.format).aspects))
     (copy_no_queries texture spot.mip (first_layer info.dim spot.origin) (end_layer info.dim spot.origin size) (named_aspects spot.aspect (row info.format).aspects) o)
-copies_cover texture info spot size (Subresource o a m l) =
+layers_have texture info spot size (Subresource o a m l) =
     layers_cover (nat_lt (first_layer info.dim spot.origin) (end_layer info.dim spot.origin size)) texture spot.mip (first_layer info.dim spot.origin) (end_layer info.dim spot.origin size) (named_aspects spot.aspect (row info.format).aspects) refl o a m l
 
+pub copies_cover : CopiesCover
+copies_cover texture info spot size part = ap (λ runs. is_covered runs part) (runs_of_copy texture info spot size) ∙ layers_have texture info spot size part
+
 -- Where a run of cells has a cell, the part in which these lie has the cell's.
-lie_in : (cells : List Cells) (cell : Cell) → is_accessed cells cell ≡ true → is_covered (map run_part cells) (part_of cell) ≡ true
+pub lie_in : (cells : List Cells) (cell : Cell) → is_accessed cells cell ≡ true → is_covered (map run_part cells) (part_of cell) ≡ true
 lie_in [] cell e = absurd (cc)
 lie_in (run ∷ cells) cell e = by_cases (or_cases (covers run cell) (is_accessed cells cell) e) (lie_in cells cell)
   where
@@ -190,3 +192,9 @@ lie_in (run ∷ cells) cell e = by_cases (or_cases (covers run cell) (is_accesse
 pub copied_cells_lie : CopiedCellsLie
 unfolding copy_runs
 copied_cells_lie texture info spot size cell e = sym (copies_cover texture info spot size (part_of cell)) ∙ lie_in (copied_cells texture info spot size) cell e
+
+view_lie : (view : ViewInfo) (cell : Cell) → is_accessed (view_cells view) cell ≡ true → view_has view (part_of cell) ≡ true
+view_lie view cell e = sym (views_cover view (part_of cell)) ∙ (ap (λ runs. is_covered runs (part_of cell)) (sym (runs_of_view view)) ∙ lie_in (view_cells view) cell e)
+
+pub view_cells_lie : ViewCellsLie
+view_cells_lie = record { runs = runs_of_view; lie = view_lie }

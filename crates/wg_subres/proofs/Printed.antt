@@ -8,19 +8,23 @@ use Rattle.wg_types.specs.declared.textures.AspectWord.{AspectWord}
 use Rattle.wg_types.specs.declared.textures.AspectWord.TheVariants.{All, DepthOnly, StencilOnly}
 use Rattle.wg_types.specs.declared.formats.FormatAspects.{FormatAspects}
 use Rattle.wg_types.specs.declared.formats.FormatAspects.TheVariants as aspects
+use Rattle.wg_types.specs.declared.textures.TextureDim.{TextureDim}
+use Rattle.wg_types.specs.declared.textures.TextureDim.TheVariants as texture_dim
 use Rattle.wg_types.specs.declared.textures.TextureInfo.{TextureInfo}
 use Rattle.wg_types.specs.declared.textures.TextureSpot.{TextureSpot}
 use Rattle.wg_types.specs.declared.textures.ViewInfo.{ViewInfo}
 use Rattle.wg_types.specs.Formats.{row}
+use Rattle.wg_types.specs.Textures.{width, height, depth}
 use Rattle.wg_rows.specs.Rows.{list_before, count_up, numbers, EachRow, After, Apart}
-use Rattle.wg_rows.specs.Runs.{Aspect, aspect_number, PartRun, LayerParts, part_sort, Cells, Layers, cell_sort, run_part}
+use Rattle.wg_rows.specs.Runs.{Aspect, Color, Depth, Stencil, aspect_number, PartRun, LayerParts, part_sort, Cells, cell_line, cell_lo, cell_hi, cell_sort}
 use Rattle.wg_rows.specs.Uses.{Usages, same_set, printed_uses, Kind, same_kind, printed_accesses}
 use Rattle.wg_rows.proofs.Cut.{each_append, apart_append}
 use Rattle.wg_rows.proofs.Told.{uses_tell, accesses_tell, as_printed}
 use Rattle.wg_model.specs.Formats.{named_aspects}
 use Rattle.wg_model.specs.Textures.{layer_count}
-use Rattle.wg_model.specs.Subresources.{level_runs, aspect_runs, view_runs, first_layer, end_layer, copied_cells, copy_runs}
+use Rattle.wg_model.specs.Subresources.{level_runs, aspect_runs, view_runs, first_layer, end_layer, texture_cells, copied_cells, copy_runs, has_no_texel}
 use Rattle.wg_subres.specs.Has.{all_used, all_accessed, ViewsPrinted, CopiesPrinted, CellsPrinted}
+use Rattle.wg_subres.proofs.Lying.{runs_of_copy}
 
 -- Lines of one texture.
 lt_self : (x : ℕ) → nat_lt x x ≡ false
@@ -130,39 +134,82 @@ views_printed = record {
 }
 
 -- The cells of a copy, and the parts that they lie in.
-after_cells : (kind : Kind) (object mip lo hi : ℕ) (aspect : Aspect) (later : List Aspect) → EachRow (λ other. aspect_number aspect < aspect_number other) later → EachRow (After cell_sort (Layers object aspect mip lo hi, kind)) (all_accessed kind (map (λ aspect. Layers object aspect mip lo hi) later))
-after_cells kind object mip lo hi aspect [] lt = tt
-after_cells kind object mip lo hi aspect (other ∷ later) lt = (inl (later_aspect object (aspect_number aspect) (aspect_number other) mip mip lt.0), after_cells kind object mip lo hi aspect later lt.1)
+full_cells : (dim : TextureDim) (object : ℕ) (aspect : Aspect) (mip lo hi from to : ℕ) → lo < hi → from < to → cell_lo (texture_cells dim object aspect mip lo hi from to) < cell_hi (texture_cells dim object aspect mip lo hi from to)
+full_cells texture_dim.Three object Color mip lo hi from to layers slices = slices
+full_cells texture_dim.Three object Depth mip lo hi from to layers slices = layers
+full_cells texture_dim.Three object Stencil mip lo hi from to layers slices = layers
+full_cells texture_dim.One object aspect mip lo hi from to layers slices = layers
+full_cells texture_dim.Two object aspect mip lo hi from to layers slices = layers
 
-cells_apart : (kind : Kind) (object mip lo hi : ℕ) (aspects : List Aspect) → lo < hi → Rising aspects → Apart cell_sort (all_accessed kind (map (λ aspect. Layers object aspect mip lo hi) aspects))
-cells_apart kind object mip lo hi [] lt rising = tt
-cells_apart kind object mip lo hi (aspect ∷ later) lt rising = (lt, after_cells kind object mip lo hi aspect later rising.0, cells_apart kind object mip lo hi later lt rising.1)
+stencil_later : (dim : TextureDim) (object mip lo hi from to : ℕ) → list_before (cell_line (texture_cells dim object Depth mip lo hi from to)) (cell_line (texture_cells dim object Stencil mip lo hi from to)) ≡ true
+stencil_later texture_dim.One object mip lo hi from to = later_aspect object 1 2 mip mip (lit< tt)
+stencil_later texture_dim.Two object mip lo hi from to = later_aspect object 1 2 mip mip (lit< tt)
+stencil_later texture_dim.Three object mip lo hi from to = later_aspect object 1 2 mip mip (lit< tt)
 
-after_parts : (usage : Usages) (object mip lo hi : ℕ) (aspect : Aspect) (later : List Aspect) → EachRow (λ other. aspect_number aspect < aspect_number other) later → EachRow (After part_sort (LayerParts object aspect mip lo hi, usage)) (all_used usage (map run_part (map (λ aspect. Layers object aspect mip lo hi) later)))
+abbrev CellsApart : Kind → TextureDim → ℕ → ℕ → ℕ → ℕ → ℕ → ℕ → List Aspect → Type 0
+CellsApart kind dim object mip lo hi from to aspects = Apart cell_sort (all_accessed kind (map (λ aspect. texture_cells dim object aspect mip lo hi from to) aspects))
+
+-- A format has color alone, or depth, or stencil, or both of these.
+cells_apart : (word : AspectWord) (has : FormatAspects) (kind : Kind) (dim : TextureDim) (object mip lo hi from to : ℕ) → lo < hi → from < to → CellsApart kind dim object mip lo hi from to (named_aspects word has)
+cells_apart word has kind dim object mip lo hi from to layers slices = by_aspects word has
+  where
+    one : (aspect : Aspect) → CellsApart kind dim object mip lo hi from to (aspect ∷ [])
+    one aspect = (full_cells dim object aspect mip lo hi from to layers slices, tt, tt)
+
+    both : CellsApart kind dim object mip lo hi from to (Depth ∷ (Stencil ∷ []))
+    both = (full_cells dim object Depth mip lo hi from to layers slices, (inl (stencil_later dim object mip lo hi from to), tt), one Stencil)
+
+    by_aspects : (word : AspectWord) (has : FormatAspects) → CellsApart kind dim object mip lo hi from to (named_aspects word has)
+    by_aspects All aspects.Color = one Color
+    by_aspects All aspects.Depth = one Depth
+    by_aspects All aspects.DepthStencil = both
+    by_aspects All aspects.Stencil = one Stencil
+    by_aspects DepthOnly aspects.Color = tt
+    by_aspects DepthOnly aspects.Depth = one Depth
+    by_aspects DepthOnly aspects.DepthStencil = one Depth
+    by_aspects DepthOnly aspects.Stencil = tt
+    by_aspects StencilOnly aspects.Color = tt
+    by_aspects StencilOnly aspects.Depth = tt
+    by_aspects StencilOnly aspects.DepthStencil = one Stencil
+    by_aspects StencilOnly aspects.Stencil = one Stencil
+
+after_parts : (usage : Usages) (object mip lo hi : ℕ) (aspect : Aspect) (later : List Aspect) → EachRow (λ other. aspect_number aspect < aspect_number other) later → EachRow (After part_sort (LayerParts object aspect mip lo hi, usage)) (all_used usage (map (λ aspect. LayerParts object aspect mip lo hi) later))
 after_parts usage object mip lo hi aspect [] lt = tt
 after_parts usage object mip lo hi aspect (other ∷ later) lt = (inl (later_aspect object (aspect_number aspect) (aspect_number other) mip mip lt.0), after_parts usage object mip lo hi aspect later lt.1)
 
-parts_apart : (usage : Usages) (object mip lo hi : ℕ) (aspects : List Aspect) → lo < hi → Rising aspects → Apart part_sort (all_used usage (map run_part (map (λ aspect. Layers object aspect mip lo hi) aspects)))
+parts_apart : (usage : Usages) (object mip lo hi : ℕ) (aspects : List Aspect) → lo < hi → Rising aspects → Apart part_sort (all_used usage (map (λ aspect. LayerParts object aspect mip lo hi) aspects))
 parts_apart usage object mip lo hi [] lt rising = tt
 parts_apart usage object mip lo hi (aspect ∷ later) lt rising = (lt, after_parts usage object mip lo hi aspect later rising.0, parts_apart usage object mip lo hi later lt rising.1)
 
-if_cells_apart : (b : Bool) (kind : Kind) (object mip lo hi : ℕ) (aspects : List Aspect) → nat_lt lo hi ≡ b → Rising aspects → Apart cell_sort (all_accessed kind (if b then map (λ aspect. Layers object aspect mip lo hi) aspects else []))
-if_cells_apart true kind object mip lo hi aspects e rising = cells_apart kind object mip lo hi aspects (ltb-true lo hi e) rising
-if_cells_apart false kind object mip lo hi aspects e rising = tt
+if_cells_apart : (b : Bool) (word : AspectWord) (has : FormatAspects) (kind : Kind) (dim : TextureDim) (object mip lo hi from to : ℕ) → nat_lt lo hi ≡ b → from < to → Apart cell_sort (all_accessed kind (if b then map (λ aspect. texture_cells dim object aspect mip lo hi from to) (named_aspects word has) else []))
+if_cells_apart true word has kind dim object mip lo hi from to e slices = cells_apart word has kind dim object mip lo hi from to (ltb-true lo hi e) slices
+if_cells_apart false word has kind dim object mip lo hi from to e slices = tt
 
-if_parts_apart : (b : Bool) (usage : Usages) (object mip lo hi : ℕ) (aspects : List Aspect) → nat_lt lo hi ≡ b → Rising aspects → Apart part_sort (all_used usage (map run_part (if b then map (λ aspect. Layers object aspect mip lo hi) aspects else [])))
+if_parts_apart : (b : Bool) (usage : Usages) (object mip lo hi : ℕ) (aspects : List Aspect) → nat_lt lo hi ≡ b → Rising aspects → Apart part_sort (all_used usage (if b then map (λ aspect. LayerParts object aspect mip lo hi) aspects else []))
 if_parts_apart true usage object mip lo hi aspects e rising = parts_apart usage object mip lo hi aspects (ltb-true lo hi e) rising
 if_parts_apart false usage object mip lo hi aspects e rising = tt
 
-copy_cells_apart : (texture : ℕ) (info : TextureInfo) (spot : TextureSpot) (size : List ℕ) (kind : Kind) → Apart cell_sort (all_accessed kind (copied_cells texture info spot size))
+is_some_number : (n : ℕ) → n == 0 ≡ false → 0 < n
+is_some_number zero e = absurd (cc)
+is_some_number (suc n) e = omega arith
+
+third : (a b c : Bool) → a || b || c ≡ false → c ≡ false
+third false false c e = e
+third false true c e = absurd (cc)
+third true b c e = absurd (cc)
+
+more : (n m : ℕ) → 0 < m → n < n + m
+more n m lt = omega arith
+
+copy_cells_apart : (texture : ℕ) (info : TextureInfo) (spot : TextureSpot) (size : List ℕ) (kind : Kind) → has_no_texel size ≡ false → Apart cell_sort (all_accessed kind (copied_cells texture info spot size))
 unfolding copied_cells
-copy_cells_apart texture info spot size kind =
-    if_cells_apart (nat_lt (first_layer info.dim spot.origin) (end_layer info.dim spot.origin size)) kind texture spot.mip (first_layer info.dim spot.origin) (end_layer info.dim spot.origin size) (named_aspects spot.aspect (row info.format).aspects) refl (named_rising spot.aspect (row info.format).aspects)
+copy_cells_apart texture info spot size kind e =
+    if_cells_apart (nat_lt (first_layer info.dim spot.origin) (end_layer info.dim spot.origin size)) spot.aspect (row info.format).aspects kind info.dim texture spot.mip (first_layer info.dim spot.origin) (end_layer info.dim spot.origin size) (depth spot.origin) (depth spot.origin + depth size) refl (more (depth spot.origin) (depth size) (is_some_number (depth size) (third (width size == 0) (height size == 0) (depth size == 0) e)))
 
 copy_parts_apart : (texture : ℕ) (info : TextureInfo) (spot : TextureSpot) (size : List ℕ) (usage : Usages) → Apart part_sort (all_used usage (copy_runs texture info spot size))
-unfolding copied_cells copy_runs
 copy_parts_apart texture info spot size usage =
-    if_parts_apart (nat_lt (first_layer info.dim spot.origin) (end_layer info.dim spot.origin size)) usage texture spot.mip (first_layer info.dim spot.origin) (end_layer info.dim spot.origin size) (named_aspects spot.aspect (row info.format).aspects) refl (named_rising spot.aspect (row info.format).aspects)
+    subst (λ (runs : List PartRun). Apart part_sort (all_used usage runs)) (sym (runs_of_copy texture info spot size))
+    (if_parts_apart (nat_lt (first_layer info.dim spot.origin) (end_layer info.dim spot.origin size)) usage texture spot.mip (first_layer info.dim spot.origin) (end_layer info.dim spot.origin size) (named_aspects spot.aspect (row info.format).aspects) refl (named_rising spot.aspect (row info.format).aspects))
 
 pub copies_printed : CopiesPrinted
 copies_printed = record {
@@ -173,5 +220,5 @@ copies_printed = record {
 pub cells_printed : CellsPrinted
 cells_printed = record {
   apart = copy_cells_apart;
-  printed = λ texture info spot size kind. accesses_as_printed (all_accessed kind (copied_cells texture info spot size)) (copy_cells_apart texture info spot size kind);
+  printed = λ texture info spot size kind e. accesses_as_printed (all_accessed kind (copied_cells texture info spot size)) (copy_cells_apart texture info spot size kind e);
 }

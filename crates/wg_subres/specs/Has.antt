@@ -6,11 +6,11 @@ use Rattle.wg_types.specs.declared.textures.TextureSpot.{TextureSpot}
 use Rattle.wg_types.specs.declared.textures.ViewInfo.{ViewInfo}
 use Rattle.wg_types.specs.Formats.{row}
 use Rattle.wg_rows.specs.Rows.{in_range, Apart}
-use Rattle.wg_rows.specs.Runs.{Part, Buffer, Subresource, QuerySet, PartRun, covers_part, part_sort, Cells, Cell, covers, cell_sort, part_of}
+use Rattle.wg_rows.specs.Runs.{Part, Buffer, Subresource, QuerySet, PartRun, covers_part, part_sort, Cells, Cell, covers, cell_sort, part_of, run_part}
 use Rattle.wg_rows.specs.Uses.{Usages, printed_uses, Kind, printed_accesses}
 use Rattle.wg_model.specs.Formats.{named_aspects}
 use Rattle.wg_model.specs.Textures.{layer_count}
-use Rattle.wg_model.specs.Subresources.{view_runs, first_layer, end_layer, copied_cells, copy_runs, is_aspect_of, copies_meet, views_meet}
+use Rattle.wg_model.specs.Subresources.{view_runs, view_cells, first_layer, end_layer, copied_cells, copy_runs, is_aspect_of, copies_meet, views_meet, has_no_texel}
 
 -- Whether a view has a part: a subresource of its texture, of an aspect that it names, with mip level and layer in its
 -- ranges and in the texture.
@@ -51,6 +51,11 @@ abbrev pub CopiesCover : Type 0
 CopiesCover =
     (texture : ℕ) (info : TextureInfo) (spot : TextureSpot) (size : List ℕ) (part : Part)
     → is_covered (copy_runs texture info spot size) part ≡ copy_has texture info spot size part
+
+-- The cells of a view lie in just its runs, one of one, and so each in a part that the view has.
+pub record ViewCellsLie : Type 0 where
+  pub runs : (view : ViewInfo) → map run_part (view_cells view) ≡ view_runs view
+  pub lie : (view : ViewInfo) (cell : Cell) → is_accessed (view_cells view) cell ≡ true → view_has view (part_of cell) ≡ true
 
 -- Each cell that a copy accesses lies in a part that it has.
 abbrev pub CopiedCellsLie : Type 0
@@ -93,9 +98,11 @@ pub record CopiesPrinted : Type 0 where
 abbrev pub all_accessed : Kind → List Cells → List (Cells × Kind)
 all_accessed kind cells = map (λ (run : Cells). (run, kind)) cells
 
--- Accessed in one way the cells of a copy are in printed form too.
+-- Accessed in one way the cells of a copy are in printed form too, if it has a texel.
 pub record CellsPrinted : Type 0 where
   pub apart : (texture : ℕ) (info : TextureInfo) (spot : TextureSpot) (size : List ℕ) (kind : Kind)
+      → has_no_texel size ≡ false
       → Apart cell_sort (all_accessed kind (copied_cells texture info spot size))
   pub printed : (texture : ℕ) (info : TextureInfo) (spot : TextureSpot) (size : List ℕ) (kind : Kind)
+      → has_no_texel size ≡ false
       → printed_accesses (all_accessed kind (copied_cells texture info spot size)) ≡ all_accessed kind (copied_cells texture info spot size)

@@ -183,6 +183,7 @@ fn begin(alloc: Global, made: &Made) -> Result<Command, NoMemory> {
     let view = made.view.share()?;
     colors.push(Some(ColorTarget {
         view,
+        depth_slice: None,
         resolve: None,
         load: LoadOp::Clear,
         store: StoreOp::Store,

@@ -6,6 +6,7 @@ use std::alloc::Global;
 use std::sync::Wait;
 use wg_device::{Device, DevicePass};
 use wg_entry::NoMemory;
+use wg_limits::default_limits;
 use wg_types::bindings::{BindingKind, GroupEntryOf, LayoutEntry, ResourceOf, SamplerKind};
 use wg_types::formats::Format;
 use wg_types::handles::{BufferInfo, Handle, Info, ObjRef, QueriesInfo};
@@ -258,7 +259,7 @@ type Last = (Option<(ObjRef, bool, Option<u32>)>, [bool; 3]);
 
 /// What makes objects, then what is queued and settled, and last a query set and a scope, on one new device.
 fn answers<R: Wait>(rt: &R, alloc: Global) -> Option<((Pair, Pair), Queued, Last)> {
-    let Ok((device, mut passes)) = Device::open(alloc, 1024, 7, 1) else {
+    let Ok((device, mut passes)) = Device::open(alloc, 1024, 7, &default_limits(), 1) else {
         return None;
     };
     let mut pass = passes.pop().unwrap();
@@ -285,7 +286,7 @@ fn calls_are_answered(rt: HostRuntime) {
 
 /// How many passes a device of the greatest count of callers has, and the numbers of the first and the last.
 fn of_many(alloc: Global) -> Option<(usize, u32, u32)> {
-    let (_device, passes) = Device::open(alloc, 1024, 7, 65536).ok()?;
+    let (_device, passes) = Device::open(alloc, 1024, 7, &default_limits(), 65536).ok()?;
     Some((passes.len(), passes[0].number(), passes[65535].number()))
 }
 

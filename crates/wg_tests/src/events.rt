@@ -3,6 +3,7 @@ use std::alloc::Global;
 use std::sync::Arc;
 use wg_core::{Core, Event};
 use wg_encoder::{Recorder, Recording};
+use wg_limits::default_limits;
 use wg_types::NoMemory;
 use wg_types::commands::{Command, On};
 use wg_types::handles::{BufferInfo, Handle, Info, ObjRef};
@@ -128,7 +129,7 @@ fn is_step_and_release(trace: &[Item]) -> bool {
 
 /// Whether each is answered so, the length of the history, and whether the trace is as it should be.
 fn of_calls(alloc: Global) -> ([bool; 11], usize, bool) {
-    let mut core = Core::new(alloc, 1_000_000, 1);
+    let mut core = Core::new(alloc, 1_000_000, 1, &default_limits());
     let asked = ask_calls(&mut core);
     (
         asked,
@@ -214,7 +215,7 @@ fn ask_submits(core: &mut Core, alloc: Global) -> [bool; 2] {
 
 /// Both, of one device.
 fn of_references(alloc: Global) -> ([bool; 7], [bool; 2]) {
-    let mut core = Core::new(alloc, 1_000_000, 1);
+    let mut core = Core::new(alloc, 1_000_000, 1, &default_limits());
     let finished = ask_finishes(&mut core, alloc);
     (finished, ask_submits(&mut core, alloc))
 }
@@ -230,7 +231,7 @@ fn of_another_device(alloc: Global) -> [bool; 3] {
         device: 2,
         number: 1,
     };
-    let mut core = Core::new(alloc, 100, 2);
+    let mut core = Core::new(alloc, 100, 2, &default_limits());
     [
         ask(&mut core, create(8), made(0, true), None),
         ask(&mut core, destroy(own(0)), Answer::Plain, uncaptured(10)),

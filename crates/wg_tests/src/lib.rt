@@ -23,6 +23,8 @@ mod recorders;
 #[cfg(test)]
 mod render;
 #[cfg(test)]
+mod slices;
+#[cfg(test)]
 mod tests;
 #[cfg(test)]
 mod threads;

@@ -6,6 +6,7 @@ use std::process::Abort;
 use std::sync::Arc;
 use wg_core::{Core, Event};
 use wg_encoder::{Recorder, Recording};
+use wg_limits::default_limits;
 use wg_render::{ColorTarget, RenderBegin};
 use wg_types::NoMemory;
 use wg_types::commands::{Command, On};
@@ -83,6 +84,7 @@ fn color(alloc: Global) -> Result<ColorTarget, NoMemory> {
     });
     Ok(ColorTarget {
         view: object(alloc, 1, info)?,
+        depth_slice: None,
         resolve: None,
         load: LoadOp::Clear,
         store: StoreOp::Store,
@@ -247,7 +249,7 @@ type Told = ([bool; 5], [bool; 2], [bool; 6]);
 
 /// Whether all is answered and traced so, by one device, which is dropped here.
 fn of_set(rt: &impl Abort, alloc: Global) -> Told {
-    let mut core = Core::new(alloc, 1_000_000, 1);
+    let mut core = Core::new(alloc, 1_000_000, 1, &default_limits());
     let made = make(&mut core);
     let ran = run(rt, &mut core, alloc);
     (made, ran, is_traced(core.trace()))

@@ -54,6 +54,7 @@ fn begin(alloc: Global) -> Result<RenderBegin, NoMemory> {
     colors.push(None)?;
     colors.push(Some(ColorTarget {
         view: view(alloc, 5, Format::Rgba8Unorm)?,
+        depth_slice: None,
         resolve: None,
         load: LoadOp::Clear,
         store: StoreOp::Store,

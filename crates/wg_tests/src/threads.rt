@@ -8,6 +8,7 @@ use std::sync::Wait;
 use std::thread;
 use std::thread::Threads;
 use wg_device::{Device, DevicePass, Ended};
+use wg_limits::default_limits;
 use wg_types::handles::{BufferInfo, Handle};
 use wg_types::replies::Answer;
 
@@ -85,7 +86,7 @@ pub(crate) fn opened(alloc: Global) -> Option<(Device, Vec<DevicePass>, DevicePa
     ensures second { IfSome result (λ t.
         IsPassOf t.0.lock t.3 × (number_of t.3 ≡ 1) × (calls_of t.3 ≡ 0)) }
 {
-    let (device, mut passes) = Device::open(alloc, 1024, 7, 2).ok()?;
+    let (device, mut passes) = Device::open(alloc, 1024, 7, &default_limits(), 2).ok()?;
     let second = passes.pop().unwrap();
     let first = passes.pop().unwrap();
     Some((device, passes, first, second))

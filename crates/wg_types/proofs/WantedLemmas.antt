@@ -10,7 +10,7 @@ in_order =
     wanted.Buffer ∷ wanted.Texture ∷ wanted.View ∷ wanted.Sampler ∷ wanted.GroupLayout ∷ wanted.PipelineLayout ∷ wanted.Group ∷
     wanted.Pipeline ∷ wanted.ComputePipeline ∷ wanted.RenderPipeline ∷ wanted.Queries ∷ wanted.Destroyable ∷ wanted.Encoder ∷ wanted.BundleEncoder ∷
     wanted.CommandBuffer ∷ wanted.Bundle ∷ wanted.ComputePass ∷ wanted.RenderPass ∷ wanted.Pass ∷ wanted.Binding ∷ wanted.Drawing ∷
-    wanted.Recording ∷ wanted.Object ∷
+    wanted.Recording ∷ wanted.Object ∷ wanted.Canvas ∷
     []
 
 with_number : ℕ → Wanted
@@ -41,6 +41,7 @@ numbered wanted.Binding = refl
 numbered wanted.Drawing = refl
 numbered wanted.Recording = refl
 numbered wanted.Object = refl
+numbered wanted.Canvas = refl
 
 -- what has the same number is the same
 pub same_wanted : (asked other : Wanted) → wanted_number asked ≡ wanted_number other → asked ≡ other

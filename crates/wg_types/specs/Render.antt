@@ -27,7 +27,7 @@ begin_named begin = targets_named begin ++ maybe_wanted wanted.Queries begin.que
 
 -- the same with other objects
 abbrev pub map_color : {R S : Type 0} → (R → S) → ColorTargetOf R → ColorTargetOf S
-map_color f target = record { view = f target.view; resolve = option_map f target.resolve; load = target.load; store = target.store }
+map_color f target = record { view = f target.view; depth_slice = target.depth_slice; resolve = option_map f target.resolve; load = target.load; store = target.store }
 
 abbrev pub map_depth : {R S : Type 0} → (R → S) → DepthTargetOf R → DepthTargetOf S
 map_depth f target =

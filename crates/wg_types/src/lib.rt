@@ -3,6 +3,7 @@
 
 pub mod bindings;
 pub mod bundles;
+pub mod canvases;
 pub mod commands;
 pub mod formats;
 pub mod groups;

@@ -59,10 +59,12 @@ pub enum StoreOp {
     Discard,
 }
 
-/// A color attachment, with its views as `R` (WebGPU, "GPURenderPassColorAttachment").
+/// A color attachment, with its views as `R` (WebGPU, "GPURenderPassColorAttachment"); `depth_slice` is the
+/// slice of a 3d view that is drawn to.
 #[derive(Drop)]
 pub struct ColorTargetOf<R> {
     pub view: R,
+    pub depth_slice: Option<u32>,
     pub resolve: Option<R>,
     pub load: LoadOp,
     pub store: StoreOp,
@@ -285,6 +287,7 @@ fn found_color<R, S: Drop, F: Find<R, S>>(
     match color {
         Some(target) => Ok(Some(ColorTargetOf {
             view: find.find(&target.view)?,
+            depth_slice: target.depth_slice,
             resolve: refs::map_maybe(find, &target.resolve)?,
             load: target.load,
             store: target.store,

@@ -19,7 +19,7 @@ returns-clause-played g c =
     let ps = c.in_ok-passes.passes in let long = ps.ok.0 in let all = p.2 in let some = lock.some_caller in
     let phases = c.args.script.now.phases in
     let plays = subst (λ (l : List (List (List BoundCall))). PlaysTo (setup_of lock) l [] p.0 p.1) c.as_slice-phases.ensures p.4 in
-    let out = played_out lock (setup_with c.args.script.now.budget) phases ps.items p.0 p.1 (state_of c.close.result) (entries_of c.close.result) (λ e. let same : 1 ≡ 0 = e in omega (arith, same)) d.0 d.1
+    let out = played_out lock (setup_with c.args.script.now.budget c.args.script.now.limits) phases ps.items p.0 p.1 (state_of c.close.result) (entries_of c.close.result) (λ e. let same : 1 ≡ 0 = e in omega (arith, same)) d.0 d.1
     (omega (arith, long, all, some)) (omega (arith, long, all)) p.3 plays c.close.ensures.whole c.close.ensures.legal in
     let count : length ps.items ≡ passes_of c.close.result = omega (arith, long, c.close.ensures.callers) in
-    subst (λ (k : ℕ). IsPlayedOut (setup_with c.args.script.now.budget) phases k (state_of c.close.result) (entries_of c.close.result)) count out
+    subst (λ (k : ℕ). IsPlayedOut (setup_with c.args.script.now.budget c.args.script.now.limits) phases k (state_of c.close.result) (entries_of c.close.result)) count out

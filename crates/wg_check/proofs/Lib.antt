@@ -1,0 +1,15 @@
+pub mod Walks
+pub mod Differing
+pub mod Telling
+pub mod Ranks
+pub mod Laws
+pub mod Between
+pub mod Bars
+pub mod Bridge
+pub mod Joining
+pub mod Halves
+pub mod Reading
+pub mod Sorting
+pub mod Finding
+pub mod Placing
+pub mod Judging

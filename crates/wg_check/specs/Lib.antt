@@ -1,0 +1,9 @@
+pub mod Stories
+pub mod Doings
+pub mod Clashes
+pub mod Segments
+pub mod Keys
+pub mod Ends
+pub mod Cells
+pub mod Digests
+pub mod Verdict

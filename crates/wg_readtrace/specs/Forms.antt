@@ -1,0 +1,171 @@
+-- The lines of a trace.
+use Rattle.std.specs.Prelude.{ℕ, ◌≤◌, Bool, true, false, ◌==◌, nat_lt, List, length, take, drop, codes, bytes_eq, Option, Some, None, if◌then◌else◌, ◌≡◌}
+use Rattle.wg_types.specs.declared.parts.Aspect.{Aspect}
+use Rattle.wg_types.specs.declared.parts.Aspect.TheVariants.{Color}
+use Rattle.wg_types.specs.declared.parts.PartRun.{PartRun}
+use Rattle.wg_types.specs.declared.parts.PartRun.TheVariants as part
+use Rattle.wg_types.specs.declared.parts.Cells.{Cells}
+use Rattle.wg_types.specs.declared.parts.Cells.TheVariants as cells
+use Rattle.wg_types.specs.declared.steps.StepPlace.{StepPlace}
+use Rattle.wg_types.specs.declared.steps.StepPlace.TheVariants.{Op, Host}
+use Rattle.wg_types.specs.declared.usages.Usages.{Usages}
+use Rattle.wg_readtrace.specs.Words.{gap_len, field, number_word, aspect_word, kind_word, name_word, sort_word, set_word}
+use Rattle.wg_readtrace.specs.declared.line.Line.{Line}
+use Rattle.wg_readtrace.specs.declared.line.Line.TheVariants.{Bar, Step, Use, Acc, Free, End}
+
+infixl 10 ◌>>=◌
+abbrev pub ◌>>=◌ : {A B : Type 0} → Option A → (A → Option B) → Option B
+None >>= f = None
+(Some x) >>= f = f x
+
+-- What is read, and what stands behind it in the line.
+abbrev pub Read : Type 0 → Type 0
+Read A = Option (A × List ℕ)
+
+-- What was read from a line, with the place behind it, is what ought to be.
+abbrev pub Reads : {A : Type 0} → List ℕ → Option (A × ℕ) → Read A → Type 0
+Reads text None read = read ≡ None
+Reads text (Some r) read = (read ≡ Some (r.0, drop r.1 text)) × (r.1 ≤ length text)
+
+-- a word that f tells
+abbrev pub word_as : {A : Type 0} → (List ℕ → Option A) → List ℕ → Read A
+word_as f bs = field bs >>= λ w. f w.0 >>= λ x. Some (x, w.1)
+
+-- the greatest number of an object, an operation, an entry, a step or a byte
+abbrev pub most_53 : ℕ
+most_53 = 9007199254740991
+
+-- the greatest number of a mip level, a layer, a slice or a query
+abbrev pub most_32 : ℕ
+most_32 = 4294967295
+
+abbrev pub number : ℕ → List ℕ → Read ℕ
+number most bs = word_as (number_word most) bs
+
+-- two numbers, the first below the second
+abbrev pub range : ℕ → List ℕ → Read (ℕ × ℕ)
+range most bs = do
+  lo ← number most bs
+  hi ← number most lo.1
+  if nat_lt lo.0 hi.0 then Some ((lo.0, hi.0), hi.1) else None
+
+-- a line behind which nothing stands
+abbrev pub whole : List ℕ → Line → Option Line
+whole bs line = if length bs == 0 then Some line else None
+
+unfoldable pub buffer_part : List ℕ → Read PartRun
+buffer_part bs = do
+  object ← number most_53 bs
+  Some (part.Buffer object.0, object.1)
+
+unfoldable pub query_part : List ℕ → Read PartRun
+query_part bs = do
+  object ← number most_53 bs
+  Some (part.Queries object.0, object.1)
+
+unfoldable pub texture_part : List ℕ → Read PartRun
+texture_part bs = do
+  object ← number most_53 bs
+  aspect ← word_as aspect_word object.1
+  mip ← number most_32 aspect.1
+  layers ← range most_32 mip.1
+  Some (part.Texture object.0 aspect.0 mip.0 layers.0.0 layers.0.1, layers.1)
+
+abbrev pub part_as : List ℕ → List ℕ → Read PartRun
+part_as w bs = if bytes_eq w (codes "b") then buffer_part bs else (if bytes_eq w (codes "q") then query_part bs else (if bytes_eq w (codes "t") then texture_part bs else None))
+
+unfoldable pub part_of : List ℕ → Read PartRun
+part_of bs = do
+  sort ← field bs
+  part_as sort.0 sort.1
+
+unfoldable pub bytes_of : List ℕ → Read Cells
+bytes_of bs = do
+  object ← number most_53 bs
+  at ← range most_53 object.1
+  Some (cells.Bytes object.0 at.0.0 at.0.1, at.1)
+
+unfoldable pub queries_of : List ℕ → Read Cells
+queries_of bs = do
+  object ← number most_53 bs
+  at ← range most_32 object.1
+  Some (cells.Queries object.0 at.0.0 at.0.1, at.1)
+
+unfoldable pub layers_of : List ℕ → Read Cells
+layers_of bs = do
+  object ← number most_53 bs
+  aspect ← word_as aspect_word object.1
+  mip ← number most_32 aspect.1
+  layers ← range most_32 mip.1
+  Some (cells.Layers object.0 aspect.0 mip.0 layers.0.0 layers.0.1, layers.1)
+
+abbrev pub is_color : Aspect → Bool
+is_color Color = true
+is_color _ = false
+
+unfoldable pub slices_of : List ℕ → Read Cells
+slices_of bs = do
+  object ← number most_53 bs
+  aspect ← word_as aspect_word object.1
+  mip ← number most_32 aspect.1
+  slices ← range most_32 mip.1
+  if is_color aspect.0 then Some (cells.Slices object.0 mip.0 slices.0.0 slices.0.1, slices.1) else None
+
+abbrev pub cells_as : List ℕ → List ℕ → Read Cells
+cells_as w bs = if bytes_eq w (codes "b") then bytes_of bs else (if bytes_eq w (codes "q") then queries_of bs else (if bytes_eq w (codes "t") then layers_of bs else (if bytes_eq w (codes "s") then slices_of bs else None)))
+
+unfoldable pub cells_of : List ℕ → Read Cells
+cells_of bs = do
+  sort ← field bs
+  cells_as sort.0 sort.1
+
+abbrev pub from_word : List ℕ → Option (Option Usages)
+from_word w = if bytes_eq w (codes "none") then Some None else (set_word w >>= λ set. Some (Some set))
+
+abbrev pub place_as : List ℕ → List ℕ → Read StepPlace
+place_as w bs = if bytes_eq w (codes "op") then (number most_53 bs >>= λ n. Some (Op n.0, n.1)) else (if bytes_eq w (codes "host") then (number most_53 bs >>= λ n. Some (Host n.0, n.1)) else None)
+
+unfoldable pub place_of : List ℕ → Read StepPlace
+place_of bs = do
+  w ← field bs
+  place_as w.0 w.1
+
+unfoldable pub bar_of : List ℕ → Option Line
+bar_of bs = do
+  part ← part_of bs
+  from ← word_as from_word part.1
+  to ← word_as set_word from.1
+  whole to.1 (Bar part.0 from.0 to.0)
+
+unfoldable pub step_of : List ℕ → Option Line
+step_of bs = do
+  n ← number most_53 bs
+  place ← place_of n.1
+  name ← word_as name_word place.1
+  whole name.1 (Step n.0 place.0 name.0)
+
+unfoldable pub use_of : List ℕ → Option Line
+use_of bs = do
+  part ← part_of bs
+  set ← word_as set_word part.1
+  whole set.1 (Use part.0 set.0)
+
+unfoldable pub acc_of : List ℕ → Option Line
+acc_of bs = do
+  kind ← word_as kind_word bs
+  run ← cells_of kind.1
+  whole run.1 (Acc kind.0 run.0)
+
+unfoldable pub free_of : List ℕ → Option Line
+free_of bs = do
+  sort ← word_as sort_word bs
+  object ← number most_53 sort.1
+  whole object.1 (Free object.0 sort.0)
+
+abbrev pub line_as : List ℕ → List ℕ → Option Line
+line_as w bs =
+    if bytes_eq w (codes "bar") then bar_of bs else (if bytes_eq w (codes "step") then step_of bs else (if bytes_eq w (codes "use") then use_of bs else (if bytes_eq w (codes "acc") then acc_of bs else (if bytes_eq w (codes "free") then free_of bs else (if bytes_eq w (codes "end") then whole bs End else None)))))
+
+-- the line that a text is, without its end; its first word has no space before it
+unfoldable pub line_of : List ℕ → Option Line
+line_of bs = line_as (take (gap_len bs) bs) (drop (gap_len bs) bs)
