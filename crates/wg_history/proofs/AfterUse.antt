@@ -60,7 +60,7 @@ write_texture_stands setup past texture spot layout size data_size e =
     (undropped_held setup past texture.number (own_below setup past _ texture met.0) (not_true (is_dropped setup past texture.number) met.1.0))
 
 -- Command buffers that use a destroyed object use some destroyed object.
-used_destroyed : (setup : Setup) (past : Past) (buffers : List ObjRef) (n : ℕ) → is_destroyed setup past n ≡ true → submit_uses past buffers n ≡ true → any_used resources (is_destroyed setup past) past buffers ≡ true
+pub used_destroyed : (setup : Setup) (past : Past) (buffers : List ObjRef) (n : ℕ) → is_destroyed setup past n ≡ true → submit_uses past buffers n ≡ true → any_used resources (is_destroyed setup past) past buffers ≡ true
 used_destroyed setup past buffers n destroyed used =
     any_grows (λ buffer. any_resource (is_destroyed setup past) (commands_at past buffer.number)) (λ buffer. uses_resource (commands_at past buffer.number) n)
     (λ buffer in_buffer. any_grows (λ kept. list_any (is_destroyed setup past) (resources kept.1)) (λ kept. list_any (λ r. r == n) (resources kept.1))
@@ -72,7 +72,7 @@ used_destroyed setup past buffers n destroyed used =
 abbrev uses_destroyed : (Command → List ℕ) → Setup → Past → List ObjRef → Bool
 uses_destroyed names setup past buffers = any_used names (is_destroyed setup past) past buffers
 
-any_destroyed_is : (setup : Setup) (past : Past) (buffers : List ObjRef)
+pub any_destroyed_is : (setup : Setup) (past : Past) (buffers : List ObjRef)
     → uses_destroyed resources setup past buffers ≡ uses_destroyed buffers_of setup past buffers || (uses_destroyed textures_of setup past buffers || uses_destroyed query_sets_of setup past buffers)
 any_destroyed_is setup past buffers =
     any_either (λ buffer. any_named buffers_of test (commands_at past buffer.number)) (λ buffer. any_named textures_of test (commands_at past buffer.number) || any_named query_sets_of test (commands_at past buffer.number))

@@ -1,4 +1,5 @@
 pub mod Causes
+pub mod Exchange
 pub mod Memory
 pub mod Reading
 pub mod Standard
