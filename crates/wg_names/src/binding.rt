@@ -10,7 +10,7 @@ ghost use Rattle.wg_names.specs.Bound.{IsBound, IsBoundFrom, IsBoundRead};
 
 use crate::known::Known;
 use crate::slots::bound_phases;
-use crate::uses::{check_setting, check_uses, configured_by, made_of};
+use crate::uses::{check_setting, check_uses, made_of, note_setting};
 use std::alloc::Global;
 use wg_script::{Call, Draft, Lane, Phase, Place, Script, ScriptFault};
 
@@ -62,9 +62,7 @@ fn bind_call<'a>(
         }
         known.add(phase, lane, name, kind)?;
     }
-    if let Some(canvas) = configured_by(call) {
-        known.configure(canvas)?;
-    }
+    note_setting(known, call)?;
     Ok(())
 }
 

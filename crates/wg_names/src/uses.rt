@@ -1,18 +1,17 @@
 //! The names that a call uses, and the name that it makes.
-ghost use Rattle.std.specs.Prelude.{◌≡◌, ◌∷◌};
+ghost use Rattle.std.specs.Prelude.{◌≡◌, ◌∷◌, OnOk};
 ghost use Rattle.wg_types.specs.Commands.{place_wanted, named_on};
 ghost use Rattle.wg_types.specs.Wanted.{within};
 ghost use Rattle.wg_types.specs.Requests.{named as asked_of};
 ghost use Rattle.wg_types.specs.Canvases.{named as canvas_named};
-ghost use Rattle.std.specs.Option.{option_map, option_to_list};
+ghost use Rattle.std.specs.Option.{option_map};
 ghost use Rattle.wg_names.specs.Names.{kind_in, check_use};
 ghost use Rattle.wg_names.specs.Known.{names_in};
 ghost use Rattle.wg_names.specs.Uses.{made_as, made_of, broken, refused};
-ghost use Rattle.wg_names.specs.Bound.{configured_by};
-ghost use Rattle.wg_names.specs.Script.{check_uses, check_setting, uses_by};
+ghost use Rattle.wg_names.specs.Script.{check_uses, check_setting, with_setting, uses_by};
 
 use crate::known::Known;
-use wg_script::{Call, Name};
+use wg_script::{Call, Name, NoMemory};
 use wg_types::canvases::{CanvasCall, CanvasOf};
 use wg_types::commands::CommandOf;
 use wg_types::refs::Ask;
@@ -164,9 +163,9 @@ pub fn check_setting(known: &Known<'_>, call: &Call) -> Result<(), u8>
     }
 }
 
-/// The canvas that a call configures, if it does.
-pub fn configured_by(call: &Call) -> Option<&Name>
-    ensures { option_to_list (option_map (λ name. name.now) result) ≡ configured_by call.now }
+/// Notes the canvas that a call configures, if it configures one.
+pub fn note_setting<'a>(known: &mut Known<'a>, call: &'a Call) -> Result<(), NoMemory>
+    ensures { OnOk result (names_in known.new ≡ with_setting call.now (names_in known.old)) }
 {
     match call {
         Call::Canvas {
@@ -175,7 +174,7 @@ pub fn configured_by(call: &Call) -> Option<&Name>
                 call: CanvasCall::Configure { .. },
             },
             ..
-        } => Some(canvas),
-        Call::Canvas { .. } | Call::Record { .. } | Call::Ask { .. } => None,
+        } => known.configure(canvas),
+        Call::Canvas { .. } | Call::Record { .. } | Call::Ask { .. } => Ok(()),
     }
 }
