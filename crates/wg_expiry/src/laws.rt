@@ -5,7 +5,7 @@ ghost use Rattle.wg_expiry.specs.Expiry.{DestroyExpires, StaysExpired, SubmitIsP
 /// of command buffers that use it and each writeTexture of it answers Plain, and on a device that is not lost
 /// has the fault of rule 193 or 210 where no earlier rule is unmet. One that was never dropped is released
 /// at the first entry, from its first destroy on, after which every operation that uses it is complete.
-pub fn expired_textures()
+pub fn destroyed_objects()
     ensures destroyed { DestroyExpires }
     ensures stays { StaysExpired }
     ensures submit { SubmitIsPlain }

@@ -4,4 +4,4 @@
 
 mod laws;
 
-pub use laws::expired_textures;
+pub use laws::destroyed_objects;
