@@ -18,12 +18,16 @@ abbrev pub IsKeptIn : Setup → Past → Option HandleValue → Type 0
 IsKeptIn setup past None = Unit {0}
 IsKeptIn setup past (Some texture) = is_genuine setup past texture ≡ true
 
--- the handle of an object is genuine in a past, and so is that of the texture of a canvas; a pass has none
+-- what is said of the handle of an object, and of the texture of a canvas and of each name of one, if there is one; a pass has none
+abbrev pub Each : (HandleValue → Type 0) → (Option HandleValue → Type 0) → Object → Type 0
+Each OfObject OfTexture (object.Made handle recorder) = OfObject handle
+Each OfObject OfTexture (object.Pass encoder number) = Unit {0}
+Each OfObject OfTexture (object.Canvas canvas) = OfTexture (texture_of canvas)
+Each OfObject OfTexture (object.Shown texture) = OfTexture texture
+
+-- the handle of an object is genuine in a past, and so is that of the texture of a canvas
 abbrev pub IsKept : Setup → Past → Object → Type 0
-IsKept setup past (object.Made handle recorder) = is_genuine setup past handle ≡ true
-IsKept setup past (object.Pass encoder number) = Unit {0}
-IsKept setup past (object.Canvas canvas) = IsKeptIn setup past (texture_of canvas)
-IsKept setup past (object.Shown texture) = IsKeptIn setup past texture
+IsKept setup past what = Each (λ handle. is_genuine setup past handle ≡ true) (IsKeptIn setup past) what
 
 abbrev pub AreKept : Setup → Past → List Object → Type 0
 AreKept setup past objects = All (IsKept setup past) objects
