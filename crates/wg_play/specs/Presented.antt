@@ -1,5 +1,5 @@
 -- The textures of canvases that were presented: what is refused of them from then on, and when they are released.
-use Rattle.std.specs.Prelude.{◌≡◌, ◌≢◌, ℕ, List, [], ◌∷◌, ◌++◌, length, reverse, false, true, Option, Some, None, count_by, if◌then◌else◌}
+use Rattle.std.specs.Prelude.{◌≡◌, ℕ, List, [], ◌∷◌, ◌++◌, length, reverse, true, Option, Some, None, count_by, if◌then◌else◌}
 use Rattle.std.specs.List.{flat_map}
 use Rattle.wg_types.specs.declared.canvases.CanvasOf.{CanvasOf}
 use Rattle.wg_types.specs.declared.handles.ObjRef.{ObjRef}
@@ -9,7 +9,7 @@ use Rattle.wg_model.specs.Rules.{Rule, first_unmet}
 use Rattle.wg_history.specs.declared.events.Event.TheVariants.{Destroy, Submit, WriteTexture}
 use Rattle.wg_history.specs.declared.events.Setup.{Setup}
 use Rattle.wg_history.specs.Entries.{Entry, Past}
-use Rattle.wg_history.specs.Answers.{Plain, fault_of}
+use Rattle.wg_history.specs.Answers.{Plain, fault_of, Run}
 use Rattle.wg_history.specs.Loss.{is_lost}
 use Rattle.wg_history.specs.Operations.{submit_uses}
 use Rattle.wg_history.specs.ReleaseLaws.{releases_object}
@@ -17,9 +17,7 @@ use Rattle.wg_history.specs.Traces.{Trace}
 use Rattle.wg_expiry.specs.Expiry.{submit_before, write_before, is_over}
 use Rattle.wg_script.specs.CallOf.{BoundCall}
 use Rattle.wg_script.specs.declared.calls.CallOf.TheVariants.{Canvas}
-use Rattle.wg_names.specs.Bound.{IsBound}
 use Rattle.wg_play.specs.Turns.{made_by}
-use Rattle.wg_play.specs.Play.{Play}
 use Rattle.wg_play.specs.Played.{PlayedCall, PlayedPhase, entries_in, IsPlayedThrough}
 
 -- The entry after a past is answered Plain; and its fault is of this rule where the device is not lost and no rule before it is unmet.
@@ -58,11 +56,11 @@ pub record GivenAt (plays : List PlayedPhase) (front : List Entry) (entry : Entr
   pub own : made_by (length lanes_before) first ≡ entries_in before
   pub front_is : front ≡ flat_map (λ (p : PlayedPhase). p.entries) earlier ++ first
 
--- However a script whose names are bound was played: where a call of a canvas became the destroy of its texture, as a present does
--- exactly where its canvas has one, and so does a configureCanvas, that texture has expired after it. The device's serial is not 0, as
--- which a slot counts that stands for no object.
+-- Where a script was played through, as each is whose names are bound, however its calls were played: where a call of a canvas became
+-- the destroy of its texture, as a present does exactly where its canvas has one, and so does a configureCanvas, that texture has expired
+-- after it.
 abbrev pub PresentsExpire : Type 0
-PresentsExpire = (setup : Setup) → setup.serial ≢ 0 → (phases : List (List (List BoundCall))) (numbers : List ℕ) (history : List Entry) → IsBound phases → Play setup phases numbers ≡ Some history
-    → (played : IsPlayedThrough setup phases history) (front back : List Entry) (entry : Entry) (call : CanvasOf ℕ) (made : Option ℕ) (texture : ObjRef)
-    → history ≡ front ++ entry ∷ back → GivenAt played.plays front entry (Canvas call made) → entry.event ≡ Destroy texture
+PresentsExpire = (setup : Setup) (phases : List (List (List BoundCall))) (history : List Entry) → Run setup history → (through : IsPlayedThrough setup phases history)
+    → (front back : List Entry) (entry : Entry) (call : CanvasOf ℕ) (made : Option ℕ) (texture : ObjRef)
+    → history ≡ front ++ entry ∷ back → GivenAt through.plays front entry (Canvas call made) → entry.event ≡ Destroy texture
     → HasExpired setup (front ++ entry ∷ []) back texture
