@@ -4,6 +4,7 @@ use Rattle.std.specs.Prelude.{All, Contains}
 use Rattle.std.specs.List.{flat_map}
 use Rattle.std.specs.Option.{option_map_or, option_to_list}
 use Rattle.std.proofs.lemmas.Bool.Decides.{nat_tests}
+use Rattle.std.proofs.lemmas.List.{reverse-append}
 use Rattle.std.proofs.lemmas.List.Elements.{All-head, All-tail}
 use Rattle.wg_types.specs.declared.replies.Answer.{Answer}
 use Rattle.wg_types.specs.declared.replies.Answer.TheVariants.{Made, Queued, Promised, Plain, BadCompletion}
@@ -43,7 +44,7 @@ times_reverse p [] = refl
 times_reverse p (x ∷ xs) =
     let rest : times p (reverse xs) ≡ times p xs = times_reverse p xs in
     let both : times p (reverse xs ++ x ∷ []) ≡ times p (reverse xs) + times p (x ∷ []) = times_append p (reverse xs) (x ∷ []) in
-    both ∙ by_test (p x) rest
+    ap (times p) (reverse-append (x ∷ []) xs) ∙ (both ∙ by_test (p x) rest)
   where
     by_test : (b : Bool) → times p (reverse xs) ≡ times p xs → times p (reverse xs) + (if b then 1 else 0) ≡ (if b then suc (times p xs) else times p xs)
     by_test true rest = omega (arith, rest)
@@ -191,8 +192,8 @@ lanes_times n k (calls ∷ lanes) part own from =
     let rest : times (call_makes n) (lane_calls lanes) ≡ times (entry_makes n) (without k part)
     = lanes_times n (k + 1) lanes (without k part)
     (λ i. let other : (k + 1) + i ≡ k → ⊥ = λ q. omega (arith, q) in
-        let next : (k + 1) + i ≡ k + suc i = omega arith in
-        made_without ((k + 1) + i) k part other ∙ (ap (λ m. made_by m part) next ∙ own (suc i)))
+    let next : (k + 1) + i ≡ k + suc i = omega arith in
+    made_without ((k + 1) + i) k part other ∙ (ap (λ m. made_by m part) next ∙ own (suc i)))
     (from_next k part from) in
     let both : times (call_makes n) (calls ++ lane_calls lanes) ≡ times (call_makes n) calls + times (call_makes n) (lane_calls lanes) = times_append (call_makes n) calls (lane_calls lanes) in
     let whole : times (entry_makes n) part ≡ times (entry_makes n) (made_by k part) + times (entry_makes n) (without k part) = split (entry_makes n) k part in

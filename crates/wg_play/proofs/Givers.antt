@@ -33,8 +33,8 @@ cut (y ∷ xs) ys (z ∷ front) x back e =
     let same : y ≡ z = cc (e) in
     let rest : xs ++ ys ≡ front ++ x ∷ back = cc (e) in
     elim (cut xs ys front x back rest) [
-      | inl here ↦ inl (record { rest = here.rest; is = ap₂ (λ a as. a ∷ as) same here.is })
-      | inr there ↦ inr (record { more = there.more; front_is = ap₂ (λ a as. a ∷ as) (sym same) there.front_is; is = there.is })
+      | inl here ↦ inl (record { rest = here.rest; is = ap₂ (λ a rest. a ∷ rest) same here.is })
+      | inr there ↦ inr (record { more = there.more; front_is = ap₂ (λ a rest. a ∷ rest) (sym same) there.front_is; is = there.is })
     ]
 
 -- ---- in a lane
@@ -65,7 +65,7 @@ by_found call (Some x) calls gives (y ∷ front) entry back e =
       after = rest.after;
       call = rest.call;
       is = ap (λ cs. (call, Some x) ∷ cs) rest.is;
-      own = ap₂ (λ a as. a ∷ as) same rest.own;
+      own = ap₂ (λ a rest. a ∷ rest) same rest.own;
     }
 
 in_lane : (calls : List PlayedCall) → LaneGives calls

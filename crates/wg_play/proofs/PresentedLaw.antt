@@ -196,11 +196,12 @@ NoDrop log n = (front : List Entry) (entry : Entry) (back : List Entry) (object 
 never_dropped : (setup : Setup) (past : Past) (n : ℕ) → NoDrop (reverse past) n → dropped_at setup past n ≡ None
 never_dropped setup [] n none = refl
 never_dropped setup (entry ∷ older) n none =
+    let whole : reverse (entry ∷ older) ≡ reverse older ++ entry ∷ [] = reverse-append (entry ∷ []) older in
     let before : dropped_at setup older n ≡ None
     = never_dropped setup older n (λ front e back object is event number. none front e (back ++ entry ∷ []) object
-    (ap (λ (l : List Entry). l ++ entry ∷ []) is ∙ append_assoc front (e ∷ back) (entry ∷ [])) event number) in
+    (whole ∙ (ap (λ (l : List Entry). l ++ entry ∷ []) is ∙ append_assoc front (e ∷ back) (entry ∷ []))) event number) in
     let here : drops (is_some (dropped_at setup older n)) setup older entry.event n ≡ false
-    = drops_none (is_some (dropped_at setup older n)) setup older entry.event n (λ object event number. none (reverse older) entry [] object refl event number) in
+    = drops_none (is_some (dropped_at setup older n)) setup older entry.event n (λ object event number. none (reverse older) entry [] object whole event number) in
     ap (λ (b : Bool). if b then Some (count older) else dropped_at setup older n) here ∙ before
 
 -- ---- what a genuine handle of a texture names has memory
@@ -335,7 +336,7 @@ has_expired setup log front back entry texture run is event kind genuine none =
     = λ between. subst (λ (p : Past). is_destroyed setup p n ≡ true) (sym (past_is between)) (stays_expired setup (reverse between) (entry ∷ reverse front) n there) in
     let reply : (between rest : List Entry) (later : Entry) → back ≡ between ++ later ∷ rest → later.reply ≡ reply_to setup (reverse (upto ++ between)) later.event
     = λ between rest later at. replied_at setup log (upto ++ between) later rest run
-        (whole ∙ (ap (λ (l : List Entry). upto ++ l) at ∙ sym (append_assoc upto between (later ∷ rest)))) in
+    (whole ∙ (ap (λ (l : List Entry). upto ++ l) at ∙ sym (append_assoc upto between (later ∷ rest)))) in
     record {
       submits = λ between rest later buffers at sent used.
           let past : Past = reverse (upto ++ between) in
