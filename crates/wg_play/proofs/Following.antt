@@ -51,10 +51,10 @@ handle_own sight own None = refl
 handle_own sight own (Some handle) = refl
 
 pub after_ask : (serial : ℕ) (sight : Sight) (request : RequestOf ℕ) (made : Option ℕ) (answer : Answer)
-    → after_call serial sight (Ask request made, answer) ≡ record sight { own = with_kept (ended_on sight (ended_by request)) (handle_kept serial sight (Ask request made) answer) }
+    → after_call serial sight (Ask request made, answer) ≡ record sight { own = with_kept (ended_on sight (ended_by request)) (handle_kept serial sight request made answer) }
 after_ask serial sight request made answer =
-    ap (λ s. with_handle s (handle_kept serial sight (Ask request made) answer)) (taken_own sight (ended_by request))
-    ∙ handle_own sight (ended_on sight (ended_by request)) (handle_kept serial sight (Ask request made) answer)
+    ap (λ s. with_handle s (handle_kept serial sight request made answer)) (taken_own sight (ended_by request))
+    ∙ handle_own sight (ended_on sight (ended_by request)) (handle_kept serial sight request made answer)
 
 -- what others have made, and where the lane's own slots begin, stay
 pub same_first : (serial : ℕ) (sight : Sight) (call : BoundCall) (answer : Answer) → (after_call serial sight (call, answer)).first ≡ sight.first
@@ -145,7 +145,7 @@ fits_known serial (Some x) Plain (Some slot) (Some k) e answered = absurd (cc (a
 fits_known serial (Some x) BadCompletion (Some slot) (Some k) e answered = absurd (cc (answered refl))
 
 pub handle_fits : (serial : ℕ) (sight : Sight) (request : RequestOf ℕ) (made : Option ℕ) (answer : Answer) → Answers (Ask request made) answer
-    → Fits (handle_kept serial sight (Ask request made) answer) (made_of (Ask request made))
+    → Fits (handle_kept serial sight request made answer) (made_of (Ask request made))
 handle_fits serial sight request made answer answered =
     fits_known serial (info_sent sight request) answer made (kind_made request) (some_sent sight request) answered
 
@@ -179,7 +179,7 @@ kind_known serial (Some x) answer (Some n) found handle slot k e is makes =
 
 -- and so it is of its handle
 pub handle_kind : (serial : ℕ) (sight : Sight) (request : RequestOf ℕ) (made : Option ℕ) (answer : Answer) (slot : ℕ) (k : Kind) → MakesAs sight (Ask request made) → made_of (Ask request made) ≡ Some (slot, k)
-    → (handle : HandleValue) → handle_kept serial sight (Ask request made) answer ≡ Some handle → kind_of handle.info ≡ k
+    → (handle : HandleValue) → handle_kept serial sight request made answer ≡ Some handle → kind_of handle.info ≡ k
 handle_kind serial sight request made answer slot k fit makes handle is = kind_known serial (info_sent sight request) answer made (kind_made request) handle slot k fit is makes
 
 pub fits_length : (objects : List Object) (handle : Option HandleValue) (made : Option (ℕ × Kind)) → Fits handle made → length (with_kept objects handle) ≡ length objects + length (option_to_list made)

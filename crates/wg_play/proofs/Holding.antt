@@ -101,7 +101,7 @@ call_stands serial sight (Record on command made) answer place k was =
     (stands_append (recorded_on sight.own stand found) (begun_by sight.own stand.encoder found made) place k (recorded_stands sight.own stand found place k was))
 call_stands serial sight (Ask request made) answer place k was =
     subst (λ (s : Sight). StandsAt s.own place k) (sym (after_ask serial sight request made answer))
-    (kept_stands (ended_on sight (ended_by request)) (handle_kept serial sight (Ask request made) answer) place k (ended_stands sight (ended_by request) place k was))
+    (kept_stands (ended_on sight (ended_by request)) (handle_kept serial sight request made answer) place k (ended_stands sight (ended_by request) place k was))
 
 -- ---- what a call makes
 
@@ -146,7 +146,7 @@ call_makes serial sight (Record on command (Some made)) answer slot k answered f
     let begins : kind_begun found ≡ Some k = begun_mapped (handle_in_sight sight) command ∙ same_kind made slot (kind_begun command) k e in
     subst (λ (s : Sight). StandsAt s.own (length sight.own) k) (sym (after_record serial sight on command (Some made) answer)) (new_pass sight (stand_seen sight on) found made k begins)
 call_makes serial sight (Ask request made) answer slot k answered fit e =
-    let handle : Option HandleValue = handle_kept serial sight (Ask request made) answer in
+    let handle : Option HandleValue = handle_kept serial sight request made answer in
     let fits : Fits handle (Some (slot, k)) = subst (Fits handle) e (handle_fits serial sight request made answer answered) in
     subst (λ (s : Sight). StandsAt s.own (length sight.own) k) (sym (after_ask serial sight request made answer))
     (subst (λ n. StandsAt (with_kept (ended_on sight (ended_by request)) handle) n k) (ended_length sight (ended_by request))

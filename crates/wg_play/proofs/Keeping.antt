@@ -260,7 +260,7 @@ answered_sees setup some entry past sight (Record on command made) sees asked re
     noted_sees setup (entry ∷ past) sight (stand_seen sight on) (command_seen sight command) made (sees_more setup entry past sight sees)
 answered_sees setup some entry past sight (Ask request made) sees asked replied =
     let more : SeesGenuine setup (entry ∷ past) sight = sees_more setup entry past sight sees in
-    let handle : Option HandleValue = handle_kept setup.serial sight (Ask request made) entry.reply.answer in
+    let handle : Option HandleValue = handle_kept setup.serial sight request made entry.reply.answer in
     subst (SeesGenuine setup (entry ∷ past)) (sym (after_ask setup.serial sight request made entry.reply.answer)) (
       more.0,
       kept_if_made setup (entry ∷ past) (ended_on sight (ended_by request)) handle (ended_kept setup (entry ∷ past) sight (ended_by request) more.1)

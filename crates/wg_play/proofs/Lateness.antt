@@ -139,7 +139,7 @@ call_keeps serial sight (Record on command made) answer place r owns e =
     (kept_append (recorded_on sight.own stand found) (begun_by sight.own stand.encoder found made) place false r (recorded_kept sight.own stand found place r e))
 call_keeps serial sight (Ask request made) answer place r owns e =
     subst (λ (s : Sight). Kept s.own place (finishes (sight.first + place) (Ask request made)) r) (sym (after_ask serial sight request made answer))
-    (made_kept (ended_on sight (ended_by request)) (handle_kept serial sight (Ask request made) answer) place (finishes (sight.first + place) (Ask request made)) r
+    (made_kept (ended_on sight (ended_by request)) (handle_kept serial sight request made answer) place (finishes (sight.first + place) (Ask request made)) r
     (ended_kept sight (ended_by request) place r owns e))
 
 pub call_leaves : (serial : ℕ) (sight : Sight) (call : BoundCall) (answer : Answer) (place encoder number : ℕ) → slice_get sight.own place ≡ Some (object.Pass encoder number)
@@ -152,5 +152,5 @@ call_leaves serial sight (Record on command made) answer place encoder number e 
     (pass_with (recorded_by stand.on found) sight.own stand.encoder place encoder number e)
 call_leaves serial sight (Ask request made) answer place encoder number e =
     ap (λ (s : Sight). slice_get s.own place) (after_ask serial sight request made answer)
-    ∙ made_pass (ended_on sight (ended_by request)) (handle_kept serial sight (Ask request made) answer) place encoder number
+    ∙ made_pass (ended_on sight (ended_by request)) (handle_kept serial sight request made answer) place encoder number
     (ended_pass sight (ended_by request) place encoder number e)

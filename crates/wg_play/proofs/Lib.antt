@@ -1,5 +1,7 @@
 pub mod Begun
 pub mod Slots
+pub mod Redrawn
+pub mod Drawn
 pub mod Turning
 pub mod Phases
 pub mod Parts

@@ -150,7 +150,7 @@ call_leaves serial sight (Record on command made) answer place maker was =
     (made_changed serial (recorded_by stand.on found) sight.own stand.encoder place maker was))
 call_leaves serial sight (Ask request made) answer place maker was =
     subst (λ (s : Sight). IsMadeAt serial s.own place maker) (sym (after_ask serial sight request made answer))
-    (kept_made serial (ended_on sight (ended_by request)) (handle_kept serial sight (Ask request made) answer) place maker
+    (kept_made serial (ended_on sight (ended_by request)) (handle_kept serial sight request made answer) place maker
     (ended_made serial sight (ended_by request) place maker was))
 
 abbrev IsAnswer : ℕ → Answer → HandleValue → Type 0
@@ -189,7 +189,7 @@ module _ (setup : Setup) where
   call_new sight (Ask request made) None slot k runs e = absurd (cc (runs))
   call_new sight (Ask request made) (Some entry) slot k runs e =
       let answer : Answer = entry.reply.answer in
-      let handle : Option HandleValue = handle_kept setup.serial sight (Ask request made) answer in
+      let handle : Option HandleValue = handle_kept setup.serial sight request made answer in
       let fits : Fits handle (Some (slot, k)) = subst (Fits handle) e
       (handle_fits setup.serial sight request made answer (call_answered setup sight (Ask request made, Some entry) runs)) in
       subst (λ (s : Sight). IsMadeAt setup.serial s.own (length sight.own) (Ask request made, Some entry))

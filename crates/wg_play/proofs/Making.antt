@@ -63,7 +63,7 @@ call_length serial sight (Record on command made) answer answered =
 call_length serial sight (Ask request made) answer answered =
     let one : length (after_call serial sight (Ask request made, answer)).own ≡ length (ended_on sight (ended_by request)) + length (made_by (Ask request made))
     = ap (λ (s : Sight). length s.own) (after_ask serial sight request made answer)
-    ∙ fits_length (ended_on sight (ended_by request)) (handle_kept serial sight (Ask request made) answer) (made_of (Ask request made)) (handle_fits serial sight request made answer answered) in
+    ∙ fits_length (ended_on sight (ended_by request)) (handle_kept serial sight request made answer) (made_of (Ask request made)) (handle_fits serial sight request made answer answered) in
     let same : length (ended_on sight (ended_by request)) ≡ length sight.own = ended_length sight (ended_by request) in
     one ∙ omega (arith, same)
 
@@ -126,7 +126,7 @@ pub encoder_made : (serial : ℕ) (sight : Sight) (call : BoundCall) (answer : A
 encoder_made serial sight (Record stand command None) answer on k p answered fit e = absurd (cc)
 encoder_made serial sight (Record stand command (Some slot)) answer on k p answered fit e = absurd (no_encoder (bracket command) slot on k p e)
 encoder_made serial sight (Ask request made) answer on k p answered fit e =
-    let handle : Option HandleValue = handle_kept serial sight (Ask request made) answer in
+    let handle : Option HandleValue = handle_kept serial sight request made answer in
     let fits : Fits handle (Some (on, k)) = subst (Fits handle) e (handle_fits serial sight request made answer answered) in
     subst (λ (s : Sight). Fresh s.own (length sight.own)) (sym (after_ask serial sight request made answer))
     (subst (λ n. Fresh (with_kept (ended_on sight (ended_by request)) handle) n) (ended_length sight (ended_by request))

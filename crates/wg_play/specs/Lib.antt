@@ -1,3 +1,4 @@
+pub mod Canvases
 pub mod Objects
 pub mod Sights
 pub mod Lanes
