@@ -44,7 +44,8 @@ impl<T: Wait> Maker for Drawing<'_, T> {
 
     ghost ready = { λ m. CanCall m.device.now.lock m.pass.now };
 
-    ghost called = { λ old new. (new.device ≡ old.device) × (new.pass.ghost_name ≡ old.pass.ghost_name) × HasCalled old.device.now.lock old.pass.now new.pass.now };
+    ghost called = { λ old new. (new.device ≡ old.device) × (new.pass.ghost_name ≡ old.pass.ghost_name)
+        × HasCalled old.device.now.lock old.pass.now new.pass.now };
 
     ghost idle = { λ m ready. (refl, refl, not_called m.device.now.lock m.pass.now ready) };
 
@@ -69,7 +70,8 @@ fn act(
 ) -> Result<(), NoMemory>
     requires { CanCall device.now.lock pass.old }
     ensures called { HasCalled device.now.lock pass.old pass.new }
-    ensures done { OnOk result (HasDrawnBy device.now.lock (act_asked canvas.old call) pass.old pass.new (λ given. canvas.new ≡ acted canvas.old call given)) }
+    ensures done { OnOk result (HasDrawnBy device.now.lock (act_asked canvas.old call) pass.old pass.new
+        (λ given. canvas.new ≡ acted canvas.old call given)) }
 {
     canvas.act(&mut Drawing { rt, device, pass }, call)?;
     Ok(())
@@ -145,8 +147,9 @@ fn show(
             let texture = texture_at(seen.own.as_slice(), place)?;
             seen.add(Object::Shown(texture))
         }
-        (CanvasCall::Current, None)
-        | (CanvasCall::Configure { .. } | CanvasCall::Present, _) => Ok(()),
+        (CanvasCall::Current, None) | (CanvasCall::Configure { .. } | CanvasCall::Present, _) => Ok(
+            (),
+        ),
     }
 }
 
