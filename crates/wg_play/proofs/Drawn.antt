@@ -98,7 +98,7 @@ module _ (P : HandleValue → Type 0) (T : Option HandleValue → Type 0) (none 
 
   -- ---- and was so before one that asks nothing
 
-  nothing_expires : (texture : Option HandleValue) → option_map (λ (handle : HandleValue). Destroy handle) texture ≡ None → T texture
+  nothing_expires : (texture : Option HandleValue) → option_map Destroy texture ≡ None → T texture
   nothing_expires None e = none
   nothing_expires (Some texture) e = absurd (cc (e))
 
