@@ -1,6 +1,7 @@
 -- What holds of the textures of canvases stays so as calls of canvases are made, where it holds of what the device makes for them.
 use Rattle.std.proofs.Common.{◌≡◌, ℕ, zero, suc, Option, Some, None, List, [], ◌∷◌, ◌++◌, refl, sym, ap, subst, ◌∙◌}
 use Rattle.std.specs.Prelude.{All, option_and_then, option_map}
+use Rattle.std.specs.Option.{option_map_or}
 use Rattle.std.proofs.lemmas.List.Elements.{All-nil, All-cons, All-head, All-tail, All-append}
 use Rattle.wg_types.specs.Handles.{HandleValue}
 use Rattle.wg_types.specs.declared.canvases.CanvasCall.{CanvasCall}
@@ -8,15 +9,21 @@ use Rattle.wg_types.specs.declared.canvases.CanvasCall.TheVariants.{Configure, C
 use Rattle.wg_types.specs.declared.canvases.CanvasOf.{CanvasOf}
 use Rattle.wg_types.specs.declared.canvases.CanvasOf.TheVariants.{Create, On}
 use Rattle.wg_types.specs.declared.requests.RequestOf.TheVariants.{Destroy}
+use Rattle.wg_types.specs.Commands.{Command, kind_begun}
+use Rattle.wg_types.specs.declared.wanted.Kind.{Kind}
+use Rattle.wg_encoder.specs.Recorders.{RecorderValue}
 use Rattle.wg_canvas.specs.Canvases.{CanvasValue, texture_at, texture_of, act_asked, expired_at, filled_at, acted}
 use Rattle.wg_canvas.specs.declared.canvas.Stage.{Stage}
 use Rattle.wg_canvas.specs.declared.canvas.Stage.TheVariants.{Unset, Empty, Filled}
 use Rattle.wg_play.specs.declared.objects.Object.{Object}
 use Rattle.wg_play.specs.declared.objects.Object.TheVariants as object
+use Rattle.wg_play.specs.declared.objects.Stand.{Stand}
+use Rattle.wg_play.specs.Objects.{changed, with_recorder, recorded_by, recorded_on, passes_at, begun_by}
 use Rattle.wg_play.specs.Sights.{Sight, place_in}
 use Rattle.wg_play.specs.Canvases.{canvas_at, redrawn, asked_at, acted_at, shown_by, shown_at}
 use Rattle.wg_play.specs.Lanes.{canvas_asks, new_canvas, drawn}
 use Rattle.wg_play.specs.Kept.{Each}
+use Rattle.wg_play.proofs.Slots.{with_tail}
 use Rattle.wg_play.proofs.Redrawn.{redrawn_tail}
 
 pub drawn_first : (sight : Sight) (call : CanvasOf ℕ) (made : Option ℕ) (given : Option HandleValue) → (drawn sight call made given).first ≡ sight.first
@@ -34,6 +41,32 @@ all_front P (x ∷ xs) ys all = All-cons P x xs (All-head P x (xs ++ ys) all) (a
 module _ (P : HandleValue → Type 0) (T : Option HandleValue → Type 0) (none : T None) where
   abbrev Has : List Object → Type 0
   Has objects = All (Each P T) objects
+
+  -- ---- a change of a recorder changes no handle
+
+  changed_has : (change : RecorderValue → RecorderValue) (o : Object) → Each P T o → Each P T (changed o change)
+  changed_has change (object.Made handle recorder) has = has
+  changed_has change (object.Pass encoder number) has = tt
+  changed_has change (object.Canvas canvas) has = has
+  changed_has change (object.Shown texture) has = has
+
+  pub recorder_has : (change : RecorderValue → RecorderValue) (objects : List Object) (place : ℕ) → Has objects → Has (with_recorder objects place change)
+  recorder_has change [] place all = all
+  recorder_has change (o ∷ os) zero all = All-cons (Each P T) (changed o change) os (changed_has change o (All-head (Each P T) o os all)) (All-tail (Each P T) o os all)
+  recorder_has change (o ∷ os) (suc place) all =
+      subst Has (sym (with_tail o os place change))
+      (All-cons (Each P T) o (with_recorder os place change) (All-head (Each P T) o os all) (recorder_has change os place (All-tail (Each P T) o os all)))
+
+  pass_has : (pass : Object) → Each P T pass → (made : Option ℕ) (kind : Option Kind)
+      → Has (option_map_or (λ (slot : ℕ). option_map_or (λ (k : Kind). pass ∷ []) kind []) made [])
+  pass_has pass has None kind = All-nil (Each P T)
+  pass_has pass has (Some slot) None = All-nil (Each P T)
+  pass_has pass has (Some slot) (Some k) = All-cons (Each P T) pass [] has (All-nil (Each P T))
+
+  pub noted_has : (objects : List Object) (stand : Stand) (command : Command) (made : Option ℕ) → Has objects → Has (recorded_on objects stand command ++ begun_by objects stand.encoder command made)
+  noted_has objects stand command made all =
+      All-append (Each P T) (recorded_on objects stand command) (begun_by objects stand.encoder command made) (recorder_has (recorded_by stand.on command) objects stand.encoder all)
+      (pass_has (object.Pass stand.encoder (passes_at objects stand.encoder)) tt made (kind_begun command))
 
   -- ---- a canvas
 
@@ -69,7 +102,7 @@ module _ (P : HandleValue → Type 0) (T : Option HandleValue → Type 0) (none 
       subst Has (sym (redrawn_tail (λ canvas. acted canvas call given) o os place))
       (All-cons (Each P T) o (acted_at os place call given) (All-head (Each P T) o os all) (acted_all call given os place new (All-tail (Each P T) o os all)))
 
-  canvas_has : (objects : List Object) (place : ℕ) → Has objects → T (option_and_then texture_of (canvas_at objects place))
+  pub canvas_has : (objects : List Object) (place : ℕ) → Has objects → T (option_and_then texture_of (canvas_at objects place))
   canvas_has [] place all = none
   canvas_has (object.Made handle recorder ∷ os) zero all = none
   canvas_has (object.Pass encoder number ∷ os) zero all = none

@@ -117,7 +117,7 @@ kept_stands objects (Some handle) place k was = stands_append objects (object_of
 -- ---- a change of a canvas
 
 -- a texture, if there is one
-abbrev IsTexture : Option HandleValue → Type 0
+abbrev pub IsTexture : Option HandleValue → Type 0
 IsTexture None = Unit {0}
 IsTexture (Some texture) = kind_of texture.info ≡ kinds.Texture
 
@@ -157,6 +157,10 @@ act_gives serial canvas Present answer = expiry_gives serial (texture_of canvas)
 place_gives : (serial : ℕ) (found : Option CanvasValue) (call : CanvasCall) (answer : Answer) → IsTexture (given_by serial (option_and_then (λ canvas. act_asked canvas call) found) answer)
 place_gives serial None call answer = tt
 place_gives serial (Some canvas) call answer = act_gives serial canvas call answer
+
+pub canvas_gives : (serial : ℕ) (sight : Sight) (call : CanvasOf ℕ) (answer : Answer) → IsTexture (given_by serial (canvas_asks sight call) answer)
+canvas_gives serial sight (Create width height) answer = tt
+canvas_gives serial sight (OnCanvas canvas call) answer = place_gives serial (canvas_at sight.own (place_in sight canvas)) call answer
 
 of_redrawn : (call : CanvasCall) (given : Option HandleValue) → IsTexture given → (k : Kind) (x : Object) → IsOf k x → IsOf k (redrawn x (λ canvas. acted canvas call given))
 of_redrawn call given new k (object.Made handle recorder) of = of
@@ -200,7 +204,7 @@ call_stands serial sight (Canvas call made) answer place k was =
 
 -- ---- what a call makes
 
-pass_kind : (b : Bracket) (k : Kind) → kind_begun_by b ≡ Some k → is_pass k ≡ true
+pub pass_kind : (b : Bracket) (k : Kind) → kind_begun_by b ≡ Some k → is_pass k ≡ true
 pass_kind brackets.BeginComputePass k e = let same : kinds.ComputePass ≡ k = cc (e) in ap is_pass (sym same)
 pass_kind brackets.BeginRenderPass k e = let same : kinds.RenderPass ≡ k = cc (e) in ap is_pass (sym same)
 pass_kind brackets.EndPass k e = absurd (cc)

@@ -48,8 +48,7 @@ use Rattle.wg_play.specs.Objects.{unknown, handle_at, changed, with_recorder, re
 use Rattle.wg_play.specs.Sights.{Sight, place_in, handle_in_sight}
 use Rattle.wg_play.specs.Lanes.{canvas_asks, drawn, command_seen, stand_seen, noted_on, kept, finish_by, finish_known, request_seen, event_sent, info_sent, event_of, handle_known, handle_kept, answered_by, settled}
 use Rattle.wg_play.specs.Kept.{IsKeptIn, IsKept, AreKept, SeesGenuine}
-use Rattle.wg_play.proofs.Slots.{with_tail}
-use Rattle.wg_play.proofs.Drawn.{drawn_others, drawn_has}
+use Rattle.wg_play.proofs.Drawn.{recorder_has, noted_has, drawn_others, drawn_has}
 use Rattle.wg_play.proofs.Following.{ended_on, with_kept, after_ask}
 
 -- ---- a past goes on
@@ -73,34 +72,12 @@ sees_more setup entry past sight sees = (objects_more setup entry past sight.oth
 module _ (setup : Setup) (past : Past) where
   -- ---- recording calls
 
-  object_changed : (change : RecorderValue → RecorderValue) (o : Object) → IsKept setup past o → IsKept setup past (changed o change)
-  object_changed change (object.Made handle recorder) genuine = genuine
-  object_changed change (object.Pass encoder number) genuine = tt
-  object_changed change (object.Canvas canvas) genuine = genuine
-  object_changed change (object.Shown texture) genuine = genuine
-
   -- a change of a recorder changes no handle
   pub objects_changed : (change : RecorderValue → RecorderValue) (objects : List Object) (place : ℕ) → AreKept setup past objects → AreKept setup past (with_recorder objects place change)
-  objects_changed change [] place all = all
-  objects_changed change (o ∷ os) zero all =
-      All-cons (IsKept setup past) (changed o change) os (object_changed change o (All-head (IsKept setup past) o os all)) (All-tail (IsKept setup past) o os all)
-  objects_changed change (o ∷ os) (suc place) all =
-      subst (AreKept setup past) (sym (with_tail o os place change))
-      (All-cons (IsKept setup past) o (with_recorder os place change) (All-head (IsKept setup past) o os all) (objects_changed change os place (All-tail (IsKept setup past) o os all)))
-
-  pass_begun : (pass : Object) → IsKept setup past pass → (made : Option ℕ) (kind : Option Kind)
-      → AreKept setup past (option_map_or (λ (slot : ℕ). option_map_or (λ (k : Kind). pass ∷ []) kind []) made [])
-  pass_begun pass genuine None kind = All-nil (IsKept setup past)
-  pass_begun pass genuine (Some slot) None = All-nil (IsKept setup past)
-  pass_begun pass genuine (Some slot) (Some k) = All-cons (IsKept setup past) pass [] genuine (All-nil (IsKept setup past))
+  objects_changed change objects place all = recorder_has (λ handle. is_genuine setup past handle ≡ true) (IsKeptIn setup past) tt change objects place all
 
   noted_sees : (sight : Sight) (stand : Stand) (command : Command) (made : Option ℕ) → SeesGenuine setup past sight → SeesGenuine setup past (noted_on sight stand command made)
-  noted_sees sight stand command made sees = (
-    sees.0,
-    All-append (IsKept setup past) (recorded_on sight.own stand command) (begun_by sight.own stand.encoder command made)
-        (objects_changed (recorded_by stand.on command) sight.own stand.encoder sees.1)
-        (pass_begun (object.Pass stand.encoder (passes_at sight.own stand.encoder)) tt made (kind_begun command)),
-  )
+  noted_sees sight stand command made sees = (sees.0, noted_has (λ handle. is_genuine setup past handle ≡ true) (IsKeptIn setup past) tt sight.own stand command made sees.1)
 
   unless_late : (late : Bool) (noted after : Sight) → SeesGenuine setup past noted → (if late then None else Some noted) ≡ Some after → SeesGenuine setup past after
   unless_late true noted after sees e = absurd (cc (e))

@@ -26,3 +26,7 @@ pub mod Makers
 pub mod Encoders
 pub mod PlayedPhases
 pub mod PlayedLaw
+pub mod Givers
+pub mod Counting
+pub mod Shown
+pub mod PresentedLaw

@@ -201,10 +201,10 @@ call_leaves serial sight (Canvas call made) answer place maker was =
     subst (λ (s : Sight). IsMadeAt serial s.own place maker) (sym (after_canvas serial sight call made answer))
     (drawn_made serial sight call made (given_by serial (canvas_asks sight call) answer) place maker was)
 
-abbrev IsAnswer : ℕ → Answer → HandleValue → Type 0
+abbrev pub IsAnswer : ℕ → Answer → HandleValue → Type 0
 IsAnswer serial answer handle = (handle.reference.device ≡ serial) × (answer ≡ Made handle.reference.number handle.valid)
 
-handle_from : (serial : ℕ) (known : Info) (answer : Answer) (handle : HandleValue) → handle_of serial known answer ≡ Some handle
+pub handle_from : (serial : ℕ) (known : Info) (answer : Answer) (handle : HandleValue) → handle_of serial known answer ≡ Some handle
     → IsAnswer serial answer handle
 handle_from serial known (Made number valid) handle e =
     let new : HandleValue = record { reference = record { device = serial; number = number }; valid = valid; info = known } in

@@ -235,8 +235,8 @@ module _ (setup : Setup) where
     kept_back sight (Canvas call made) after e sees =
         let asks = drawn_kept (canvas_asks sight call) (drawn sight call made None) after e in
         let same : kept_if (drawn sight call made None) None ≡ Some after = ap (kept_if (drawn sight call made None)) (sym asks) ∙ e in
-        let there : SeesGenuine setup past (drawn sight call made None) = subst (SeesGenuine setup past) (sym (cc (same))) sees in
-        (
+        let is : drawn sight call made None ≡ after = cc (same) in
+        let there : SeesGenuine setup past (drawn sight call made None) = subst (SeesGenuine setup past) (sym is) sees in (
           subst (AreKept setup past) (drawn_others sight call made None) there.0,
           drawn_had (λ handle. is_genuine setup past handle ≡ true) (IsKeptIn setup past) tt sight call made asks there.1,
         )

@@ -9,3 +9,4 @@ pub mod Found
 pub mod Through
 pub mod Kept
 pub mod Played
+pub mod Presented
