@@ -4,6 +4,8 @@ A canvas is no object of the device, so the script is played without them: a cal
 is, and is passed over where it is none. Only the lane that made a canvas names it, so its lane alone tells which.
 """
 
+from .rules import note
+
 CANVAS_CALLS = {"createCanvas", "configureCanvas", "currentTexture", "present"}
 
 
@@ -51,6 +53,7 @@ def event_of(canvases, call):
         canvases[call["as"]] = Canvas(call)
         return None
     canvas = canvases[call["canvas"]]
+    note(call["do"], 0, "a texture is current", canvas.current is not None)
     if call["do"] == "currentTexture":
         return canvas.texture(call) if canvas.current is None else canvas.again(call)
     if call["do"] == "configureCanvas":
