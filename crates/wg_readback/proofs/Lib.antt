@@ -8,3 +8,4 @@ pub mod Splits
 pub mod Apart
 pub mod Rules
 pub mod Back
+pub mod Reports

@@ -26,7 +26,7 @@ lines_split [] h = refl
 lines_split (line ∷ lines) h = line_split (said line) (text_of lines) (line_said line h.0) ∙ ap (λ (texts : List (List ℕ)). said line ∷ texts) (lines_split lines h.1)
 
 -- all bytes are those of a text
-text_bytes : (w : List ℕ) → AreLineBytes w → list_all is_text_byte w ≡ true
+pub text_bytes : (w : List ℕ) → AreLineBytes w → list_all is_text_byte w ≡ true
 text_bytes [] h = refl
 text_bytes (b ∷ w) h =
     let parts : (is_line_byte b ≡ true) × (list_all is_line_byte w ≡ true) = and_parts (is_line_byte b) (list_all is_line_byte w) h in
