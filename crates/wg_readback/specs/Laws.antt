@@ -1,0 +1,13 @@
+-- What is printed of a trace is read as that trace.
+use Rattle.std.specs.Prelude.{ℕ, List, Ok, ◌≡◌}
+use Rattle.wg_types.specs.declared.steps.Item.{Item}
+use Rattle.wg_readtrace.specs.Reading.{trace_in}
+use Rattle.wg_readback.specs.Texts.{trace_behind, Told, history_text}
+use Rattle.wg_readback.specs.Printable.{IsPrintable, IsFront}
+
+abbrev pub ReadsBack : Type 0
+ReadsBack = (before : List ℕ) (trace : List Item) → IsFront before → IsPrintable trace → trace_in (trace_behind before trace) ≡ Ok trace
+
+-- So is the trace of a report, whose history stands before it.
+abbrev pub ReportReadsBack : Type 0
+ReportReadsBack = (entries : List Told) (trace : List Item) → IsPrintable trace → trace_in (trace_behind (history_text entries) trace) ≡ Ok trace
