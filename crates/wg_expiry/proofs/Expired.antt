@@ -1,13 +1,13 @@
 -- What is destroyed is refused, and is released once it is over.
-use Rattle.std.proofs.Common.{◌≡◌, ℕ, ◌<◌, List, [], ◌∷◌, ◌++◌, reverse, Bool, true, false, not, ◌&&◌, ◌||◌, ◌==◌, nat_le, ◌+◌, ◌⊎◌, inl, inr, eq-eqb, Option, Some, None, is_some, is_none, option_map, refl, ap, ap₂, sym, ◌∙◌, if◌then◌else◌, true≢false, subst}
+use Rattle.std.proofs.Common.{◌≡◌, ℕ, ◌<◌, List, [], ◌∷◌, ◌++◌, reverse, Bool, true, false, not, ◌&&◌, ◌||◌, ◌==◌, nat_le, ◌+◌, ◌⊎◌, inl, inr, eq-eqb, Option, Some, None, is_some, is_none, option_map, refl, ap, sym, ◌∙◌, if◌then◌else◌, true≢false}
 use Rattle.std.specs.List.{list_any}
-use Rattle.std.proofs.lemmas.Bool.{and_from, or_left, or_right, or_cases, eqb-true}
+use Rattle.std.proofs.lemmas.Bool.{and_from, or_left, or_right, or_cases}
 use Rattle.wg_types.specs.declared.commands.On.{On}
 use Rattle.wg_types.specs.Commands.{Command}
 use Rattle.wg_types.specs.declared.textures.TextureSpot.{TextureSpot}
 use Rattle.wg_types.specs.declared.textures.DataLayout.{DataLayout}
 use Rattle.wg_types.specs.declared.replies.Fault.{Fault}
-use Rattle.wg_model.specs.Rules.{Rule, first_unmet, AreMet}
+use Rattle.wg_model.specs.Rules.{Rule, first_unmet}
 use Rattle.wg_model.specs.Recorded.{buffers_of, textures_of, query_sets_of, any_named}
 use Rattle.wg_model.proofs.Unmet.{all_met}
 use Rattle.wg_history.proofs.Tests.{not_true, any_grows, met_after}
@@ -17,15 +17,15 @@ use Rattle.wg_history.proofs.Holders.{undropped_held}
 use Rattle.wg_history.proofs.UnusedAfter.{stays_due}
 use Rattle.wg_history.specs.declared.events.Setup.{Setup}
 use Rattle.wg_history.specs.declared.events.Event.{Event}
-use Rattle.wg_history.specs.declared.events.Event.TheVariants.{Submit, WriteTexture, Destroy}
-use Rattle.wg_history.specs.Entries.{Entry, Past}
+use Rattle.wg_history.specs.declared.events.Event.TheVariants.{Destroy}
+use Rattle.wg_history.specs.Entries.{Past}
 use Rattle.wg_history.specs.Objects.{ObjRef, count, has_memory, is_own, resource_at, commands_at}
 use Rattle.wg_history.specs.Operations.{submit_uses, last_use, completed, issued}
-use Rattle.wg_history.specs.Rules.{listed_rules, any_used, is_busy, together_rules, submit_list, submit_rule, write_texture_list, write_texture_rule, destroy_rule, destroys, is_destroyed, is_dropped}
+use Rattle.wg_history.specs.Rules.{listed_rules, any_used, is_busy, submit_rule, write_texture_rule, destroy_rule, destroys, is_destroyed, is_dropped}
 use Rattle.wg_history.specs.Held.{is_held}
 use Rattle.wg_history.specs.Loss.{is_lost}
-use Rattle.wg_history.specs.Answers.{Answer, Queued, Plain, fault_of, reply_to, Run, IsRun}
-use Rattle.wg_history.specs.Releases.{is_gone, is_due, is_released}
+use Rattle.wg_history.specs.Answers.{Queued, Plain, fault_of}
+use Rattle.wg_history.specs.Releases.{is_gone, is_due}
 use Rattle.wg_expiry.specs.Expiry.{DestroyExpires, StaysExpired, submit_before, write_before, SubmitIsPlain, SubmitIsRefused, WriteIsPlain, WriteIsRefused, is_over, FreedOnceOver}
 
 -- ---- destroyed
