@@ -106,7 +106,7 @@ def gone(case, thing, by=""):
     if ending.frame is None:
         return Cause(f"{case.named(thing)}{by} was destroyed at {at}", values, "Destroy it after its last use.")
     canvas = ending.frame.canvas
-    frame = f"{ending.frame.said()} ({case.play.script.at(canvas.call)})"
+    frame = f'frame {ending.frame.number} of "{canvas.name}" ({case.play.script.at(canvas.call)})'
     values.update(canvas=canvas.name, frame=ending.frame.number)
     if ending.word == "present":
         return Cause(f"{case.named(thing)}{by} was presented at {at}, as {frame}", values, "Use it before, and take a new currentTexture for each frame.")
