@@ -11,10 +11,11 @@ import pathlib
 
 import causes
 import explain
+import frames
 import refusal
 from ends import REFUSED
 from faulted import faults
-from report import SORTS, Release, summary
+from report import SORTS, Release, count, summary
 
 FOLDER = pathlib.Path(__file__).resolve().parent
 STYLE, SCRIPT = ((FOLDER / name).read_text(encoding="utf-8") for name in ("picture.css", "picture.js"))
@@ -80,6 +81,7 @@ class Row:
 
     def __init__(self, key):
         self.sort, self.object, self.aspect, self.mip = key
+        self.frame = None
         self.first = self.last = None
         self.layers = set()
 
@@ -98,9 +100,10 @@ class Row:
         return runs
 
     def piece(self):
-        """Which piece of its texture it is."""
-        if not self.aspect:
-            return ""
+        """Which frame of its canvas it is of, if it is of one, and which piece of its texture it is."""
+        return ", ".join(([self.frame.said()] if self.frame is not None else []) + ([self.image()] if self.aspect else []))
+
+    def image(self):
         runs = self.runs()
         said = [f"{low}" if high - low == 1 else f"{low}\u2013{high - 1}" for low, high in runs[:MOST_RUNS]] + [".."] * (len(runs) > MOST_RUNS)
         is_one = len(runs) == 1 and runs[0][1] - runs[0][0] == 1
@@ -131,6 +134,8 @@ class Picture:
                 if part.aspect:
                     found[part.row()].layers.add((part.low, part.high))
         self.release(found)
+        for row in found.values():
+            row.frame = self.beside.frame_of(row.object)
         self.rows = dict(sorted(found.items(), key=lambda item: (item[0][1], item[0][0], item[0][2:])))
         self.numbers = {key: number for number, key in enumerate(self.rows)}
 
@@ -266,7 +271,7 @@ def controls():
 
 def drawn(name, beside, head, notes, causes_of):
     """The page of a report beside its script, which has a name."""
-    lines = [f"<p>{escape(head)}: {escape(summary(beside.report))}.</p>", *(f"<p>{escape(note)}</p>" for note in notes if note), faults(beside, causes_of)]
+    lines = [f"<p>{escape(head)}: {escape(summary(beside.report))}.</p>", *(f"<p>{escape(note)}</p>" for note in notes if note), faults(beside, causes_of), *canvases(beside)]
     if not beside.report.items:
         return page(name, "\n".join([*lines, "<p>The trace is empty: no accepted work touches memory.</p>"]))
     return page_of_steps(name, lines, Picture(beside))
@@ -277,6 +282,15 @@ def page_of_steps(name, lines, picture, legend=LEGEND):
     shown = "".join(f"<span class='{look}'>{escape(what)}</span>" for look, what in legend)
     lines = [*lines, f"<p class='legend'>{shown}</p>", "<p>Time goes from left to right, and then down. A click on a name dims all else.</p>", controls(), picture.steps()]
     return page(name, "\n".join(lines), f"<script>\n{SCRIPT}</script>\n")
+
+
+def canvases(beside):
+    """A list of the frames of each canvas, which opens on a click."""
+    found = frames.listed(beside) if beside.script is not None else []
+    if not found:
+        return []
+    items = [f"<li>{escape(head)}<ul>{''.join(f'<li>{escape(line)}</li>' for line in lines)}</ul></li>" for head, lines in found]
+    return [f"<details class='canvases'><summary>{count(len(found), 'canvas')}, {count(sum(len(lines) for _, lines in found), 'frame')}</summary><ul>{''.join(items)}</ul></details>"]
 
 
 def picture(text, data, program):

@@ -13,7 +13,7 @@ class Canvas:
     """A canvas: its extent, what it was last configured with, and the createTexture of its current texture, or None where it has none."""
 
     def __init__(self, call):
-        self.extent = (call["width"], call["height"], 1)
+        self.extent = [call["width"], call["height"], 1]
         self.setting = {}
         self.current = None
 

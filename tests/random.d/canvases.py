@@ -50,7 +50,7 @@ def make(world):
     canvas = Canvas(world.new_name("k"), width, height)
     world.add({"do": "createCanvas", "width": width, "height": height, "as": canvas.name})
     world.canvases.append(canvas)
-    if random.random() < 0.9:
+    if random.random() < 0.8:
         configure(world, canvas)
     return canvas
 
@@ -84,7 +84,7 @@ def texture(world, canvas=None):
     """A currentTexture. Where there is a texture its new name is the one by which it is used from then on, or not. Without a configure the
     script is refused, which is seldom."""
     random, canvas = world.random, canvas or some_canvas(world)
-    if canvas.setting is None and random.random() < 0.97:
+    if canvas.setting is None and random.random() < 0.9:
         configure(world, canvas)
     name = world.new_name("t")
     world.add({"do": "currentTexture", "canvas": canvas.name, "as": name})
