@@ -8,7 +8,7 @@ use Rattle.wg_rows.specs.Runs.{Cell, Byte, Texels, Slice, Query, Cells, Bytes, Q
 use Rattle.wg_rows.specs.Once.{NoneCovers, OneCovers}
 use Rattle.wg_rows.proofs.Put.{list_eq_refl}
 use Rattle.wg_readtrace.specs.Given.{overlap, is_given}
-use Rattle.wg_readback.specs.Printable.{AreCells, AreAccesses}
+use Rattle.wg_readback.proofs.Whole.{AreCells, AreAccesses}
 
 -- the cell of a run's line at a place
 cell_at : Cells → ℕ → Cell

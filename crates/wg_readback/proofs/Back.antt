@@ -15,6 +15,7 @@ use Rattle.wg_readtrace.specs.Reading.{is_text_byte, ends_line, lines_of, behind
 use Rattle.wg_readback.specs.Texts.{items_text, trace_behind}
 use Rattle.wg_readback.specs.Printable.{IsPrintable, IsFront}
 use Rattle.wg_readback.specs.Laws.{ReadsBack}
+use Rattle.wg_readback.proofs.Whole.{items_whole, items_once}
 use Rattle.wg_readback.proofs.Said.{said}
 use Rattle.wg_readback.proofs.Lines.{use_lines, acc_lines, trace_lines, AreLines, text_of, trace_text}
 use Rattle.wg_readback.proofs.Splits.{lines_split, texts_more, lines_bytes, last_byte, front_lines, trace_found}
@@ -80,7 +81,7 @@ found before trace front lines =
     ∙ trace_found 1 (lines_of before) (map said (trace_lines 0 trace)) front.none
 
 followed : (trace : List Item) → IsPrintable trace → Follow [] (trace_lines 0 trace)
-followed trace h = trace_follow 0 [] trace refl refl tt h.items (omega (arith, h.steps)) h.bars h.once
+followed trace h = trace_follow 0 [] trace refl refl tt (items_whole trace h.shaped.items h.small) (omega (arith, h.steps)) h.shaped.bars (items_once trace h.shaped.items)
 
 by_text : (bytes : List ℕ) (r : Result (List Line) (ℕ × ℕ)) → list_all is_text_byte bytes ≡ true → ends_line bytes ≡ true → read_behind (behind_trace 1 (lines_of bytes)) ≡ r → read_lines bytes ≡ r
 unfolding read_lines

@@ -1,3 +1,4 @@
+pub mod Whole
 pub mod Fields
 pub mod Numbers
 pub mod Words
@@ -9,3 +10,5 @@ pub mod Apart
 pub mod Rules
 pub mod Back
 pub mod Reports
+pub mod Rows
+pub mod Shaping

@@ -14,7 +14,9 @@ use Rattle.wg_readtrace.specs.declared.line.Line.TheVariants.{Bar, Step, Use, Ac
 use Rattle.wg_readtrace.specs.Given.{is_given}
 use Rattle.wg_readtrace.specs.Forms.{most_53, line_of}
 use Rattle.wg_readtrace.specs.Reading.{is_bar, is_step, is_use, is_acc, is_end, last_line, steps_in, is_some_line, may_stand, given_by, gives_again, judged, is_none_left, onto, then_read, read_from}
-use Rattle.wg_readback.specs.Printable.{AreUses, AreAccesses, AreItems, step_count, GoOn, BarsLead}
+use Rattle.wg_readback.specs.Shapes.{GoOn, BarsLead}
+use Rattle.wg_readback.specs.Printable.{step_count}
+use Rattle.wg_readback.proofs.Whole.{AreUses, AreAccesses, AreItems}
 use Rattle.wg_readback.proofs.Said.{IsLine, said, line_read}
 use Rattle.wg_readback.proofs.Lines.{use_lines, acc_lines, trace_lines, AreLines}
 use Rattle.wg_readback.proofs.Apart.{AreNew, once_new}

@@ -17,7 +17,9 @@ use Rattle.wg_readtrace.specs.declared.line.Line.{Line}
 use Rattle.wg_readtrace.specs.declared.line.Line.TheVariants.{Bar, Step, Use, Acc, Free, End}
 use Rattle.wg_readtrace.specs.Words.{gap_len, number_word, aspect_word, kind_word, name_word, sort_word, set_word}
 use Rattle.wg_readtrace.specs.Forms.{◌>>=◌, word_as, most_53, most_32, number, range, whole, from_word, buffer_part, query_part, texture_part, part_of, bytes_of, queries_of, layers_of, slices_of, cells_of, place_of, bar_of, step_of, use_of, acc_of, free_of, line_as, line_of}
-use Rattle.wg_readback.specs.Printable.{IsRange, IsPart, AreCells, IsSet, IsFrom, IsPlace}
+use Rattle.wg_readback.specs.Shapes.{IsSet, IsFrom}
+use Rattle.wg_readback.specs.Printable.{IsSmallPlace}
+use Rattle.wg_readback.proofs.Whole.{IsRange, IsPart, AreCells}
 use Rattle.wg_readback.proofs.Fields.{AreWordBytes, AreWords, fields, words_more, first_word, later_words, then_as, word_read, AreLineBytes, line_bytes, bytes_more, fields_bytes}
 use Rattle.wg_readback.proofs.Numbers.{number_read, decimal_word}
 use Rattle.wg_readback.proofs.Words.{aspect_read, kind_read, sort_read, name_read}
@@ -75,7 +77,7 @@ cells_read (Layers object aspect mip lo hi) ws h =
 cells_read (Slices object mip lo hi) ws h =
     rw (wide object (codes "color" ∷ decimal mip ∷ decimal lo ∷ decimal hi ∷ ws) h.0, small mip (decimal lo ∷ decimal hi ∷ ws) h.1, range_field most_32 lo hi ws h.2 (lit< tt)) refl
 
-place_read : (place : StepPlace) (ws : List (List ℕ)) → IsPlace place → place_of (fields (place_words place ++ ws)) ≡ Some (place, fields ws)
+place_read : (place : StepPlace) (ws : List (List ℕ)) → IsSmallPlace place → place_of (fields (place_words place ++ ws)) ≡ Some (place, fields ws)
 unfolding place_of
 place_read (Op n) ws h = then_as (number most_53 (fields (decimal n ∷ ws))) (n, fields ws) (λ m. Some (Op m.0, m.1)) (wide n ws h)
 place_read (Host n) ws h = then_as (number most_53 (fields (decimal n ∷ ws))) (n, fields ws) (λ m. Some (Host m.0, m.1)) (wide n ws h)
@@ -83,7 +85,7 @@ place_read (Host n) ws h = then_as (number most_53 (fields (decimal n ∷ ws))) 
 -- What a line has to be, and its words.
 abbrev pub IsLine : Line → Type 0
 IsLine (Bar part from to) = IsPart part × IsFrom from × IsSet to
-IsLine (Step n place name) = (n ≤ most_53) × IsPlace place
+IsLine (Step n place name) = (n ≤ most_53) × IsSmallPlace place
 IsLine (Use part set) = IsPart part × IsSet set
 IsLine (Acc kind run) = AreCells run
 IsLine (Free object sort) = object ≤ most_53

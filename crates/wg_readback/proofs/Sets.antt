@@ -14,7 +14,7 @@ use Rattle.wg_print.specs.Items.{from_text}
 use Rattle.wg_print.specs.UsageSets.{usage_words, chosen_words, words_text, usages_text}
 use Rattle.wg_readtrace.specs.Words.{usage_word, with_bit, with_usage, set_from, usages, set_word}
 use Rattle.wg_readtrace.specs.Forms.{◌>>=◌, from_word}
-use Rattle.wg_readback.specs.Printable.{IsSet, IsFrom}
+use Rattle.wg_readback.specs.Shapes.{IsSet, IsFrom}
 use Rattle.wg_readback.proofs.Fields.{is_word_byte, AreWordBytes}
 
 abbrev is_no_plus : ℕ → Bool
