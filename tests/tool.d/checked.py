@@ -177,7 +177,7 @@ SAID = (
          "the barriers let step 1 come before step 0, which then sees what step 1 wrote", "    bar t 5 color 1 2 3 copy-src constant+attachment\n", "or, for all layers that both access: bar t 5 color 1 2 4 copy-src constant+attachment"],
     ),
     ("step 0 op 1 clear|acc write s 5 color 0 0 9|step 1 op 1 dispatch|acc read s 5 color 0 3 4|end", 8, ["color mip 0 slice 3 of texture 5", "a barrier is missing, on color mip 0 of texture 5 between", "    bar t 5 color 0 0 1 clear constant\n"]),
-    ("step 0 op 1 clear|acc write b 3 8 8|end", 9, ["bad trace 2 3: T is no trace", "rule 2 refuses: a line after `trace` is neither", "\nT:3:17\n", "found:    `8`", "HI above LO"]),
+    ("step 0 op 1 clear|acc write b 3 8 8|end", 9, ["bad trace 2 3: T is no trace", "trace rule 2 refuses: a line after `trace` is neither", "\nT:3:17\n", "found:    `8`", "HI above LO"]),
     ("step 0 op 1 clear|acc wrote b 3 0 8|end", 9, ["bad trace 2 3", "\nT:3:5\n", "one of read, write, both, drop, readdrop", 'the nearest is "write"']),
     ("step 1 op 1 clear|end", 9, ["bad trace 3 2", "\nT:2:6\n", "step 0: steps are counted from 0"]),
     ("step 0 op 1 clear|bar b 0 clear input|end", 9, ["bad trace 3 4", "`end` behind a `bar` line", "a barrier behind the last step is left out"]),
