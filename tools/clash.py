@@ -78,7 +78,7 @@ class Told:
         """The reader, the writer, and the write that is seen as printed, each with its lines."""
         clash, last = self.clash, f"writes it, as the last before {self.reader}"
         if clash.reader is None:
-            lines = ["at the end it may be that of another write:", f"    {self.name}:{clash.end}: end"]
+            lines = ["at the end it may be what another step wrote:", f"    {self.name}:{clash.end}: end"]
         else:
             lines = [f"{self.reader} reads it:", *self.where(clash.reader)]
         lines += [f"{step_said(clash.writer)} {HOW.get(clash.case, last)}:", *self.where(clash.writer)]
@@ -105,8 +105,8 @@ class Told:
         lines = [f"a barrier is missing, on {between}. This one is enough, in front of {self.name}:{other.at}:", f"    {clash.barrier()}", f"    {other.line}"]
         wider = clash.wider()
         lines += [f"or, for all layers that both access: {wider}"] if wider else []
-        unused = " and ".join(dict.fromkeys(step_said(step) for step in clash.unused()))
-        lines += [f"(what {unused} uses it as is guessed, since there is no `use` line of it; usages are not judged)"] if unused else []
+        unused = " and of ".join(step_said(step) for step in clash.unused())
+        lines += [f"(the usage of {unused} is guessed, since no `use` line has it; usages are not judged)"] if unused else []
         return [*lines, "More may differ: put it in and check again."]
 
     def facts(self):
