@@ -78,7 +78,7 @@ class Told:
         """The reader, the writer, and the write that is seen as printed, each with its lines."""
         clash, last = self.clash, f"writes it, as the last before {self.reader}"
         if clash.reader is None:
-            lines = ["at the end it may be that of another write:", f"    {self.name}:{clash.end}: end"]
+            lines = ["at the end it may be what another step wrote:", f"    {self.name}:{clash.end}: end"]
         else:
             lines = [f"{self.reader} reads it:", *self.where(clash.reader)]
         lines += [f"{step_said(clash.writer)} {HOW.get(clash.case, last)}:", *self.where(clash.writer)]
@@ -88,29 +88,25 @@ class Told:
 
     def sees(self):
         """What the reader sees as printed, and what it may see."""
-        clash, seen = self.clash, what_of(self.clash.seen)
-        if clash.case == LAST:
-            may = f"{self.reader} may come before {step_said(clash.writer)}, and then sees {what_of(clash.otherwise)}"
-        elif clash.case == EARLIER:
-            may = f"{step_said(clash.writer)} may come after {step_said(clash.seen)}, and {self.reader} then sees {what_of(clash.writer)}"
-        else:
-            may = f"{step_said(clash.writer)} may come before {self.reader}, which then sees {what_of(clash.writer)}"
-        return [f"as printed, {self.reader} sees {seen}", f"in another order that the barriers allow {may}"]
+        clash = self.clash
+        writer, otherwise = step_said(clash.writer), what_of(clash.otherwise)
+        may = {
+            LAST: f"{self.reader} come before {writer}, and it then sees {otherwise}",
+            EARLIER: f"{writer} come after {step_said(clash.seen)}, and {self.reader} then sees {otherwise}",
+            LATER: f"{writer} come before {self.reader}, which then sees {otherwise}",
+        }
+        return [f"as printed, {self.reader} sees {what_of(clash.seen)}", f"the barriers let {may[clash.case]}"]
 
     def missing(self):
         """The barrier that is enough, ready to be pasted, and where."""
         clash = self.clash
         one, other = clash.apart
-        lines = [
-            f"what is missing is a barrier on {part_said(clash.cell, self.named_so.name)} between {step_said(one)} and {step_said(other)}."
-            f" This one is enough, in front of {self.name}:{other.at}:",
-            f"    {clash.barrier()}",
-            f"    {other.line}",
-        ]
+        between = f"{part_said(clash.cell, self.named_so.name)} between {step_said(one)} and {step_said(other)}"
+        lines = [f"a barrier is missing, on {between}. This one is enough, in front of {self.name}:{other.at}:", f"    {clash.barrier()}", f"    {other.line}"]
         wider = clash.wider()
         lines += [f"or, for all layers that both access: {wider}"] if wider else []
-        unused = " and ".join(dict.fromkeys(step_said(step) for step in clash.unused()))
-        lines += [f"(what {unused} uses it as is guessed, since there is no `use` line of it; usages are not judged)"] if unused else []
+        unused = " and of ".join(step_said(step) for step in clash.unused())
+        lines += [f"(the usage of {unused} is guessed, since no `use` line has it; usages are not judged)"] if unused else []
         return [*lines, "More may differ: put it in and check again."]
 
     def facts(self):

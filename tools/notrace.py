@@ -237,8 +237,8 @@ def explained(name, data, rule, line):
     found = find(data, rule, line)
     if found is None:
         shown = [f"    {data.decode('ascii', 'replace').splitlines()[line - 1]}"] if line else []
-        return [f"  what of it breaks rule {rule} was not found: the program tells no more than the line above", *shown]
-    lines = [f"  rule {rule} refuses: {found.refuses}", "", f"{name}:{found.line}:{found.column}", f"  found:    {found.found}", f"  expected: {found.expected}"]
+        return [f"  what of it breaks trace rule {rule} was not found: the program tells no more than the line above", *shown]
+    lines = [f"  trace rule {rule} refuses: {found.refuses}", "", f"{name}:{found.line}:{found.column}", f"  found:    {found.found}", f"  expected: {found.expected}"]
     lines += [f"  {found.hint}"] if found.hint else []
     return lines + marked(data.split(b"\n")[found.line - 1].decode("utf-8", "replace"), found.column)
 

@@ -13,6 +13,7 @@ import check as checks
 import checkpage
 import clash
 import notrace
+import places
 
 from common import CASES, EXAMPLES, TOP, asked, check, ends_so, wanted, wgsim
 
@@ -23,7 +24,7 @@ from model import judge, trace_text  # noqa: E402
 REPORTS = [path for script in EXAMPLES for path in sorted(script.parent.glob(script.stem + "*.report")) if wanted(script)[0] == 0]
 LOG = TOP / "examples/two-overlapping-writes.report"
 WITHOUT = LOG.read_bytes().replace(b"bar b 0 copy-dst copy-dst\n", b"")
-MANY = 600
+MANY = 1500
 
 
 def of_random(name):
@@ -48,6 +49,16 @@ class Judge:
         return status, text.encode()
 
 
+class Fixed(Judge):
+    """A program that has one answer."""
+
+    def __init__(self, line):
+        self.line = line
+
+    def check(self, data):
+        return judge.DIFFERS, self.line
+
+
 class Docs(Judge):
     """The program of the tests, under the name that the documents show."""
 
@@ -66,11 +77,6 @@ def mended(data, found):
 
 def items_of(data):
     return [item for _, item in trace_text.read(data)]
-
-
-def triple(items):
-    """What the judge finds, as all orders tell of it."""
-    return judge.verdict(items)
 
 
 def number_of(step):
@@ -94,7 +100,7 @@ def test_mended():
                 break
             rounds += 1
             items, one = items_of(data), found.clash
-            reader, cell, writer = triple(items)
+            reader, cell, writer = judge.verdict(items)
             told = (number_of(one.reader), one.writer.number) == (reader, writer)
             check(told and may_see(items, cell, reader, number_of(one.otherwise)), f"check tells what cannot be seen, of\n{data.decode()}{found.lines()}")
             check(number_of(one.seen) == orders.seen(sorted(orders.cells_of(items)[cell]), orders.cells_of(items)[cell])[reader], f"check tells another write, of\n{data.decode()}")
@@ -102,7 +108,7 @@ def test_mended():
             data = mended(data, one)
             check((reader, cell, writer) not in orders.clashes(items_of(data)), f"the barrier that check proposes is not enough:\n{data.decode()}{found.lines()}")
         check(found.status == judge.AGREES, f"with the barriers that check proposes the trace does not come to agree (seed {seed})")
-    check(rounds > MANY and len(cases) == 4, f"of {MANY} random traces too few differ: {rounds} times, {cases}")
+    check(rounds > MANY // 2 and len(cases) == 4, f"of {MANY} random traces too few differ: {rounds} times, {cases}")
 
 
 def test_left_out():
@@ -132,7 +138,7 @@ def test_bad():
         check(sentence in table, f"docs/report.md does not say: {sentence}")
     chance, told = random.Random(3), set()
     texts = [make() for name, make in fixed.FIXED.items() if "limit" not in name]
-    texts += [traces.changed(chance, traces.small(chance)) for _ in range(MANY)]
+    texts += [traces.changed(chance, traces.small(chance)) for _ in range(MANY // 3)]
     for data in texts:
         found = checks.Checked(data, "T", Judge())
         if found.status != judge.BAD_TRACE:
@@ -156,22 +162,22 @@ SAID = (
         [
             "differs 1 0 b 3 0 1: step 1 may see byte 0 of buffer 3 otherwise than as printed", "step 1 reads it:\n    T:4: step 1 op 2 dispatch\n    T:5: acc both b 3 0 8\n",
             "step 0 writes it, as the last before step 1:\n    T:2: step 0 op 1 writeBuffer\n    T:3: acc write b 3 0 8\n", "as printed, step 1 sees what step 0 wrote",
-            "step 1 may come before step 0, and then sees what no step of the trace wrote", "on buffer 3 between step 0 and step 1. This one is enough, in front of T:4:\n    bar b 3 copy-dst storage\n",
+            "the barriers let step 1 come before step 0, and it then sees what no step of the trace wrote", "on buffer 3 between step 0 and step 1. This one is enough, in front of T:4:\n    bar b 3 copy-dst storage\n",
             "is guessed",
         ],
     ),
     (
         "step 0 op 1 clear|use q 2 clear|acc write q 2 0 4|step 1 op 1 renderPass|use q 2 query-write|acc write q 2 1 2|"
         "bar q 2 query-write query-read|step 2 op 1 resolveQuerySet|use q 2 query-read|acc read q 2 1 3|end", 8,
-        ["step 2 may see query 1 of query set 2", "step 0 writes it earlier:", "step 1 writes it, as the last before step 2:", "step 0 may come after step 1, and step 2 then sees what step 0 wrote", "in front of T:5:\n    bar q 2 clear query-write\n"],
+        ["step 2 may see query 1 of query set 2", "step 0 writes it earlier:", "step 1 writes it, as the last before step 2:", "the barriers let step 0 come after step 1, and step 2 then sees what step 0 wrote", "in front of T:5:\n    bar q 2 clear query-write\n"],
     ),
     (
         "step 0 op 1 copyTextureToBuffer|use t 5 color 1 0 4 copy-src|acc read t 5 color 1 1 4|step 1 op 1 renderPass|use t 5 color 1 2 4 constant+attachment|acc write t 5 color 1 2 4|end", 8,
         ["differs 0 1 t 5 color 1 2 3", "color mip 1 layer 2 of texture 5", "step 1 writes it later:", "as printed, step 0 sees what no step of the trace wrote",
-         "step 1 may come before step 0, which then sees what step 1 wrote", "    bar t 5 color 1 2 3 copy-src constant+attachment\n", "or, for all layers that both access: bar t 5 color 1 2 4 copy-src constant+attachment"],
+         "the barriers let step 1 come before step 0, which then sees what step 1 wrote", "    bar t 5 color 1 2 3 copy-src constant+attachment\n", "or, for all layers that both access: bar t 5 color 1 2 4 copy-src constant+attachment"],
     ),
-    ("step 0 op 1 clear|acc write s 5 color 0 0 9|step 1 op 1 dispatch|acc read s 5 color 0 3 4|end", 8, ["color mip 0 slice 3 of texture 5", "a barrier on color mip 0 of texture 5", "    bar t 5 color 0 0 1 clear constant\n"]),
-    ("step 0 op 1 clear|acc write b 3 8 8|end", 9, ["bad trace 2 3: T is no trace", "rule 2 refuses: a line after `trace` is neither", "\nT:3:17\n", "found:    `8`", "HI above LO"]),
+    ("step 0 op 1 clear|acc write s 5 color 0 0 9|step 1 op 1 dispatch|acc read s 5 color 0 3 4|end", 8, ["color mip 0 slice 3 of texture 5", "a barrier is missing, on color mip 0 of texture 5 between", "    bar t 5 color 0 0 1 clear constant\n"]),
+    ("step 0 op 1 clear|acc write b 3 8 8|end", 9, ["bad trace 2 3: T is no trace", "trace rule 2 refuses: a line after `trace` is neither", "\nT:3:17\n", "found:    `8`", "HI above LO"]),
     ("step 0 op 1 clear|acc wrote b 3 0 8|end", 9, ["bad trace 2 3", "\nT:3:5\n", "one of read, write, both, drop, readdrop", 'the nearest is "write"']),
     ("step 1 op 1 clear|end", 9, ["bad trace 3 2", "\nT:2:6\n", "step 0: steps are counted from 0"]),
     ("step 0 op 1 clear|bar b 0 clear input|end", 9, ["bad trace 3 4", "`end` behind a `bar` line", "a barrier behind the last step is left out"]),
@@ -187,14 +193,13 @@ def test_said(folder):
         told = ends_so(status, "check", str(folder / "T"))[0].replace(str(folder / "T"), "T")
         for word in words:
             check(word in told, f"check does not say `{word}` of {lines}:\n{told}")
-        for more in (["check"], ["check", "-"]):
-            check(ends_so(status, *more, data=data)[0].replace("<standard input>", "T") == told, f"{' '.join(more)} says something else of standard input")
-        one = json.loads(ends_so(status, "check", "--json", data=data)[0])
+        check(ends_so(status, "check", *["-"] * (status == 0), data=data)[0].replace("<standard input>", "T") == told, f"check says something else of standard input than\n{told}")
+        one = json.loads(checks.check_json(data, "T", Judge())[0])
         check((one["status"], told.startswith(one["answer"] + ":"), one["kind"]) == (status, True, ("agrees", "differs", "bad trace")[max(status - 7, 0)]), f"check --json: {one}")
-        page = ends_so(status, "picture", "--check", data=data)[0]
+        page = checkpage.picture(data, "T", Judge())[0]
         check(page.count("bar missing'>missing") == (status == 8) and page.startswith("<!DOCTYPE html>"), f"picture --check of {lines} marks no missing barrier")
     for data, words in ((b"", "which is empty"), (b"trace\r\nend\r\n", "lines end with LF alone"), (b"history\nend\n", "no line `trace`"), (b"trace\nend", "LF at the end of the last line"), (b"bad script 1\n", "the report of a script that is refused")):
-        told = ends_so(9, "check", data=data)[0]
+        told = checks.check(data, "T", Judge())[0]
         check(told.startswith("bad trace 1 0: ") and words in told, f"check of {data} does not say `{words}`:\n{told}")
 
 
@@ -216,7 +221,7 @@ def test_script():
     """With the script of a report the steps have their calls, and objects their names; where the two do not belong together, it is said."""
     script, other = str(LOG.with_suffix(".json")), str(TOP / "examples/first-frame.json")
     told = ends_so(8, "check", "--script", script, data=WITHOUT)[0]
-    for words in ('byte 4 of "b" (1:31)', f'of the call at {script}:1:82: {{"do":"writeBuffer","buffer":"b","offset":0,"size":8}}', 'a barrier on "b" (1:31) between'):
+    for words in ('byte 4 of "b" (1:31)', f'of the call at {script}:1:82: {{"do":"writeBuffer","buffer":"b","offset":0,"size":8}}', 'a barrier is missing, on "b" (1:31) between'):
         check(words in told, f"check --script does not say `{words}`:\n{told}")
     for more, data, why in ((other, WITHOUT, "cannot match them: "), (script, b"trace\n" + WITHOUT.partition(b"trace\n")[2], "line 1 is none of a report"), (str(LOG), WITHOUT, "cannot match them: ")):
         told = ends_so(8, "check", "--script", more, data=data)[0]
@@ -225,7 +230,7 @@ def test_script():
     check("agrees" in ends_so(0, "check", "--script", script, str(LOG))[0], "check --script of what agrees does not say so")
     for path in EXAMPLES:
         status, reports_of = wanted(path)
-        told = checks.check(reports_of[0].replace(b"\nuse b", b"\nuse q"), path.name, Judge(), checks.places.Text(path.read_bytes(), path.name))[0]
+        told = checks.check(reports_of[0].replace(b"\nuse b", b"\nuse q"), path.name, Judge(), places.Text(path.read_bytes(), path.name))[0]
         check(status != 0 or "cannot match" not in told, f"check --script does not match the report of {path.name} with its script:\n{told}")
 
 
@@ -250,17 +255,26 @@ def test_shown():
             check(told.rstrip("\n") == shown.rstrip("\n"), f"docs/{name}.md: `{command}` does not print what is shown of it:\n{told}")
 
 
+def long(count):
+    """A trace of many steps, of which the last alone has no barrier, with the line that the program writes of it."""
+    lines = ["trace"]
+    for number in range(count):
+        bars = [f"bar b {number % 7} copy-dst copy-dst"] * (number != count - 1)
+        lines += [*bars, f"step {number} op {number} writeBuffer", f"use b {number % 7} copy-dst", f"acc both b {number % 7} 0 8"]
+    return traces.text_of([*lines, "end"]), f"differs {count - 8} {count - 1} b {(count - 1) % 7} 0 1\n".encode()
+
+
 def test_statuses(folder):
     """What is not there or too large, a full device, and a trace of many lines."""
     check(wgsim("check", str(folder / "missing")).returncode == 4 and wgsim("check", str(folder)).returncode == 4, "wgsim check of no file: the status is not 4")
     check(wgsim("check", "--script", str(folder / "missing"), str(LOG)).returncode == 4, "wgsim check with no such script: the status is not 4")
     told, said = ends_so(7, "check", data=b" " * 67108865)
     check(not told and "more than 67108864 bytes" in said, f"wgsim check of a text that is too large says {said}")
-    lines = ["trace"]
-    for number in range(60_000):
-        lines += [f"bar b {number % 7} copy-dst copy-dst"] * (number != 59_999) + [f"step {number} op {number} writeBuffer", f"use b {number % 7} copy-dst", f"acc both b {number % 7} 0 8"]
-    told = ends_so(8, "check", data=traces.text_of([*lines, "end"]))[0]
-    check("    bar b 2 copy-dst copy-dst\n    step 59999 op 59999 writeBuffer\n" in told, f"wgsim check of many lines says:\n{told}")
+    for count, said in ((700, lambda data, _: ends_so(8, "check", data=data)[0]), (300_000, lambda data, line: checks.check(data, "T", Fixed(line))[0])):
+        data, line = long(count)
+        told = said(data, line)
+        wants = f"    bar b {(count - 1) % 7} copy-dst copy-dst\n    step {count - 1} op {count - 1} writeBuffer\n"
+        check(told.startswith(line.decode().strip()) and wants in told, f"wgsim check of many lines says:\n{told}")
     for words in (["--json", "--json", "a", "b"], ["--script"], ["--script", "-"], ["--script", "-", "-"], ["--report", "a", "b"]):
         check(wgsim("check", *words).returncode == 2, f"wgsim check {' '.join(words)}: the status is not 2")
     for words in (["--script", "a", "b"], ["--check", "--report", "a", "b"], ["--check", "a", "b"], ["--check", "--script", "-"]):
