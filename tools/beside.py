@@ -40,18 +40,17 @@ class Beside:
         waiting = {phase: {lane: self.events(phase, lane) for p, lane in self.script.lanes if p == phase} for phase in phases}
         for entry in self.report.entries:
             while phases and not any(waiting[phases[0]].values()):
-                phases.pop(0)
+                self.turns += self.names_at_the_end(phases.pop(0))
             lane = waiting[phases[0]].get(entry.lane) if phases else None
             if not lane:
                 raise DoNotMatch(f"entry {entry.number} is of lane {entry.lane}, where the script has no further call")
             call = lane.pop(0)
-            if entry.word != ("late" if call.is_late else call.word):
+            if entry.word != call.event:
                 raise DoNotMatch(f"entry {entry.number} is of {entry.word}, and the call at {self.script.where(call)} is {call.word}")
             self.call_of[entry.number] = call
             self.entry_of[call] = entry
             own, number = self.script.lanes[call.place[:2]], call.place[2]
-            first = next((n + 1 for n in reversed(range(number)) if self.makes_entry(own[n])), 0)
-            self.turns += own[first : number + 1]
+            self.turns += own[after_entry(own[:number]) : number + 1]
             if entry.object() is not None and call.gives is not None:
                 self.names[entry.object()] = call.gives
         left = [call for lanes in waiting.values() for lane in lanes.values() for call in lane]
@@ -59,11 +58,13 @@ class Beside:
             raise DoNotMatch(f"the report has no entry for the call at {self.script.where(left[0])}")
 
     def events(self, phase, lane):
-        """The calls of a lane that make an entry: all but those that record, and of those the late ones."""
-        return [call for call in self.script.lanes[phase, lane] if self.makes_entry(call)]
+        """The calls of a lane that make an entry."""
+        return [call for call in self.script.lanes[phase, lane] if call.event is not None]
 
-    def makes_entry(self, call):
-        return call.is_late or not calls.records(call.word)
+    def names_at_the_end(self, phase):
+        """The calls of canvases behind the last entry of each lane of a phase: they make none, and what they name may be used in later phases."""
+        lanes = [lane for (of, _), lane in self.script.lanes.items() if of == phase]
+        return [call for lane in lanes for call in lane[after_entry(lane) :] if calls.canvas(call.word) is not None]
 
     def match_steps(self):
         """Finds the call that each step comes from. Where the counts do not fit, none is named for that operation."""
@@ -85,7 +86,7 @@ class Beside:
         for call in [self.call_of.get(step.at), *asked]:
             if call is not None and calls.step_of(call.word) == step.name:
                 maker = self.object_of(call.value.member("buffer").what)
-                if maker is not None and step.uses[0][0].object == maker.object():
+                if maker is not None and any(part.object == maker.object() for _, part in step.accesses):
                     self.command_of[step.number] = call
 
     def calls_of(self, operation):
@@ -106,8 +107,13 @@ class Beside:
 
     def object_of(self, name):
         """The entry that made the object that a name stands for, or None."""
-        call = self.script.made.get(name)
-        return self.entry_of.get(call)
+        return self.entry_of.get(self.script.maker_of(name))
+
+    def frame_of(self, number):
+        """The frame of a canvas whose texture an object is, or None."""
+        entry = self.makers.get(number)
+        call = self.call_of.get(entry.number) if entry is not None else None
+        return call.frame if call is not None else None
 
     def part(self, part):
         """A part or some cells in words."""
@@ -120,6 +126,11 @@ class Beside:
             many = "queries" if part.sort == "q" else "bytes"
             return f"{name} {piece if part.high - part.low == 1 else many} {ends(part)}"
         return name
+
+
+def after_entry(lane):
+    """The place in the calls of a lane behind the last one that makes an entry."""
+    return next((number + 1 for number in reversed(range(len(lane))) if lane[number].event is not None), 0)
 
 
 def span(part):

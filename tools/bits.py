@@ -23,7 +23,7 @@ MODES = {1: "READ", 2: "WRITE"}
 KINDS = {"usage of a buffer": BUFFER, "usage of a texture": TEXTURE, "visibility": STAGES, "mode of a mapAsync": MODES}
 
 # The keys of calls whose numbers are such: by the call, or by any call that has them.
-OF_CALLS = {("createBuffer", "usage"): BUFFER, ("createTexture", "usage"): TEXTURE, ("mapAsync", "mode"): MODES}
+OF_CALLS = {("createBuffer", "usage"): BUFFER, ("createTexture", "usage"): TEXTURE, ("configureCanvas", "usage"): TEXTURE, ("mapAsync", "mode"): MODES}
 VISIBILITY = "visibility"
 MOST = 2**32 - 1
 

@@ -7,7 +7,6 @@ TABLE = json.loads((pathlib.Path(__file__).parent / "calls.json").read_text(enco
 CALLS = TABLE["calls"]
 KINDS = TABLE["kinds"]
 WORDS = TABLE["words"]
-LATER = {word for words in TABLE["later"].values() for word in words}
 BEGINS = set(TABLE["passes"]["begin"])
 END = TABLE["passes"]["end"]
 PIPELINES = TABLE["passes"]["pipelines"]
@@ -67,7 +66,9 @@ def quoted(words):
 
 
 def either(kinds):
-    return " or ".join(KINDS.get(kind, kind) for kind in kinds)
+    """One of some kinds, in words. Where any texture will do, that of a canvas is not told beside."""
+    told = [kind for kind in kinds if kind != "canvas texture" or "texture" not in kinds]
+    return " or ".join(KINDS.get(kind, kind) for kind in told)
 
 
 def keys_of(word):
@@ -108,17 +109,13 @@ def unbuilt(word):
     return CALLS.get(word, {}).get("unbuilt", {})
 
 
-def is_known(word):
-    return word in CALLS or word in LATER
-
-
 def makes(word):
     """The kind of what the call makes: an object, or a pass; None where it makes neither."""
     return CALLS.get(word, {}).get("makes")
 
 
 def records(word):
-    return CALLS.get(word, {}).get("records", False) or word in TABLE["later"]["recorded"]
+    return CALLS.get(word, {}).get("records", False)
 
 
 def ends_encoder(word):
@@ -139,6 +136,11 @@ def groups(word):
 def query(word):
     """Whether the call `begins` or `ends` an occlusion query; None where it does neither."""
     return CALLS.get(word, {}).get("query")
+
+
+def canvas(word):
+    """What the call does to a canvas: `makes` or `configures` it, `gives` its texture or `presents` that; None of another call."""
+    return CALLS.get(word, {}).get("canvas")
 
 
 def executes(word):

@@ -58,7 +58,7 @@ class Cuts:
             for _, name in waiting.pop().names():
                 maker = self.script.made.get(name.what)
                 if maker is not None and maker not in found:
-                    made = [maker, *self.script.recorded_in(maker)]
+                    made = [maker, *self.script.recorded_in(maker), *(maker.frame.canvas.calls if maker.frame is not None else [])]
                     found.update(made)
                     waiting += made
         named = {call.gives for call in found}

@@ -6,6 +6,7 @@ import bits
 import calls
 import causes
 import culprit
+import frames
 import refusal
 import rules
 import script as scripts
@@ -52,6 +53,7 @@ class Explained:
         self.say(self.head())
         self.faults()
         self.history()
+        self.canvases()
         self.trace()
 
     def say(self, *lines):
@@ -75,7 +77,7 @@ class Explained:
                 continue
             self.say("", f"FAULT at entry {entry.number}: " + (self.beside.script.where(call) if call else entry.word))
             if call is not None:
-                self.say(f"    {self.beside.script.said(call)}", *[f"    {line}" for line in bits.of_call(call)])
+                self.say(f"    {self.beside.script.said(call)}", *[f"    {line}" for line in bits.of_call(call) + frames.of_fault(self.beside.script, call)])
             self.fault(entry, call)
         if not wrong:
             self.say("", "NO FAULT: every call was taken" if self.scopes.lost is None else "NO FAULT: every call before the loss was taken")
@@ -109,10 +111,14 @@ class Explained:
 
     def answer(self, entry):
         number = entry.object()
+        frame = self.beside.call_of[entry.number].frame if entry.number in self.beside.call_of else None
         if number is not None:
             name = self.beside.names.get(number)
             made = f"makes {name}, object {number}" if name else f"makes object {number}"
-            return f"{made}, {entry.answer[2]}" + (", since the device is lost" if self.scopes.is_lost_before(entry) else "")
+            lost = ", since the device is lost" if self.scopes.is_lost_before(entry) else ""
+            return f"{made}, {entry.answer[2]}{lost}" + (f": {frame.said()}" if frame is not None else "")
+        if frame is not None:
+            return f"ends {frame.said()}, and destroys its texture {frame.calls[0].gives}"
         if entry.operation() is not None:
             return f"queued as operation {entry.operation()}"
         more = self.scopes.answer(entry)
@@ -239,8 +245,9 @@ class Explained:
         """Of a word and a name the first call that has both, as the device took them, behind the number of its turn and the name's place in it."""
         found = {}
         for turn, call in enumerate(self.beside.turns):
-            for at, (_, name) in enumerate(call.names()):
-                found.setdefault((call.word, name.what), (turn, at, call))
+            ended = call.frame.names() if call.event == "destroy" and call.frame is not None else []
+            for at, name in enumerate([name.what for _, name in call.names()] + ended):
+                found.setdefault((call.event or call.word, name), (turn, at, call))
         return found
 
     @functools.cached_property
@@ -256,7 +263,7 @@ class Explained:
 
     def reached(self, call):
         """The names that a call uses, those that the commands of the command buffers and bundles among them use, and what is bound in bind groups and of
-        what views are."""
+        what views are; of the texture of a canvas all its names."""
         script, waiting, names = self.beside.script, [name.what for _, name in call.names()], set()
         while waiting:
             name = waiting.pop()
@@ -264,11 +271,21 @@ class Explained:
             if name in names or maker is None:
                 continue
             names.add(name)
+            if maker.frame is not None:
+                names.update(maker.frame.names())
             if calls.makes(maker.word) in ("bind group", "view"):
                 waiting += [each.what for _, each in maker.names()]
             if maker.word != call.word:
                 waiting += [each.what for command in script.recorded_in(maker) for _, each in command.names()]
         return names
+
+    def canvases(self):
+        """Which frame of which canvas each texture is, where the script has canvases."""
+        found = frames.listed(self.beside) if self.beside.script is not None else []
+        if found:
+            self.say("", "CANVASES: which texture is which frame of which canvas")
+        for head, lines in found:
+            self.say("", head, *[f"   {line}" for line in lines])
 
     def trace(self):
         self.say("", "TRACE: what a driver has to do, in this order")
@@ -276,7 +293,8 @@ class Explained:
             self.say("", "         nothing: no accepted work touches memory")
         for item in self.beside.report.items:
             if isinstance(item, Release):
-                self.say("", f"release  the memory of {self.beside.named(item.sort, item.object)}")
+                frame = self.beside.frame_of(item.object)
+                self.say("", f"release  the memory of {self.beside.named(item.sort, item.object)}" + (f", {frame.said()}" if frame is not None else ""))
                 continue
             self.say("")
             for part, before, after in item.barriers:

@@ -67,6 +67,8 @@ def of_status(text, beside, entry):
         found.update(object=number, name=beside.names.get(number))
     if entry.operation() is not None:
         found["operation"] = entry.operation()
+    if call is not None and call.frame is not None:
+        found.update(canvas=call.frame.canvas.name, frame=call.frame.number)
     return found
 
 

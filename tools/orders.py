@@ -31,7 +31,7 @@ def forced(data, name, callers):
 
 def may_come(playing):
     """Which callers may have the next turn, in words."""
-    found = [f"caller {caller} with its {call['do']}" for caller, call in second.next_call(playing).items()]
+    found = [f"caller {caller} with its {second.canvases.said_by(call)['do']}" for caller, call in second.next_call(playing).items()]
     if not found:
         return "the script is through"
     return f"in phase {playing.phase} the turn may be of " + ", ".join(found[:-1]) + (" or of " if found[1:] else "") + found[-1]

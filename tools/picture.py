@@ -11,10 +11,11 @@ import pathlib
 
 import causes
 import explain
+import frames
 import refusal
 from ends import REFUSED
 from faulted import faults
-from report import SORTS, Release, summary
+from report import SORTS, Release, count, summary
 
 FOLDER = pathlib.Path(__file__).resolve().parent
 STYLE, SCRIPT = ((FOLDER / name).read_text(encoding="utf-8") for name in ("picture.css", "picture.js"))
@@ -80,6 +81,7 @@ class Row:
 
     def __init__(self, key):
         self.sort, self.object, self.aspect, self.mip = key
+        self.frame = None
         self.first = self.last = None
         self.layers = set()
 
@@ -98,9 +100,10 @@ class Row:
         return runs
 
     def piece(self):
-        """Which piece of its texture it is."""
-        if not self.aspect:
-            return ""
+        """Which frame of its canvas it is of, if it is of one, and which piece of its texture it is."""
+        return ", ".join(([self.frame.said()] if self.frame is not None else []) + ([self.image()] if self.aspect else []))
+
+    def image(self):
         runs = self.runs()
         said = [f"{low}" if high - low == 1 else f"{low}\u2013{high - 1}" for low, high in runs[:MOST_RUNS]] + [".."] * (len(runs) > MOST_RUNS)
         is_one = len(runs) == 1 and runs[0][1] - runs[0][0] == 1
@@ -115,11 +118,14 @@ class Row:
 
 
 class Picture:
-    """The steps of one report beside its script."""
+    """The steps of one report beside its script, with what a check marks of them, if it does."""
 
-    def __init__(self, beside):
+    def __init__(self, beside, marks=None):
         self.beside = beside
+        self.marks = marks
         self.columns = columns(beside.report)
+        if marks is not None:
+            marks.add(self.columns)
         found = {}
         for number, column in enumerate(self.columns):
             for key in column.cells:
@@ -128,6 +134,8 @@ class Picture:
                 if part.aspect:
                     found[part.row()].layers.add((part.low, part.high))
         self.release(found)
+        for row in found.values():
+            row.frame = self.beside.frame_of(row.object)
         self.rows = dict(sorted(found.items(), key=lambda item: (item[0][1], item[0][0], item[0][2:])))
         self.numbers = {key: number for number, key in enumerate(self.rows)}
 
@@ -156,7 +164,12 @@ class Picture:
         cells = "".join(self.cell(key, column) for key in sorted(column.cells, key=self.numbers.get))
         freed = "".join(self.framed(each.row, "<span class='free'>given back</span>") for each in column.freed)
         kind = "release" if column.step is None else "host" if column.step.is_host else "clear" if column.step.name == "clear" else "work"
-        return f"<section class='step {kind}'>{self.head(column.step)}{cells}{freed}</section>"
+        marked = " marked" if self.marked(column.step) else ""
+        return f"<section class='step {kind}{marked}'>{self.head(column.step)}{cells}{freed}</section>"
+
+    def marked(self, step):
+        """What a check marks of a step, or None."""
+        return self.marks.said.get(step.number) if self.marks is not None and step is not None else None
 
     def head(self, step):
         if step is None:
@@ -165,7 +178,8 @@ class Picture:
         call = self.beside.command_of.get(step.number)
         title = f" title='{escape(self.beside.script.said(call))}'" if call else ""
         line = "<small>call at {}:{}</small>".format(*self.beside.script.text.place(call.value.start)) if call else ""
-        return f"<header{title}><small>step {step.number}</small><b>{parted(step.name)}</b><small>{where}</small>{line}</header>"
+        mark = f"<small class='mark'>{escape(self.marked(step))}</small>" if self.marked(step) else ""
+        return f"<header{title}><small>step {step.number}</small><b>{parted(step.name)}</b><small>{where}</small>{line}{mark}</header>"
 
     def framed(self, key, inside):
         row = self.rows[key]
@@ -177,9 +191,9 @@ class Picture:
         barriers = folded([self.barrier(self.rows[key], *each) for each in column.cells[key]["barriers"]], "")
         return self.framed(key, (f"<div class='bars'>{barriers}</div>" if barriers else "") + self.box(key, column))
 
-    def barrier(self, row, part, before, after):
+    def barrier(self, row, part, before, after, is_missing=False):
         lines = [*broken(before), *broken(f"\u2192 {after}"), *([run(part)] if part.aspect and not row.is_just(part) else [])]
-        return f"<span class='bar'>{'<br>'.join(map(escape, lines))}</span>"
+        return f"<span class='bar{' missing' * is_missing}'>{'<br>'.join(map(escape, ['missing:'] * is_missing + lines))}</span>"
 
     def box(self, key, column):
         cell = column.cells[key]
@@ -257,12 +271,26 @@ def controls():
 
 def drawn(name, beside, head, notes, causes_of):
     """The page of a report beside its script, which has a name."""
-    lines = [f"<p>{escape(head)}: {escape(summary(beside.report))}.</p>", *(f"<p>{escape(note)}</p>" for note in notes if note), faults(beside, causes_of)]
+    lines = [f"<p>{escape(head)}: {escape(summary(beside.report))}.</p>", *(f"<p>{escape(note)}</p>" for note in notes if note), faults(beside, causes_of), *canvases(beside)]
     if not beside.report.items:
         return page(name, "\n".join([*lines, "<p>The trace is empty: no accepted work touches memory.</p>"]))
-    legend = "".join(f"<span class='{look}'>{escape(what)}</span>" for look, what in LEGEND)
-    lines += [f"<p class='legend'>{legend}</p>", "<p>Time goes from left to right, and then down. A click on a name dims all else.</p>", controls(), Picture(beside).steps()]
+    return page_of_steps(name, lines, Picture(beside))
+
+
+def page_of_steps(name, lines, picture, legend=LEGEND):
+    """The page of a picture, with some lines above it."""
+    shown = "".join(f"<span class='{look}'>{escape(what)}</span>" for look, what in legend)
+    lines = [*lines, f"<p class='legend'>{shown}</p>", "<p>Time goes from left to right, and then down. A click on a name dims all else.</p>", controls(), picture.steps()]
     return page(name, "\n".join(lines), f"<script>\n{SCRIPT}</script>\n")
+
+
+def canvases(beside):
+    """A list of the frames of each canvas, which opens on a click."""
+    found = frames.listed(beside) if beside.script is not None else []
+    if not found:
+        return []
+    items = [f"<li>{escape(head)}<ul>{''.join(f'<li>{escape(line)}</li>' for line in lines)}</ul></li>" for head, lines in found]
+    return [f"<details class='canvases'><summary>{count(len(found), 'canvas')}, {count(sum(len(lines) for _, lines in found), 'frame')}</summary><ul>{''.join(items)}</ul></details>"]
 
 
 def picture(text, data, program):

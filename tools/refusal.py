@@ -131,27 +131,23 @@ def at_call(refusal, text, top):
         return refusal.at(call.start, kind_of(call), "a call: an object with the key do")
     if refusal.rule == 6:
         return unknown_call(refusal, text, call)
-    finders = {7: keys_of_call, 8: values_of_call, 9: given_name, 10: used_names, 11: used_names, 12: used_names, 13: not_built}
+    finders = {7: keys_of_call, 8: values_of_call, 9: given_name, 10: used_names, 11: used_names, 12: used_names, 13: not_built, 15: unset_canvas}
     finder = finders.get(refusal.rule)
     return finder(refusal, text, call, top) if finder else refusal
 
 
 def unknown_call(refusal, text, call):
     do = call.member("do")
-    known = sorted([*calls.CALLS, *calls.LATER])
     if do is None:
         return refusal.at(call.start, "no key do", "the key do, with the word of a call")
     if do.kind != "string":
         return refusal.at(do.start, f"{kind_of(do)} under do", "the word of a call, as a string")
-    hint = lacking.call(do.what) or near(do.what, known)
+    hint = lacking.call(do.what) or near(do.what, sorted(calls.CALLS))
     return refusal.at(do.start, f"the word {quoted(do.what)}", "the word of a call", hint)
 
 
 def not_built(refusal, text, call, top):
     do = call.member("do")
-    if do is not None and do.what in calls.LATER:
-        refusal.by("A call that is not built yet")
-        return refusal.at(do.start, f"the call {do.what}", "a call that is built: this one is not built yet", lacking.LACKING)
     for name, word in calls.unbuilt(do.what if do is not None else None).items():
         value = call.member(name)
         if value is not None and value.kind == "string" and value.what == word:
@@ -321,11 +317,41 @@ def used_names(refusal, text, call, top):
             return refusal.at(value.start, f"the name {quoted(value.what)} under {key}", wanted, unseen(script, user, value.what, maker))
         if refusal.rule == 11 and is_visible and calls.makes(maker.word) not in kinds:
             is_one = f"{value.what} is {calls.either([calls.makes(maker.word)])}, made at {script.where(maker)}: {script.said(maker)}"
-            return refusal.at(value.start, f"the name {value.what} under {key}", f"the name of {calls.either(kinds)}", is_one)
-        if refusal.rule == 12 and is_visible and key == "on" and maker.place[:2] != user.place[:2]:
+            return refusal.by(why_wrong_kind(user, maker)).at(value.start, f"the name {value.what} under {key}", f"the name of {calls.either(kinds)}", is_one, undropped(user, maker))
+        if refusal.rule == 12 and is_visible and key in OWN and maker.place[:2] != user.place[:2]:
             made = f"{value.what} was made in phase {maker.place[0]}, lane {maker.place[1]}, at {script.where(maker)}: {script.said(maker)}"
-            return refusal.at(value.start, f"the name {value.what} under on", "an encoder, a bundle encoder or a pass that this lane made in this phase", made)
+            return refusal.at(value.start, f"the name {value.what} under {key}", f"{OWN[key]} that this lane made in this phase", made)
     return refusal
+
+
+# What a lane has to have made itself, in the same phase, by the key that names it.
+OWN = {"on": "an encoder, a bundle encoder or a pass", "canvas": "a canvas"}
+
+
+def is_shown(user, maker):
+    """Whether a drop names what a currentTexture gave."""
+    return user.word == "drop" and calls.canvas(maker.word) is not None and calls.makes(maker.word) == "canvas texture"
+
+
+def why_wrong_kind(user, maker):
+    """What rule 11 refuses of a name."""
+    return "A `drop` names what a `currentTexture` made" if is_shown(user, maker) else "The name that is used stands for something of a wrong kind"
+
+
+def undropped(user, maker):
+    """What to do in place of a drop of the texture of a canvas, or None."""
+    return "the texture of a canvas is not dropped: the next present or configureCanvas destroys it, and so may a destroy" if is_shown(user, maker) else None
+
+
+def unset_canvas(refusal, text, call, top):
+    """The canvas of a currentTexture that no earlier configureCanvas has set."""
+    script = scripts.Script(text, top)
+    value = call.member("canvas")
+    maker = script.made.get(value.what)
+    made = f"{value.what} was made at {script.where(maker)}: {script.said(maker)}" if maker is not None else None
+    later = next((each for each in script.calls if calls.canvas(each.word) == "configures" and scripts.string_of(each.value, "canvas") == value.what), None)
+    comes = f"it is configured only later, at {script.where(later)}" if later is not None else "no call configures it"
+    return refusal.at(value.start, f"the name {value.what} under canvas", "a canvas that an earlier configureCanvas has configured", made, comes)
 
 
 def of_pass(script, user, kinds):
@@ -388,9 +414,14 @@ def explained(text, line):
 
 
 def pointed(text, offset):
-    """The line of the text at an offset, cut to what can be read, with a mark below the place."""
+    """The line of the text at an offset, with a mark below the place."""
     line, column = text.place(offset)
-    whole = text.text.split("\n")[line - 1].expandtabs(1).rstrip("\r")
+    return marked(text.text.split("\n")[line - 1], column)
+
+
+def marked(line, column):
+    """A line, cut to what can be read, with a mark below a column."""
+    whole = line.expandtabs(1).rstrip("\r")
     first = max(0, column - 60)
     before, after = escaped(whole[first : column - 1]), escaped(whole[column - 1 : first + 100])
     return ["", f"  {'..' if first else ''}{before}{after}{'..' if first + 100 < len(whole) else ''}", "  " + " " * (len(before) + 2 * bool(first)) + "^"]

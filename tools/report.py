@@ -151,8 +151,8 @@ class Report:
 
 
 def count(number, word):
-    """A count in words: `1 fault`, `2 faults`, `3 entries`."""
-    many = word[:-1] + "ies" if word.endswith("y") else word + "s"
+    """A count in words: `1 fault`, `2 faults`, `3 entries`, `4 canvases`."""
+    many = word[:-1] + "ies" if word.endswith("y") else word + "es" if word.endswith("s") else word + "s"
     return f"{number} {word if number == 1 else many}"
 
 

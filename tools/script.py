@@ -1,13 +1,15 @@
 """A script as its writer sees it: each call with its place, its text and its names, and what is recorded on each encoder, be it one of a bundle."""
 
 import calls
+import frames
 
 # The calls that set something of a pass, with the key that says where, if several stand side by side.
 SETS = {"setPipeline": None, "setBindGroup": "index", "setVertexBuffer": "slot", "setIndexBuffer": None}
 
 
 class Call:
-    """A call of a script. `place` is its phase, lane and number in the lane, `locked_by` the pass that is open on the encoder on which it records."""
+    """A call of a script. `place` is its phase, lane and number in the lane, `locked_by` the pass that is open on the encoder on which it records,
+    `frame` the frame of a canvas that it begins, names or ends."""
 
     def __init__(self, value, place):
         self.value = value
@@ -16,6 +18,14 @@ class Call:
         self.gives = string_of(value, "as")
         self.is_late = False
         self.locked_by = None
+        self.frame = None
+
+    @property
+    def event(self):
+        """The word of the entry that the call makes, or None where it makes none."""
+        if calls.canvas(self.word) is not None:
+            return self.frame.event_of(self) if self.frame is not None else None
+        return "late" if self.is_late else None if calls.records(self.word) else self.word
 
     def names(self):
         """The names that the call uses, in the order of its table's keys: pairs of key and name."""
@@ -94,11 +104,12 @@ class Script:
             if call.gives is not None:
                 self.made.setdefault(call.gives, call)
         self.places = {}
+        self.canvases = frames.Canvases()
         for call in self.calls:
             self.record(call)
 
     def record(self, call):
-        """Notes what a call does to the encoders, bundle encoders and passes, as far as the order of the calls alone decides it."""
+        """Notes what a call does to the encoders, bundle encoders, passes and canvases, as far as the order of the calls alone decides it."""
         on = string_of(call.value, "on")
         place = self.places.get(on)
         if calls.makes_encoder(call.word):
@@ -108,6 +119,8 @@ class Script:
             place.has_ended = True
         elif place is not None and calls.records(call.word):
             self.command(call, place)
+        elif calls.canvas(call.word) is not None:
+            self.canvases.take(call, string_of(call.value, "canvas"))
 
     def command(self, call, place):
         encoder = place.encoder or place
@@ -160,8 +173,17 @@ class Script:
         before = commands[: commands.index(call)] if call in commands else commands
         return [command for command in before if string_of(command.value, "on") == place.name]
 
+    def maker_of(self, name):
+        """The call that made what a name stands for, or None: of each name of a frame of a canvas the first currentTexture of it."""
+        call = self.made.get(name)
+        return call.frame.calls[0] if call is not None and call.frame is not None else call
+
     def where(self, call):
         return self.text.where(call.value.start)
+
+    def at(self, call):
+        """The line and column of a call."""
+        return "{}:{}".format(*self.text.place(call.value.start))
 
     def line(self, call):
         return self.text.place(call.value.start)[0]

@@ -17,6 +17,7 @@ from model import (  # noqa: E402, F401
     buffers,
     bundles,
     calls,
+    canvases,
     cells,
     copies,
     draws,

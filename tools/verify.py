@@ -107,7 +107,8 @@ class Verified:
         if other.lane != ours.lane:
             lines.append(f"the turn is of caller {ours.lane}: no other lane of the phase has a further call that makes an entry")
         if other.word != ours.word:
-            lines.append(f"the next call of caller {played.caller} is {played.do}" + (", which is late" if ours.word == "late" else ""))
+            word = second.canvases.said_by(played.call)["do"]
+            lines.append(f"the next call of caller {played.caller} is {word}" + (", which is late" if ours.word == "late" else f", whose entry is {played.do}" if word != played.do else ""))
         if other.fault != ours.fault:
             lines += self.of_fault(played) if played.fault else [self.why_no_fault(played)]
         if other.answer != ours.answer:

@@ -1,5 +1,6 @@
 """What the program answers to the bytes of a script, and whether a report is one of those that the script can have."""
 
+from . import canvases
 from . import history
 from . import judge
 from . import names
@@ -11,8 +12,8 @@ DONE, BAD_SCRIPT, TOO_LARGE = 0, 3, 7
 
 
 def read(data):
-    """The setup of a script, which is its budget and its limits, and its phases; and where it is refused, the status and the text that is
-    written then, or None."""
+    """The setup of a script, which is its budget and its limits, and its phases as they are played; and where it is refused, the status and the
+    text that is written then, or None."""
     if len(data) > script.MOST_BYTES:
         return None, None, (TOO_LARGE, "")
     try:
@@ -20,7 +21,7 @@ def read(data):
         names.bind(phases)
     except script.Refused as refused:
         return None, None, (BAD_SCRIPT, report.refusal(refused))
-    return history.Setup(budget, limits), phases, None
+    return history.Setup(budget, limits), canvases.as_played(phases), None
 
 
 def answer(data, choose=turns.only_one):

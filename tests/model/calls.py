@@ -1,7 +1,7 @@
 """The table of calls: for each its keys, in order, with what their values may be.
 
 A key is a tuple of its name, the sort of its value, and the value that it has where it is left out. The names that a call
-uses stand in the order in which script rules 10 and 11 look at them.
+uses stand in the order in which script rules 10, 11 and 12 look at them.
 """
 
 from .formats import ACCESS_WORDS, ASPECT_WORDS, FORMATS, SAMPLE_WORDS, TEXTURE_DIMS, VERTEX_FORMATS, VIEW_DIMS
@@ -19,7 +19,8 @@ NAME = "name that is given"
 
 # Sorts of values that use names: what each may stand for.
 BUFFER = ("name", ("buffer",))
-TEXTURE = ("name", ("texture",))
+TEXTURE = ("name", ("texture", "canvas texture"))
+CANVAS = ("name", ("canvas",))
 ENCODER = ("name", ("encoder",))
 COMPUTE_PASS = ("name", ("compute pass",))
 RENDER_PASS = ("name", ("render pass",))
@@ -37,7 +38,7 @@ PIPELINE_LAYOUT = ("name", ("pipeline layout",))
 GROUP = ("name", ("bind group",))
 PIPELINE = ("name", ("compute pipeline", "render pipeline"))
 QUERIES = ("name", ("query set",))
-RESOURCE = ("name", ("buffer", "texture", "query set"))
+RESOURCE = ("name", ("buffer", "texture", "canvas texture", "query set"))
 OBJECT = (
     "name",
     (
@@ -66,6 +67,7 @@ ON_ANY = ("on", ANY_PLACE, NEEDED)
 AS = ("as", NAME, NEEDED)
 
 SAMPLER_WORDS = ("filtering", "non-filtering", "comparison")
+CANVAS_FORMATS = ("rgba8unorm", "bgra8unorm", "rgba16float")
 LOAD = word(("load", "clear"))
 STORE = word(("store", "discard"))
 BUFFER_KEYS = [("dynamic", FLAG, False), ("minSize", WHOLE, 0)]
@@ -225,10 +227,11 @@ CALLS = {
     "end": [ON_PASS],
     "pushDebugGroup": [ON_ANY],
     "popDebugGroup": [ON_ANY],
+    "createCanvas": [("width", WORD32, NEEDED), ("height", WORD32, NEEDED), AS],
+    "configureCanvas": [("canvas", CANVAS, NEEDED), ("format", word(CANVAS_FORMATS), NEEDED), ("usage", WORD32, 16)],
+    "currentTexture": [("canvas", CANVAS, NEEDED), AS],
+    "present": [("canvas", CANVAS, NEEDED)],
 }
-
-# The calls that are known and not built yet.
-UNBUILT = set("createCanvas configureCanvas currentTexture present".split())
 
 # The calls that record a command on an encoder, on a pass of it, or on a bundle encoder.
 RECORDING = {
@@ -263,8 +266,8 @@ MADE = {
 # The calls whose objects take memory: they are destroyed and released.
 RESOURCES = {"createBuffer", "createTexture", "createQuerySet"}
 
-# What the name stands for that a call gives. A pass is no object.
-GIVEN = {**MADE, "beginComputePass": "compute pass", "beginRenderPass": "render pass"}
+# What the name stands for that a call gives. A pass is no object, nor is a canvas; and what a currentTexture gave may not be dropped.
+GIVEN = {**MADE, "beginComputePass": "compute pass", "beginRenderPass": "render pass", "createCanvas": "canvas", "currentTexture": "canvas texture"}
 
 
 def name_keys(do):

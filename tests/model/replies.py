@@ -4,6 +4,7 @@ import collections
 
 from . import buffers
 from . import bundles
+from . import canvases
 from . import copies
 from . import groups
 from . import maps
@@ -71,7 +72,7 @@ def answer_of(history, played):
     if played.do in MADE:
         played.made = len(history.objects)
         history.objects.append(played)
-        history.names[played.call["as"]] = played
+        history.names.update(dict.fromkeys(canvases.names_of(played.call), played))
         return f"made {played.made} {'valid' if played.is_valid else 'invalid'}"
     if played.do == "complete":
         return answer_of_complete(history, played.call["op"])

@@ -6,7 +6,7 @@ is gone through in order, of each phase and of each lane 4 is tested when it is 
 
 from . import json_text
 from . import limits
-from .calls import CALLS, FLAG, KIND, NAME, NEEDED, THREE, UNBUILT, WHOLE, WITH_KIND, WORD32, WORDS32
+from .calls import CALLS, FLAG, KIND, NAME, NEEDED, THREE, WHOLE, WITH_KIND, WORD32, WORDS32
 from .rules import note
 
 MOST_BYTES = 4_194_304
@@ -94,8 +94,7 @@ def read_call(place, call):
     """A call with all its keys; a key that is left out has the value of the table."""
     ask(6, "object", type(call) is dict, place)
     do = call.get("do")
-    ask(6, "word", type(do) is str and (do in CALLS or do in UNBUILT), place)
-    ask(13, "call", do in CALLS, place)
+    ask(6, "word", type(do) is str and do in CALLS, place)
     if do in ("createComputePipeline", "createRenderPipeline"):
         ask(13, "auto", call.get("layout") != "auto", place)
     keys = CALLS[do]

@@ -5,6 +5,7 @@ The calls of a lane are made one after another as if it were alone. What it does
 whole phase is made, since in a run either may come first.
 """
 
+import canvases
 import grouping
 import holding
 import passing
@@ -24,19 +25,21 @@ ACTS = {
     "groups": (grouping.ACTS, grouping.WEIGHTS),
     "passes": (passing.ACTS, passing.WEIGHTS),
     "rendering": (passing.ACTS, passing.WEIGHTS),
+    "canvases": (canvases.ACTS, canvases.WEIGHTS),
 }
-SORTS, WEIGHTS = list(ACTS), [8, 6, 1, 3, 2]
+SORTS, WEIGHTS = list(ACTS), [8, 6, 1, 3, 2, 6]
 MOST_CALLS = 250
 
 
 class Shared(World):
-    """What all lanes of the next phase see. Its encoders are the lane's own; those of earlier phases can be dropped, and no more."""
+    """What all lanes of the next phase see. Its encoders and canvases are the lane's own; the encoders of earlier phases can be dropped, and no
+    more."""
 
     def __init__(self, random, fault, sort):
         super().__init__(random, fault)
         self.sort = sort
         self.old_encoders = []
-        self.budget = random.choice(holding.BUDGETS) if sort == "holders" else random.choice([2**53 - 1] * 12 + [40_000, 4_000])
+        self.budget = random.choice(holding.BUDGETS) if sort == "holders" else random.choice(canvases.BUDGETS) if sort == "canvases" else random.choice([2**53 - 1] * 12 + [40_000, 4_000])
         self.renders = 0.85 if sort == "rendering" else 0.15
         self.bundled = random.choice([0.05, 0.4])
 
@@ -146,7 +149,7 @@ def phase(world, acts, is_lost_in_it):
         for name in LISTS:
             setattr(world, name, list(before[name]))
         is_lost = world.is_lost
-        world.encoders, world.bundle_encoders = [], []
+        world.encoders, world.bundle_encoders, world.canvases = [], [], []
         for name, value in start.items():
             setattr(world, name, value)
         world.is_lost = is_lost
@@ -162,7 +165,7 @@ def phase(world, acts, is_lost_in_it):
 def end_of_phase(world, states, gone):
     """What any lane did to an object is done."""
     world.old_encoders += world.encoders + world.bundle_encoders
-    world.encoders, world.bundle_encoders = [], []
+    world.encoders, world.bundle_encoders, world.canvases = [], [], []
     for thing in states:
         for ended in gone:
             for key in ("destroyed", "submitted", "mapped"):
@@ -190,13 +193,13 @@ def of_names(random, phases):
     """A call has another name, mostly one that another lane of its phase or an earlier phase gives; or it moves to another lane."""
     calls = [(lane, at) for lane in lists_in(phases) for at in range(len(lane)) if type(lane[at]) is dict]
     given = [(lane[at]["as"], lane[at]["do"], lane) for lane, at in calls if "as" in lane[at]]
-    kind = random.choice(["on", "on", "on", "on", "used", "used", "used", "as", "moved", "listed"])
+    kind = random.choice(["on", "on", "on", "on", "used", "used", "used", "as", "moved", "listed", "canvas", "canvas", "canvas"])
     if kind == "moved" and calls:
         lane, at = random.choice(calls)
         other = random.choice(lists_in(phases))
         other.insert(random.randint(0, len(other)), lane.pop(at))
         return
-    keys = {"on": ["on"], "as": ["as"], "listed": ["buffers", "layouts", "bundles"]}.get(kind, ["buffer", "texture", "object", "source", "target", "pipeline", "group", "layout"])
+    keys = {"on": ["on"], "canvas": ["canvas"], "as": ["as"], "listed": ["buffers", "layouts", "bundles"]}.get(kind, ["buffer", "texture", "object", "source", "target", "pipeline", "group", "layout"])
     users = [(lane, at, key) for lane, at in calls for key in keys if key in lane[at]]
     if not users:
         return
@@ -226,7 +229,7 @@ def of_form(random, phases):
     at = random.randrange(len(phases))
     if random.random() < 0.3:
         if lists_in(phases):
-            random.choice(lists_in(phases)).append(random.choice([7, {"do": "other"}, {"do": "complete"}, {"do": "complete", "op": -1}, {"do": "present"}]))
+            random.choice(lists_in(phases)).append(random.choice([7, {"do": "other"}, {"do": "complete"}, {"do": "complete", "op": -1}, {"do": "createComputePipeline", "layout": "auto"}]))
     kind = random.randrange(4)
     if kind == 0:
         phases.insert(at, random.choice([7, None, {}, "x", True]))

@@ -1,5 +1,6 @@
 """Scripts that break a rule of scripts: good ones with one or two changes to calls, names, the top, or the text itself."""
 
+import canvases
 import grouping
 import limiting
 import passing
@@ -7,9 +8,9 @@ import worlds
 from json_forms import Pairs, Raw, text_of
 
 WORD_LIMIT, WHOLE_LIMIT = 2**32 - 1, 2**53 - 1
-UNBUILT = "createCanvas configureCanvas currentTexture present".split()
 UNKNOWN = ["", "createbuffer", "CreateBuffer", "createBuffer ", "getBindGroupLayout", "setViewport", "copy", "createBuffer\0", "é", "Lose", "onSubmittedWorkDone"]
-NAME_KEYS = {"buffer", "texture", "source", "target", "on", "object", "layout", "view", "resolve", "sampler", "pipeline", "group", "queries"}
+UNKNOWN += ["getCurrentTexture", "configure", "Present", "unconfigureCanvas"]
+NAME_KEYS = {"canvas", "buffer", "texture", "source", "target", "on", "object", "layout", "view", "resolve", "sampler", "pipeline", "group", "queries"}
 QUERY_WORDS = ["createQuerySet", "resolveQuerySet", "beginOcclusionQuery", "endOcclusionQuery"]
 BUNDLE_WORDS = ["createBundleEncoder", "createBundleEncoder", "finishBundle", "executeBundles", "executeBundles"]
 PASS_WORDS = [
@@ -34,11 +35,14 @@ GOOD_NAMES = ["a" * 64, "_", "0", "9" * 64, "Z_z9", "do", "as"]
 def malformed(random):
     """The bytes of a script with one or two faults, the first of which is what the answer tells."""
     asked = limiting.ask(random, 0.15)
-    length, kind = random.choice([3, 12, 30]), random.choices(["bound", "passes", "renders", "queries", "bundles", "others"], [5, 3, 5, 3, 5, 4])[0]
+    kinds = ["bound", "passes", "renders", "queries", "bundles", "canvases", "others"]
+    length, kind = random.choice([3, 12, 30]), random.choices(kinds, [5, 3, 5, 3, 5, 4, 4])[0]
     has_objects = kind in ("bound", "renders", "queries", "bundles")
     if kind in ("passes", "renders", "queries", "bundles"):
         many = {"passes": (0.1, 0.2, 0.05), "renders": (0.85, 0.2, 0.05), "queries": (0.9, 0.9, 0), "bundles": (0.95, 0, 0.7)}[kind]
         calls = passing.passes(random, 1, *many)[1]
+    elif kind == "canvases":
+        calls = canvases.canvases(random)[1][:length]
     else:
         calls = grouping.groups(random)[1][:length] if kind == "bound" else worlds.mixed(random, length)
     top = {"budget": random.choice([0, 1, 1000000, WHOLE_LIMIT]), "phases": [[calls]]} | ({} if asked is None else {"limits": asked})
@@ -186,7 +190,7 @@ MORE_KEYS = [
     "on", "index", "offsets", "x", "w", "pipeline", "timestampWrites", "stage", "stride", "step", "attributes", "location", "targets", "depth",
     "samples", "colors", "resolve", "load", "store", "depthLoad", "depthReadOnly", "stencilStore", "slot", "vertices", "firstIndex", "depthWrite",
     "depthSlice", "queries", "queries", "baseVertex", "first", "count", "index", "occlusionQuerySet", "querySet", "queryIndex", "bundles",
-    "bundle", "stencilReadOnly", "colorFormats", "depthStencilFormat", "sampleCount",
+    "bundle", "stencilReadOnly", "colorFormats", "depthStencilFormat", "sampleCount", "canvas", "width", "height", "format",
 ]
 WRONG_WORDS = [
     "Filtering", "filtering", "nonfiltering", "storage", "readonly-storage", "write", "read-write", "sampled", "unfilterable", "sint", "auto",
@@ -238,8 +242,23 @@ def other_offsets(random, call):
     return None
 
 
-def unbuilt(random, call):
-    return {"do": random.choice(UNBUILT)} | ({} if random.random() < 0.5 else {"queries": None, "as": 5})
+def canvas(random, call):
+    """A call of a canvas with one value that is wrong, or may be; a key that it lacks or has not; or what it names is none."""
+    made = dict(random.choice([
+        {"do": "createCanvas", "width": 4, "height": 4, "as": "k"}, {"do": "configureCanvas", "canvas": "k", "format": "rgba8unorm"},
+        {"do": "configureCanvas", "canvas": "k", "format": "bgra8unorm", "usage": 16}, {"do": "currentTexture", "canvas": "k", "as": "t"}, {"do": "present", "canvas": "k"},
+    ]))
+    key = random.choice([key for key in made if key != "do"])
+    change = random.randrange(5)
+    if change == 0:
+        del made[key]
+    elif change == 1:
+        made[random.choice(["size", "format", "usage", "as", "canvas", "texture", "on"])] = random.choice(VALUES)
+    elif change == 2:
+        made[key] = Raw(random.choice(NUMBERS))
+    elif change == 3:
+        made[key] = random.choice([*VALUES, *WRONG_WORDS, "rgba8unorm", "rgba16float", "r8unorm", "rgba8unorm-srgb"])
+    return made
 
 
 def unknown(random, call):
@@ -318,7 +337,7 @@ def repeated(random, call):
 
 CALL_CHANGES = [
     other_value, other_number, border_number, other_item, null_item, other_target, other_bundle, other_offsets, long_list, key_gone, key_more,
-    other_word, unbuilt, unknown, mapped, no_object, repeated,
+    other_word, canvas, unknown, mapped, no_object, repeated,
 ]
 CALL_WEIGHTS = [4, 4, 3, 4, 3, 3, 4, 3, 2, 4, 3, 3, 2, 3, 3, 2, 3]
 OBJECT_CHANGES = [
@@ -436,7 +455,7 @@ def of_limits(random, top, calls):
     """The limits that are asked for are faulty, as a rule, at times beside what is wrong at the top or with the first phase."""
     top = dict(top.pairs) if isinstance(top, Pairs) else dict(top) if isinstance(top, dict) else {"budget": 1, "phases": []}
     top["limits"] = limiting.faulty(random) if random.random() < 0.85 else {name: limiting.good(random, name) for name in limiting.DEFAULTS}
-    more = random.choice([{}] * 8 + [{"budget": -1}, {"phases": 5}, {"phases": [[]] * 1025}, {"phases": [7]}, {"phases": [[[{"do": "present"}]]]}, {"x": 1}])
+    more = random.choice([{}] * 8 + [{"budget": -1}, {"phases": 5}, {"phases": [[]] * 1025}, {"phases": [7]}, {"phases": [[[{"do": "present"}]]]}, {"phases": [[[{"do": "createRenderPipeline", "layout": "auto"}]]]}, {"x": 1}])
     pairs = list((top | more).items())
     if random.random() < 0.15:
         pairs.insert(random.randint(0, len(pairs)), ("limits", random.choice([{}, None, limiting.faulty(random)])))

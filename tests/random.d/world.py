@@ -17,6 +17,7 @@ class Thing:
         self.made_at = 0
         self.dropped_at = None
         self.mapped = bool(call.get("mapped")) and good
+        self.is_shown = False  # It is the texture of a canvas.
         self.finished = False
         self.submitted = False
         self.groups = 0
@@ -53,6 +54,7 @@ class World:
         self.command_buffers = []
         self.bundle_encoders = []
         self.bundles = []
+        self.canvases = []
 
     def has_fault(self):
         return self.random.random() < self.fault
@@ -179,6 +181,10 @@ class World:
         thing.mapped = False
 
     def drop(self, thing):
+        """A drop; in place of one of a canvas's texture, for which the script is refused, a destroy as a rule."""
+        if thing.is_shown and self.random.random() < 0.95:
+            self.destroy(thing)
+            return
         self.add({"do": "drop", "object": thing.name})
         thing.dropped_at = thing.dropped_at or len(self.calls)
 

@@ -15,7 +15,7 @@ README_LINES = 90
 README_WORDS = 1200
 NAMES = re.compile(r"`([^`\n]+)`")
 NUMBERS = re.compile(r"\b(\d+)(?: to (\d+))?\b")
-RULES = re.compile(r"(?<!script )(?<!Script )\b[Rr]ules? (\d+(?: to \d+)?(?:(?:, and |, | and )\d+(?: to \d+)?)*)")
+RULES = re.compile(r"(?<!script )(?<!Script )(?<!trace )\b[Rr]ules? (\d+(?: to \d+)?(?:(?:, and |, | and )\d+(?: to \d+)?)*)")
 LINK = re.compile(r"\]\(([^)#\s]+)")
 BLOCK = re.compile(r"^```rust\n(.*?)^```$", re.M | re.S)
 SHOWN = re.compile(r"^```\n(\$ \./wgsim [^\n]*\n.*?)^```$", re.M | re.S)
@@ -122,12 +122,11 @@ def check_numbers(top, crates, findings):
 
 
 def check_words(top, crates, findings):
-    """Each format and each call that the tool knows, also those that are to come, stands in the coverage."""
+    """Each format and each call that the tool knows stands in the coverage."""
     known = words_of(text_of(top, "docs/coverage.md"))
     table = json.loads(text_of(top, "tools/calls.json"))
     words = [word for sort in ("format", "attribute format", "index format") for word in table["words"][sort]]
-    calls = [*table["calls"], *(call for part in table["later"].values() for call in part)]
-    for word in words + calls:
+    for word in words + list(table["calls"]):
         if not set(cited.WORD.findall(word)) <= known:
             findings.append(f"docs/coverage.md: {word} is not in it")
 

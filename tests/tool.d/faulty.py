@@ -52,11 +52,12 @@ def rule_with(script, lane, kept):
     what is recorded in them too, and drop them.
 
     What these commands leave open is closed."""
-    own, makers = recorded(lane)[0], [n for n, call in enumerate(lane) if call["do"].startswith("create") or call["do"] == "finishBundle"]
+    own, makers = recorded(lane)[0], [n for n, call in enumerate(lane) if call["do"].startswith("create") or call["do"] in ("finishBundle", "currentTexture")]
+    of_canvases = [n for n, call in enumerate(lane) if "canvas" in call]
     drops = [n for n, call in enumerate(lane) if call["do"] == "drop" and call["object"] in {lane[maker]["as"] for maker in makers}]
     bundle_encoders = {lane[maker]["as"] for maker in makers if lane[maker]["do"] == "createBundleEncoder"} - {lane[-1].get("on")}
     bundled = [n for n, call in enumerate(lane) if call.get("on") in bundle_encoders]
-    left = {*makers, *drops, *bundled, *own[:kept], len(lane) - 1}
+    left = {*makers, *of_canvases, *drops, *bundled, *own[:kept], len(lane) - 1}
     cut = [call for n, call in enumerate(lane) if n in left]
     _, begin, pushes, active = recorded(cut)
     for name in [cut[n]["as"] for n in begin] + [cut[-1]["on"]]:

@@ -31,18 +31,17 @@ def test_rules():
 
 
 def test_calls():
-    """The table of calls has each call of docs/script.md with its keys, those that may be left out, and those that are to come."""
+    """The table of calls has each call of docs/script.md with its keys and those that may be left out, and no other."""
     text = (TOP / "docs/script.md").read_text(encoding="utf-8").split("\n## Calls\n")[1].split("\n## Values\n")[0]
-    before = None
-    for word, keys in re.findall(r"^\| `(\w+)` \| (.*?) \| .* \|$", text.split("### Textures")[0], re.M):
+    before, rows = None, re.findall(r"^\| `(\w+)` \| (.*?) \| .* \|$", text.split("### Textures")[0], re.M)
+    check({word for word, _ in rows} == set(calls.CALLS), f"tools/calls.json: not the calls of docs/script.md: {sorted({word for word, _ in rows} ^ set(calls.CALLS))}")
+    for word, keys in rows:
         keys = before if keys == "the same" else re.findall(r"`(\w+)`(=?)", keys)
         before = keys
         known = calls.keys_of(word)
         own = [(name, "=" if key.may_be_left_out else "") for name, key in (known or {}).items()]
         check(own == keys, f"tools/calls.json: {word} has not the keys of docs/script.md: {keys}")
     test_objects(*[text.partition(f"\n### {title}\n")[2].split("\n### ")[0] for title in ("Bindings", "Render pipelines", "Render passes")])
-    later = set(re.findall(r"`(\w+)`", text.split("\n### Calls that are not built yet\n")[1]))
-    check(calls.LATER == later, f"tools/calls.json: not the calls to come of docs/script.md: {sorted(calls.LATER ^ later)}")
     said = re.search(
         r"`on` names an encoder; a bundle encoder in (.*?); a pass in (.*?); and an encoder or a pass in (.*?)\. The pass has to be a compute pass in (.*?), and a render pass in "
         r"(.*?) and the four draws; .*? It may be a bundle encoder as well in (.*?)\.",

@@ -63,8 +63,9 @@ class Case:
         """A part or a cell in words: a buffer, bytes of it, a subresource of a texture, or slices of one. No rule tells of queries by their cells."""
         named = self.named(self.object_of(part))
         if part[0] == "s":
-            _, _, _, mip, low, high = part
-            return f"{named} mip {mip} slice {low}" if high - low == 1 else f"{named} mip {mip} slices {low} to {high - 1}"
+            aspect, mip, low, high = part[2:]
+            image = f"{named} {self.second.formats.ASPECTS[aspect]} mip {mip}"
+            return f"{image} slice {low}" if high - low == 1 else f"{image} slices {low} to {high - 1}"
         if part[0] == "t":
             aspect, mip, layer = part[2:]
             return f"{named} {self.second.formats.ASPECTS[aspect]} mip {mip} layer {layer}"

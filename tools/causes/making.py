@@ -68,6 +68,9 @@ def to_add(case, thing, bit, names):
         if (usage | bit) & mode and (usage | bit) & ~(mode | may):
             clash = mode if bit != mode else usage & ~may
             return f"It cannot be added beside {' and '.join(bits.words(clash, names))}: copy between {case.name(thing)} and a buffer that has it."
+    frame = case.play.call_of(thing).frame
+    if frame is not None:
+        return f'Add it where "{frame.canvas.name}" is configured, at {case.play.script.at(frame.configured)}.'
     return f"Add it where {case.name(thing)} is made."
 
 

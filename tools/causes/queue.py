@@ -100,12 +100,17 @@ def others_there(case):
 def gone(case, thing, by=""):
     if not case.history.is_destroyed(thing):
         return None
+    ending = case.play.call_of(case.play.destroyed_by[thing])
     at = case.place(case.play.destroyed_by[thing])
-    return Cause(
-        f"{case.named(thing)}{by} was destroyed at {at}",
-        {"object": thing.call["as"], "state": "destroyed", "by": at},
-        "Destroy it after its last use.",
-    )
+    values = {"object": thing.call["as"], "state": "destroyed", "by": at, "byCall": ending.word}
+    if ending.frame is None:
+        return Cause(f"{case.named(thing)}{by} was destroyed at {at}", values, "Destroy it after its last use.")
+    canvas = ending.frame.canvas
+    frame = f'frame {ending.frame.number} of "{canvas.name}" ({case.play.script.at(canvas.call)})'
+    values.update(canvas=canvas.name, frame=ending.frame.number)
+    if ending.word == "present":
+        return Cause(f"{case.named(thing)}{by} was presented at {at}, as {frame}", values, "Use it before, and take a new currentTexture for each frame.")
+    return Cause(f"{case.named(thing)}{by} was given up by the {ending.word} at {at}, as {frame}", values, "Use it before, or take a new currentTexture.")
 
 
 @rule(200)
