@@ -100,7 +100,11 @@ impl Device {
         ensures fronts { IfOk result (λ t. FrontsAre history_of t.0.lock t.1.items []) }
         ensures sound { IfOk result (λ t. AreSound history_of (λ c. c.setup) Run t.0.lock t.1.items) }
     {
-        let (lock, passes) = TurnLock::open(alloc, Core::new(alloc, budget, serial, limits), callers)?;
+        let (lock, passes) = TurnLock::open(
+            alloc,
+            Core::new(alloc, budget, serial, limits),
+            callers,
+        )?;
         Ok((
             Device {
                 lock,
