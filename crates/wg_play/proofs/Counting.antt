@@ -11,7 +11,8 @@ use Rattle.wg_types.specs.declared.replies.Answer.TheVariants.{Made, Queued, Pro
 use Rattle.wg_types.specs.declared.replies.Reply.{Reply}
 use Rattle.wg_history.specs.declared.events.Setup.{Setup}
 use Rattle.wg_history.specs.declared.events.Form.{Form}
-use Rattle.wg_history.specs.Entries.{Making, Queue, Promising, Completion, Plainly, effects_of, Entry, Past}
+use Rattle.wg_history.specs.declared.events.Form.TheVariants.{Making, Queue, Promise as Promising, Completion, Plain as Plainly}
+use Rattle.wg_history.specs.Entries.{effects_of, Entry, Past}
 use Rattle.wg_history.specs.Objects.{is_making, is_making_form, count}
 use Rattle.wg_history.specs.Answers.{is_taken, answer_by, reply_to, IsRun}
 use Rattle.wg_history.proofs.Runs.{newest, others}
@@ -226,9 +227,9 @@ form_makes past (Completion op) done n = by_taken (is_taken past op)
     by_taken false = refl
 form_makes past Plainly done n = refl
 
-record MadeOnce (n : ℕ) (past : Past) : Type 0 where
-  most : times (entry_makes n) past ≤ 1
-  none : count past ≤ n → times (entry_makes n) past ≡ 0
+pub record MadeOnce (n : ℕ) (past : Past) : Type 0 where
+  pub most : times (entry_makes n) past ≤ 1
+  pub none : count past ≤ n → times (entry_makes n) past ≡ 0
 
 one_more : (n : ℕ) (past : Past) → MadeOnce n past → (making : Bool) (same : Bool) → (count past == n) ≡ same
     → ((if making && same then suc (times (entry_makes n) past) else times (entry_makes n) past) ≤ 1)

@@ -370,7 +370,20 @@ pub record IsCanvasAt (objects : List Object) (place : ℕ) : Type 0 where
   pub texture : HasTexture found.stage
 
 no_canvas_known : (known : Info) → kind_of known ≡ kinds.Canvas → ⊥
-no_canvas_known _ e = cc (e)
+no_canvas_known (info.Buffer x) e = cc (e)
+no_canvas_known (info.Texture x) e = cc (e)
+no_canvas_known (info.View x) e = cc (e)
+no_canvas_known (info.Sampler x) e = cc (e)
+no_canvas_known (info.GroupLayout x) e = cc (e)
+no_canvas_known (info.PipelineLayout x) e = cc (e)
+no_canvas_known (info.Group x) e = cc (e)
+no_canvas_known (info.Compute x) e = cc (e)
+no_canvas_known (info.Render x) e = cc (e)
+no_canvas_known (info.Queries x) e = cc (e)
+no_canvas_known info.Encoder e = cc (e)
+no_canvas_known (info.BundleEncoder x) e = cc (e)
+no_canvas_known info.CommandBuffer e = cc (e)
+no_canvas_known (info.Bundle x) e = cc (e)
 
 canvas_of : (what : Object) (found : Option Object) → found ≡ Some what → IsOf kinds.Canvas what → (canvas : CanvasValue) × (option_and_then canvas_in found ≡ Some canvas) × HasTexture canvas.stage
 canvas_of (object.Made handle recorder) found is of = absurd (no_canvas_known handle.info of.0)

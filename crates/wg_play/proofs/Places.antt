@@ -1,5 +1,5 @@
 -- Which commands begin passes, and what a command stands on.
-use Rattle.std.proofs.Common.{◌≡◌, true, false, Some, refl, ◌⊎◌, inl, inr}
+use Rattle.std.proofs.Common.{◌≡◌, true, false, Some, refl, arith, ◌⊎◌, inl, inr}
 use Rattle.wg_types.specs.declared.wanted.Kind.{Kind}
 use Rattle.wg_types.specs.declared.wanted.Kind.TheVariants as kind
 use Rattle.wg_types.specs.declared.wanted.Wanted.{Wanted}

@@ -159,11 +159,11 @@ record AskedFor (all : List PlayedCall) (n : ℕ) : Type 0 where
   request : RequestOf ℕ
   made : Option ℕ
   entry : Entry
-  there : IsIn {PlayedCall} (Ask request made, Some entry) all
+  there : IsIn {X = PlayedCall} (Ask request made, Some entry) all
   makes : call_makes n (Ask request made, Some entry) ≡ true
 
 object_asked : (setup : Setup) (past : Past) (all : List PlayedCall) (handle : HandleValue) (call : BoundCall) (found : Option Entry) (slot : ℕ) (k : Kind) → made_of call ≡ Some (slot, k) → admits wanted.Object k ≡ true
-    → IsOfCall setup past handle call found → IsIn {PlayedCall} (call, found) all → AskedFor all handle.reference.number
+    → IsOfCall setup past handle call found → IsIn {X = PlayedCall} (call, found) all → AskedFor all handle.reference.number
 object_asked setup past all handle (Record on command None) found slot k makes fits of there = absurd (cc (makes))
 object_asked setup past all handle (Record on command (Some name)) found slot k makes fits of there =
     absurd (object_no_pass k fits (pass_kind (bracket command) k (same_made name slot (kind_begun command) k makes)))

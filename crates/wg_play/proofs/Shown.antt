@@ -36,7 +36,7 @@ pub record IsGivenBy (all : List PlayedCall) (texture : HandleValue) : Type 0 wh
   pub call : CanvasOf ℕ
   pub made : Option ℕ
   pub entry : Entry
-  pub there : IsIn {PlayedCall} (Canvas call made, Some entry) all
+  pub there : IsIn {X = PlayedCall} (Canvas call made, Some entry) all
   pub answer : entry.reply.answer ≡ Made texture.reference.number texture.valid
   pub kind : kind_of texture.info ≡ kinds.Texture
 
@@ -64,7 +64,7 @@ none_asked : (all : List PlayedCall) (serial : ℕ) (asked : Option (RequestOf H
 none_asked all serial None answer e = tt
 none_asked all serial (Some request) answer e = absurd (cc (e))
 
-by_entry : (all : List PlayedCall) (serial : ℕ) (sight : Sight) (call : CanvasOf ℕ) (made : Option ℕ) (entry : Entry) → IsIn {PlayedCall} (Canvas call made, Some entry) all
+by_entry : (all : List PlayedCall) (serial : ℕ) (sight : Sight) (call : CanvasOf ℕ) (made : Option ℕ) (entry : Entry) → IsIn {X = PlayedCall} (Canvas call made, Some entry) all
     → (found : Option HandleValue) → given_by serial (canvas_asks sight call) entry.reply.answer ≡ found → GivenIf all found
 by_entry all serial sight call made entry there None e = tt
 by_entry all serial sight call made entry there (Some texture) e = record {
@@ -76,9 +76,9 @@ by_entry all serial sight call made entry there (Some texture) e = record {
   kind = subst IsTexture e (canvas_gives serial sight call entry.reply.answer);
 }
 
-given_if : (all : List PlayedCall) (serial : ℕ) (sight : Sight) (call : CanvasOf ℕ) (made : Option ℕ) (found : Option Entry) → IsIn {PlayedCall} (Canvas call made, found) all → IsDrawnAs sight call found
+given_if : (all : List PlayedCall) (serial : ℕ) (sight : Sight) (call : CanvasOf ℕ) (made : Option ℕ) (found : Option Entry) → IsIn {X = PlayedCall} (Canvas call made, found) all → IsDrawnAs sight call found
     → GivenIf all (given_by serial (canvas_asks sight call) (with_answer (Canvas call made, found)).1)
-given_if all serial sight call made None there drawn = none_asked all serial (canvas_asks sight call) _ drawn
+given_if all serial sight call made None there drawn = none_asked all serial (canvas_asks sight call) (with_answer (Canvas call made, None)).1 drawn
 given_if all serial sight call made (Some entry) there drawn = by_entry all serial sight call made entry there (given_by serial (canvas_asks sight call) entry.reply.answer) refl
 
 -- ---- calls of a lane, one after another
@@ -103,7 +103,7 @@ kept_shows all objects None shows = shows
 kept_shows all objects (Some handle) shows =
     All-append (Each Any (GivenIf all)) objects (object_of handle ∷ []) shows (All-cons (Each Any (GivenIf all)) (object_of handle) [] tt (All-nil (Each Any (GivenIf all))))
 
-call_shows : (all : List PlayedCall) (serial : ℕ) (sight : Sight) (call : BoundCall) (found : Option Entry) → IsIn {PlayedCall} (call, found) all → DrawnAs sight call found → Shows all sight.own
+call_shows : (all : List PlayedCall) (serial : ℕ) (sight : Sight) (call : BoundCall) (found : Option Entry) → IsIn {X = PlayedCall} (call, found) all → DrawnAs sight call found → Shows all sight.own
     → Shows all (after_call serial sight (with_answer (call, found))).own
 call_shows all serial sight (Record on command made) found there drawn shows =
     subst (λ (s : Sight). Shows all s.own) (sym (after_record serial sight on command made (with_answer (Record on command made, found)).1))
