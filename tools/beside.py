@@ -86,7 +86,7 @@ class Beside:
         for call in [self.call_of.get(step.at), *asked]:
             if call is not None and calls.step_of(call.word) == step.name:
                 maker = self.object_of(call.value.member("buffer").what)
-                if maker is not None and step.uses[0][0].object == maker.object():
+                if maker is not None and any(part.object == maker.object() for _, part in step.accesses):
                     self.command_of[step.number] = call
 
     def calls_of(self, operation):

@@ -118,11 +118,14 @@ class Row:
 
 
 class Picture:
-    """The steps of one report beside its script."""
+    """The steps of one report beside its script, with what a check marks of them, if it does."""
 
-    def __init__(self, beside):
+    def __init__(self, beside, marks=None):
         self.beside = beside
+        self.marks = marks
         self.columns = columns(beside.report)
+        if marks is not None:
+            marks.add(self.columns)
         found = {}
         for number, column in enumerate(self.columns):
             for key in column.cells:
@@ -161,7 +164,12 @@ class Picture:
         cells = "".join(self.cell(key, column) for key in sorted(column.cells, key=self.numbers.get))
         freed = "".join(self.framed(each.row, "<span class='free'>given back</span>") for each in column.freed)
         kind = "release" if column.step is None else "host" if column.step.is_host else "clear" if column.step.name == "clear" else "work"
-        return f"<section class='step {kind}'>{self.head(column.step)}{cells}{freed}</section>"
+        marked = " marked" if self.marked(column.step) else ""
+        return f"<section class='step {kind}{marked}'>{self.head(column.step)}{cells}{freed}</section>"
+
+    def marked(self, step):
+        """What a check marks of a step, or None."""
+        return self.marks.said.get(step.number) if self.marks is not None and step is not None else None
 
     def head(self, step):
         if step is None:
@@ -170,7 +178,8 @@ class Picture:
         call = self.beside.command_of.get(step.number)
         title = f" title='{escape(self.beside.script.said(call))}'" if call else ""
         line = "<small>call at {}:{}</small>".format(*self.beside.script.text.place(call.value.start)) if call else ""
-        return f"<header{title}><small>step {step.number}</small><b>{parted(step.name)}</b><small>{where}</small>{line}</header>"
+        mark = f"<small class='mark'>{escape(self.marked(step))}</small>" if self.marked(step) else ""
+        return f"<header{title}><small>step {step.number}</small><b>{parted(step.name)}</b><small>{where}</small>{line}{mark}</header>"
 
     def framed(self, key, inside):
         row = self.rows[key]
@@ -182,9 +191,9 @@ class Picture:
         barriers = folded([self.barrier(self.rows[key], *each) for each in column.cells[key]["barriers"]], "")
         return self.framed(key, (f"<div class='bars'>{barriers}</div>" if barriers else "") + self.box(key, column))
 
-    def barrier(self, row, part, before, after):
+    def barrier(self, row, part, before, after, is_missing=False):
         lines = [*broken(before), *broken(f"\u2192 {after}"), *([run(part)] if part.aspect and not row.is_just(part) else [])]
-        return f"<span class='bar'>{'<br>'.join(map(escape, lines))}</span>"
+        return f"<span class='bar{' missing' * is_missing}'>{'<br>'.join(map(escape, ['missing:'] * is_missing + lines))}</span>"
 
     def box(self, key, column):
         cell = column.cells[key]
@@ -265,8 +274,13 @@ def drawn(name, beside, head, notes, causes_of):
     lines = [f"<p>{escape(head)}: {escape(summary(beside.report))}.</p>", *(f"<p>{escape(note)}</p>" for note in notes if note), faults(beside, causes_of), *canvases(beside)]
     if not beside.report.items:
         return page(name, "\n".join([*lines, "<p>The trace is empty: no accepted work touches memory.</p>"]))
-    legend = "".join(f"<span class='{look}'>{escape(what)}</span>" for look, what in LEGEND)
-    lines += [f"<p class='legend'>{legend}</p>", "<p>Time goes from left to right, and then down. A click on a name dims all else.</p>", controls(), Picture(beside).steps()]
+    return page_of_steps(name, lines, Picture(beside))
+
+
+def page_of_steps(name, lines, picture, legend=LEGEND):
+    """The page of a picture, with some lines above it."""
+    shown = "".join(f"<span class='{look}'>{escape(what)}</span>" for look, what in legend)
+    lines = [*lines, f"<p class='legend'>{shown}</p>", "<p>Time goes from left to right, and then down. A click on a name dims all else.</p>", controls(), picture.steps()]
     return page(name, "\n".join(lines), f"<script>\n{SCRIPT}</script>\n")
 
 

@@ -414,9 +414,14 @@ def explained(text, line):
 
 
 def pointed(text, offset):
-    """The line of the text at an offset, cut to what can be read, with a mark below the place."""
+    """The line of the text at an offset, with a mark below the place."""
     line, column = text.place(offset)
-    whole = text.text.split("\n")[line - 1].expandtabs(1).rstrip("\r")
+    return marked(text.text.split("\n")[line - 1], column)
+
+
+def marked(line, column):
+    """A line, cut to what can be read, with a mark below a column."""
+    whole = line.expandtabs(1).rstrip("\r")
     first = max(0, column - 60)
     before, after = escaped(whole[first : column - 1]), escaped(whole[column - 1 : first + 100])
     return ["", f"  {'..' if first else ''}{before}{after}{'..' if first + 100 < len(whole) else ''}", "  " + " " * (len(before) + 2 * bool(first)) + "^"]

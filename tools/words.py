@@ -28,7 +28,12 @@ usage: wgsim run [FILE]       plays a script and writes the program's report, by
                               with --json for a machine, with --report of a report that is there and not of a new play
        wgsim picture [--report REPORT] [FILE]
                               the trace as one HTML page: steps, barriers, clears and releases
-       wgsim check [TRACE]    whether the barriers of a report, or of a trace, are enough: agrees, differs or bad trace
+       wgsim picture --check [--script SCRIPT] [TRACE]
+                              the same of a trace, with what `check` finds marked in it
+       wgsim check [--json] [--script SCRIPT] [TRACE]
+                              whether the barriers of a report, or of a trace of your own, are enough: agrees, differs
+                              with the two steps and the barrier that is missing, or bad trace with what is wrong;
+                              with --json for a machine, with --script by the names and calls of a report's script
        wgsim diff [--script FILE] A B
                               compares two reports, entry by entry and step by step; a script in the place of a
                               report is played first
@@ -77,6 +82,7 @@ class Words:
         self.script = None
         self.report = None
         self.callers = None
+        self.is_check = False
         self.wants_help = False
         self.rest = []
         words = list(words)
@@ -95,14 +101,16 @@ class Words:
             self.is_unproved = True
         elif word == "--proved":
             self.is_proved = True
-        elif word == "--script" and self.command == "diff":
+        elif word == "--script" and self.command in ("diff", "check", "picture"):
             self.script = value_of(word, "a FILE", after)
         elif word == "--report" and self.command in ("explain", "picture"):
             self.report = value_of(word, "a REPORT", after)
         elif word == "--callers" and self.command == "run":
             self.callers = callers_in(value_of(word, "a list of callers", after))
-        elif word == "--json" and self.command in ("explain", "judge"):
+        elif word == "--json" and self.command in ("explain", "judge", "check"):
             self.is_json = True
+        elif word == "--check" and self.command == "picture":
+            self.is_check = True
         elif word == "--help" and self.command in MOST:
             self.wants_help = True
         elif self.command is None and (word in MOST or word in ("--help", "--version")):
@@ -124,8 +132,10 @@ class Words:
             raise Wrong(f"{self.command} needs {what}")
         if self.is_proved and (self.is_unproved or self.command in UNPROVED or self.callers is not None or self.report is not None):
             raise Wrong("--proved asks for the proved program, which does not answer this")
-        if [*self.rest, self.script, self.report].count("-") > 1 or (self.report == "-" and not self.rest):
+        if [*self.rest, self.script, self.report].count("-") > 1 or ("-" in (self.script, self.report) and not self.rest):
             raise Wrong("standard input can be one file alone")
+        if self.command == "picture" and (self.script if not self.is_check else self.report) is not None:
+            raise Wrong("picture takes --script with --check alone, and --report without it")
         if self.command == "rules" and self.rest and not (self.rest[0].isascii() and self.rest[0].isdigit()):
             raise Wrong(f"a rule has a number, and not {self.rest[0]}")
 
@@ -161,9 +171,9 @@ def opened(name, what="a script"):
         raise ends.End(ends.UNREAD, f"{name}: {error.strerror}") from None
 
 
-def read(name):
+def read(name, what="a script"):
     """The bytes of an input, and its name as places show it."""
-    with opened(name) as file:
+    with opened(name, what) as file:
         try:
             return file.read(), "<standard input>" if name == "-" else name
         except OSError as error:
@@ -182,14 +192,19 @@ def run(words):
     return status
 
 
-def check(words):
-    file = opened(words.rest[0] if words.rest else "-", "a report or a trace")
-    program = Program(words.is_unproved)
-    if not program.is_unproved:
-        program.become(["check"], file)
-    status, out = program.check(file.read())
-    write(out)
+def checked(words):
+    import check
+
+    said, status = (check.check_json if words.is_json else check.check)(*trace_of(words))
+    write(said.encode("utf-8"))
     return status
+
+
+def trace_of(words):
+    """A trace with its name, the program that judges it, and the script whose report it is, if that is known."""
+    data, name = read(words.rest[0] if words.rest else "-", "a report or a trace")
+    text = places.Text(*read(words.script)) if words.script is not None else None
+    return data, name, Program(words.is_unproved), text
 
 
 def forced(words):
@@ -290,9 +305,10 @@ def explained(words):
 
 
 def picture(words):
+    import checkpage
     import picture as pictures
 
-    text, status = pictures.picture(*asked(words))
+    text, status = checkpage.picture(*trace_of(words)) if words.is_check else pictures.picture(*asked(words))
     write(text.encode("utf-8"))
     return status
 
@@ -349,7 +365,7 @@ def write(data):
 
 
 COMMANDS = {
-    "run": run, "check": check, "outcomes": outcomes, "verify": verified, "gen": generated, "script": script, "judge": judged, "explain": explained, "picture": picture,
+    "run": run, "check": checked, "outcomes": outcomes, "verify": verified, "gen": generated, "script": script, "judge": judged, "explain": explained, "picture": picture,
     "diff": diff, "rules": show_rules, "words": bits_of, "prove": prove, "--version": version, "--help": show_help,
 }
 # The commands that ask no program, or not the proved one.

@@ -6,11 +6,13 @@ import re
 import subprocess
 import sys
 
+import check as checks
 import picture
 import places
 import program as programs
 import report as reports
 
+from checked import Docs
 from common import TOP, answered, asked, check, wgsim
 
 
@@ -99,10 +101,13 @@ def test_checking():
     log, code, trace, answer = re.findall(r"^```(?:text|python)\n(.*?)^```$", text, re.M | re.S)
     ran = subprocess.run([sys.executable, "-c", code], input=log.encode(), capture_output=True, timeout=60)
     check(ran.stdout.decode() == trace, f"docs/checking.md: the log makes another trace: {ran.stdout}, {ran.stderr[-300:]}")
-    check(asked.program.check(trace.encode()) == (8, answer.encode()), f"docs/checking.md: {asked.program.check(trace.encode())} is said of its trace")
+    told = checks.check(trace.encode(), "log.trace", Docs())
+    check(told == (answer, 8), f"docs/checking.md: of its trace is said, with status {told[1]}:\n{told[0]}")
     lines = log.splitlines()
     mended = [*lines[:-1], re.search(r"with `(barrier .*?)` in front of the last line", text)[1], lines[-1]]
     ran = subprocess.run([sys.executable, "-c", code], input="\n".join([*mended, ""]).encode(), capture_output=True, timeout=60)
+    proposed = re.search(r"^    (bar .*)", answer, re.M)[1]
+    check(proposed.encode() in ran.stdout, f"docs/checking.md: the mended trace has not the barrier that is proposed, {proposed}")
     check(asked.program.check(ran.stdout) == (0, b"agrees\n"), f"docs/checking.md: {asked.program.check(ran.stdout)} is said of the mended trace {ran.stdout}")
 
 

@@ -9,6 +9,8 @@ mod buffers;
 #[cfg(test)]
 mod bundles;
 #[cfg(test)]
+mod canvas;
+#[cfg(test)]
 mod copy;
 #[cfg(test)]
 mod counts;

@@ -60,19 +60,34 @@ fn run_script<T: Wait + Threads + Sync, G: Gate + Sync>(
 
 const EMPTY: &str = "{\"budget\":0,\"phases\":[]}";
 
-/// What is told where the third read fails, which comes before the end, and where the sink takes 10 bytes.
-fn told_of_faults<T: Wait + Threads + Sync>(rt: &T, alloc: Global) -> Result<[Told; 2], NoMemory> {
-    let mut broken = source_of(alloc, EMPTY, 8, &[3])?;
-    let read = run_over(rt, alloc, "run", &mut broken, (100, ""), &NoGate);
-    let mut whole = source_of(alloc, EMPTY, 4096, &[])?;
-    let written = run_over(rt, alloc, "run", &mut whole, (10, "history\ntr"), &NoGate);
+/// A trace of one step, which accesses nothing.
+const TRACE: &str = "trace\nstep 0 op 1 clear\nend\n";
+
+/// What is told of a word where the third read fails, which comes before the end, and where the sink takes so much.
+fn told_of_faults<T: Wait + Threads + Sync>(
+    rt: &T,
+    alloc: Global,
+    word: &str,
+    text: &str,
+    taken: &str,
+) -> Result<[Told; 2], NoMemory> {
+    let mut broken = source_of(alloc, text, 8, &[3])?;
+    let read = run_over(rt, alloc, word, &mut broken, (100, ""), &NoGate);
+    let mut whole = source_of(alloc, text, 4096, &[])?;
+    let written = run_over(rt, alloc, word, &mut whole, (taken.len(), taken), &NoGate);
     Ok([read, written])
 }
 
 #[test]
 fn faults_of_source_and_sink(rt: HostRuntime) {
     let wanted = [Ok((4, true)), Ok((5, true))];
-    assert!(rt; told_of_faults(&rt, rt.alloc()) == Ok(wanted));
+    assert!(rt; told_of_faults(&rt, rt.alloc(), "run", EMPTY, "history\ntr") == Ok(wanted));
+}
+
+#[test]
+fn faults_of_a_check(rt: HostRuntime) {
+    let wanted = [Ok((4, true)), Ok((5, true))];
+    assert!(rt; told_of_faults(&rt, rt.alloc(), "check", TRACE, "agr") == Ok(wanted));
 }
 
 /// What is told of a generated script, where the first read would fail.

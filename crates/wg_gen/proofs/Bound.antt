@@ -9,7 +9,8 @@ use Rattle.wg_types.specs.declared.commands.CommandOf.TheVariants.{CopyBufferToB
 use Rattle.wg_types.specs.declared.wanted.Kind.{Kind}
 use Rattle.wg_types.specs.declared.wanted.Kind.TheVariants as kind
 use Rattle.wg_types.specs.declared.wanted.Wanted.TheVariants as wanted
-use Rattle.wg_names.specs.Bound.{Made, made_in, IsFound, IsOn, LaneIsBound, all_made, numbers_below, IsBound}
+use Rattle.wg_names.specs.Bound.{Made, made_in, IsFound, IsOn, LaneIsBound, LaneIsSet, all_made, numbers_below, IsBound}
+use Rattle.wg_script.specs.CallOf.{BoundCall}
 use Rattle.wg_gen.specs.declared.draws.Spot.{Spot}
 use Rattle.wg_gen.specs.Generator.{spots, eight, creation, iterations, lane_of, lanes_from, ending, phases_of}
 use Rattle.wg_gen.proofs.Facts.{IsSpot}
@@ -110,6 +111,37 @@ destructions_bound made ours k (suc n) all has = (
   destructions_bound (made ++ []) (ours ++ []) (suc k) n (omega (arith, all)) (has_more made [] has),
 )
 
+-- ---- canvases, of which there are none
+
+abbrev IsSet : List BoundCall → Type 0
+IsSet calls = LaneIsSet [] calls
+
+creations_set : (done : List ℕ) (k n : ℕ) → LaneIsSet done (creations k n)
+creations_set done k zero = tt
+creations_set done k (suc n) = (tt, creations_set (done ++ []) (suc k) n)
+
+iterations_set : (done : List ℕ) (slot : ℕ) (list : List Spot) → LaneIsSet done (iterations slot list)
+iterations_set done slot [] = tt
+iterations_set done slot (spot ∷ list) =
+    (tt, (tt, (tt, (tt, (tt, iterations_set (done ++ [] ++ [] ++ [] ++ [] ++ []) (slot + 2) list)))))
+
+lanes_set : (count lane lanes : ℕ) → All IsSet (lanes_from count lane lanes)
+lanes_set count lane zero = All-nil IsSet
+lanes_set count lane (suc lanes) =
+    All-cons IsSet (lane_of count lane) (lanes_from count (suc lane) lanes)
+    (iterations_set [] (8 + 2 * (lane * count)) (spots count (lane + 1))) (lanes_set count (suc lane) lanes)
+
+destructions_set : (done : List ℕ) (k n : ℕ) → LaneIsSet done (destructions k n)
+destructions_set done k zero = tt
+destructions_set done k (suc n) = (tt, destructions_set (done ++ []) (suc k) n)
+
+phases_set : (count lanes : ℕ) → All (All IsSet) (phases_of count lanes)
+phases_set count lanes =
+    let end : List (List BoundCall) = ending (count * lanes) ∷ [] in
+    let at_end : All IsSet end = all_one IsSet (ending (count * lanes)) (tt, destructions_set [] 0 8) in
+    All-cons (All IsSet) (map creation eight ∷ []) (lanes_from count 0 lanes ∷ end ∷ []) (all_one IsSet (map creation eight) (creations_set [] 0 8))
+    (All-cons (All IsSet) (lanes_from count 0 lanes) (end ∷ []) (lanes_set count 0 lanes) (all_one (All IsSet) end at_end))
+
 -- ---- the slots that are made
 
 -- so many numbers, from one of them on
@@ -186,6 +218,7 @@ is_bound count lanes =
         all_one (LaneIsBound [] []) (map creation eight) (creations_bound [] [] 0 8),
         (lanes_bound made count 0 lanes has, (all_one (LaneIsBound later []) (ending (count * lanes)) at_end, tt)),
       );
+      set = phases_set count lanes;
       count = 8 + 2 * (count * lanes);
       numbered = all_numbered count lanes;
     }

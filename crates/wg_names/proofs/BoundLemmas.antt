@@ -10,20 +10,23 @@ use Rattle.std.proofs.lemmas.Slice.Eq.{bytes_eq-Decides}
 use Rattle.wg_script.specs.CallOf.{Call}
 use Rattle.wg_names.specs.Uses.{uses_of, made_of, admits, wants_own}
 use Rattle.wg_names.specs.Names.{Names, kind_in, is_own, is_visible, check_use}
-use Rattle.wg_names.specs.Script.{check_uses, uses_by, call_bound, walk, lane_bound, phase_bound}
+use Rattle.wg_names.specs.Script.{check_uses, uses_by, with_setting, call_bound, walk, lane_bound, phase_bound}
 use Rattle.wg_names.specs.Bound.{Made, made_by, made_in, IsFound, IsOn, CallIsBound, LaneIsBound, PhasesAreBound}
 use Rattle.wg_script.specs.declared.calls.CallOf.{CallOf}
-use Rattle.wg_script.specs.declared.calls.CallOf.TheVariants.{Record, Ask}
+use Rattle.wg_script.specs.declared.calls.CallOf.TheVariants.{Record, Ask, Canvas}
 use Rattle.wg_types.specs.declared.commands.CommandOf.{CommandOf}
 use Rattle.wg_types.specs.Commands.{place_wanted, named, named_on}
 use Rattle.wg_types.specs.Requests.{named as asked_of}
+use Rattle.wg_types.specs.Canvases.{named as canvas_named}
+use Rattle.wg_types.specs.declared.canvases.CanvasCall.TheVariants.{Configure, Current, Present}
+use Rattle.wg_types.specs.declared.canvases.CanvasOf.TheVariants.{Create, On}
 use Rattle.wg_types.specs.Wanted.{pipelines_on, within}
 use Rattle.wg_types.specs.declared.wanted.Kind.TheVariants as kind
 use Rattle.wg_types.specs.declared.wanted.Wanted.TheVariants as wanted
 use Rattle.wg_types.specs.declared.wanted.Kind.{Kind}
 use Rattle.wg_types.specs.declared.wanted.Wanted.{Wanted}
 use Rattle.wg_names.specs.declared.known.Mark.{Mark}
-use Rattle.wg_names.proofs.Passing.{bind_ok, stands_of, Makes, passes_of}
+use Rattle.wg_names.proofs.Passing.{bind_ok, stands_of, Makes, Passes, passes_of}
 
 abbrev pub MadeNames : Type 0
 MadeNames = Made (List ℕ)
@@ -68,6 +71,7 @@ on_found p l names made ours sees on command fine e =
 call_found : (p l : ℕ) (names : Names) (made ours : MadeNames) → Sees p l names made ours → (call : Call) (fine : ⊤) → check_uses names p l (uses_by names call) ≡ Ok fine → CallIsBound made ours call
 call_found p l names made ours sees (Record on command name) fine e = on_found p l names made ours sees on command fine e
 call_found p l names made ours sees (Ask request name) fine e = uses_found p l names made ours sees (asked_of request) fine e
+call_found p l names made ours sees (Canvas call name) fine e = uses_found p l names made ours sees (canvas_named call) fine e
 
 -- What is wanted on something of a kind is wanted.
 compute_pipeline : (k : Kind) → admits wanted.ComputePipeline k ≡ true → admits wanted.Pipeline k ≡ true
@@ -108,6 +112,7 @@ found_uses made ours (Record on command name) bound =
     (record { kind = bound.place; stands = bound.stands; fits = bound.takes; own = λ want. bound.own })
     (found_within made ours bound.place (named command) bound.found)
 found_uses made ours (Ask request name) bound = bound
+found_uses made ours (Canvas call name) bound = bound
 
 -- ---- what calls of a lane add
 
@@ -160,12 +165,25 @@ sees_more p l names more made ours extra sees adds name mark is = elim (adds nam
   )
 ]
 
+-- what a call says of canvases leaves what names stand for
+pub setting_marks : (call : Call) (names : Names) (name : List ℕ) → (with_setting call names).marks name ≡ names.marks name
+setting_marks (Record on command made) names name = refl
+setting_marks (Ask request made) names name = refl
+setting_marks (Canvas (Create width height) made) names name = refl
+setting_marks (Canvas (On canvas (Configure format usage)) made) names name = refl
+setting_marks (Canvas (On canvas Current) made) names name = refl
+setting_marks (Canvas (On canvas Present) made) names name = refl
+
+adds_call : (p l : ℕ) (names more : Names) (call : Call) → Passes p l names more call → Adds p l names more (made_by call)
+adds_call p l names more call passes name mark is =
+    adds_made p l names passes.mid (made_of call) passes.makes name mark (sym (setting_marks call passes.mid name) ∙ (ap (λ (ns : Names). ns.marks name) passes.after ∙ is))
+
 lane_adds : (p l i : ℕ) (names : Names) (calls : List Call) (end : Names) → walk (call_bound p l) i names calls ≡ Ok end → Adds p l names end (made_in calls)
 lane_adds p l i names [] end e = λ name mark is. inl (let P : Names → Type 0 = λ ns. ns.marks name ≡ Some mark in subst P (let same : end ≡ names = cc in same) is)
 lane_adds p l i names (call ∷ calls) end e =
     let step = bind_ok (call_bound p l i names call) (λ more. walk (call_bound p l) (i + 1) more calls) end e in
     let passes = passes_of p l i names step.0 call step.1 in
-    adds_then p l names step.0 end (made_by call) (made_in calls) (adds_made p l names step.0 (made_of call) passes.makes)
+    adds_then p l names step.0 end (made_by call) (made_in calls) (adds_call p l names step.0 call passes)
     (lane_adds p l (i + 1) step.0 calls end step.2)
 
 lane_is_bound : (p l i : ℕ) (names : Names) (made ours : MadeNames) → Sees p l names made ours → (calls : List Call) (end : Names)
@@ -176,7 +194,7 @@ lane_is_bound p l i names made ours sees (call ∷ calls) end e =
     let passes = passes_of p l i names step.0 call step.1 in (
       call_found p l names made ours sees call passes.fine passes.uses,
       lane_is_bound p l (i + 1) step.0 (made ++ made_by call) (ours ++ made_by call)
-          (sees_more p l names step.0 made ours (made_by call) sees (adds_made p l names step.0 (made_of call) passes.makes)) calls end step.2,
+          (sees_more p l names step.0 made ours (made_by call) sees (adds_call p l names step.0 call passes)) calls end step.2,
     )
 
 -- ---- the lanes of a phase
@@ -217,6 +235,16 @@ splits_more p l names more before beside made splits adds name mark is = elim (a
   | inr new ↦ inr (new.0, omega (arith, new.1), Contains-append_right beside made (name, mark.kind) new.2)
 ]
 
+-- what a lane has made is split off after it, and as a lane begins nothing is its own
+pub splits_own : (p l : ℕ) (names : Names) (before beside : MadeNames) → Splits p l names before beside → (name : List ℕ) (mark : Mark) → names.marks name ≡ Some mark → is_own p l mark ≡ true → ⊥
+splits_own p l names before beside splits name mark is own = elim (splits name mark is) [
+  | inl there ↦ not_own p l mark there.0 own
+  | inr here ↦ not_visible p l mark here.0 here.1 (or_right (nat_lt mark.phase p) (is_own p l mark) own)
+]
+
+pub lane_splits : (p l : ℕ) (names more : Names) (before beside : MadeNames) → Splits p l names before beside → (lane : List Call) → lane_bound p l names lane ≡ Ok more → Splits p (l + 1) more before (beside ++ made_in lane)
+lane_splits p l names more before beside splits lane e = splits_more p l names more before beside (made_in lane) splits (lane_adds p l 0 names lane more e)
+
 -- the lanes of a phase are bound, and what their names stand for splits at the last lane
 record Phase (p : ℕ) (end : Names) (before made : MadeNames) (lanes : List (List Call)) : Type 0 where
   bound : All (LaneIsBound before []) lanes
@@ -256,3 +284,8 @@ phases_are_bound p names before splits (lanes ∷ phases) end e =
     let step = bind_ok (phase_bound p names lanes) (λ more. walk phase_bound (p + 1) more phases) end e in
     let phase = lanes_are_bound p 0 names before [] splits lanes step.0 step.1 in
     (phase.bound, phases_are_bound (p + 1) step.0 (before ++ flat_map made_in lanes) (next_phase p phase.last step.0 before (flat_map made_in lanes) phase.splits) phases end step.2)
+
+pub phase_splits : (p : ℕ) (names more : Names) (before : MadeNames) → Splits p 0 names before [] → (lanes : List (List Call)) → phase_bound p names lanes ≡ Ok more → Splits (p + 1) 0 more (before ++ flat_map made_in lanes) []
+phase_splits p names more before splits lanes e =
+    let phase = lanes_are_bound p 0 names before [] splits lanes more e in
+    next_phase p phase.last more before (flat_map made_in lanes) phase.splits

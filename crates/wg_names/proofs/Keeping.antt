@@ -14,10 +14,13 @@ use Rattle.wg_script.specs.CallOf.{Call}
 use Rattle.wg_script.specs.Draft.{Stop}
 use Rattle.wg_names.specs.Uses.{made_of}
 use Rattle.wg_names.specs.Names.{Names, no_names, with_name, slot_in, is_name}
-use Rattle.wg_names.specs.Script.{call_bound, walk, lane_bound, phase_bound, phases_bound}
+use Rattle.wg_names.specs.Script.{with_setting, call_bound, walk, lane_bound, phase_bound, phases_bound}
 use Rattle.wg_names.specs.Bound.{made_by, made_in, numbers_below}
 use Rattle.wg_types.specs.declared.wanted.Kind.{Kind}
-use Rattle.wg_names.proofs.Passing.{bind_ok, Makes, passes_of}
+use Rattle.wg_script.specs.declared.calls.CallOf.TheVariants.{Record, Ask, Canvas}
+use Rattle.wg_types.specs.declared.canvases.CanvasCall.TheVariants.{Configure, Current, Present}
+use Rattle.wg_types.specs.declared.canvases.CanvasOf.TheVariants.{Create, On}
+use Rattle.wg_names.proofs.Passing.{bind_ok, Makes, Passes, passes_of}
 use Rattle.wg_names.proofs.BoundLemmas.{MadeNames}
 
 -- the names of a list are well formed and differ, each stands for something, and they have the slots from 0 on
@@ -111,8 +114,20 @@ walk_keeps f g on i names (x ∷ xs) end made e keeps =
     subst Q (append_assoc made (g x) (flat_map g xs))
     (walk_keeps f g on (i + 1) step.0 xs end (made ++ g x) step.2 (on i names x step.0 made step.1 keeps))
 
+-- what a call says of canvases leaves all that
+keeps_set : (call : Call) (names : Names) (made : MadeNames) → Keeps names made → Keeps (with_setting call names) made
+keeps_set (Record on command name) names made keeps = keeps
+keeps_set (Ask request name) names made keeps = keeps
+keeps_set (Canvas (Create width height) name) names made keeps = keeps
+keeps_set (Canvas (On canvas (Configure format usage)) name) names made keeps = record { formed = keeps.formed; once = keeps.once; kept = keeps.kept; slots = keeps.slots }
+keeps_set (Canvas (On canvas Current) name) names made keeps = keeps
+keeps_set (Canvas (On canvas Present) name) names made keeps = keeps
+
 call_keeps : (p l : ℕ) → KeepsOn (call_bound p l) made_by
-call_keeps p l i names call more made e keeps = keeps_made p l names more made (made_of call) (passes_of p l i names more call e).makes keeps
+call_keeps p l i names call more made e keeps =
+    let passes : Passes p l names more call = passes_of p l i names more call e in
+    let P : Names → Type 0 = λ ns. Keeps ns (made ++ made_by call) in
+    subst P passes.after (keeps_set call passes.mid (made ++ made_by call) (keeps_made p l names passes.mid made (made_of call) passes.makes keeps))
 
 lane_keeps : (p : ℕ) → KeepsOn (lane_bound p) made_in
 lane_keeps p l names calls more made e keeps = walk_keeps (call_bound p l) made_by (call_keeps p l) 0 names calls more made e keeps

@@ -24,12 +24,17 @@ use Rattle.wg_types.specs.Requests.{kind_made, named as asked_of, map_refs as ma
 use Rattle.wg_types.specs.declared.requests.RequestOf.{RequestOf}
 use Rattle.wg_script.specs.CallOf.{Call, map_call}
 use Rattle.wg_script.specs.declared.calls.CallOf.{CallOf}
-use Rattle.wg_script.specs.declared.calls.CallOf.TheVariants.{Record, Ask}
+use Rattle.wg_types.specs.Canvases.{kind_made as canvas_made, named as canvas_named, map_canvas}
+use Rattle.wg_types.specs.declared.canvases.CanvasCall.TheVariants.{Configure, Current, Present}
+use Rattle.wg_types.specs.declared.canvases.CanvasOf.{CanvasOf}
+use Rattle.wg_types.specs.declared.canvases.CanvasOf.TheVariants.{Create, On}
+use Rattle.wg_script.specs.declared.calls.CallOf.TheVariants.{Record, Ask, Canvas}
 use Rattle.wg_names.specs.Uses.{made_as, admits}
 use Rattle.wg_names.specs.Names.{Names, no_names, slot_in}
 use Rattle.wg_names.specs.Script.{phases_bound, map_lane, map_phase, map_phases}
-use Rattle.wg_names.specs.Bound.{Made, made_by, made_in, IsFound, CallIsBound, LaneIsBound, PhasesAreBound, all_made, IsBound, IsBoundFrom}
+use Rattle.wg_names.specs.Bound.{Made, made_by, made_in, IsFound, CallIsBound, LaneIsBound, PhasesAreBound, configured_by, CallIsSet, LaneIsSet, all_made, IsBound, IsBoundFrom}
 use Rattle.wg_names.proofs.BoundLemmas.{Splits, phases_are_bound}
+use Rattle.wg_names.proofs.Setting.{phases_are_set}
 use Rattle.wg_names.proofs.Keeping.{all_keep}
 
 -- what stands beside a name stays
@@ -92,6 +97,14 @@ request_named f request = grind (arith, all_named, entries_mapped)
 request_kind : {R S : Type 0} (f : R → S) (request : RequestOf R) → kind_made (map_asked f request) ≡ kind_made request
 request_kind f request = grind arith
 
+canvas_kind : {R S : Type 0} (f : R → S) (call : CanvasOf R) → canvas_made (map_canvas f call) ≡ canvas_made call
+canvas_kind f (Create width height) = refl
+canvas_kind f (On canvas call) = refl
+
+canvases_named : {R S : Type 0} (f : R → S) (call : CanvasOf R) → canvas_named (map_canvas f call) ≡ map (other f) (canvas_named call)
+canvases_named f (Create width height) = refl
+canvases_named f (On canvas call) = refl
+
 wanted_mapped : {R S : Type 0} (f : R → S) (place : Kind) (keys : List (R × Wanted)) → map (λ key. (key.0, within place key.1)) (map (other f) keys) ≡ map (other f) (map (λ key. (key.0, within place key.1)) keys)
 wanted_mapped f place [] = refl
 wanted_mapped f place (key ∷ keys) = ap (λ rest. (f key.0, within place key.1) ∷ rest) (wanted_mapped f place keys)
@@ -107,6 +120,7 @@ as_mapped f (Some name) (Some kind) = refl
 made_mapped : {R S : Type 0} (f : R → S) (call : CallOf R) → made_by (map_call f call) ≡ map (other f) (made_by call)
 made_mapped f (Record on command made) = ap (λ kind. option_to_list (made_as (option_map f made) kind)) (command_kind f command) ∙ as_mapped f made (kind_begun command)
 made_mapped f (Ask request made) = ap (λ kind. option_to_list (made_as (option_map f made) kind)) (request_kind f request) ∙ as_mapped f made (kind_made request)
+made_mapped f (Canvas call made) = ap (λ kind. option_to_list (made_as (option_map f made) kind)) (canvas_kind f call) ∙ as_mapped f made (canvas_made call)
 
 -- ---- lists
 
@@ -165,6 +179,7 @@ call_mapped f made ours (Record on command name) bound = record {
   found = all_mapped f made ours (named_on bound.place command) (named_on bound.place (map_refs f command)) (on_mapped f bound.place command) bound.found;
 }
 call_mapped f made ours (Ask request name) bound = all_mapped f made ours (asked_of request) (asked_of (map_asked f request)) (request_named f request) bound
+call_mapped f made ours (Canvas call name) bound = all_mapped f made ours (canvas_named call) (canvas_named (map_canvas f call)) (canvases_named f call) bound
 
 grown : {R S : Type 0} (f : R → S) (made : Made R) (call : CallOf R) → map (other f) (made ++ made_by call) ≡ map (other f) made ++ made_by (map_call f call)
 grown f made call = map-append (other f) made (made_by call) ∙ ap (λ ms. map (other f) made ++ ms) (sym (made_mapped f call))
@@ -188,6 +203,36 @@ bound_mapped {R} {S} f made (lanes ∷ phases) bound =
       subst P later (bound_mapped f (made ++ flat_map made_in lanes) phases bound.1),
     )
 
+-- ---- configured canvases
+
+configured_mapped : {R S : Type 0} (f : R → S) (call : CallOf R) → configured_by (map_call f call) ≡ map f (configured_by call)
+configured_mapped f (Record on command made) = refl
+configured_mapped f (Ask request made) = refl
+configured_mapped f (Canvas (Create width height) made) = refl
+configured_mapped f (Canvas (On canvas (Configure format usage)) made) = refl
+configured_mapped f (Canvas (On canvas Current) made) = refl
+configured_mapped f (Canvas (On canvas Present) made) = refl
+
+call_set : {R S : Type 0} (f : R → S) (done : List R) (call : CallOf R) → CallIsSet done call → CallIsSet (map f done) (map_call f call)
+call_set f done (Record on command made) set = tt
+call_set f done (Ask request made) set = tt
+call_set f done (Canvas (Create width height) made) set = tt
+call_set f done (Canvas (On canvas (Configure format usage)) made) set = tt
+call_set f done (Canvas (On canvas Current) made) set = All-contains (λ c. Contains (map f done) (f c)) done canvas (contained f done) set
+call_set f done (Canvas (On canvas Present) made) set = tt
+
+lane_set : {R S : Type 0} (f : R → S) (done : List R) (calls : List (CallOf R)) → LaneIsSet done calls → LaneIsSet (map f done) (map_lane f calls)
+lane_set f done [] set = tt
+lane_set {R} {S} f done (call ∷ calls) set =
+    let P : List S → Type 0 = λ cs. LaneIsSet cs (map_lane f calls) in
+    let more : map f (done ++ configured_by call) ≡ map f done ++ configured_by (map_call f call) = map-append f done (configured_by call) ∙ ap (λ cs. map f done ++ cs) (sym (configured_mapped f call)) in
+    (call_set f done call set.0, subst P more (lane_set f (done ++ configured_by call) calls set.1))
+
+all_set : {R S : Type 0} (f : R → S) (phases : List (List (List (CallOf R)))) → All (All (LaneIsSet [])) phases → All (All (LaneIsSet [])) (map_phases f phases)
+all_set f phases set = All-map (All (LaneIsSet [])) (map_phase f) phases
+    (All-weaker (All (LaneIsSet [])) (λ lanes. All (LaneIsSet []) (map_phase f lanes))
+    (λ lanes all. All-map (LaneIsSet []) (map_lane f) lanes (All-weaker (LaneIsSet []) (λ calls. LaneIsSet [] (map_lane f calls)) (λ calls one. lane_set f [] calls one) lanes all)) phases set)
+
 -- ---- the whole script
 
 pub bound_of : (phases : List (List (List Call))) (end : Names) → phases_bound phases ≡ Ok end → IsBound (map_phases (slot_in end) phases)
@@ -196,6 +241,7 @@ bound_of phases end e =
     let all = all_keep phases end e in
     record {
       used = bound_mapped (slot_in end) [] phases (phases_are_bound 0 no_names [] none phases end e);
+      set = all_set (slot_in end) phases (phases_are_set 0 no_names [] none (λ name unmade. refl) phases end e);
       count = end.made;
       numbered = all_made_mapped (slot_in end) phases ∙ all.slots;
     }

@@ -9,7 +9,12 @@ use Rattle.wg_script.specs.declared.draft.Draft.{Draft}
 use Rattle.wg_types.specs.declared.commands.CommandOf.{CommandOf}
 use Rattle.wg_types.specs.Commands.{place_wanted, named_on}
 use Rattle.wg_types.specs.Requests.{named as asked_of}
-use Rattle.wg_script.specs.declared.calls.CallOf.TheVariants.{Record, Ask}
+use Rattle.wg_types.specs.Canvases.{named as canvas_named}
+use Rattle.wg_types.specs.declared.canvases.CanvasCall.{CanvasCall}
+use Rattle.wg_types.specs.declared.canvases.CanvasCall.TheVariants.{Configure, Current, Present}
+use Rattle.wg_types.specs.declared.canvases.CanvasOf.{CanvasOf}
+use Rattle.wg_types.specs.declared.canvases.CanvasOf.TheVariants.{Create, On}
+use Rattle.wg_script.specs.declared.calls.CallOf.TheVariants.{Record, Ask, Canvas}
 use Rattle.wg_names.specs.Uses.{made_of, admits, wants_own}
 use Rattle.wg_names.specs.Names.{is_name}
 use Rattle.wg_names.specs.Script.{map_phases}
@@ -28,8 +33,8 @@ made_by call = option_to_list (made_of call)
 abbrev pub made_in : {R : Type 0} → List (CallOf R) → Made R
 made_in calls = flat_map made_by calls
 
--- what is used was made, and stands for what is wanted; an encoder, a bundle encoder or a pass that is asked for stands in the second
--- list, which has what the call's own lane made in this phase before the call
+-- what is used was made, and stands for what is wanted; an encoder, a bundle encoder, a pass or a canvas that is asked for stands in
+-- the second list, which has what the call's own lane made in this phase before the call
 pub record IsFound {R : Type 0} (made ours : Made R) (key : R × Wanted) : Type 0 where
   pub kind : Kind
   pub stands : Contains made (key.0, kind)
@@ -48,6 +53,7 @@ pub record IsOn {R : Type 0} (made ours : Made R) (on : R) (command : CommandOf 
 abbrev pub CallIsBound : {R : Type 0} → Made R → Made R → CallOf R → Type 0
 CallIsBound made ours (Record on command name) = IsOn made ours on command
 CallIsBound made ours (Ask request name) = All (IsFound made ours) (asked_of request)
+CallIsBound made ours (Canvas call name) = All (IsFound made ours) (canvas_named call)
 
 -- each name that a call of a lane uses is found among what was made before the phase, and what the
 -- lane made before the call, where it stands in the second list
@@ -60,6 +66,41 @@ abbrev pub PhasesAreBound : {R : Type 0} → Made R → List (List (List (CallOf
 PhasesAreBound made [] = Unit {0}
 PhasesAreBound made (lanes ∷ phases) = All (LaneIsBound made []) lanes × PhasesAreBound (made ++ flat_map made_in lanes) phases
 
+-- the canvas that a call configures, if it does
+abbrev pub configured_on : {R : Type 0} → R → CanvasCall → List R
+configured_on canvas (Configure format usage) = canvas ∷ []
+configured_on canvas Current = []
+configured_on canvas Present = []
+
+abbrev pub configured_in : {R : Type 0} → CanvasOf R → List R
+configured_in (Create width height) = []
+configured_in (On canvas call) = configured_on canvas call
+
+abbrev pub configured_by : {R : Type 0} → CallOf R → List R
+configured_by (Record on command made) = []
+configured_by (Ask request made) = []
+configured_by (Canvas call made) = configured_in call
+
+-- a call that asks for a current texture does so of a canvas in the list
+abbrev pub IsConfigured : {R : Type 0} → List R → R → CanvasCall → Type 0
+IsConfigured done canvas (Configure format usage) = Unit {0}
+IsConfigured done canvas Current = Contains done canvas
+IsConfigured done canvas Present = Unit {0}
+
+abbrev pub CanvasIsSet : {R : Type 0} → List R → CanvasOf R → Type 0
+CanvasIsSet done (Create width height) = Unit {0}
+CanvasIsSet done (On canvas call) = IsConfigured done canvas call
+
+abbrev pub CallIsSet : {R : Type 0} → List R → CallOf R → Type 0
+CallIsSet done (Record on command made) = Unit {0}
+CallIsSet done (Ask request made) = Unit {0}
+CallIsSet done (Canvas call made) = CanvasIsSet done call
+
+-- each current texture that a lane asks for is of a canvas that stands in the list, or that an earlier call of the lane configures
+abbrev pub LaneIsSet : {R : Type 0} → List R → List (CallOf R) → Type 0
+LaneIsSet done [] = Unit {0}
+LaneIsSet done (call ∷ calls) = CallIsSet done call × LaneIsSet (done ++ configured_by call) calls
+
 -- the names or slots that the calls of a script make, in reading order
 abbrev pub all_made : {R : Type 0} → List (List (List (CallOf R))) → List R
 all_made phases = map (λ m. m.0) (flat_map (flat_map made_in) phases)
@@ -69,11 +110,13 @@ abbrev pub numbers_below : ℕ → List ℕ
 numbers_below zero = []
 numbers_below (suc n) = numbers_below n ++ n ∷ []
 
--- In a script each used slot was made by an earlier visible call and stands for what is wanted, the encoders, bundle encoders and
--- passes that calls stand on or end were made by the same lane in the same phase, and the slots that the calls make are the numbers
--- from 0 on, in reading order.
+-- In a script each used slot was made by an earlier visible call and stands for what is wanted; the encoders, bundle encoders and
+-- passes that calls stand on or end, and the canvases that they name, were made by the same lane in the same phase; a canvas was
+-- configured by an earlier call of its lane before its current texture is asked for; and the slots that the calls make are the
+-- numbers from 0 on, in reading order.
 pub record IsBound (phases : List (List (List BoundCall))) : Type 0 where
   pub used : PhasesAreBound [] phases
+  pub set : All (All (LaneIsSet [])) phases
   pub count : ℕ
   pub numbered : all_made phases ≡ numbers_below count
 

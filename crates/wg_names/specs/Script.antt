@@ -11,9 +11,12 @@ use Rattle.wg_script.specs.declared.draft.Script.{Script}
 use Rattle.wg_script.specs.declared.draft.ScriptFault.{ScriptFault}
 use Rattle.wg_types.specs.Commands.{place_wanted, named_on}
 use Rattle.wg_types.specs.Requests.{named as asked_of}
-use Rattle.wg_script.specs.declared.calls.CallOf.TheVariants.{Record, Ask}
+use Rattle.wg_types.specs.Canvases.{named as canvas_named}
+use Rattle.wg_types.specs.declared.canvases.CanvasOf.{CanvasOf}
+use Rattle.wg_types.specs.declared.canvases.CanvasOf.TheVariants.{Create, On}
+use Rattle.wg_script.specs.declared.calls.CallOf.TheVariants.{Record, Ask, Canvas}
 use Rattle.wg_names.specs.Uses.{made_of}
-use Rattle.wg_names.specs.Names.{Names, no_names, with_name, slot_in, kind_in, is_name, check_use}
+use Rattle.wg_names.specs.Names.{Names, no_names, with_name, slot_in, kind_in, is_name, check_use, check_configured, after_canvas}
 use Rattle.wg_types.specs.declared.wanted.Kind.{Kind}
 use Rattle.wg_types.specs.declared.wanted.Wanted.{Wanted}
 
@@ -24,6 +27,7 @@ use Rattle.wg_types.specs.declared.wanted.Wanted.{Wanted}
 abbrev pub uses_by : Names → Call → List (List ℕ × Wanted)
 uses_by names (Record on command made) = (on, place_wanted command) ∷ named_on (kind_in names on) command
 uses_by names (Ask request made) = asked_of request
+uses_by names (Canvas call made) = canvas_named call
 
 -- one after another
 abbrev pub check_uses : Names → ℕ → ℕ → List (List ℕ × Wanted) → Result ⊤ ℕ
@@ -35,11 +39,34 @@ abbrev pub with_made : ℕ → ℕ → Names → Option (List ℕ × Kind) → R
 with_made p l names None = Ok names
 with_made p l names (Some m) = if is_name m.0 && is_none (names.marks m.0) then Ok (with_name p l m.0 m.1 names) else Err 9
 
--- the names after call c of phase p and lane l: it uses its names first, and makes its own last
+-- script rule 15 of a call; one that asks for no current texture does not break it
+abbrev pub check_canvas : Names → CanvasOf (List ℕ) → Result ⊤ ℕ
+check_canvas names (Create width height) = Ok tt
+check_canvas names (On canvas call) = check_configured names canvas call
+
+abbrev pub check_setting : Names → Call → Result ⊤ ℕ
+check_setting names (Record on command made) = Ok tt
+check_setting names (Ask request made) = Ok tt
+check_setting names (Canvas call made) = check_canvas names call
+
+-- the names once the canvas is noted that a call configures, if it does
+abbrev pub noted_canvas : CanvasOf (List ℕ) → Names → Names
+noted_canvas (Create width height) names = names
+noted_canvas (On canvas call) names = after_canvas canvas call names
+
+abbrev pub with_setting : Call → Names → Names
+with_setting (Record on command made) names = names
+with_setting (Ask request made) names = names
+with_setting (Canvas call made) names = noted_canvas call names
+
+-- the names after call c of phase p and lane l: it uses its names first, then asks that its canvas be configured, and makes its own
+-- name last
 unfoldable pub call_bound : ℕ → ℕ → ℕ → Names → Call → Result Names Stop
 call_bound p l c names call = do
   fine ← at (place.Call p l c) (check_uses names p l (uses_by names call))
-  at (place.Call p l c) (with_made p l names (made_of call))
+  set ← at (place.Call p l c) (check_setting names call)
+  more ← at (place.Call p l c) (with_made p l names (made_of call))
+  Ok (with_setting call more)
 
 -- ---- a list
 

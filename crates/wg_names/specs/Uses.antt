@@ -6,16 +6,18 @@ use Rattle.wg_types.specs.declared.wanted.Wanted.TheVariants as wanted
 pub use Rattle.wg_types.specs.Wanted.{admits}
 use Rattle.wg_types.specs.Commands.{place_wanted, kind_begun, named}
 use Rattle.wg_types.specs.Requests.{kind_made, named as asked_of}
+use Rattle.wg_types.specs.Canvases.{kind_made as canvas_made, named as canvas_named}
 use Rattle.wg_script.specs.declared.calls.CallOf.{CallOf}
-use Rattle.wg_script.specs.declared.calls.CallOf.TheVariants.{Record, Ask}
+use Rattle.wg_script.specs.declared.calls.CallOf.TheVariants.{Record, Ask, Canvas}
 
 -- the names that a call uses, in the order of its keys: what a recording call stands on comes first
 abbrev pub uses_of : {R : Type 0} → CallOf R → List (R × Wanted)
 uses_of (Record on command made) = (on, place_wanted command) ∷ named command
 uses_of (Ask request made) = asked_of request
+uses_of (Canvas call made) = canvas_named call
 
 -- whether a place in a call asks for what the call's own lane made in this phase: so does each that asks for an encoder, a bundle
--- encoder, a pass, or any of these
+-- encoder, a pass, or any of these, and each that asks for a canvas
 abbrev pub wants_own : Wanted → Bool
 wants_own wanted.Buffer = false
 wants_own wanted.Texture = false
@@ -51,6 +53,7 @@ made_as None kind = None
 abbrev pub made_of : {R : Type 0} → CallOf R → Option (R × Kind)
 made_of (Record on command made) = made_as made (kind_begun command)
 made_of (Ask request made) = made_as made (kind_made request)
+made_of (Canvas call made) = made_as made (canvas_made call)
 
 -- the rule that a test of a name found broken, and what it refuses
 abbrev pub broken : Result ⊤ ℕ → Option ℕ

@@ -10,7 +10,7 @@ ghost use Rattle.wg_names.specs.Bound.{IsBound, IsBoundFrom, IsBoundRead};
 
 use crate::known::Known;
 use crate::slots::bound_phases;
-use crate::uses::{check_uses, made_of};
+use crate::uses::{check_setting, check_uses, made_of, note_setting};
 use std::alloc::Global;
 use wg_script::{Call, Draft, Lane, Phase, Place, Script, ScriptFault};
 
@@ -37,7 +37,8 @@ fn is_name(text: &str) -> bool
     !bytes.is_empty() && bytes.len() <= MOST_LETTERS && all_name_bytes(bytes)
 }
 
-/// Tests the names of a call, and adds the one that it makes.
+/// Tests the names of a call, and the canvas of which it asks for a texture; adds the name that it makes,
+/// and notes the canvas that it configures.
 #[tactic(auto, unfolding(crate::specs::Script::call_bound))]
 fn bind_call<'a>(
     known: &mut Known<'a>,
@@ -52,12 +53,16 @@ fn bind_call<'a>(
     if let Err(rule) = check_uses(known, phase, lane, call) {
         return Err(ScriptFault::Bad { rule, place });
     }
+    if let Err(rule) = check_setting(known, call) {
+        return Err(ScriptFault::Bad { rule, place });
+    }
     if let Some((name, kind)) = made_of(call) {
         if !is_name(name.as_str()) || !known.is_new(name.as_str()) {
             return Err(ScriptFault::Bad { rule: 9, place });
         }
         known.add(phase, lane, name, kind)?;
     }
+    note_setting(known, call)?;
     Ok(())
 }
 
@@ -111,9 +116,9 @@ fn bind_phases<'a>(known: &mut Known<'a>, phases: &'a [Phase]) -> Result<(), Scr
 
 /// Binds the names of a script. What comes back is the script with the same calls, in which each name
 /// has become the slot of what it stands for, was made by an earlier call that is visible and stands for
-/// what is wanted; or the rule that is broken first and its place; or that there was no memory. A list
-/// of 2^32 phases, lanes or calls, whose places have no number, counts as want of memory, and so does
-/// the 2^32-th name.
+/// what is wanted, and in which each canvas is configured before its current texture is asked for; or the
+/// rule that is broken first and its place; or that there was no memory. A list of 2^32 phases, lanes or
+/// calls, whose places have no number, counts as want of memory, and so does the 2^32-th name.
 pub fn bind(alloc: Global, draft: Draft) -> Result<Script, ScriptFault>
     ensures read { Reads result (script_from draft) }
     ensures bound { IfOk result (λ script. IsBound script.phases) }

@@ -1,10 +1,10 @@
 //! The names that calls have made so far.
 ghost use Rattle.std.specs.Prelude.{◌≡◌, ◌||◌, ◌&&◌, ◌==◌, nat_lt, OnOk, OnErr, is_none};
-ghost use Rattle.wg_names.specs.Names.{no_names, with_name, slot_in, kind_in, is_own, is_visible, check_wanted, check_use};
+ghost use Rattle.wg_names.specs.Names.{no_names, with_name, with_configured, slot_in, kind_in, is_own, is_visible, check_wanted, check_use};
 ghost use Rattle.wg_names.specs.Uses.{wants_own};
 
 use std::alloc::Global;
-use std::collections::HashMap;
+use std::collections::{HashMap, HashSet};
 use wg_script::{Name, NoMemory};
 use wg_types::wanted::{Kind, Wanted};
 
@@ -18,11 +18,13 @@ pub struct Mark {
     pub slot: u32,
 }
 
-/// What each name stands for, of those that were made so far, and how many these are.
+/// What each name stands for, of those that were made so far, how many these are, and which of them stand
+/// for canvases that a call has configured.
 #[derive(Drop)]
 pub struct Known<'a> {
     marks: HashMap<&'a str, Mark>,
     made: u32,
+    configured: HashSet<&'a str>,
 }
 
 impl<'a> Known<'a> {
@@ -35,6 +37,7 @@ impl<'a> Known<'a> {
         Known {
             marks: HashMap::new(alloc),
             made: 0,
+            configured: HashSet::new(alloc),
         }
     }
 
@@ -75,7 +78,7 @@ impl<'a> Known<'a> {
     /// Tests a name that a call of this phase and lane uses: script rule 10 where no call that is
     /// visible has made it, then 11 where it stands for something else than is wanted, and then 12
     /// where it stands for an encoder, a bundle encoder or a pass of another lane or phase that the
-    /// call stands on or ends.
+    /// call stands on or ends, or for such a canvas.
     pub fn check_use(&self, phase: u32, lane: u32, name: &Name, wanted: Wanted) -> Result<(), u8>
         ensures { result ≡ check_use (names_in self.now) phase lane (name.now, wanted) }
     {
@@ -103,6 +106,22 @@ impl<'a> Known<'a> {
         };
         self.marks.insert(name.as_str(), mark)?;
         self.made = made;
+        Ok(())
+    }
+
+    /// Whether a call has configured the canvas of a name.
+    pub fn is_configured(&self, name: &str) -> bool
+        ensures { result ≡ (names_in self.now).configured name.now }
+    {
+        self.configured.contains(name)
+    }
+
+    /// Notes that a call has configured the canvas of a name.
+    pub fn configure(&mut self, name: &'a Name) -> Result<(), NoMemory>
+        ensures ok { OnOk result (names_in self.new ≡ with_configured name.now (names_in self.old)) }
+        ensures err { OnErr result (names_in self.new ≡ names_in self.old) }
+    {
+        self.configured.insert(name.as_str())?;
         Ok(())
     }
 }
@@ -138,7 +157,7 @@ impl Mark {
 }
 
 /// Whether a place in a call asks for what the call's own lane made in this phase: so does each that
-/// asks for an encoder, a bundle encoder, a pass, or any of these.
+/// asks for an encoder, a bundle encoder, a pass, or any of these, and each that asks for a canvas.
 fn wants_own(wanted: Wanted) -> bool
     ensures { result ≡ wants_own wanted }
 {

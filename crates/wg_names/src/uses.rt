@@ -1,16 +1,18 @@
 //! The names that a call uses, and the name that it makes.
-ghost use Rattle.std.specs.Prelude.{◌≡◌, ◌∷◌};
+ghost use Rattle.std.specs.Prelude.{◌≡◌, ◌∷◌, OnOk};
 ghost use Rattle.wg_types.specs.Commands.{place_wanted, named_on};
 ghost use Rattle.wg_types.specs.Wanted.{within};
 ghost use Rattle.wg_types.specs.Requests.{named as asked_of};
+ghost use Rattle.wg_types.specs.Canvases.{named as canvas_named};
 ghost use Rattle.std.specs.Option.{option_map};
 ghost use Rattle.wg_names.specs.Names.{kind_in, check_use};
 ghost use Rattle.wg_names.specs.Known.{names_in};
 ghost use Rattle.wg_names.specs.Uses.{made_as, made_of, broken, refused};
-ghost use Rattle.wg_names.specs.Script.{check_uses, uses_by};
+ghost use Rattle.wg_names.specs.Script.{check_uses, check_setting, with_setting, uses_by};
 
 use crate::known::Known;
-use wg_script::{Call, Name};
+use wg_script::{Call, Name, NoMemory};
+use wg_types::canvases::{CanvasCall, CanvasOf};
 use wg_types::commands::CommandOf;
 use wg_types::refs::Ask;
 use wg_types::requests::RequestOf;
@@ -89,6 +91,15 @@ fn check_request(
     refused(request.first(&asked))
 }
 
+/// Tests the canvas that a call names, if it names one.
+#[tactic(auto, using(crate::proofs::Asking::uses_asked))]
+fn check_canvas(known: &Known<'_>, phase: u32, lane: u32, call: &CanvasOf<Name>) -> Result<(), u8>
+    ensures { result ≡ check_uses (names_in known.now) phase lane (canvas_named call.now) }
+{
+    let asked = Use { known, phase, lane };
+    refused(call.first(&asked))
+}
+
 /// Tests what a recording call stands on, and then the names that its command uses.
 fn check_record(
     known: &Known<'_>,
@@ -110,6 +121,7 @@ pub fn check_uses(known: &Known<'_>, phase: u32, lane: u32, call: &Call) -> Resu
     match call {
         Call::Record { on, command, .. } => check_record(known, phase, lane, on, command),
         Call::Ask { request, .. } => check_request(known, phase, lane, request),
+        Call::Canvas { call, .. } => check_canvas(known, phase, lane, call),
     }
 }
 
@@ -123,12 +135,46 @@ fn made_as(made: &Option<Name>, kind: Option<Kind>) -> Option<(&Name, Kind)>
     }
 }
 
-/// The name that a call makes, and what it stands for: an object, or a pass.
+/// The name that a call makes, and what it stands for: an object, a pass or a canvas.
 pub fn made_of(call: &Call) -> Option<(&Name, Kind)>
     ensures { option_map (λ m. (m.0.now, m.1)) result ≡ made_of call.now }
 {
     match call {
         Call::Record { command, made, .. } => made_as(made, command.kind_begun()),
         Call::Ask { request, made } => made_as(made, request.kind_made()),
+        Call::Canvas { call, made } => made_as(made, call.kind_made()),
+    }
+}
+
+/// Script rule 15: refuses a call that asks for the current texture of a canvas that no earlier call has
+/// configured.
+pub fn check_setting(known: &Known<'_>, call: &Call) -> Result<(), u8>
+    ensures { result ≡ check_setting (names_in known.now) call.now }
+{
+    match call {
+        Call::Canvas {
+            call: CanvasOf::On {
+                canvas,
+                call: CanvasCall::Current,
+            },
+            ..
+        } if !known.is_configured(canvas.as_str()) => Err(15),
+        Call::Canvas { .. } | Call::Record { .. } | Call::Ask { .. } => Ok(()),
+    }
+}
+
+/// Notes the canvas that a call configures, if it configures one.
+pub fn note_setting<'a>(known: &mut Known<'a>, call: &'a Call) -> Result<(), NoMemory>
+    ensures { OnOk result (names_in known.new ≡ with_setting call.now (names_in known.old)) }
+{
+    match call {
+        Call::Canvas {
+            call: CanvasOf::On {
+                canvas,
+                call: CanvasCall::Configure { .. },
+            },
+            ..
+        } => known.configure(canvas),
+        Call::Canvas { .. } | Call::Record { .. } | Call::Ask { .. } => Ok(()),
     }
 }

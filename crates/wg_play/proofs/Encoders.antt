@@ -9,7 +9,7 @@ use Rattle.wg_types.specs.Commands.{bracket, kind_begun}
 use Rattle.wg_types.specs.declared.commands.CommandOf.{CommandOf}
 use Rattle.wg_types.specs.declared.wanted.Kind.{Kind}
 use Rattle.wg_script.specs.CallOf.{BoundCall}
-use Rattle.wg_script.specs.declared.calls.CallOf.TheVariants.{Record, Ask}
+use Rattle.wg_script.specs.declared.calls.CallOf.TheVariants.{Record, Ask, Canvas}
 use Rattle.wg_names.specs.Uses.{made_as, made_of}
 use Rattle.wg_names.specs.Bound.{made_by, made_in, CallIsBound, LaneIsBound}
 use Rattle.wg_play.specs.declared.objects.Object.{Object}
@@ -43,6 +43,7 @@ begun_made : (call : BoundCall) (slot e : ℕ) → begun_as slot call ≡ Some e
 begun_made (Record on command None) slot e h = absurd (cc (h))
 begun_made (Record on command (Some made)) slot e h = one_begun (kind_begun command) (made == slot) made slot on e refl h
 begun_made (Ask request made) slot e h = absurd (cc (h))
+begun_made (Canvas call made) slot e h = absurd (cc (h))
 
 begun_here : (on slot : ℕ) (command : CommandOf ℕ) (k : Kind) → kind_begun command ≡ Some k → begun_as slot (Record on command (Some slot)) ≡ Some on
 begun_here on slot command k e = ap₂ (λ (o : Option Kind) (b : Bool). if is_some o && b then Some on else None) e (eq-eqb slot slot refl)
@@ -51,6 +52,7 @@ encoder_not_begun : (call : BoundCall) (slot : ℕ) (k : Kind) → has_recorder 
 encoder_not_begun (Record on command None) slot k p e = refl
 encoder_not_begun (Record on command (Some made)) slot k p e = absurd (no_encoder (bracket command) made slot k p e)
 encoder_not_begun (Ask request made) slot k p e = refl
+encoder_not_begun (Canvas call made) slot k p e = refl
 
 abbrev NotMade : List BoundCall → ℕ → Type 0
 NotMade calls slot = (k : Kind) → Contains (made_in calls) (slot, k) → ⊥

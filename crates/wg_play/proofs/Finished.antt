@@ -17,7 +17,7 @@ use Rattle.wg_types.specs.declared.commands.CommandOf.{CommandOf}
 use Rattle.wg_types.specs.declared.replies.Answer.{Answer}
 use Rattle.wg_encoder.specs.Recorders.{RecorderValue, has_taken}
 use Rattle.wg_script.specs.CallOf.{BoundCall}
-use Rattle.wg_script.specs.declared.calls.CallOf.TheVariants.{Record, Ask}
+use Rattle.wg_script.specs.declared.calls.CallOf.TheVariants.{Record, Ask, Canvas}
 use Rattle.wg_names.specs.Uses.{made_of}
 use Rattle.wg_names.specs.Bound.{made_by, made_in, CallIsBound, LaneIsBound}
 use Rattle.wg_play.specs.declared.objects.Object.{Object}
@@ -29,7 +29,7 @@ use Rattle.wg_play.specs.Late.{Answered, Answers, IsAnswered, after_call, after_
 use Rattle.wg_play.proofs.Following.{same_first, MakesAs}
 use Rattle.wg_play.proofs.Holding.{call_stands, call_makes}
 use Rattle.wg_play.proofs.Lateness.{or_false, Owns, call_keeps, call_leaves}
-use Rattle.wg_play.proofs.Making.{call_length, encoder_made, pass_made, pass_begun}
+use Rattle.wg_play.proofs.Making.{call_length, canvas_no_encoder, encoder_made, pass_made, pass_begun}
 use Rattle.wg_play.proofs.Places.{place_of_begin, is_encoder}
 use Rattle.wg_play.proofs.Sending.{finish_own, makes_as}
 use Rattle.wg_play.proofs.Numbered.{only, Slots, AreFrom, slots_of, first_from, from_back, made_more}
@@ -45,6 +45,7 @@ IsAbove first m = first ≤ m.0
 pub call_owns : (first : ℕ) (made ours : Slots) (call : BoundCall) → All (IsAbove first) ours → CallIsBound made ours call → Owns first call
 call_owns first made ours (Record on command slot) above bound = tt
 call_owns first made ours (Ask request slot) above bound = λ encoder e. let ended = finish_own made ours request encoder bound e in All-contains (IsAbove first) ours (encoder, ended.kind) above ended.own
+call_owns first made ours (Canvas call slot) above bound = tt
 
 ended_unborn : (ended : Option ℕ) (count n : ℕ) → ((encoder : ℕ) → ended ≡ Some encoder → encoder < count) → count ≤ n → option_map_or (λ encoder. encoder == n) ended false ≡ false
 ended_unborn None count n below from = refl
@@ -54,6 +55,7 @@ call_unborn : (made ours : Slots) (count n : ℕ) (call : BoundCall) → All (Is
 call_unborn made ours count n (Record on command slot) below from bound = refl
 call_unborn made ours count n (Ask request slot) below from bound =
     ended_unborn (ended_by request) count n (λ encoder e. let ended = finish_own made ours request encoder bound e in All-contains (IsBelow count) ours (encoder, ended.kind) below ended.own) from
+call_unborn made ours count n (Canvas call slot) below from bound = refl
 
 -- ---- what a lane has made after some calls
 
@@ -126,7 +128,8 @@ encoder_first : (serial : ℕ) (sight : Sight) (made : Slots) (before : List Bou
     → IsEncoder sight.first (after_call serial sight (call, answer)).own (before ++ call ∷ []) (slot - sight.first) k
 encoder_first serial sight made before call answer slot k p was bound answered here makes =
     let own : List Object = (after_call serial sight (call, answer)).own in
-    let fit : MakesAs sight call = makes_as sight made (made_in before) call (λ n x q there. (was.encoders n x q there).stands) bound in
+    let fit : MakesAs sight call = makes_as sight made (made_in before) call (λ n x q there. (was.encoders n x q there).stands)
+    (λ asked name is. absurd (canvas_no_encoder asked name slot k p (sym (ap (λ (c : BoundCall). made_of c) is) ∙ makes))) bound in
     let fresh = encoder_made serial sight call answer slot k p answered fit makes in
     let place : length sight.own ≡ slot - sight.first = omega (arith, here) in
     let again : sight.first + (slot - sight.first) ≡ slot = omega (arith, here) in

@@ -1,12 +1,13 @@
 -- What a lane has made after a call, late or kept, and what is known of the object of a call.
 use Rattle.std.proofs.Common.{◌≡◌, ℕ, ◌+◌, true, Option, Some, None, List, [], ◌∷◌, ◌++◌, length, refl, sym, ap, subst, ◌∙◌, inl, inr, arith}
-use Rattle.std.specs.Prelude.{option_map, option_and_then, is_some}
+use Rattle.std.specs.Prelude.{option_map, option_and_then, is_some, unwrap_or}
 use Rattle.std.specs.Option.{option_map_or, option_to_list}
 use Rattle.std.proofs.lemmas.Bool.{cases_Bool}
 use Rattle.std.proofs.lemmas.List.{length-append}
 use Rattle.wg_types.specs.Handles.{HandleValue}
 use Rattle.wg_types.specs.Kinds.{kind_of}
 use Rattle.wg_types.specs.Requests.{kind_made, map_refs as map_asked}
+use Rattle.wg_types.specs.declared.canvases.CanvasOf.{CanvasOf}
 use Rattle.wg_types.specs.declared.commands.CommandOf.{CommandOf}
 use Rattle.wg_types.specs.declared.handles.Info.{Info}
 use Rattle.wg_types.specs.declared.replies.Answer.{Answer}
@@ -18,13 +19,16 @@ use Rattle.wg_types.specs.declared.handles.ObjRef.{ObjRef}
 use Rattle.wg_encoder.specs.Recorders.{RecorderValue}
 use Rattle.wg_calls.specs.Calls.{info_asked, known_of_finish, handle_of}
 use Rattle.wg_script.specs.CallOf.{BoundCall}
-use Rattle.wg_script.specs.declared.calls.CallOf.TheVariants.{Record, Ask}
+use Rattle.wg_script.specs.declared.calls.CallOf.TheVariants.{Record, Ask, Canvas}
 use Rattle.wg_names.specs.Uses.{made_as, made_of}
 use Rattle.wg_play.specs.declared.objects.Object.{Object}
+use Rattle.wg_play.specs.Canvases.{given_by}
+use Rattle.wg_play.specs.Found.{CanvasIsSeen}
 use Rattle.wg_play.specs.Objects.{recorder_at, is_late_on, taken_on, ended_by, object_of}
 use Rattle.wg_play.specs.Sights.{Sight, place_in, handle_in_sight}
-use Rattle.wg_play.specs.Lanes.{command_seen, stand_seen, noted_on, finish_known, request_seen, info_sent, with_handle, handle_known, handle_kept}
+use Rattle.wg_play.specs.Lanes.{canvas_asks, drawn, command_seen, stand_seen, noted_on, finish_known, request_seen, info_sent, with_handle, handle_known, handle_kept}
 use Rattle.wg_play.specs.Late.{Answers, is_made, after_call}
+use Rattle.wg_play.proofs.Drawn.{drawn_first, drawn_others}
 use Rattle.wg_play.proofs.Ended.{is_finish}
 
 -- ---- what a lane has made after a call
@@ -51,19 +55,35 @@ handle_own sight own None = refl
 handle_own sight own (Some handle) = refl
 
 pub after_ask : (serial : ℕ) (sight : Sight) (request : RequestOf ℕ) (made : Option ℕ) (answer : Answer)
-    → after_call serial sight (Ask request made, answer) ≡ record sight { own = with_kept (ended_on sight (ended_by request)) (handle_kept serial sight (Ask request made) answer) }
+    → after_call serial sight (Ask request made, answer) ≡ record sight { own = with_kept (ended_on sight (ended_by request)) (handle_kept serial sight request made answer) }
 after_ask serial sight request made answer =
-    ap (λ s. with_handle s (handle_kept serial sight (Ask request made) answer)) (taken_own sight (ended_by request))
-    ∙ handle_own sight (ended_on sight (ended_by request)) (handle_kept serial sight (Ask request made) answer)
+    ap (λ s. with_handle s (handle_kept serial sight request made answer)) (taken_own sight (ended_by request))
+    ∙ handle_own sight (ended_on sight (ended_by request)) (handle_kept serial sight request made answer)
+
+-- a call of a canvas changes its canvas alone and makes its name, kept or answered
+
+drawn_by : (serial : ℕ) (sight : Sight) (call : CanvasOf ℕ) (made : Option ℕ) (answer : Answer) (asked : Option (RequestOf HandleValue))
+    → unwrap_or (option_map_or (λ (request : RequestOf HandleValue). None) asked (Some (drawn sight call made None))) (drawn sight call made (given_by serial asked answer))
+    ≡ drawn sight call made (given_by serial asked answer)
+drawn_by serial sight call made answer None = refl
+drawn_by serial sight call made answer (Some request) = refl
+
+pub after_canvas : (serial : ℕ) (sight : Sight) (call : CanvasOf ℕ) (made : Option ℕ) (answer : Answer)
+    → after_call serial sight (Canvas call made, answer) ≡ drawn sight call made (given_by serial (canvas_asks sight call) answer)
+after_canvas serial sight call made answer = drawn_by serial sight call made answer (canvas_asks sight call)
 
 -- what others have made, and where the lane's own slots begin, stay
 pub same_first : (serial : ℕ) (sight : Sight) (call : BoundCall) (answer : Answer) → (after_call serial sight (call, answer)).first ≡ sight.first
 same_first serial sight (Record on command made) answer = ap (λ (s : Sight). s.first) (after_record serial sight on command made answer)
 same_first serial sight (Ask request made) answer = ap (λ (s : Sight). s.first) (after_ask serial sight request made answer)
+same_first serial sight (Canvas call made) answer =
+    ap (λ (s : Sight). s.first) (after_canvas serial sight call made answer) ∙ drawn_first sight call made (given_by serial (canvas_asks sight call) answer)
 
 pub same_others : (serial : ℕ) (sight : Sight) (call : BoundCall) (answer : Answer) → (after_call serial sight (call, answer)).others ≡ sight.others
 same_others serial sight (Record on command made) answer = ap (λ (s : Sight). s.others) (after_record serial sight on command made answer)
 same_others serial sight (Ask request made) answer = ap (λ (s : Sight). s.others) (after_ask serial sight request made answer)
+same_others serial sight (Canvas call made) answer =
+    ap (λ (s : Sight). s.others) (after_canvas serial sight call made answer) ∙ drawn_others sight call made (given_by serial (canvas_asks sight call) answer)
 
 -- ---- the object of a call of the device
 
@@ -145,14 +165,15 @@ fits_known serial (Some x) Plain (Some slot) (Some k) e answered = absurd (cc (a
 fits_known serial (Some x) BadCompletion (Some slot) (Some k) e answered = absurd (cc (answered refl))
 
 pub handle_fits : (serial : ℕ) (sight : Sight) (request : RequestOf ℕ) (made : Option ℕ) (answer : Answer) → Answers (Ask request made) answer
-    → Fits (handle_kept serial sight (Ask request made) answer) (made_of (Ask request made))
+    → Fits (handle_kept serial sight request made answer) (made_of (Ask request made))
 handle_fits serial sight request made answer answered =
     fits_known serial (info_sent sight request) answer made (kind_made request) (some_sent sight request) answered
 
--- What is known of that which a call makes is of the kind that it makes.
+-- What is known of that which a call makes is of the kind that it makes, and a call of a canvas finds it.
 abbrev pub MakesAs : Sight → BoundCall → Type 0
 MakesAs sight (Record on command made) = Unit {0}
 MakesAs sight (Ask request made) = option_map kind_of (info_sent sight request) ≡ kind_made request
+MakesAs sight (Canvas call made) = CanvasIsSeen sight call
 
 pub same_kind : (slot on : ℕ) (found : Option Kind) (k : Kind) → made_as (Some slot) found ≡ Some (on, k) → found ≡ Some k
 same_kind slot on None k e = absurd (cc)
@@ -179,7 +200,7 @@ kind_known serial (Some x) answer (Some n) found handle slot k e is makes =
 
 -- and so it is of its handle
 pub handle_kind : (serial : ℕ) (sight : Sight) (request : RequestOf ℕ) (made : Option ℕ) (answer : Answer) (slot : ℕ) (k : Kind) → MakesAs sight (Ask request made) → made_of (Ask request made) ≡ Some (slot, k)
-    → (handle : HandleValue) → handle_kept serial sight (Ask request made) answer ≡ Some handle → kind_of handle.info ≡ k
+    → (handle : HandleValue) → handle_kept serial sight request made answer ≡ Some handle → kind_of handle.info ≡ k
 handle_kind serial sight request made answer slot k fit makes handle is = kind_known serial (info_sent sight request) answer made (kind_made request) handle slot k fit is makes
 
 pub fits_length : (objects : List Object) (handle : Option HandleValue) (made : Option (ℕ × Kind)) → Fits handle made → length (with_kept objects handle) ≡ length objects + length (option_to_list made)

@@ -15,8 +15,8 @@ use Rattle.wg_types.specs.declared.wanted.Kind.{Kind}
 use Rattle.wg_types.specs.declared.wanted.Kind.TheVariants as kinds
 use Rattle.wg_types.specs.declared.wanted.Wanted.{Wanted}
 use Rattle.wg_script.specs.CallOf.{BoundCall}
-use Rattle.wg_script.specs.declared.calls.CallOf.TheVariants.{Record, Ask}
-use Rattle.wg_names.specs.Bound.{made_by, made_in, all_made, numbers_below, IsFound, CallIsBound, LaneIsBound}
+use Rattle.wg_script.specs.declared.calls.CallOf.TheVariants.{Record, Ask, Canvas}
+use Rattle.wg_names.specs.Bound.{made_by, made_in, all_made, numbers_below, IsFound, CallIsBound, LaneIsBound, IsBound, CallIsSet, LaneIsSet}
 use Rattle.wg_play.specs.declared.objects.Object.{Object}
 use Rattle.wg_play.specs.Objects.{handle_in, handle_at, reference_at, recorder_at, stand_at, unknown}
 use Rattle.wg_play.specs.declared.objects.Stand.{Stand}
@@ -25,12 +25,12 @@ use Rattle.wg_play.specs.Lanes.{gathered}
 use Rattle.wg_play.specs.Late.{Answered, IsAnswered, after_calls, slots_before}
 use Rattle.wg_play.specs.Found.{has_recorder, IsOpenFor, StandsAt, Holds, IsSeen, IsSeenAs, CallIsFound, BoundIsFound, GatheredIsHeld, ended_from, phase_of}
 use Rattle.wg_play.proofs.Following.{same_others}
-use Rattle.wg_play.proofs.Numbered.{Slots, AreFrom, slots_of, from_zero, from_front, from_back, phase_at, lane_in, lane_from, call_in, lane_front}
+use Rattle.wg_play.proofs.Numbered.{all_at, all_configured, lane_set, set_in, set_front, Slots, AreFrom, slots_of, from_zero, from_front, from_back, phase_at, lane_in, lane_from, call_in, lane_front}
 use Rattle.wg_play.proofs.Sending.{finish_own, open_at, sends_as}
 use Rattle.wg_play.proofs.Finished.{IsEncoder, IsPass, Stands, no_calls, all_after}
 use Rattle.wg_play.proofs.Places.{stands_on}
 use Rattle.wg_play.proofs.Slots.{stand_encoder, stand_pass}
-use Rattle.wg_play.proofs.Holding.{stands_append, HoldsFrom, none_held, all_held}
+use Rattle.wg_play.proofs.Holding.{stands_append, HoldsFrom, AreSet, canvas_seen, HoldsSet, none_set, all_held}
 use Rattle.wg_play.proofs.LateLaw.{first_after}
 
 -- ---- slots within bounds
@@ -91,7 +91,7 @@ seen_own sight slot kind from was =
       of = was.of;
     }
 
-abbrev SeesAll : Sight → Slots → Type 0
+abbrev pub SeesAll : Sight → Slots → Type 0
 SeesAll sight made = (slot : ℕ) (kind : Kind) → Contains made (slot, kind) → IsSeen sight slot kind
 
 abbrev OwnsAll : Sight → Slots → Type 0
@@ -119,16 +119,16 @@ open_stand first own before slot command place was there takes = elim (stands_on
   | inr pass ↦ open_pass first own before (slot - first) (was.passes slot place pass there)
 ]
 
-call_found : (sight : Sight) (made : Slots) (before : List BoundCall) → SeesAll sight made → OwnsAll sight (made_in before) → Stands sight.first sight.own before
-    → (call : BoundCall) → CallIsBound made (made_in before) call → CallIsFound sight made call
-call_found sight made before seen own was (Record on command slot) bound = record {
+call_found : (sight : Sight) (made : Slots) (before : List BoundCall) (done : List ℕ) → SeesAll sight made → OwnsAll sight (made_in before) → Stands sight.first sight.own before
+    → AreSet sight.first sight.own done → (call : BoundCall) → CallIsBound made (made_in before) call → CallIsSet done call → CallIsFound sight made call
+call_found sight made before done seen own was sets (Record on command slot) bound set = record {
   place = bound.place;
   takes = bound.takes;
   stands = own on bound.place bound.own;
   encoder = open_stand sight.first sight.own before on command bound.place was bound.own bound.takes;
   found = keys_found sight made (made_in before) seen own (named_on bound.place command) bound.found;
 }
-call_found sight made before seen own was (Ask request slot) bound =
+call_found sight made before done seen own was sets (Ask request slot) bound set =
     let sends = sends_as sight made (made_in before) request (λ n k p there. own n k there) bound in
     record {
       found = keys_found sight made (made_in before) seen own (asked_of request) bound;
@@ -138,9 +138,18 @@ call_found sight made before seen own was (Ask request slot) bound =
       verb = sends.verb;
       makes = sends.makes;
     }
+call_found sight made before done seen own was sets (Canvas call slot) bound set = canvas_seen sight made (made_in before) done call own sets bound set
 
-pub bound_is_found : BoundIsFound
-bound_is_found earlier later lanes_before lanes_after answered call after bound all serial others holds =
+-- What a lane sees at a call of it: what earlier phases and its own calls up to that have made.
+pub record SeesBefore (earlier : List (List (List BoundCall))) (before : List BoundCall) (sight : Sight) (call : BoundCall) : Type 0 where
+  pub seen : SeesAll sight (flat_map (flat_map made_in) earlier ++ made_in before)
+  pub found : CallIsFound sight (flat_map (flat_map made_in) earlier ++ made_in before) call
+
+pub sees_before : (earlier later : List (List (List BoundCall))) (lanes_before lanes_after : List (List BoundCall)) (answered : List Answered) (call : BoundCall) (after : List BoundCall)
+    → IsBound (earlier ++ (lanes_before ++ (map (λ (c : Answered). c.0) answered ++ call ∷ after) ∷ lanes_after) ∷ later)
+    → All IsAnswered answered → (serial : ℕ) (others : List Object) → Holds others (flat_map (flat_map made_in) earlier)
+    → SeesBefore earlier (map (λ (c : Answered). c.0) answered) (after_calls serial (record { others = others; first = slots_before earlier lanes_before; own = [] }) answered) call
+sees_before earlier later lanes_before lanes_after answered call after bound all serial others holds =
     let before : List BoundCall = map (λ (c : Answered). c.0) answered in
     let calls : List BoundCall = before ++ call ∷ after in
     let first : ℕ = slots_before earlier lanes_before in
@@ -153,8 +162,11 @@ bound_is_found earlier later lanes_before lanes_after answered call after bound 
     = from_front first (made_in before) (made_in (call ∷ after)) (subst (λ ms. AreFrom first (slots_of ms)) parts (lane_from earlier later lanes_before lanes_after calls bound.count bound.numbered)) in
     let zero_is : first ≡ first + 0 = omega arith in
     let bound_before = lane_front visible [] before (call ∷ after) lane in
-    let held : HoldsFrom sight.first sight.own (made_in before)
-    = all_held serial visible answered [] start (none_held first) all bound_before (subst (λ n. AreFrom n (slots_of (made_in before))) zero_is numbers) in
+    let set = lane_set earlier later lanes_before lanes_after calls bound.set in
+    let both : HoldsSet sight.first sight.own (made_in before) (all_configured before)
+    = all_held serial visible answered [] [] start (none_set first) all bound_before (set_front [] before (call ∷ after) set)
+    (subst (λ n. AreFrom n (slots_of (made_in before))) zero_is numbers) in
+    let held : HoldsFrom sight.first sight.own (made_in before) = both.held in
     let same : sight.first ≡ first = first_after serial answered start in
     let seen_before : AreFrom 0 (slots_of visible) = earlier_from earlier ((lanes_before ++ calls ∷ lanes_after) ∷ later) bound.count bound.numbered in
     let seen : SeesAll sight (visible ++ made_in before)
@@ -168,7 +180,15 @@ bound_is_found earlier later lanes_before lanes_after answered call after bound 
     ] in
     let stands : Stands sight.first sight.own before
     = all_after serial visible answered [] start (no_calls first) all bound_before (subst (λ n. AreFrom n (slots_of (made_in before))) zero_is numbers) in
-    call_found sight (visible ++ made_in before) before seen held.stands stands call (call_in visible [] before call after lane)
+    record {
+      seen = seen;
+      found = call_found sight (visible ++ made_in before) before (all_configured before) seen held.stands stands both.sets call (call_in visible [] before call after lane)
+          (set_in [] before call after set);
+    }
+
+pub bound_is_found : BoundIsFound
+bound_is_found earlier later lanes_before lanes_after answered call after bound all serial others holds =
+    (sees_before earlier later lanes_before lanes_after answered call after bound all serial others holds).found
 
 -- ---- what a phase has made
 
@@ -198,9 +218,9 @@ lane_held objects own made ours was held from =
     }
 
 gathered_held : (serial : ℕ) (others : List Object) (visible : Slots) (lanes : List (List Answered)) (objects : List Object) (made : Slots) → Holds objects made → All (All IsAnswered) lanes
-    → All (LaneIsBound visible []) (phase_of lanes) → AreFrom (length objects) (slots_of (flat_map made_in (phase_of lanes))) → Holds (gathered objects (ended_from serial others (length objects) lanes)) (made ++ flat_map made_in (phase_of lanes))
-gathered_held serial others visible [] objects made was all bound from = subst (Holds objects) (sym (append-nil made)) was
-gathered_held serial others visible (calls ∷ lanes) objects made was all bound from =
+    → All (LaneIsBound visible []) (phase_of lanes) → All (LaneIsSet []) (phase_of lanes) → AreFrom (length objects) (slots_of (flat_map made_in (phase_of lanes))) → Holds (gathered objects (ended_from serial others (length objects) lanes)) (made ++ flat_map made_in (phase_of lanes))
+gathered_held serial others visible [] objects made was all bound set from = subst (Holds objects) (sym (append-nil made)) was
+gathered_held serial others visible (calls ∷ lanes) objects made was all bound set from =
     let first : ℕ = length objects in
     let start : Sight = record { others = others; first = first; own = [] } in
     let sight : Sight = after_calls serial start calls in
@@ -209,15 +229,16 @@ gathered_held serial others visible (calls ∷ lanes) objects made was all bound
     let numbers : AreFrom first (slots_of ours) = from_front first ours rest from in
     let zero_is : first ≡ first + 0 = omega arith in
     let bound_calls : List BoundCall = map (λ (c : Answered). c.0) calls in
-    let there : HoldsFrom sight.first sight.own ours
-    = all_held serial visible calls [] start (none_held first) (All-head (All IsAnswered) calls lanes all) (All-head (LaneIsBound visible []) bound_calls (phase_of lanes) bound) (subst (λ n. AreFrom n (slots_of ours)) zero_is numbers) in
-    let held : HoldsFrom first sight.own ours = subst (λ n. HoldsFrom n sight.own ours) (first_after serial calls start) there in
+    let there : HoldsSet sight.first sight.own ours (all_configured bound_calls)
+    = all_held serial visible calls [] [] start (none_set first) (All-head (All IsAnswered) calls lanes all) (All-head (LaneIsBound visible []) bound_calls (phase_of lanes) bound)
+    (All-head (LaneIsSet []) bound_calls (phase_of lanes) set) (subst (λ n. AreFrom n (slots_of ours)) zero_is numbers) in
+    let held : HoldsFrom first sight.own ours = subst (λ n. HoldsFrom n sight.own ours) (first_after serial calls start) there.held in
     let more : length (objects ++ sight.own) ≡ length objects + length sight.own = length-append objects sight.own in
     let count : length sight.own ≡ length ours = held.count in
     let next : length (objects ++ sight.own) ≡ first + length ours = omega (arith, more, count) in
     let end : Holds (gathered (objects ++ sight.own) (ended_from serial others (length (objects ++ sight.own)) lanes)) ((made ++ ours) ++ rest)
     = gathered_held serial others visible lanes (objects ++ sight.own) (made ++ ours) (lane_held objects sight.own made ours was held numbers) (All-tail (All IsAnswered) calls lanes all)
-    (All-tail (LaneIsBound visible []) bound_calls (phase_of lanes) bound)
+    (All-tail (LaneIsBound visible []) bound_calls (phase_of lanes) bound) (All-tail (LaneIsSet []) bound_calls (phase_of lanes) set)
     (subst (λ n. AreFrom n (slots_of rest)) (sym next) (from_back first ours rest from)) in
     subst (λ n. Holds (gathered (objects ++ sight.own) (ended_from serial others n lanes)) (made ++ (ours ++ rest))) next
     (subst (Holds (gathered (objects ++ sight.own) (ended_from serial others (length (objects ++ sight.own)) lanes))) (append_assoc made ours rest) end)
@@ -234,4 +255,5 @@ gathered_is_held earlier later lanes bound all serial others holds =
     let numbers : AreFrom (length others) (slots_of here) = subst (λ n. AreFrom n (slots_of here)) first (from_front (0 + length before) here rest (from_back 0 before (here ++ rest) from)) in
     let end : before ++ here ≡ flat_map (flat_map made_in) (earlier ++ phase_of lanes ∷ [])
     = ap (λ ms. before ++ ms) (sym (append-nil here)) ∙ sym (flat_map-append (flat_map made_in) earlier (phase_of lanes ∷ [])) in
-    subst (Holds (gathered others (ended_from serial others (length others) lanes))) end (gathered_held serial others before lanes others before holds all (phase_at [] earlier later (phase_of lanes) bound.used) numbers)
+    subst (Holds (gathered others (ended_from serial others (length others) lanes))) end (gathered_held serial others before lanes others before holds all (phase_at [] earlier later (phase_of lanes) bound.used)
+    (all_at (All (LaneIsSet [])) earlier later (phase_of lanes) bound.set) numbers)

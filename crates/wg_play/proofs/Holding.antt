@@ -1,40 +1,60 @@
 -- What stands at the places of a lane stays of its kind, and what a call makes is of the kind that it makes.
-use Rattle.std.proofs.Common.{◌≡◌, ℕ, ◌+◌, ◌-◌, Bool, true, false, Option, Some, None, List, [], ◌∷◌, ◌++◌, length, map, refl, sym, ap, subst, ◌∙◌, inl, inr, arith, append_assoc, if◌then◌else◌}
-use Rattle.std.specs.Prelude.{All, Contains, is_some, option_map}
+use Rattle.std.proofs.Common.{◌≡◌, ◌≢◌, ℕ, ◌+◌, ◌-◌, Bool, true, false, Option, Some, None, List, [], ◌∷◌, ◌++◌, length, map, refl, sym, ap, subst, ◌∙◌, inl, inr, arith, append_assoc, if◌then◌else◌}
+use Rattle.std.specs.Prelude.{All, Contains, is_some, option_map, option_and_then, slice_get}
 use Rattle.std.specs.Option.{option_map_or}
 use Rattle.std.proofs.lemmas.Bool.{cases_eq}
 use Rattle.std.proofs.lemmas.List.{append-nil, length-append}
-use Rattle.std.proofs.lemmas.List.Elements.{All-head, All-tail, Contains-append_cases}
+use Rattle.std.proofs.lemmas.List.Elements.{All-head, All-tail, Contains-append_cases, Contains-push_cases}
 use Rattle.wg_types.specs.Handles.{HandleValue}
 use Rattle.wg_types.specs.Kinds.{kind_of}
+use Rattle.wg_types.specs.Canvases.{named as canvas_named}
+use Rattle.wg_types.specs.declared.canvases.CanvasFormat.{CanvasFormat}
+use Rattle.wg_types.specs.declared.canvases.CanvasCall.{CanvasCall}
+use Rattle.wg_types.specs.declared.canvases.CanvasCall.TheVariants.{Configure, Current, Present}
+use Rattle.wg_types.specs.declared.canvases.CanvasOf.{CanvasOf}
+use Rattle.wg_types.specs.declared.canvases.CanvasOf.TheVariants.{Create, On as OnCanvas}
 use Rattle.wg_types.specs.Commands.{Command, bracket, kind_begun_by, kind_begun}
 use Rattle.wg_types.specs.declared.commands.Bracket.{Bracket}
 use Rattle.wg_types.specs.declared.commands.Bracket.TheVariants as brackets
 use Rattle.wg_types.specs.declared.commands.On.{On}
+use Rattle.wg_types.specs.declared.handles.Info.{Info}
+use Rattle.wg_types.specs.declared.handles.Info.TheVariants as info
 use Rattle.wg_types.specs.declared.replies.Answer.{Answer}
+use Rattle.wg_types.specs.declared.replies.Answer.TheVariants.{Made, Queued, Promised, Plain, BadCompletion}
+use Rattle.wg_types.specs.declared.requests.RequestOf.TheVariants.{Destroy}
+use Rattle.wg_types.specs.declared.textures.TextureInfo.{TextureInfo}
+use Rattle.wg_types.specs.declared.wanted.Wanted.TheVariants as wanted
 use Rattle.wg_types.specs.declared.wanted.Kind.{Kind}
 use Rattle.wg_types.specs.declared.wanted.Kind.TheVariants as kinds
 use Rattle.wg_types.specs.declared.render.TargetInfo.{TargetInfo}
+use Rattle.wg_canvas.specs.Canvases.{CanvasValue, HasTexture, texture_at, texture_of, texture_asked, asked_at as stage_asked, act_asked, info_of, filled_at, filled_if, acted}
+use Rattle.wg_canvas.specs.declared.canvas.Setting.{Setting}
+use Rattle.wg_canvas.specs.declared.canvas.Stage.{Stage}
+use Rattle.wg_canvas.specs.declared.canvas.Stage.TheVariants.{Unset, Empty, Filled}
 use Rattle.wg_encoder.specs.Recorders.{RecorderValue, recorded, targets_left}
-use Rattle.wg_calls.specs.Calls.{taken_out}
+use Rattle.wg_calls.specs.Calls.{handle_of, taken_out}
 use Rattle.wg_script.specs.CallOf.{BoundCall}
-use Rattle.wg_script.specs.declared.calls.CallOf.TheVariants.{Record, Ask}
+use Rattle.wg_script.specs.declared.calls.CallOf.TheVariants.{Record, Ask, Canvas}
 use Rattle.wg_names.specs.Uses.{made_of}
-use Rattle.wg_names.specs.Bound.{made_by, made_in, CallIsBound, LaneIsBound}
+use Rattle.wg_names.specs.Bound.{made_by, made_in, IsFound, CallIsBound, LaneIsBound, configured_in, configured_by, IsConfigured, CanvasIsSet, CallIsSet, LaneIsSet}
 use Rattle.wg_play.specs.declared.objects.Object.{Object}
 use Rattle.wg_play.specs.declared.objects.Object.TheVariants as object
 use Rattle.wg_play.specs.declared.objects.Stand.{Stand}
+use Rattle.wg_play.specs.Canvases.{canvas_in, canvas_at, redrawn, asked_at, given_by, acted_at, shown_at}
 use Rattle.wg_play.specs.Objects.{changed, with_recorder, is_begun, recorded_by, recorded_on, passes_at, begun_by, ended_by, object_of}
 use Rattle.wg_play.specs.Sights.{Sight, place_in, handle_in_sight}
-use Rattle.wg_play.specs.Lanes.{command_seen, stand_seen, handle_kept}
-use Rattle.wg_play.specs.Late.{Answered, Answers, IsAnswered, after_call, after_calls}
-use Rattle.wg_play.specs.Found.{is_pass, has_recorder, recorder_kind, IsOf, StandsAt}
+use Rattle.wg_play.specs.Lanes.{canvas_asks, new_canvas, drawn, command_seen, stand_seen, handle_kept}
+use Rattle.wg_play.specs.Late.{Answered, is_made, Answers, IsAnswered, after_call, after_calls}
+use Rattle.wg_play.specs.Found.{is_pass, has_recorder, recorder_kind, IsShown, IsOf, StandsAt, IsSeenSet, CanvasIsSeen}
 use Rattle.wg_play.proofs.Slots.{own_at, other_at, at_append, at_new, length_with}
-use Rattle.wg_play.proofs.Following.{ended_on, with_kept, after_record, after_ask, same_first, Fits, handle_fits, MakesAs, same_kind, handle_kind}
+use Rattle.wg_play.proofs.Redrawn.{redrawn_own, redrawn_other, redrawn_length, own_canvas, other_canvas, canvas_append, recorder_canvas, acted_set, configured_set}
+use Rattle.wg_play.proofs.Drawn.{acted_has}
+use Rattle.wg_play.proofs.Following.{ended_on, with_kept, after_record, after_ask, after_canvas, same_first, Fits, handle_fits, MakesAs, same_kind, handle_kind}
 use Rattle.wg_play.proofs.Lateness.{ended_length}
 use Rattle.wg_play.proofs.Making.{call_length, begun_mapped, opens}
-use Rattle.wg_play.proofs.Sending.{makes_as}
-use Rattle.wg_play.proofs.Numbered.{only, Slots, AreFrom, slots_of, first_from, from_back, made_more}
+use Rattle.wg_play.proofs.Places.{is_canvas}
+use Rattle.wg_play.proofs.Sending.{CanvasSeen, makes_as}
+use Rattle.wg_play.proofs.Numbered.{all_configured, only, Slots, AreFrom, slots_of, first_from, from_back, made_more}
 
 -- ---- a change of a recorder
 
@@ -44,6 +64,8 @@ StaysOpen change = (r : RecorderValue) → ((change r).encoder ≡ r.encoder) ×
 
 of_changed : (change : RecorderValue → RecorderValue) → StaysOpen change → (k : Kind) (x : Object) → IsOf k x → IsOf k (changed x change)
 of_changed change stays k (object.Pass encoder number) of = of
+of_changed change stays k (object.Canvas canvas) of = of
+of_changed change stays k (object.Shown texture) of = of
 of_changed change stays k (object.Made handle found) of = (
   of.0,
   λ p. let was = of.1 p in record {
@@ -92,6 +114,81 @@ kept_stands : (objects : List Object) (handle : Option HandleValue) (place : ℕ
 kept_stands objects None place k was = was
 kept_stands objects (Some handle) place k was = stands_append objects (object_of handle ∷ []) place k was
 
+-- ---- a change of a canvas
+
+-- a texture, if there is one
+abbrev pub IsTexture : Option HandleValue → Type 0
+IsTexture None = Unit {0}
+IsTexture (Some texture) = kind_of texture.info ≡ kinds.Texture
+
+texture_had : (stage : Stage) → HasTexture stage → IsTexture (texture_at stage)
+texture_had Unset has = tt
+texture_had (Empty setting) has = tt
+texture_had (Filled setting texture) has = has
+
+had_texture : (stage : Stage) → IsTexture (texture_at stage) → HasTexture stage
+had_texture Unset has = tt
+had_texture (Empty setting) has = tt
+had_texture (Filled setting texture) has = has
+
+-- What the device makes for a canvas is a texture.
+
+handle_is : (serial : ℕ) (known : TextureInfo) (answer : Answer) → IsTexture (handle_of serial (info.Texture known) answer)
+handle_is serial known (Made number valid) = refl
+handle_is serial known (Queued op) = tt
+handle_is serial known Promised = tt
+handle_is serial known Plain = tt
+handle_is serial known BadCompletion = tt
+
+expiry_gives : (serial : ℕ) (texture : Option HandleValue) (answer : Answer) → IsTexture (given_by serial (option_map Destroy texture) answer)
+expiry_gives serial None answer = tt
+expiry_gives serial (Some texture) answer = tt
+
+stage_gives : (serial : ℕ) (canvas : CanvasValue) (stage : Stage) (answer : Answer) → IsTexture (given_by serial (stage_asked canvas stage) answer)
+stage_gives serial canvas Unset answer = tt
+stage_gives serial canvas (Empty setting) answer = handle_is serial (info_of canvas setting) answer
+stage_gives serial canvas (Filled setting texture) answer = tt
+
+act_gives : (serial : ℕ) (canvas : CanvasValue) (call : CanvasCall) (answer : Answer) → IsTexture (given_by serial (act_asked canvas call) answer)
+act_gives serial canvas (Configure format usage) answer = expiry_gives serial (texture_of canvas) answer
+act_gives serial canvas Current answer = stage_gives serial canvas canvas.stage answer
+act_gives serial canvas Present answer = expiry_gives serial (texture_of canvas) answer
+
+place_gives : (serial : ℕ) (found : Option CanvasValue) (call : CanvasCall) (answer : Answer) → IsTexture (given_by serial (option_and_then (λ canvas. act_asked canvas call) found) answer)
+place_gives serial None call answer = tt
+place_gives serial (Some canvas) call answer = act_gives serial canvas call answer
+
+pub canvas_gives : (serial : ℕ) (sight : Sight) (call : CanvasOf ℕ) (answer : Answer) → IsTexture (given_by serial (canvas_asks sight call) answer)
+canvas_gives serial sight (Create width height) answer = tt
+canvas_gives serial sight (OnCanvas canvas call) answer = place_gives serial (canvas_at sight.own (place_in sight canvas)) call answer
+
+of_redrawn : (call : CanvasCall) (given : Option HandleValue) → IsTexture given → (k : Kind) (x : Object) → IsOf k x → IsOf k (redrawn x (λ canvas. acted canvas call given))
+of_redrawn call given new k (object.Made handle recorder) of = of
+of_redrawn call given new k (object.Pass encoder number) of = of
+of_redrawn call given new k (object.Canvas canvas) of =
+    (of.0, had_texture (acted canvas call given).stage (acted_has (λ (handle : HandleValue). Unit {0}) IsTexture tt canvas call given (texture_had canvas.stage of.1) new))
+of_redrawn call given new k (object.Shown texture) of = of
+
+acted_stands : (call : CanvasCall) (given : Option HandleValue) → IsTexture given → (objects : List Object) (at place : ℕ) (k : Kind) → StandsAt objects place k → StandsAt (acted_at objects at call given) place k
+acted_stands call given new objects at place k was = elim (cases_eq at place) [
+  | inl same ↦ subst (λ n. StandsAt (acted_at objects n call given) place k) (sym same) (record {
+    what = redrawn was.what (λ canvas. acted canvas call given);
+    is = redrawn_own (λ canvas. acted canvas call given) objects place ∙ ap (option_map (λ (x : Object). redrawn x (λ canvas. acted canvas call given))) was.is;
+    of = of_redrawn call given new k was.what was.of;
+  })
+  | inr differs ↦ record { what = was.what; is = redrawn_other (λ canvas. acted canvas call given) objects at place differs ∙ was.is; of = was.of }
+]
+
+drawn_stands : (serial : ℕ) (sight : Sight) (call : CanvasOf ℕ) (made : Option ℕ) (answer : Answer) (place : ℕ) (k : Kind) → StandsAt sight.own place k
+    → StandsAt (drawn sight call made (given_by serial (canvas_asks sight call) answer)).own place k
+drawn_stands serial sight (Create width height) made answer place k was = stands_append sight.own (new_canvas width height made) place k was
+drawn_stands serial sight (OnCanvas canvas call) made answer place k was =
+    let at : ℕ = place_in sight canvas in
+    let given : Option HandleValue = given_by serial (asked_at sight.own at call) answer in
+    let objects : List Object = acted_at sight.own at call given in
+    stands_append objects (shown_at objects at call made) place k
+    (acted_stands call given (place_gives serial (canvas_at sight.own at) call answer) sight.own at place k was)
+
 -- what stood before a call stands after it
 pub call_stands : (serial : ℕ) (sight : Sight) (call : BoundCall) (answer : Answer) (place : ℕ) (k : Kind) → StandsAt sight.own place k → StandsAt (after_call serial sight (call, answer)).own place k
 call_stands serial sight (Record on command made) answer place k was =
@@ -101,11 +198,13 @@ call_stands serial sight (Record on command made) answer place k was =
     (stands_append (recorded_on sight.own stand found) (begun_by sight.own stand.encoder found made) place k (recorded_stands sight.own stand found place k was))
 call_stands serial sight (Ask request made) answer place k was =
     subst (λ (s : Sight). StandsAt s.own place k) (sym (after_ask serial sight request made answer))
-    (kept_stands (ended_on sight (ended_by request)) (handle_kept serial sight (Ask request made) answer) place k (ended_stands sight (ended_by request) place k was))
+    (kept_stands (ended_on sight (ended_by request)) (handle_kept serial sight request made answer) place k (ended_stands sight (ended_by request) place k was))
+call_stands serial sight (Canvas call made) answer place k was =
+    subst (λ (s : Sight). StandsAt s.own place k) (sym (after_canvas serial sight call made answer)) (drawn_stands serial sight call made answer place k was)
 
 -- ---- what a call makes
 
-pass_kind : (b : Bracket) (k : Kind) → kind_begun_by b ≡ Some k → is_pass k ≡ true
+pub pass_kind : (b : Bracket) (k : Kind) → kind_begun_by b ≡ Some k → is_pass k ≡ true
 pass_kind brackets.BeginComputePass k e = let same : kinds.ComputePass ≡ k = cc (e) in ap is_pass (sym same)
 pass_kind brackets.BeginRenderPass k e = let same : kinds.RenderPass ≡ k = cc (e) in ap is_pass (sym same)
 pass_kind brackets.EndPass k e = absurd (cc)
@@ -137,6 +236,64 @@ new_object : (objects : List Object) (handle : Option HandleValue) (slot : ℕ) 
 new_object objects None slot k fits kind = absurd fits
 new_object objects (Some handle) slot k fits kind = record { what = object_of handle; is = at_new objects (object_of handle); of = of_handle handle k (kind handle refl) }
 
+-- The texture that a currentTexture shows of a canvas that is configured was made for it, or was there.
+
+stage_filled : (canvas : CanvasValue) (given : Option HandleValue) → (filled_if canvas given).stage ≡ option_map_or (filled_at canvas.stage) given canvas.stage
+stage_filled canvas None = refl
+stage_filled canvas (Some texture) = refl
+
+made_shown : (serial : ℕ) (setting : Setting) (known : TextureInfo) (answer : Answer) → is_made answer ≡ true
+    → IsShown (texture_at (option_map_or (filled_at (Empty setting)) (handle_of serial (info.Texture known) answer) (Empty setting)))
+made_shown serial setting known (Made number valid) made = refl
+made_shown serial setting known (Queued op) made = absurd (cc (made))
+made_shown serial setting known Promised made = absurd (cc (made))
+made_shown serial setting known Plain made = absurd (cc (made))
+made_shown serial setting known BadCompletion made = absurd (cc (made))
+
+stage_shown : (serial : ℕ) (canvas : CanvasValue) (answer : Answer) (stage : Stage) → stage ≢ Unset → HasTexture stage → is_made answer ≡ true
+    → IsShown (texture_at (option_map_or (filled_at stage) (given_by serial (stage_asked canvas stage) answer) stage))
+stage_shown serial canvas answer Unset set has made = absurd (set refl)
+stage_shown serial canvas answer (Empty setting) set has made = made_shown serial setting (info_of canvas setting) answer made
+stage_shown serial canvas answer (Filled setting texture) set has made = has
+
+canvas_shown : (serial : ℕ) (canvas : CanvasValue) (answer : Answer) → canvas.stage ≢ Unset → HasTexture canvas.stage → is_made answer ≡ true
+    → IsShown (texture_of (filled_if canvas (given_by serial (texture_asked canvas) answer)))
+canvas_shown serial canvas answer set has made =
+    subst (λ (stage : Stage). IsShown (texture_at stage)) (sym (stage_filled canvas (given_by serial (texture_asked canvas) answer)))
+    (stage_shown serial canvas answer canvas.stage set has made)
+
+current_shown : (serial : ℕ) (sight : Sight) (canvas : ℕ) (answer : Answer) → IsSeenSet sight canvas Current → is_made answer ≡ true
+    → let at = place_in sight canvas in IsShown (option_and_then texture_of (canvas_at (acted_at sight.own at Current (given_by serial (asked_at sight.own at Current) answer)) at))
+current_shown serial sight canvas answer seen made =
+    let at : ℕ = place_in sight canvas in
+    let given : Option CanvasValue → Option HandleValue = λ found. given_by serial (option_and_then (λ c. act_asked c Current) found) answer in
+    subst (λ (found : Option CanvasValue). IsShown (option_and_then texture_of found))
+    (sym (own_canvas (λ c. acted c Current (given (canvas_at sight.own at))) sight.own at))
+    (subst (λ (found : Option CanvasValue). IsShown (option_and_then texture_of (option_map (λ c. acted c Current (given found)) found))) (sym seen.is)
+    (canvas_shown serial seen.found answer (seen.set refl) seen.texture made))
+
+drawn_makes : (serial : ℕ) (sight : Sight) (call : CanvasOf ℕ) (made : Option ℕ) (answer : Answer) (slot : ℕ) (k : Kind) → Answers (Canvas call made) answer → CanvasIsSeen sight call
+    → made_of (Canvas call made) ≡ Some (slot, k) → StandsAt (drawn sight call made (given_by serial (canvas_asks sight call) answer)).own (length sight.own) k
+drawn_makes serial sight call None answer slot k answered seen e = absurd (cc (e))
+drawn_makes serial sight (Create width height) (Some name) answer slot k answered seen e =
+    let new : Object = object.Canvas (record { width = width; height = height; stage = Unset }) in
+    let same : Some kinds.Canvas ≡ Some k = same_kind name slot (Some kinds.Canvas) k e in
+    record { what = new; is = at_new sight.own new; of = (cc (same), tt) }
+drawn_makes serial sight (OnCanvas canvas (Configure format usage)) (Some name) answer slot k answered seen e = absurd (cc (e))
+drawn_makes serial sight (OnCanvas canvas Current) (Some name) answer slot k answered seen e =
+    let at : ℕ = place_in sight canvas in
+    let given : Option HandleValue = given_by serial (asked_at sight.own at Current) answer in
+    let objects : List Object = acted_at sight.own at Current given in
+    let new : Object = object.Shown (option_and_then texture_of (canvas_at objects at)) in
+    let same : Some kinds.CanvasTexture ≡ Some k = same_kind name slot (Some kinds.CanvasTexture) k e in
+    let count : length objects ≡ length sight.own = redrawn_length (λ c. acted c Current given) sight.own at in
+    record {
+      what = new;
+      is = subst (λ n. slice_get (objects ++ new ∷ []) n ≡ Some new) count (at_new objects new);
+      of = (cc (same), current_shown serial sight canvas answer seen (answered refl));
+    }
+drawn_makes serial sight (OnCanvas canvas Present) (Some name) answer slot k answered seen e = absurd (cc (e))
+
 -- it stands at the next place
 pub call_makes : (serial : ℕ) (sight : Sight) (call : BoundCall) (answer : Answer) (slot : ℕ) (k : Kind) → Answers call answer → MakesAs sight call → made_of call ≡ Some (slot, k)
     → StandsAt (after_call serial sight (call, answer)).own (length sight.own) k
@@ -146,13 +303,102 @@ call_makes serial sight (Record on command (Some made)) answer slot k answered f
     let begins : kind_begun found ≡ Some k = begun_mapped (handle_in_sight sight) command ∙ same_kind made slot (kind_begun command) k e in
     subst (λ (s : Sight). StandsAt s.own (length sight.own) k) (sym (after_record serial sight on command (Some made) answer)) (new_pass sight (stand_seen sight on) found made k begins)
 call_makes serial sight (Ask request made) answer slot k answered fit e =
-    let handle : Option HandleValue = handle_kept serial sight (Ask request made) answer in
+    let handle : Option HandleValue = handle_kept serial sight request made answer in
     let fits : Fits handle (Some (slot, k)) = subst (Fits handle) e (handle_fits serial sight request made answer answered) in
     subst (λ (s : Sight). StandsAt s.own (length sight.own) k) (sym (after_ask serial sight request made answer))
     (subst (λ n. StandsAt (with_kept (ended_on sight (ended_by request)) handle) n k) (ended_length sight (ended_by request))
     (new_object (ended_on sight (ended_by request)) handle slot k fits (handle_kind serial sight request made answer slot k fit e)))
+call_makes serial sight (Canvas call made) answer slot k answered fit e =
+    subst (λ (s : Sight). StandsAt s.own (length sight.own) k) (sym (after_canvas serial sight call made answer)) (drawn_makes serial sight call made answer slot k answered fit e)
+
+-- ---- canvases that are configured
+
+-- a canvas at a place that was configured
+pub record IsSet (objects : List Object) (place : ℕ) : Type 0 where
+  pub found : CanvasValue
+  pub is : canvas_at objects place ≡ Some found
+  pub set : found.stage ≢ Unset
+
+set_append : (objects more : List Object) (place : ℕ) → IsSet objects place → IsSet (objects ++ more) place
+set_append objects more place was = record { found = was.found; is = canvas_append objects more place was.found was.is; set = was.set }
+
+set_recorded : (change : RecorderValue → RecorderValue) (objects : List Object) (at place : ℕ) → IsSet objects place → IsSet (with_recorder objects at change) place
+set_recorded change objects at place was = record { found = was.found; is = recorder_canvas change objects at place ∙ was.is; set = was.set }
+
+set_ended : (sight : Sight) (ended : Option ℕ) (place : ℕ) → IsSet sight.own place → IsSet (ended_on sight ended) place
+set_ended sight None place was = was
+set_ended sight (Some encoder) place was = set_recorded taken_out sight.own (place_in sight encoder) place was
+
+set_kept : (objects : List Object) (handle : Option HandleValue) (place : ℕ) → IsSet objects place → IsSet (with_kept objects handle) place
+set_kept objects None place was = was
+set_kept objects (Some handle) place was = set_append objects (object_of handle ∷ []) place was
+
+set_acted : (call : CanvasCall) (given : Option HandleValue) (objects : List Object) (at place : ℕ) → IsSet objects place → IsSet (acted_at objects at call given) place
+set_acted call given objects at place was = elim (cases_eq at place) [
+  | inl same ↦ subst (λ n. IsSet (acted_at objects n call given) place) (sym same) (record {
+    found = acted was.found call given;
+    is = own_canvas (λ canvas. acted canvas call given) objects place ∙ ap (option_map (λ canvas. acted canvas call given)) was.is;
+    set = acted_set was.found call given was.set;
+  })
+  | inr differs ↦ record { found = was.found; is = other_canvas (λ canvas. acted canvas call given) objects at place differs ∙ was.is; set = was.set }
+]
+
+set_drawn : (sight : Sight) (call : CanvasOf ℕ) (made : Option ℕ) (given : Option HandleValue) (place : ℕ) → IsSet sight.own place → IsSet (drawn sight call made given).own place
+set_drawn sight (Create width height) made given place was = set_append sight.own (new_canvas width height made) place was
+set_drawn sight (OnCanvas canvas call) made given place was =
+    let at : ℕ = place_in sight canvas in
+    let objects : List Object = acted_at sight.own at call given in
+    set_append objects (shown_at objects at call made) place (set_acted call given sight.own at place was)
+
+-- it stays so at each call
+call_leaves_set : (serial : ℕ) (sight : Sight) (call : BoundCall) (answer : Answer) (place : ℕ) → IsSet sight.own place → IsSet (after_call serial sight (call, answer)).own place
+call_leaves_set serial sight (Record on command made) answer place was =
+    let stand : Stand = stand_seen sight on in
+    let found : Command = command_seen sight command in
+    subst (λ (s : Sight). IsSet s.own place) (sym (after_record serial sight on command made answer))
+    (set_append (recorded_on sight.own stand found) (begun_by sight.own stand.encoder found made) place (set_recorded (recorded_by stand.on found) sight.own stand.encoder place was))
+call_leaves_set serial sight (Ask request made) answer place was =
+    subst (λ (s : Sight). IsSet s.own place) (sym (after_ask serial sight request made answer))
+    (set_kept (ended_on sight (ended_by request)) (handle_kept serial sight request made answer) place (set_ended sight (ended_by request) place was))
+call_leaves_set serial sight (Canvas call made) answer place was =
+    subst (λ (s : Sight). IsSet s.own place) (sym (after_canvas serial sight call made answer)) (set_drawn sight call made (given_by serial (canvas_asks sight call) answer) place was)
+
+-- A canvas stands where one was made.
+pub record IsCanvasAt (objects : List Object) (place : ℕ) : Type 0 where
+  pub found : CanvasValue
+  pub is : canvas_at objects place ≡ Some found
+  pub texture : HasTexture found.stage
+
+no_canvas_known : (known : Info) → kind_of known ≡ kinds.Canvas → ⊥
+no_canvas_known _ e = cc (e)
+
+canvas_of : (what : Object) (found : Option Object) → found ≡ Some what → IsOf kinds.Canvas what → (canvas : CanvasValue) × (option_and_then canvas_in found ≡ Some canvas) × HasTexture canvas.stage
+canvas_of (object.Made handle recorder) found is of = absurd (no_canvas_known handle.info of.0)
+canvas_of (object.Pass encoder number) found is of = absurd (cc (of))
+canvas_of (object.Canvas canvas) found is of = (canvas, ap (option_and_then canvas_in) is, of.1)
+canvas_of (object.Shown texture) found is of = absurd (cc (of.0))
+
+pub canvas_stands : (objects : List Object) (place : ℕ) → StandsAt objects place kinds.Canvas → IsCanvasAt objects place
+canvas_stands objects place was = let there = canvas_of was.what (slice_get objects place) was.is was.of in record { found = there.0; is = there.1; texture = there.2 }
+
+-- and a configure sets it
+drawn_sets : (sight : Sight) (canvas : ℕ) (format : CanvasFormat) (usage : ℕ) (made : Option ℕ) (given : Option HandleValue) → IsCanvasAt sight.own (place_in sight canvas)
+    → IsSet (drawn sight (OnCanvas canvas (Configure format usage)) made given).own (place_in sight canvas)
+drawn_sets sight canvas format usage made given was =
+    let at : ℕ = place_in sight canvas in
+    let call : CanvasCall = Configure format usage in
+    let objects : List Object = acted_at sight.own at call given in
+    set_append objects (shown_at objects at call made) at (record {
+      found = acted was.found call given;
+      is = own_canvas (λ c. acted c call given) sight.own at ∙ ap (option_map (λ c. acted c call given)) was.is;
+      set = configured_set was.found format usage given;
+    })
 
 -- ---- calls one after another
+
+-- the canvases of some slots were configured
+abbrev pub AreSet : ℕ → List Object → List ℕ → Type 0
+AreSet first own done = (canvas : ℕ) → Contains done canvas → IsSet own (canvas - first)
 
 -- there is something for each slot that a lane has made, of the kind that was made
 pub record HoldsFrom (first : ℕ) (own : List Object) (made : Slots) : Type 0 where
@@ -162,11 +408,75 @@ pub record HoldsFrom (first : ℕ) (own : List Object) (made : Slots) : Type 0 w
 pub none_held : (first : ℕ) → HoldsFrom first [] []
 none_held first = record { count = refl; stands = λ slot k there. absurd (omega (arith, there.1)) }
 
-one_held : (serial : ℕ) (sight : Sight) (made : Slots) (before : List BoundCall) (call : BoundCall) (answer : Answer) → HoldsFrom sight.first sight.own (made_in before) → Answers call answer
-    → CallIsBound made (made_in before) call → ((m : ℕ × Kind) → made_of call ≡ Some m → m.0 ≡ sight.first + length sight.own)
+-- What a call of a canvas finds is seen.
+
+same_found : (found : Option CanvasValue) (a b : CanvasValue) → found ≡ Some a → found ≡ Some b → a ≡ b
+same_found found a b is was = cc (sym is ∙ was)
+
+is_set : (sight : Sight) (done : List ℕ) (canvas : ℕ) (call : CanvasCall) (found : CanvasValue) → canvas_at sight.own (place_in sight canvas) ≡ Some found → AreSet sight.first sight.own done → IsConfigured done canvas call
+    → call ≡ Current → found.stage ≢ Unset
+is_set sight done canvas (Configure format usage) found is sets set e = absurd (cc (e))
+is_set sight done canvas Current found is sets set e =
+    let there = sets canvas set in
+    subst (λ (c : CanvasValue). c.stage ≢ Unset) (same_found (canvas_at sight.own (place_in sight canvas)) there.found found there.is is) there.set
+is_set sight done canvas Present found is sets set e = absurd (cc (e))
+
+canvas_own : (sight : Sight) (made ours : Slots) (canvas : ℕ) → ((slot : ℕ) (k : Kind) → Contains ours (slot, k) → StandsAt sight.own (slot - sight.first) k)
+    → All (IsFound made ours) ((canvas, wanted.Canvas) ∷ []) → IsCanvasAt sight.own (place_in sight canvas)
+canvas_own sight made ours canvas own all =
+    let found = All-head (IsFound made ours) (canvas, wanted.Canvas) [] all in
+    canvas_stands sight.own (place_in sight canvas)
+    (subst (λ k. StandsAt sight.own (place_in sight canvas) k) (is_canvas found.kind found.fits) (own canvas found.kind (found.own refl)))
+
+pub canvas_seen : (sight : Sight) (made ours : Slots) (done : List ℕ) (call : CanvasOf ℕ) → ((slot : ℕ) (k : Kind) → Contains ours (slot, k) → StandsAt sight.own (slot - sight.first) k)
+    → AreSet sight.first sight.own done → All (IsFound made ours) (canvas_named call) → CanvasIsSet done call → CanvasIsSeen sight call
+canvas_seen sight made ours done (Create width height) own sets all set = tt
+canvas_seen sight made ours done (OnCanvas canvas call) own sets all set =
+    let there = canvas_own sight made ours canvas own all in
+    record { found = there.found; is = there.is; texture = there.texture; set = is_set sight done canvas call there.found there.is sets set }
+
+call_seen : (sight : Sight) (made ours : Slots) (done : List ℕ) (call : BoundCall) → ((slot : ℕ) (k : Kind) → Contains ours (slot, k) → StandsAt sight.own (slot - sight.first) k)
+    → AreSet sight.first sight.own done → CallIsBound made ours call → CallIsSet done call → CanvasSeen sight call
+call_seen sight made ours done call own sets bound set asked name is =
+    canvas_seen sight made ours done asked own sets (subst (λ (c : BoundCall). CallIsBound made ours c) is bound) (subst (λ (c : BoundCall). CallIsSet done c) is set)
+
+-- what a call configures is set after it
+
+no_more : {X : Type 0} (x : X) → Contains [] x → ⊥
+no_more x there = omega (arith, there.1)
+
+drawn_set : (sight : Sight) (made ours : Slots) (call : CanvasOf ℕ) (name : Option ℕ) (given : Option HandleValue) → ((slot : ℕ) (k : Kind) → Contains ours (slot, k) → StandsAt sight.own (slot - sight.first) k)
+    → All (IsFound made ours) (canvas_named call) → (canvas : ℕ) → Contains (configured_in call) canvas → IsSet (drawn sight call name given).own (canvas - sight.first)
+drawn_set sight made ours (Create width height) name given own all canvas there = absurd (no_more canvas there)
+drawn_set sight made ours (OnCanvas at (Configure format usage)) name given own all canvas there = elim (Contains-push_cases [] at canvas there) [
+  | inl none ↦ absurd (no_more canvas none)
+  | inr same ↦ subst (λ n. IsSet (drawn sight (OnCanvas at (Configure format usage)) name given).own (n - sight.first)) same
+      (drawn_sets sight at format usage name given (canvas_own sight made ours at own all))
+]
+drawn_set sight made ours (OnCanvas at Current) name given own all canvas there = absurd (no_more canvas there)
+drawn_set sight made ours (OnCanvas at Present) name given own all canvas there = absurd (no_more canvas there)
+
+call_sets : (serial : ℕ) (sight : Sight) (made ours : Slots) (call : BoundCall) (answer : Answer) → ((slot : ℕ) (k : Kind) → Contains ours (slot, k) → StandsAt sight.own (slot - sight.first) k)
+    → CallIsBound made ours call → (canvas : ℕ) → Contains (configured_by call) canvas → IsSet (after_call serial sight (call, answer)).own (canvas - sight.first)
+call_sets serial sight made ours (Record on command name) answer own bound canvas there = absurd (no_more canvas there)
+call_sets serial sight made ours (Ask request name) answer own bound canvas there = absurd (no_more canvas there)
+call_sets serial sight made ours (Canvas call name) answer own bound canvas there =
+    subst (λ (s : Sight). IsSet s.own (canvas - sight.first)) (sym (after_canvas serial sight call name answer))
+    (drawn_set sight made ours call name (given_by serial (canvas_asks sight call) answer) own bound canvas there)
+
+one_set : (serial : ℕ) (sight : Sight) (made ours : Slots) (done : List ℕ) (call : BoundCall) (answer : Answer) → ((slot : ℕ) (k : Kind) → Contains ours (slot, k) → StandsAt sight.own (slot - sight.first) k)
+    → AreSet sight.first sight.own done → CallIsBound made ours call → AreSet sight.first (after_call serial sight (call, answer)).own (done ++ configured_by call)
+one_set serial sight made ours done call answer own sets bound canvas there = elim (Contains-append_cases done (configured_by call) canvas there) [
+  | inl old ↦ call_leaves_set serial sight call answer (canvas - sight.first) (sets canvas old)
+  | inr new ↦ call_sets serial sight made ours call answer own bound canvas new
+]
+
+one_held : (serial : ℕ) (sight : Sight) (made : Slots) (before : List BoundCall) (done : List ℕ) (call : BoundCall) (answer : Answer) → HoldsFrom sight.first sight.own (made_in before) → AreSet sight.first sight.own done → Answers call answer
+    → CallIsBound made (made_in before) call → CallIsSet done call → ((m : ℕ × Kind) → made_of call ≡ Some m → m.0 ≡ sight.first + length sight.own)
     → HoldsFrom sight.first (after_call serial sight (call, answer)).own (made_in (before ++ call ∷ []))
-one_held serial sight made before call answer was answered bound here =
-    let fit : MakesAs sight call = makes_as sight made (made_in before) call (λ slot k p there. was.stands slot k there) bound in
+one_held serial sight made before done call answer was sets answered bound set here =
+    let fit : MakesAs sight call = makes_as sight made (made_in before) call (λ slot k p there. was.stands slot k there)
+    (call_seen sight made (made_in before) done call was.stands sets bound set) bound in
     let own : List Object = (after_call serial sight (call, answer)).own in
     let length_is : length own ≡ length sight.own + length (made_by call) = call_length serial sight call answer answered in
     let old : length sight.own ≡ length (made_in before) = was.count in
@@ -182,21 +492,39 @@ one_held serial sight made before call answer was answered bound here =
       ];
     })
 
-pub all_held : (serial : ℕ) (made : Slots) (calls : List Answered) (before : List BoundCall) (sight : Sight) → HoldsFrom sight.first sight.own (made_in before) → All IsAnswered calls
-    → LaneIsBound made (made_in before) (map (λ call. call.0) calls) → AreFrom (sight.first + length sight.own) (slots_of (made_in (map (λ call. call.0) calls)))
-    → HoldsFrom (after_calls serial sight calls).first (after_calls serial sight calls).own (made_in (before ++ map (λ call. call.0) calls))
-all_held serial made [] before sight was answered bound from = subst (λ cs. HoldsFrom sight.first sight.own (made_in cs)) (sym (append-nil before)) was
-all_held serial made (call ∷ calls) before sight was answered bound from =
+-- and the canvases that were configured are set
+pub record HoldsSet (first : ℕ) (own : List Object) (made : Slots) (done : List ℕ) : Type 0 where
+  pub held : HoldsFrom first own made
+  pub sets : AreSet first own done
+
+pub none_set : (first : ℕ) → HoldsSet first [] [] []
+none_set first = record { held = none_held first; sets = λ canvas there. absurd (no_more canvas there) }
+
+pub all_held : (serial : ℕ) (made : Slots) (calls : List Answered) (before : List BoundCall) (done : List ℕ) (sight : Sight) → HoldsSet sight.first sight.own (made_in before) done → All IsAnswered calls
+    → LaneIsBound made (made_in before) (map (λ call. call.0) calls) → LaneIsSet done (map (λ call. call.0) calls)
+    → AreFrom (sight.first + length sight.own) (slots_of (made_in (map (λ call. call.0) calls)))
+    → HoldsSet (after_calls serial sight calls).first (after_calls serial sight calls).own (made_in (before ++ map (λ call. call.0) calls)) (done ++ all_configured (map (λ call. call.0) calls))
+all_held serial made [] before done sight was answered bound set from =
+    subst (λ (ns : List ℕ). HoldsSet sight.first sight.own (made_in (before ++ [])) ns) (sym (append-nil done))
+    (subst (λ (cs : List BoundCall). HoldsSet sight.first sight.own (made_in cs) done) (sym (append-nil before)) was)
+all_held serial made (call ∷ calls) before done sight was answered bound set from =
     let after : Sight = after_call serial sight call in
+    let end : Sight = after_calls serial after calls in
     let here : IsAnswered call = All-head IsAnswered call calls answered in
     let rest : List BoundCall = map (λ (c : Answered). c.0) calls in
     let first_is : after.first ≡ sight.first = same_first serial sight call.0 call.1 in
     let length_is : length after.own ≡ length sight.own + length (made_by call.0) = call_length serial sight call.0 call.1 here in
     let grown : (sight.first + length sight.own) + length (made_by call.0) ≡ after.first + length after.own = omega (arith, first_is, length_is) in
-    subst (λ cs. HoldsFrom (after_calls serial after calls).first (after_calls serial after calls).own (made_in cs)) (append_assoc before (call.0 ∷ []) rest)
-    (all_held serial (made ++ made_by call.0) calls (before ++ call.0 ∷ []) after
-    (subst (λ n. HoldsFrom n after.own (made_in (before ++ call.0 ∷ []))) (sym first_is)
-    (one_held serial sight made before call.0 call.1 was here bound.0 (first_from (sight.first + length sight.own) (made_of call.0) (made_in rest) from)))
+    let one : HoldsSet sight.first after.own (made_in (before ++ call.0 ∷ [])) (done ++ configured_by call.0) = record {
+      held = one_held serial sight made before done call.0 call.1 was.held was.sets here bound.0 set.0
+          (first_from (sight.first + length sight.own) (made_of call.0) (made_in rest) from);
+      sets = one_set serial sight made (made_in before) done call.0 call.1 was.held.stands was.sets bound.0;
+    } in
+    subst (λ (ns : List ℕ). HoldsSet end.first end.own (made_in (before ++ call.0 ∷ rest)) ns) (append_assoc done (configured_by call.0) (all_configured rest))
+    (subst (λ (cs : List BoundCall). HoldsSet end.first end.own (made_in cs) ((done ++ configured_by call.0) ++ all_configured rest)) (append_assoc before (call.0 ∷ []) rest)
+    (all_held serial (made ++ made_by call.0) calls (before ++ call.0 ∷ []) (done ++ configured_by call.0) after
+    (subst (λ n. HoldsSet n after.own (made_in (before ++ call.0 ∷ [])) (done ++ configured_by call.0)) (sym first_is) one)
     (All-tail IsAnswered call calls answered)
     (subst (λ ms. LaneIsBound (made ++ made_by call.0) ms rest) (sym (made_more before call.0)) bound.1)
-    (subst (λ n. AreFrom n (slots_of (made_in rest))) grown (from_back (sight.first + length sight.own) (made_by call.0) (made_in rest) from)))
+    set.1
+    (subst (λ n. AreFrom n (slots_of (made_in rest))) grown (from_back (sight.first + length sight.own) (made_by call.0) (made_in rest) from))))

@@ -1,6 +1,6 @@
 -- What a lane sees stays genuine as its calls are kept, and so does what its next call makes.
 use Rattle.std.proofs.Common.{◌≡◌, ◌≢◌, ◌⊎◌, inl, inr, ℕ, zero, suc, nat_lt, Bool, true, false, Option, Some, None, List, [], ◌∷◌, map, refl, sym, ap, subst, ◌∙◌, if◌then◌else◌}
-use Rattle.std.specs.Prelude.{All, option_and_then}
+use Rattle.std.specs.Prelude.{All, option_and_then, option_map}
 use Rattle.std.specs.Option.{option_map_or}
 use Rattle.std.proofs.lemmas.Bool.{eqb-true}
 use Rattle.std.proofs.lemmas.List.Elements.{All-nil, All-cons, All-head, All-tail, All-append, All-weaker}
@@ -9,6 +9,12 @@ use Rattle.wg_types.specs.Refs.{all_wanted}
 use Rattle.wg_types.specs.Bindings.{resource_named, entries_named, map_resource, map_entry}
 use Rattle.wg_types.specs.Commands.{Command, kind_begun}
 use Rattle.wg_types.specs.Requests.{named, map_refs as map_asked}
+use Rattle.wg_types.specs.declared.canvases.CanvasCall.{CanvasCall}
+use Rattle.wg_types.specs.declared.canvases.CanvasCall.TheVariants.{Configure, Current, Present}
+use Rattle.wg_types.specs.declared.canvases.CanvasOf.{CanvasOf}
+use Rattle.wg_types.specs.declared.canvases.CanvasOf.TheVariants.{Create, On}
+use Rattle.wg_types.specs.declared.replies.Answer.{Answer}
+use Rattle.wg_types.specs.declared.textures.TextureInfo.{TextureInfo}
 use Rattle.wg_types.specs.declared.bindings.ResourceOf.{ResourceOf}
 use Rattle.wg_types.specs.declared.bindings.ResourceOf.TheVariants.{Buffer, View, Sampler}
 use Rattle.wg_types.specs.declared.bindings.GroupEntryOf.{GroupEntryOf}
@@ -20,31 +26,42 @@ use Rattle.wg_types.specs.declared.requests.RequestOf.TheVariants.{CreateBuffer,
 use Rattle.wg_types.specs.declared.wanted.Kind.{Kind}
 use Rattle.wg_types.specs.declared.wanted.Wanted.{Wanted}
 use Rattle.wg_types.specs.declared.wanted.Wanted.TheVariants as wanted
+use Rattle.wg_canvas.specs.Canvases.{CanvasValue, texture_of, asked_at as stage_asked, act_asked, info_of}
+use Rattle.wg_canvas.specs.declared.canvas.Stage.{Stage}
+use Rattle.wg_canvas.specs.declared.canvas.Stage.TheVariants.{Unset, Empty, Filled}
 use Rattle.wg_encoder.specs.Recorders.{RecorderValue, RecordingValue}
 use Rattle.wg_history.specs.declared.events.Setup.{Setup}
 use Rattle.wg_history.specs.declared.events.Event.{Event}
+use Rattle.wg_history.specs.declared.events.Event.TheVariants.{Late}
 use Rattle.wg_history.specs.Entries.{Entry, Past}
 use Rattle.wg_history.specs.Rules.{is_genuine}
 use Rattle.wg_history.specs.Answers.{reply_to}
-use Rattle.wg_calls.specs.Calls.{event_asked, info_asked, finish_event, finished_info, finish_of, known_of_finish, recording_of, taken_out}
+use Rattle.wg_calls.specs.Calls.{event_asked, info_asked, finish_event, finished_info, finish_of, known_of_finish, recording_of, taken_out, handle_made}
 use Rattle.wg_calls.proofs.Genuine.{genuine_more, IsGenuineIfOwn, genuine_if_own, genuine_finish}
 use Rattle.wg_script.specs.CallOf.{BoundCall}
-use Rattle.wg_script.specs.declared.calls.CallOf.TheVariants.{Record, Ask}
+use Rattle.wg_script.specs.declared.calls.CallOf.TheVariants.{Record, Ask, Canvas}
 use Rattle.wg_play.specs.declared.objects.Object.{Object}
 use Rattle.wg_play.specs.declared.objects.Object.TheVariants as object
 use Rattle.wg_play.specs.declared.objects.Stand.{Stand}
+use Rattle.wg_play.specs.Canvases.{canvas_at, given_by}
 use Rattle.wg_play.specs.Objects.{unknown, handle_at, changed, with_recorder, recorder_at, recorded_by, recorded_on, passes_at, begun_by, ended_by, object_of}
 use Rattle.wg_play.specs.Sights.{Sight, place_in, handle_in_sight}
-use Rattle.wg_play.specs.Lanes.{command_seen, stand_seen, noted_on, kept, finish_by, finish_known, request_seen, event_sent, info_sent, event_of, handle_known, handle_kept, answered_by, settled}
-use Rattle.wg_play.specs.Kept.{IsKept, AreKept, SeesGenuine}
-use Rattle.wg_play.proofs.Slots.{with_tail}
+use Rattle.wg_play.specs.Lanes.{canvas_asks, drawn, command_seen, stand_seen, noted_on, kept, finish_by, finish_known, request_seen, event_sent, info_sent, event_of, handle_known, handle_kept, answered_by, settled}
+use Rattle.wg_play.specs.Kept.{IsKeptIn, IsKept, AreKept, SeesGenuine}
+use Rattle.wg_play.proofs.Drawn.{recorder_has, noted_has, drawn_others, drawn_has}
 use Rattle.wg_play.proofs.Following.{ended_on, with_kept, after_ask}
 
 -- ---- a past goes on
 
+texture_more : (setup : Setup) (entry : Entry) (past : Past) (texture : Option HandleValue) → IsKeptIn setup past texture → IsKeptIn setup (entry ∷ past) texture
+texture_more setup entry past None genuine = tt
+texture_more setup entry past (Some texture) genuine = genuine_more setup entry past texture genuine
+
 object_more : (setup : Setup) (entry : Entry) (past : Past) (o : Object) → IsKept setup past o → IsKept setup (entry ∷ past) o
 object_more setup entry past (object.Made handle recorder) genuine = genuine_more setup entry past handle genuine
 object_more setup entry past (object.Pass encoder number) genuine = tt
+object_more setup entry past (object.Canvas canvas) genuine = texture_more setup entry past (texture_of canvas) genuine
+object_more setup entry past (object.Shown texture) genuine = texture_more setup entry past texture genuine
 
 pub objects_more : (setup : Setup) (entry : Entry) (past : Past) (objects : List Object) → AreKept setup past objects → AreKept setup (entry ∷ past) objects
 objects_more setup entry past objects all = All-weaker (IsKept setup past) (IsKept setup (entry ∷ past)) (object_more setup entry past) objects all
@@ -55,41 +72,34 @@ sees_more setup entry past sight sees = (objects_more setup entry past sight.oth
 module _ (setup : Setup) (past : Past) where
   -- ---- recording calls
 
-  object_changed : (change : RecorderValue → RecorderValue) (o : Object) → IsKept setup past o → IsKept setup past (changed o change)
-  object_changed change (object.Made handle recorder) genuine = genuine
-  object_changed change (object.Pass encoder number) genuine = tt
-
   -- a change of a recorder changes no handle
   pub objects_changed : (change : RecorderValue → RecorderValue) (objects : List Object) (place : ℕ) → AreKept setup past objects → AreKept setup past (with_recorder objects place change)
-  objects_changed change [] place all = all
-  objects_changed change (o ∷ os) zero all =
-      All-cons (IsKept setup past) (changed o change) os (object_changed change o (All-head (IsKept setup past) o os all)) (All-tail (IsKept setup past) o os all)
-  objects_changed change (o ∷ os) (suc place) all =
-      subst (AreKept setup past) (sym (with_tail o os place change))
-      (All-cons (IsKept setup past) o (with_recorder os place change) (All-head (IsKept setup past) o os all) (objects_changed change os place (All-tail (IsKept setup past) o os all)))
-
-  pass_begun : (pass : Object) → IsKept setup past pass → (made : Option ℕ) (kind : Option Kind)
-      → AreKept setup past (option_map_or (λ (slot : ℕ). option_map_or (λ (k : Kind). pass ∷ []) kind []) made [])
-  pass_begun pass genuine None kind = All-nil (IsKept setup past)
-  pass_begun pass genuine (Some slot) None = All-nil (IsKept setup past)
-  pass_begun pass genuine (Some slot) (Some k) = All-cons (IsKept setup past) pass [] genuine (All-nil (IsKept setup past))
+  objects_changed change objects place all = recorder_has (λ handle. is_genuine setup past handle ≡ true) (IsKeptIn setup past) tt change objects place all
 
   noted_sees : (sight : Sight) (stand : Stand) (command : Command) (made : Option ℕ) → SeesGenuine setup past sight → SeesGenuine setup past (noted_on sight stand command made)
-  noted_sees sight stand command made sees = (
-    sees.0,
-    All-append (IsKept setup past) (recorded_on sight.own stand command) (begun_by sight.own stand.encoder command made)
-        (objects_changed (recorded_by stand.on command) sight.own stand.encoder sees.1)
-        (pass_begun (object.Pass stand.encoder (passes_at sight.own stand.encoder)) tt made (kind_begun command)),
-  )
+  noted_sees sight stand command made sees = (sees.0, noted_has (λ handle. is_genuine setup past handle ≡ true) (IsKeptIn setup past) tt sight.own stand command made sees.1)
 
   unless_late : (late : Bool) (noted after : Sight) → SeesGenuine setup past noted → (if late then None else Some noted) ≡ Some after → SeesGenuine setup past after
   unless_late true noted after sees e = absurd (cc (e))
   unless_late false noted after sees e = let same : noted ≡ after = cc (e) in subst (SeesGenuine setup past) same sees
 
+  -- ---- calls of canvases
+
+  pub drawn_sees : (sight : Sight) (call : CanvasOf ℕ) (made : Option ℕ) (given : Option HandleValue) → IsKeptIn setup past given → SeesGenuine setup past sight → SeesGenuine setup past (drawn sight call made given)
+  drawn_sees sight call made given new sees = (
+    subst (AreKept setup past) (sym (drawn_others sight call made given)) sees.0,
+    drawn_has (λ handle. is_genuine setup past handle ≡ true) (IsKeptIn setup past) tt sight call made given new sees.1,
+  )
+
+  unless_asked : (asked : Option (RequestOf HandleValue)) (new after : Sight) → SeesGenuine setup past new → option_map_or (λ (request : RequestOf HandleValue). None) asked (Some new) ≡ Some after → SeesGenuine setup past after
+  unless_asked None new after sees e = let same : new ≡ after = cc (e) in subst (SeesGenuine setup past) same sees
+  unless_asked (Some request) new after sees e = absurd (cc (e))
+
   kept_sees : (sight : Sight) (call : BoundCall) (after : Sight) → SeesGenuine setup past sight → kept sight call ≡ Some after → SeesGenuine setup past after
   kept_sees sight (Record on command made) after sees e =
       unless_late _ (noted_on sight (stand_seen sight on) (command_seen sight command) made) after (noted_sees sight (stand_seen sight on) (command_seen sight command) made sees) e
   kept_sees sight (Ask request made) after sees e = absurd (cc (e))
+  kept_sees sight (Canvas call made) after sees e = unless_asked (canvas_asks sight call) (drawn sight call made None) after (drawn_sees sight call made None tt sees) e
 
   -- a lane at its next event
   pub settled_sees : (sight : Sight) (calls : List BoundCall) → SeesGenuine setup past sight → SeesGenuine setup past (settled sight calls).sight
@@ -111,6 +121,9 @@ module _ (setup : Setup) (past : Past) where
   at_if_own some [] place all own = unknown_if_own some own
   at_if_own some (object.Made handle recorder ∷ os) zero all own = All-head (IsKept setup past) (object.Made handle recorder) os all
   at_if_own some (object.Pass encoder number ∷ os) zero all own = unknown_if_own some own
+  at_if_own some (object.Canvas canvas ∷ os) zero all own = unknown_if_own some own
+  at_if_own some (object.Shown None ∷ os) zero all own = unknown_if_own some own
+  at_if_own some (object.Shown (Some texture) ∷ os) zero all own = All-head (IsKept setup past) (object.Shown (Some texture)) os all
   at_if_own some (o ∷ os) (suc place) all own = at_if_own some os place (All-tail (IsKept setup past) o os all) own
 
   seen_if_own : setup.serial ≢ 0 → (sight : Sight) (slot : ℕ) → SeesGenuine setup past sight → IsGenuineIfOwn setup past (handle_in_sight sight slot)
@@ -252,6 +265,46 @@ slot_made : (made : Option ℕ) (found : Option HandleValue) (handle : HandleVal
 slot_made None found handle e = absurd (cc (e))
 slot_made (Some slot) found handle e = e
 
+-- What the device makes for a canvas is genuine once it is made.
+
+given_handle : (setup : Setup) (entry : Entry) (past : Past) (known : TextureInfo) → entry.event ≡ event_asked (CreateTexture known) → entry.reply ≡ reply_to setup past entry.event
+    → (found : Option HandleValue) → handle_made setup.serial (CreateTexture known) entry.reply.answer ≡ found → IsKeptIn setup (entry ∷ past) found
+given_handle setup entry past known asked replied None e = tt
+given_handle setup entry past known asked replied (Some handle) e = genuine_if_own setup entry past (CreateTexture known) handle asked replied (All-nil (UsedIfOwn setup (entry ∷ past))) e
+
+given_expiry : (setup : Setup) (past : Past) (texture : Option HandleValue) (answer : Answer) → IsKeptIn setup past (given_by setup.serial (option_map Destroy texture) answer)
+given_expiry setup past None answer = tt
+given_expiry setup past (Some texture) answer = tt
+
+abbrev event_if : Option (RequestOf HandleValue) → Event
+event_if asked = option_map_or event_asked asked (Late unknown.reference)
+
+given_stage : (setup : Setup) (entry : Entry) (past : Past) (canvas : CanvasValue) (stage : Stage) → entry.event ≡ event_if (stage_asked canvas stage) → entry.reply ≡ reply_to setup past entry.event
+    → IsKeptIn setup (entry ∷ past) (given_by setup.serial (stage_asked canvas stage) entry.reply.answer)
+given_stage setup entry past canvas Unset asked replied = tt
+given_stage setup entry past canvas (Empty setting) asked replied =
+    given_handle setup entry past (info_of canvas setting) asked replied (handle_made setup.serial (CreateTexture (info_of canvas setting)) entry.reply.answer) refl
+given_stage setup entry past canvas (Filled setting texture) asked replied = tt
+
+given_act : (setup : Setup) (entry : Entry) (past : Past) (canvas : CanvasValue) (call : CanvasCall) → entry.event ≡ event_if (act_asked canvas call) → entry.reply ≡ reply_to setup past entry.event
+    → IsKeptIn setup (entry ∷ past) (given_by setup.serial (act_asked canvas call) entry.reply.answer)
+given_act setup entry past canvas (Configure format usage) asked replied = given_expiry setup (entry ∷ past) (texture_of canvas) entry.reply.answer
+given_act setup entry past canvas Current asked replied = given_stage setup entry past canvas canvas.stage asked replied
+given_act setup entry past canvas Present asked replied = given_expiry setup (entry ∷ past) (texture_of canvas) entry.reply.answer
+
+abbrev asked_of : CanvasCall → Option CanvasValue → Option (RequestOf HandleValue)
+asked_of call found = option_and_then (λ canvas. act_asked canvas call) found
+
+given_found : (setup : Setup) (entry : Entry) (past : Past) (found : Option CanvasValue) (call : CanvasCall) → entry.event ≡ event_if (asked_of call found) → entry.reply ≡ reply_to setup past entry.event
+    → IsKeptIn setup (entry ∷ past) (given_by setup.serial (asked_of call found) entry.reply.answer)
+given_found setup entry past None call asked replied = tt
+given_found setup entry past (Some canvas) call asked replied = given_act setup entry past canvas call asked replied
+
+pub given_genuine : (setup : Setup) (entry : Entry) (past : Past) (sight : Sight) (call : CanvasOf ℕ) (made : Option ℕ) → entry.event ≡ event_of sight (Canvas call made) → entry.reply ≡ reply_to setup past entry.event
+    → IsKeptIn setup (entry ∷ past) (given_by setup.serial (canvas_asks sight call) entry.reply.answer)
+given_genuine setup entry past sight (Create width height) made asked replied = tt
+given_genuine setup entry past sight (On canvas call) made asked replied = given_found setup entry past (canvas_at sight.own (place_in sight canvas)) call asked replied
+
 -- What a lane sees after its next call.
 pub answered_sees : (setup : Setup) → setup.serial ≢ 0 → (entry : Entry) (past : Past) (sight : Sight) (call : BoundCall) → SeesGenuine setup past sight
     → entry.event ≡ event_of sight call → entry.reply ≡ reply_to setup past entry.event
@@ -260,9 +313,12 @@ answered_sees setup some entry past sight (Record on command made) sees asked re
     noted_sees setup (entry ∷ past) sight (stand_seen sight on) (command_seen sight command) made (sees_more setup entry past sight sees)
 answered_sees setup some entry past sight (Ask request made) sees asked replied =
     let more : SeesGenuine setup (entry ∷ past) sight = sees_more setup entry past sight sees in
-    let handle : Option HandleValue = handle_kept setup.serial sight (Ask request made) entry.reply.answer in
+    let handle : Option HandleValue = handle_kept setup.serial sight request made entry.reply.answer in
     subst (SeesGenuine setup (entry ∷ past)) (sym (after_ask setup.serial sight request made entry.reply.answer)) (
       more.0,
       kept_if_made setup (entry ∷ past) (ended_on sight (ended_by request)) handle (ended_kept setup (entry ∷ past) sight (ended_by request) more.1)
           (λ h e. made_is_genuine setup some entry past sight request h sees asked replied (slot_made made (handle_known setup.serial (info_sent sight request) entry.reply.answer) h e)),
     )
+answered_sees setup some entry past sight (Canvas call made) sees asked replied =
+    drawn_sees setup (entry ∷ past) sight call made (given_by setup.serial (canvas_asks sight call) entry.reply.answer) (given_genuine setup entry past sight call made asked replied)
+    (sees_more setup entry past sight sees)

@@ -4,24 +4,29 @@ use Rattle.std.specs.Prelude.{option_map, slice_get}
 use Rattle.std.specs.Option.{option_map_or}
 use Rattle.std.proofs.lemmas.Bool.{cases_eq, eq-eqb, ne_eqb}
 use Rattle.wg_types.specs.Handles.{HandleValue}
+use Rattle.wg_types.specs.declared.canvases.CanvasOf.{CanvasOf}
+use Rattle.wg_types.specs.declared.canvases.CanvasOf.TheVariants.{Create, On as OnCanvas}
 use Rattle.wg_types.specs.declared.commands.On.{On}
 use Rattle.wg_types.specs.declared.replies.Answer.{Answer}
 use Rattle.wg_types.specs.Commands.{Command}
 use Rattle.wg_model.specs.Walk.{begins_pass}
+use Rattle.wg_canvas.specs.Canvases.{acted}
 use Rattle.wg_encoder.specs.Recorders.{RecorderValue, has_taken, recorded}
 use Rattle.wg_encoder.proofs.TakeLemmas.{counted}
 use Rattle.wg_calls.specs.Calls.{taken_out}
 use Rattle.wg_script.specs.CallOf.{BoundCall}
-use Rattle.wg_script.specs.declared.calls.CallOf.TheVariants.{Record, Ask}
+use Rattle.wg_script.specs.declared.calls.CallOf.TheVariants.{Record, Ask, Canvas}
 use Rattle.wg_play.specs.declared.objects.Object.{Object}
 use Rattle.wg_play.specs.declared.objects.Object.TheVariants as object
 use Rattle.wg_play.specs.declared.objects.Stand.{Stand}
+use Rattle.wg_play.specs.Canvases.{given_by, acted_at, shown_at}
 use Rattle.wg_play.specs.Objects.{recorder_at, with_recorder, is_begun, recorded_by, recorded_on, begun_by, taken_on, ended_by, object_of}
 use Rattle.wg_play.specs.Sights.{Sight, place_in}
-use Rattle.wg_play.specs.Lanes.{command_seen, stand_seen, handle_kept}
+use Rattle.wg_play.specs.Lanes.{canvas_asks, new_canvas, drawn, command_seen, stand_seen, handle_kept}
 use Rattle.wg_play.specs.Late.{finishes, after_call}
 use Rattle.wg_play.proofs.Slots.{own_recorder, other_recorder, pass_with, length_with, at_append, recorder_append}
-use Rattle.wg_play.proofs.Following.{ended_on, with_kept, after_record, after_ask}
+use Rattle.wg_play.proofs.Redrawn.{redrawn_recorder, redrawn_pass}
+use Rattle.wg_play.proofs.Following.{ended_on, with_kept, after_record, after_ask, after_canvas}
 
 pub or_false : (b : Bool) → (b || false) ≡ b
 or_false true = refl
@@ -124,11 +129,32 @@ made_pass : (objects : List Object) (handle : Option HandleValue) (place encoder
 made_pass objects None place encoder number e = e
 made_pass objects (Some handle) place encoder number e = at_append objects (object_of handle ∷ []) place (object.Pass encoder number) e
 
+-- ---- a call of a canvas
+
+drawn_kept : (sight : Sight) (call : CanvasOf ℕ) (made : Option ℕ) (given : Option HandleValue) (place : ℕ) (r : RecorderValue) → recorder_at sight.own place ≡ Some r
+    → Kept (drawn sight call made given).own place false r
+drawn_kept sight (Create width height) made given place r e = kept_append sight.own (new_canvas width height made) place false r (same_kept sight.own place r e)
+drawn_kept sight (OnCanvas canvas call) made given place r e =
+    let at : ℕ = place_in sight canvas in
+    let objects : List Object = acted_at sight.own at call given in
+    kept_append objects (shown_at objects at call made) place false r
+    (same_kept objects place r (redrawn_recorder (λ found. acted found call given) sight.own at place ∙ e))
+
+drawn_pass : (sight : Sight) (call : CanvasOf ℕ) (made : Option ℕ) (given : Option HandleValue) (place encoder number : ℕ) → slice_get sight.own place ≡ Some (object.Pass encoder number)
+    → slice_get (drawn sight call made given).own place ≡ Some (object.Pass encoder number)
+drawn_pass sight (Create width height) made given place encoder number e = at_append sight.own (new_canvas width height made) place (object.Pass encoder number) e
+drawn_pass sight (OnCanvas canvas call) made given place encoder number e =
+    let at : ℕ = place_in sight canvas in
+    let objects : List Object = acted_at sight.own at call given in
+    at_append objects (shown_at objects at call made) place (object.Pass encoder number)
+    (redrawn_pass (λ found. acted found call given) sight.own at place encoder number e)
+
 -- ---- a call
 
 abbrev pub Owns : ℕ → BoundCall → Type 0
 Owns first (Record on command made) = Unit {0}
 Owns first (Ask request made) = EndsOwn first (ended_by request)
+Owns first (Canvas call made) = Unit {0}
 
 pub call_keeps : (serial : ℕ) (sight : Sight) (call : BoundCall) (answer : Answer) (place : ℕ) (r : RecorderValue) → Owns sight.first call → recorder_at sight.own place ≡ Some r
     → Kept (after_call serial sight (call, answer)).own place (finishes (sight.first + place) call) r
@@ -139,8 +165,11 @@ call_keeps serial sight (Record on command made) answer place r owns e =
     (kept_append (recorded_on sight.own stand found) (begun_by sight.own stand.encoder found made) place false r (recorded_kept sight.own stand found place r e))
 call_keeps serial sight (Ask request made) answer place r owns e =
     subst (λ (s : Sight). Kept s.own place (finishes (sight.first + place) (Ask request made)) r) (sym (after_ask serial sight request made answer))
-    (made_kept (ended_on sight (ended_by request)) (handle_kept serial sight (Ask request made) answer) place (finishes (sight.first + place) (Ask request made)) r
+    (made_kept (ended_on sight (ended_by request)) (handle_kept serial sight request made answer) place (finishes (sight.first + place) (Ask request made)) r
     (ended_kept sight (ended_by request) place r owns e))
+call_keeps serial sight (Canvas call made) answer place r owns e =
+    subst (λ (s : Sight). Kept s.own place false r) (sym (after_canvas serial sight call made answer))
+    (drawn_kept sight call made (given_by serial (canvas_asks sight call) answer) place r e)
 
 pub call_leaves : (serial : ℕ) (sight : Sight) (call : BoundCall) (answer : Answer) (place encoder number : ℕ) → slice_get sight.own place ≡ Some (object.Pass encoder number)
     → slice_get (after_call serial sight (call, answer)).own place ≡ Some (object.Pass encoder number)
@@ -152,5 +181,8 @@ call_leaves serial sight (Record on command made) answer place encoder number e 
     (pass_with (recorded_by stand.on found) sight.own stand.encoder place encoder number e)
 call_leaves serial sight (Ask request made) answer place encoder number e =
     ap (λ (s : Sight). slice_get s.own place) (after_ask serial sight request made answer)
-    ∙ made_pass (ended_on sight (ended_by request)) (handle_kept serial sight (Ask request made) answer) place encoder number
+    ∙ made_pass (ended_on sight (ended_by request)) (handle_kept serial sight request made answer) place encoder number
     (ended_pass sight (ended_by request) place encoder number e)
+call_leaves serial sight (Canvas call made) answer place encoder number e =
+    ap (λ (s : Sight). slice_get s.own place) (after_canvas serial sight call made answer)
+    ∙ drawn_pass sight call made (given_by serial (canvas_asks sight call) answer) place encoder number e

@@ -1,5 +1,7 @@
 pub mod Begun
 pub mod Slots
+pub mod Redrawn
+pub mod Drawn
 pub mod Turning
 pub mod Phases
 pub mod Parts
@@ -24,3 +26,7 @@ pub mod Makers
 pub mod Encoders
 pub mod PlayedPhases
 pub mod PlayedLaw
+pub mod Givers
+pub mod Counting
+pub mod Shown
+pub mod PresentedLaw

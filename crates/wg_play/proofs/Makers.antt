@@ -8,29 +8,36 @@ use Rattle.std.proofs.lemmas.List.{length-append}
 use Rattle.std.proofs.lemmas.List.Elements.{All-nil, All-cons, All-head, All-tail, Contains-append_left, Contains-append_right, Contains-append_cases, Contains-push_cases}
 use Rattle.wg_types.specs.Handles.{HandleValue}
 use Rattle.wg_types.specs.Commands.{Command}
+use Rattle.wg_types.specs.declared.canvases.CanvasCall.TheVariants.{Configure, Current, Present}
+use Rattle.wg_types.specs.declared.canvases.CanvasOf.{CanvasOf}
+use Rattle.wg_types.specs.declared.canvases.CanvasOf.TheVariants.{Create, On}
 use Rattle.wg_types.specs.declared.handles.Info.{Info}
 use Rattle.wg_types.specs.declared.replies.Answer.{Answer}
 use Rattle.wg_types.specs.declared.replies.Answer.TheVariants.{Made, Queued, Promised, Plain, BadCompletion}
 use Rattle.wg_types.specs.declared.wanted.Kind.{Kind}
+use Rattle.wg_canvas.specs.Canvases.{CanvasValue, texture_of, acted}
+use Rattle.wg_canvas.specs.declared.canvas.Stage.TheVariants.{Unset}
 use Rattle.wg_encoder.specs.Recorders.{RecorderValue}
 use Rattle.wg_history.specs.declared.events.Setup.{Setup}
 use Rattle.wg_history.specs.Entries.{Entry}
 use Rattle.wg_calls.specs.Calls.{handle_of, taken_out}
 use Rattle.wg_script.specs.CallOf.{BoundCall}
-use Rattle.wg_script.specs.declared.calls.CallOf.TheVariants.{Record, Ask}
+use Rattle.wg_script.specs.declared.calls.CallOf.TheVariants.{Record, Ask, Canvas}
 use Rattle.wg_names.specs.Uses.{made_of}
 use Rattle.wg_names.specs.Bound.{made_by, made_in}
 use Rattle.wg_play.specs.declared.objects.Object.{Object}
 use Rattle.wg_play.specs.declared.objects.Object.TheVariants as object
 use Rattle.wg_play.specs.declared.objects.Stand.{Stand}
+use Rattle.wg_play.specs.Canvases.{canvas_at, redrawn, with_canvas, given_by, acted_at, shown_at}
 use Rattle.wg_play.specs.Objects.{handle_in, changed, with_recorder, recorded_by, recorded_on, begun_by, ended_by, object_of}
 use Rattle.wg_play.specs.Sights.{Sight, place_in}
-use Rattle.wg_play.specs.Lanes.{command_seen, stand_seen, info_sent, handle_known, handle_kept, count_made, gathered}
+use Rattle.wg_play.specs.Lanes.{canvas_asks, new_canvas, drawn, command_seen, stand_seen, info_sent, handle_known, handle_kept, count_made, gathered}
 use Rattle.wg_play.specs.Late.{Answered, IsAnswered, after_call, after_calls}
 use Rattle.wg_play.specs.Found.{ended_from, phase_of}
 use Rattle.wg_play.specs.Played.{PlayedCall, calls_in, with_answer, answered_lanes}
 use Rattle.wg_play.proofs.Slots.{own_at, other_at, at_append, at_new}
-use Rattle.wg_play.proofs.Following.{ended_on, with_kept, after_record, after_ask, same_first, Fits, handle_fits}
+use Rattle.wg_play.proofs.Redrawn.{redrawn_own, redrawn_other, redrawn_length, redrawn_handle}
+use Rattle.wg_play.proofs.Following.{ended_on, with_kept, after_record, after_ask, after_canvas, same_first, Fits, handle_fits}
 use Rattle.wg_play.proofs.Lateness.{ended_length}
 use Rattle.wg_play.proofs.Making.{call_length}
 use Rattle.wg_play.proofs.Numbered.{only, Slots, AreFrom, slots_of, first_from, from_front, from_back}
@@ -104,6 +111,7 @@ abbrev pub IsFrom : ℕ → HandleValue → BoundCall → Option Entry → Type 
 IsFrom serial handle (Record on command made) found = Unit {0}
 IsFrom serial handle (Ask request made) None = ⊥
 IsFrom serial handle (Ask request made) (Some entry) = (handle.reference.device ≡ serial) × (entry.reply.answer ≡ Made handle.reference.number handle.valid)
+IsFrom serial handle (Canvas call made) found = Unit {0}
 
 pub record IsMadeAt (serial : ℕ) (objects : List Object) (place : ℕ) (maker : PlayedCall) : Type 0 where
   pub what : Object
@@ -117,6 +125,8 @@ made_append serial objects more place maker was = record { what = was.what; is =
 same_handle : (change : RecorderValue → RecorderValue) (x : Object) → handle_in (changed x change) ≡ handle_in x
 same_handle change (object.Made handle recorder) = refl
 same_handle change (object.Pass encoder number) = refl
+same_handle change (object.Canvas canvas) = refl
+same_handle change (object.Shown texture) = refl
 
 made_changed : (serial : ℕ) (change : RecorderValue → RecorderValue) (objects : List Object) (at place : ℕ) (maker : PlayedCall)
     → IsMadeAt serial objects place maker → IsMadeAt serial (with_recorder objects at change) place maker
@@ -139,6 +149,41 @@ kept_made : (serial : ℕ) (objects : List Object) (handle : Option HandleValue)
 kept_made serial objects None place maker was = was
 kept_made serial objects (Some handle) place maker was = made_append serial objects (object_of handle ∷ []) place maker was
 
+made_redrawn : (serial : ℕ) (change : CanvasValue → CanvasValue) (objects : List Object) (at place : ℕ) (maker : PlayedCall)
+    → IsMadeAt serial objects place maker → IsMadeAt serial (with_canvas objects at change) place maker
+made_redrawn serial change objects at place maker was = elim (cases_eq at place) [
+  | inl same ↦ subst (λ n. IsMadeAt serial (with_canvas objects n change) place maker) (sym same) (record {
+    what = redrawn was.what change;
+    is = redrawn_own change objects place ∙ ap (option_map (λ (x : Object). redrawn x change)) was.is;
+    of = subst (λ (h : HandleValue). IsFrom serial h maker.0 maker.1) (sym (redrawn_handle change was.what)) was.of;
+  })
+  | inr differs ↦ record { what = was.what; is = redrawn_other change objects at place differs ∙ was.is; of = was.of }
+]
+
+drawn_made : (serial : ℕ) (sight : Sight) (call : CanvasOf ℕ) (made : Option ℕ) (given : Option HandleValue) (place : ℕ) (maker : PlayedCall)
+    → IsMadeAt serial sight.own place maker → IsMadeAt serial (drawn sight call made given).own place maker
+drawn_made serial sight (Create width height) made given place maker was = made_append serial sight.own (new_canvas width height made) place maker was
+drawn_made serial sight (On canvas call) made given place maker was =
+    let at : ℕ = place_in sight canvas in
+    let objects : List Object = acted_at sight.own at call given in
+    made_append serial objects (shown_at objects at call made) place maker (made_redrawn serial (λ found. acted found call given) sight.own at place maker was)
+
+-- what a call of a canvas makes stands at the next place
+drawn_new : (serial : ℕ) (sight : Sight) (call : CanvasOf ℕ) (made : Option ℕ) (given : Option HandleValue) (found : Option Entry) (slot : ℕ) (k : Kind)
+    → made_of (Canvas call made) ≡ Some (slot, k) → IsMadeAt serial (drawn sight call made given).own (length sight.own) (Canvas call made, found)
+drawn_new serial sight call None given found slot k e = absurd (cc (e))
+drawn_new serial sight (Create width height) (Some name) given found slot k e =
+    let new : Object = object.Canvas (record { width = width; height = height; stage = Unset }) in
+    record { what = new; is = at_new sight.own new; of = tt }
+drawn_new serial sight (On canvas (Configure format usage)) (Some name) given found slot k e = absurd (cc (e))
+drawn_new serial sight (On canvas Current) (Some name) given found slot k e =
+    let at : ℕ = place_in sight canvas in
+    let objects : List Object = acted_at sight.own at Current given in
+    let new : Object = object.Shown (option_and_then texture_of (canvas_at objects at)) in
+    let count : length objects ≡ length sight.own = redrawn_length (λ c. acted c Current given) sight.own at in
+    record { what = new; is = subst (λ n. slice_get (objects ++ new ∷ []) n ≡ Some new) count (at_new objects new); of = tt }
+drawn_new serial sight (On canvas Present) (Some name) given found slot k e = absurd (cc (e))
+
 -- it stays where it is
 call_leaves : (serial : ℕ) (sight : Sight) (call : BoundCall) (answer : Answer) (place : ℕ) (maker : PlayedCall) → IsMadeAt serial sight.own place maker
     → IsMadeAt serial (after_call serial sight (call, answer)).own place maker
@@ -150,13 +195,16 @@ call_leaves serial sight (Record on command made) answer place maker was =
     (made_changed serial (recorded_by stand.on found) sight.own stand.encoder place maker was))
 call_leaves serial sight (Ask request made) answer place maker was =
     subst (λ (s : Sight). IsMadeAt serial s.own place maker) (sym (after_ask serial sight request made answer))
-    (kept_made serial (ended_on sight (ended_by request)) (handle_kept serial sight (Ask request made) answer) place maker
+    (kept_made serial (ended_on sight (ended_by request)) (handle_kept serial sight request made answer) place maker
     (ended_made serial sight (ended_by request) place maker was))
+call_leaves serial sight (Canvas call made) answer place maker was =
+    subst (λ (s : Sight). IsMadeAt serial s.own place maker) (sym (after_canvas serial sight call made answer))
+    (drawn_made serial sight call made (given_by serial (canvas_asks sight call) answer) place maker was)
 
-abbrev IsAnswer : ℕ → Answer → HandleValue → Type 0
+abbrev pub IsAnswer : ℕ → Answer → HandleValue → Type 0
 IsAnswer serial answer handle = (handle.reference.device ≡ serial) × (answer ≡ Made handle.reference.number handle.valid)
 
-handle_from : (serial : ℕ) (known : Info) (answer : Answer) (handle : HandleValue) → handle_of serial known answer ≡ Some handle
+pub handle_from : (serial : ℕ) (known : Info) (answer : Answer) (handle : HandleValue) → handle_of serial known answer ≡ Some handle
     → IsAnswer serial answer handle
 handle_from serial known (Made number valid) handle e =
     let new : HandleValue = record { reference = record { device = serial; number = number }; valid = valid; info = known } in
@@ -189,7 +237,7 @@ module _ (setup : Setup) where
   call_new sight (Ask request made) None slot k runs e = absurd (cc (runs))
   call_new sight (Ask request made) (Some entry) slot k runs e =
       let answer : Answer = entry.reply.answer in
-      let handle : Option HandleValue = handle_kept setup.serial sight (Ask request made) answer in
+      let handle : Option HandleValue = handle_kept setup.serial sight request made answer in
       let fits : Fits handle (Some (slot, k)) = subst (Fits handle) e
       (handle_fits setup.serial sight request made answer (call_answered setup sight (Ask request made, Some entry) runs)) in
       subst (λ (s : Sight). IsMadeAt setup.serial s.own (length sight.own) (Ask request made, Some entry))
@@ -198,6 +246,10 @@ module _ (setup : Setup) where
       (ended_length sight (ended_by request))
       (new_made setup.serial (ended_on sight (ended_by request)) handle slot k (Ask request made, Some entry) fits
       (λ h x. kept_from setup.serial (info_sent sight request) answer made h x)))
+  call_new sight (Canvas call made) found slot k runs e =
+      let answer : Answer = (with_answer (Canvas call made, found)).1 in
+      subst (λ (s : Sight). IsMadeAt setup.serial s.own (length sight.own) (Canvas call made, found)) (sym (after_canvas setup.serial sight call made answer))
+      (drawn_new setup.serial sight call made (given_by setup.serial (canvas_asks sight call) answer) found slot k e)
 
   -- ---- calls of a lane, one after another
 

@@ -1,6 +1,6 @@
 -- What calls make: how many objects a lane has after a call, and what stands at the new place.
-use Rattle.std.proofs.Common.{◌≡◌, ℕ, ◌+◌, nat_lt, Bool, true, false, Option, Some, None, List, [], ◌∷◌, ◌++◌, length, refl, sym, ap, subst, ◌∙◌, arith, if◌then◌else◌, true≢false}
-use Rattle.std.specs.Prelude.{option_map, slice_get}
+use Rattle.std.proofs.Common.{◌≡◌, ℕ, ◌+◌, nat_lt, Bool, true, false, Option, Some, None, List, [], ◌∷◌, ◌++◌, length, refl, sym, ap, ap₂, subst, ◌∙◌, ◌⊎◌, inl, inr, arith, if◌then◌else◌, true≢false}
+use Rattle.std.specs.Prelude.{option_map, option_and_then, slice_get}
 use Rattle.std.specs.Option.{option_map_or, option_to_list}
 use Rattle.std.proofs.lemmas.Bool.Decides.{nat_tests}
 use Rattle.std.proofs.lemmas.List.{length-append}
@@ -12,6 +12,11 @@ use Rattle.wg_types.specs.declared.handles.Info.TheVariants as info
 use Rattle.wg_types.specs.declared.replies.Answer.{Answer}
 use Rattle.wg_types.specs.declared.wanted.Kind.{Kind}
 use Rattle.wg_types.specs.declared.wanted.Kind.TheVariants as kind
+use Rattle.wg_types.specs.declared.canvases.CanvasCall.{CanvasCall}
+use Rattle.wg_types.specs.declared.canvases.CanvasCall.TheVariants.{Configure, Current, Present}
+use Rattle.wg_types.specs.declared.canvases.CanvasOf.{CanvasOf}
+use Rattle.wg_types.specs.declared.canvases.CanvasOf.TheVariants.{Create, On}
+use Rattle.wg_types.specs.Canvases.{kind_shown}
 use Rattle.wg_types.specs.declared.commands.On.TheVariants.{Encoder}
 use Rattle.wg_types.specs.declared.commands.Bracket.{Bracket}
 use Rattle.wg_types.specs.declared.commands.Bracket.TheVariants as brackets
@@ -20,22 +25,25 @@ use Rattle.wg_types.specs.Commands.{Command, map_refs, bracket, kind_begun_by, k
 use Rattle.wg_types.specs.Requests.{kind_made}
 use Rattle.wg_types.specs.declared.requests.RequestOf.{RequestOf}
 use Rattle.wg_types.specs.declared.requests.RequestOf.TheVariants.{CreateBuffer, CreateTexture, CreateView, CreateSampler, CreateBindGroupLayout, CreatePipelineLayout, CreateBindGroup, CreateComputePipeline, CreateRenderPipeline, CreateQuerySet, CreateEncoder, CreateBundleEncoder, Finish, FinishBundle, Submit, WriteBuffer, WriteTexture, Destroy, Drop, Complete, PushErrorScope, PopErrorScope, Lose, WorkDone, MapAsync, Unmap}
+use Rattle.wg_canvas.specs.Canvases.{acted, texture_of}
 use Rattle.wg_encoder.specs.Recorders.{RecorderValue, has_taken}
 use Rattle.wg_calls.specs.Calls.{opened_for, opened_with}
 use Rattle.wg_script.specs.CallOf.{BoundCall}
-use Rattle.wg_script.specs.declared.calls.CallOf.TheVariants.{Record, Ask}
+use Rattle.wg_script.specs.declared.calls.CallOf.TheVariants.{Record, Ask, Canvas}
 use Rattle.wg_names.specs.Uses.{made_as, made_of}
 use Rattle.wg_names.specs.Bound.{made_by}
 use Rattle.wg_play.specs.declared.objects.Object.{Object}
 use Rattle.wg_play.specs.declared.objects.Object.TheVariants as object
 use Rattle.wg_play.specs.declared.objects.Stand.{Stand}
+use Rattle.wg_play.specs.Canvases.{canvas_at, given_by, acted_at, shown_by, shown_at}
 use Rattle.wg_play.specs.Objects.{recorder_at, with_recorder, recorded_by, recorded_on, passes_at, begun_by, ended_by, recorder_for, object_of}
 use Rattle.wg_play.specs.Sights.{Sight, place_in, handle_in_sight}
-use Rattle.wg_play.specs.Lanes.{command_seen, stand_seen, handle_kept}
+use Rattle.wg_play.specs.Lanes.{canvas_asks, new_canvas, drawn, command_seen, stand_seen, handle_kept}
 use Rattle.wg_play.specs.Found.{is_pass, has_recorder, recorder_kind}
 use Rattle.wg_play.specs.Late.{Answers, after_call}
 use Rattle.wg_play.proofs.Slots.{own_recorder, length_with, at_new, recorder_new, recorder_append, stand_encoder}
-use Rattle.wg_play.proofs.Following.{ended_on, with_kept, after_record, after_ask, Fits, handle_fits, fits_length, MakesAs, same_kind, handle_kind}
+use Rattle.wg_play.proofs.Redrawn.{redrawn_length}
+use Rattle.wg_play.proofs.Following.{ended_on, with_kept, after_record, after_ask, after_canvas, Fits, handle_fits, fits_length, MakesAs, same_kind, handle_kind}
 use Rattle.wg_play.proofs.Lateness.{ended_length}
 use Rattle.wg_play.proofs.Places.{bracket_mapped, begins_by}
 
@@ -48,6 +56,27 @@ begun_length objects encoder command (Some slot) (Some k) e = rw e refl
 
 pub begun_mapped : (f : ℕ → HandleValue) (command : CommandOf ℕ) → kind_begun (map_refs f command) ≡ kind_begun command
 begun_mapped f command = ap kind_begun_by (bracket_mapped f command)
+
+new_length : (width height : ℕ) (made : Option ℕ) → length (new_canvas width height made) ≡ length (option_to_list (made_as made (Some kind.Canvas)))
+new_length width height None = refl
+new_length width height (Some slot) = refl
+
+shown_length : (call : CanvasCall) (made : Option ℕ) (texture : Option HandleValue) → length (shown_by call made texture) ≡ length (option_to_list (made_as made (kind_shown call)))
+shown_length (Configure format usage) None texture = refl
+shown_length (Configure format usage) (Some slot) texture = refl
+shown_length Current None texture = refl
+shown_length Current (Some slot) texture = refl
+shown_length Present None texture = refl
+shown_length Present (Some slot) texture = refl
+
+drawn_length : (sight : Sight) (call : CanvasOf ℕ) (made : Option ℕ) (given : Option HandleValue) → length (drawn sight call made given).own ≡ length sight.own + length (made_by (Canvas call made))
+drawn_length sight (Create width height) made given =
+    length-append sight.own (new_canvas width height made) ∙ ap (λ n. length sight.own + n) (new_length width height made)
+drawn_length sight (On canvas call) made given =
+    let at : ℕ = place_in sight canvas in
+    let objects : List Object = acted_at sight.own at call given in
+    length-append objects (shown_at objects at call made)
+    ∙ ap₂ (λ (m n : ℕ). m + n) (redrawn_length (λ found. acted found call given) sight.own at) (shown_length call made (option_and_then texture_of (canvas_at objects at)))
 
 pub call_length : (serial : ℕ) (sight : Sight) (call : BoundCall) (answer : Answer) → Answers call answer
     → length (after_call serial sight (call, answer)).own ≡ length sight.own + length (made_by call)
@@ -63,9 +92,11 @@ call_length serial sight (Record on command made) answer answered =
 call_length serial sight (Ask request made) answer answered =
     let one : length (after_call serial sight (Ask request made, answer)).own ≡ length (ended_on sight (ended_by request)) + length (made_by (Ask request made))
     = ap (λ (s : Sight). length s.own) (after_ask serial sight request made answer)
-    ∙ fits_length (ended_on sight (ended_by request)) (handle_kept serial sight (Ask request made) answer) (made_of (Ask request made)) (handle_fits serial sight request made answer answered) in
+    ∙ fits_length (ended_on sight (ended_by request)) (handle_kept serial sight request made answer) (made_of (Ask request made)) (handle_fits serial sight request made answer answered) in
     let same : length (ended_on sight (ended_by request)) ≡ length sight.own = ended_length sight (ended_by request) in
     one ∙ omega (arith, same)
+call_length serial sight (Canvas call made) answer answered =
+    ap (λ (s : Sight). length s.own) (after_canvas serial sight call made answer) ∙ drawn_length sight call made (given_by serial (canvas_asks sight call) answer)
 
 -- ---- the encoder that a call makes
 
@@ -121,16 +152,35 @@ no_encoder brackets.PushGroup slot on k p e = cc
 no_encoder brackets.PopGroup slot on k p e = cc
 no_encoder brackets.Neither slot on k p e = cc
 
+-- no call of a canvas makes an encoder or a pass
+pub makes_canvas : (call : CanvasOf ℕ) (made : Option ℕ) (on : ℕ) (k : Kind) → made_of (Canvas call made) ≡ Some (on, k) → (k ≡ kind.Canvas) ⊎ (k ≡ kind.CanvasTexture)
+makes_canvas call None on k e = absurd (cc (e))
+makes_canvas (Create width height) (Some slot) on k e = let same : Some kind.Canvas ≡ Some k = same_kind slot on (Some kind.Canvas) k e in inl (cc (same))
+makes_canvas (On canvas (Configure format usage)) (Some slot) on k e = absurd (cc (e))
+makes_canvas (On canvas Current) (Some slot) on k e = let same : Some kind.CanvasTexture ≡ Some k = same_kind slot on (Some kind.CanvasTexture) k e in inr (cc (same))
+makes_canvas (On canvas Present) (Some slot) on k e = absurd (cc (e))
+
+not_either : (test : Kind → Bool) (k : Kind) → test kind.Canvas ≡ false → test kind.CanvasTexture ≡ false → (k ≡ kind.Canvas) ⊎ (k ≡ kind.CanvasTexture) → test k ≡ true → ⊥
+not_either test k first second (inl same) p = true≢false (sym p ∙ (ap test same ∙ first))
+not_either test k first second (inr same) p = true≢false (sym p ∙ (ap test same ∙ second))
+
+pub canvas_no_encoder : (call : CanvasOf ℕ) (made : Option ℕ) (on : ℕ) (k : Kind) → has_recorder k ≡ true → made_of (Canvas call made) ≡ Some (on, k) → ⊥
+canvas_no_encoder call made on k p e = not_either has_recorder k refl refl (makes_canvas call made on k e) p
+
+canvas_no_pass : (call : CanvasOf ℕ) (made : Option ℕ) (on : ℕ) (k : Kind) → is_pass k ≡ true → made_of (Canvas call made) ≡ Some (on, k) → ⊥
+canvas_no_pass call made on k p e = not_either is_pass k refl refl (makes_canvas call made on k e) p
+
 pub encoder_made : (serial : ℕ) (sight : Sight) (call : BoundCall) (answer : Answer) (on : ℕ) (k : Kind) → has_recorder k ≡ true → Answers call answer → MakesAs sight call → made_of call ≡ Some (on, k)
     → Fresh (after_call serial sight (call, answer)).own (length sight.own)
 encoder_made serial sight (Record stand command None) answer on k p answered fit e = absurd (cc)
 encoder_made serial sight (Record stand command (Some slot)) answer on k p answered fit e = absurd (no_encoder (bracket command) slot on k p e)
 encoder_made serial sight (Ask request made) answer on k p answered fit e =
-    let handle : Option HandleValue = handle_kept serial sight (Ask request made) answer in
+    let handle : Option HandleValue = handle_kept serial sight request made answer in
     let fits : Fits handle (Some (on, k)) = subst (Fits handle) e (handle_fits serial sight request made answer answered) in
     subst (λ (s : Sight). Fresh s.own (length sight.own)) (sym (after_ask serial sight request made answer))
     (subst (λ n. Fresh (with_kept (ended_on sight (ended_by request)) handle) n) (ended_length sight (ended_by request))
     (encoder_new (ended_on sight (ended_by request)) handle on k p fits (handle_kind serial sight request made answer on k fit e)))
+encoder_made serial sight (Canvas call made) answer on k p answered fit e = absurd (canvas_no_encoder call made on k p e)
 
 -- ---- the pass that a call makes
 
@@ -179,6 +229,7 @@ pass_made (Record on command None) at k p e = absurd (cc)
 pass_made (Record on command (Some slot)) at k p e = record { on = on; command = command; slot = slot; is = refl; kind = k; kind_is = same_kind slot at (kind_begun command) k e }
 pass_made (Ask request None) at k p e = absurd (cc)
 pass_made (Ask request (Some slot)) at k p e = absurd (no_pass request k p (same_kind slot at (kind_made request) k e))
+pass_made (Canvas call made) at k p e = absurd (canvas_no_pass call made at k p e)
 
 -- A pass that was begun, and its encoder's recorder.
 pub record Begun (objects : List Object) (slot on : ℕ) (old : RecorderValue) : Type 0 where

@@ -8,7 +8,7 @@ use Rattle.std.proofs.lemmas.List.Concat.{flat_map-append}
 use Rattle.std.proofs.lemmas.List.Elements.{All-head, All-tail, Contains-push_cases}
 use Rattle.wg_types.specs.declared.wanted.Kind.{Kind}
 use Rattle.wg_script.specs.CallOf.{BoundCall}
-use Rattle.wg_names.specs.Bound.{Made, made_by, made_in, all_made, numbers_below, CallIsBound, LaneIsBound, PhasesAreBound}
+use Rattle.wg_names.specs.Bound.{Made, made_by, made_in, all_made, numbers_below, CallIsBound, LaneIsBound, PhasesAreBound, configured_by, CallIsSet, LaneIsSet}
 use Rattle.wg_play.specs.Late.{slots_before}
 
 abbrev pub Slots : Type 0
@@ -60,7 +60,7 @@ first_from k (Some x) rest from m e = ap (λ (o : Option (ℕ × Kind)). option_
 
 -- ---- a lane of a script
 
-all_at : {X : Type 0} (P : X → Type 0) (xs ys : List X) (y : X) → All P (xs ++ y ∷ ys) → P y
+pub all_at : {X : Type 0} (P : X → Type 0) (xs ys : List X) (y : X) → All P (xs ++ y ∷ ys) → P y
 all_at P [] ys y all = All-head P y ys all
 all_at P (x ∷ xs) ys y all = all_at P xs ys y (All-tail P x (xs ++ y ∷ ys) all)
 
@@ -105,6 +105,23 @@ call_in made ours (x ∷ front) call rest bound =
 pub lane_front : (made ours : Slots) (front rest : List BoundCall) → LaneIsBound made ours (front ++ rest) → LaneIsBound made ours front
 lane_front made ours [] rest bound = tt
 lane_front made ours (x ∷ front) rest bound = (bound.0, lane_front (made ++ made_by x) (ours ++ made_by x) front rest bound.1)
+
+-- the canvases that calls configure
+abbrev pub all_configured : List BoundCall → List ℕ
+all_configured calls = flat_map configured_by calls
+
+pub lane_set : (earlier later : List (List (List BoundCall))) (lanes lanes_after : List (List BoundCall)) (calls : List BoundCall) → All (All (LaneIsSet [])) (earlier ++ (lanes ++ calls ∷ lanes_after) ∷ later) → LaneIsSet [] calls
+lane_set earlier later lanes lanes_after calls set =
+    all_at (LaneIsSet []) lanes lanes_after calls (all_at (All (LaneIsSet [])) earlier later (lanes ++ calls ∷ lanes_after) set)
+
+pub set_in : (done : List ℕ) (front : List BoundCall) (call : BoundCall) (rest : List BoundCall) → LaneIsSet done (front ++ call ∷ rest) → CallIsSet (done ++ all_configured front) call
+set_in done [] call rest set = subst (λ (ns : List ℕ). CallIsSet ns call) (sym (append-nil done)) set.0
+set_in done (x ∷ front) call rest set =
+    subst (λ (ns : List ℕ). CallIsSet ns call) (append_assoc done (configured_by x) (all_configured front)) (set_in (done ++ configured_by x) front call rest set.1)
+
+pub set_front : (done : List ℕ) (front rest : List BoundCall) → LaneIsSet done (front ++ rest) → LaneIsSet done front
+set_front done [] rest set = tt
+set_front done (x ∷ front) rest set = (set.0, set_front (done ++ configured_by x) front rest set.1)
 
 pub made_more : (before : List BoundCall) (call : BoundCall) → made_in (before ++ call ∷ []) ≡ made_in before ++ made_by call
 made_more before call = flat_map-append made_by before (call ∷ []) ∙ ap (λ ms. made_in before ++ ms) (append-nil (made_by call))

@@ -1,20 +1,27 @@
 -- The entries that a lane gives take it through its calls.
 use Rattle.std.proofs.Common.{◌≡◌, ℕ, true, not, ◌&&◌, is_none, Option, Some, None, List, [], ◌∷◌, refl, sym, ap, subst, ◌∙◌}
-use Rattle.std.specs.Prelude.{All, is_some, unwrap_or}
+use Rattle.std.specs.Prelude.{All, is_some, unwrap_or, option_and_then}
 use Rattle.std.specs.Option.{option_map_or}
 use Rattle.std.proofs.lemmas.List.Elements.{All-nil, All-cons, All-head, All-tail}
+use Rattle.wg_types.specs.Handles.{HandleValue}
 use Rattle.wg_types.specs.Requests.{kind_made}
+use Rattle.wg_types.specs.declared.canvases.CanvasCall.TheVariants.{Configure, Current, Present}
+use Rattle.wg_types.specs.declared.canvases.CanvasOf.{CanvasOf}
+use Rattle.wg_types.specs.declared.canvases.CanvasOf.TheVariants.{Create, On}
 use Rattle.wg_types.specs.declared.handles.ObjRef.{ObjRef}
 use Rattle.wg_types.specs.declared.replies.Answer.{Answer}
-use Rattle.wg_types.specs.declared.replies.Answer.TheVariants.{Plain}
 use Rattle.wg_types.specs.declared.replies.Reply.{Reply}
 use Rattle.wg_types.specs.declared.requests.RequestOf.{RequestOf}
 use Rattle.wg_types.specs.declared.requests.RequestOf.TheVariants.{CreateBuffer, CreateTexture, CreateView, CreateSampler, CreateBindGroupLayout, CreatePipelineLayout, CreateBindGroup, CreateComputePipeline, CreateRenderPipeline, CreateQuerySet, CreateEncoder, CreateBundleEncoder, Finish, FinishBundle, Submit, WriteBuffer, WriteTexture, Destroy, Drop, Complete, PushErrorScope, PopErrorScope, Lose, WorkDone, MapAsync, Unmap}
 use Rattle.wg_types.specs.declared.wanted.Kind.{Kind}
 use Rattle.wg_types.specs.declared.render.TargetInfo.{TargetInfo}
+use Rattle.wg_canvas.specs.Canvases.{CanvasValue, asked_at as stage_asked, act_asked}
+use Rattle.wg_canvas.specs.declared.canvas.Stage.{Stage}
+use Rattle.wg_canvas.specs.declared.canvas.Stage.TheVariants.{Unset, Empty, Filled}
 use Rattle.wg_encoder.specs.Recorders.{RecorderValue, RecordingValue}
-use Rattle.wg_calls.specs.Calls.{recording_of, finish_event, finish_of}
+use Rattle.wg_calls.specs.Calls.{event_asked, recording_of, finish_event, finish_of}
 use Rattle.wg_history.specs.declared.events.Event.{Event}
+use Rattle.wg_history.specs.declared.events.Event.TheVariants.{Late}
 use Rattle.wg_history.specs.declared.events.Setup.{Setup}
 use Rattle.wg_history.specs.declared.events.Form.{Form}
 use Rattle.wg_history.specs.declared.events.Form.TheVariants.{Making}
@@ -23,12 +30,13 @@ use Rattle.wg_history.specs.Answers.{answer_by, reply_to}
 use Rattle.wg_history.specs.FirstRules.{first_rule}
 use Rattle.wg_history.specs.Loss.{is_lost}
 use Rattle.wg_script.specs.CallOf.{BoundCall}
-use Rattle.wg_script.specs.declared.calls.CallOf.TheVariants.{Record, Ask}
-use Rattle.wg_names.specs.Uses.{made_as}
-use Rattle.wg_play.specs.Objects.{recorder_at}
+use Rattle.wg_script.specs.declared.calls.CallOf.TheVariants.{Record, Ask, Canvas}
+use Rattle.wg_names.specs.Uses.{made_as, made_of}
+use Rattle.wg_play.specs.Canvases.{canvas_at}
+use Rattle.wg_play.specs.Objects.{unknown, recorder_at}
 use Rattle.wg_play.specs.Sights.{Sight, place_in}
-use Rattle.wg_play.specs.Lanes.{Lane, kept, finish_by, event_sent, event_of, answered_by, settled, settle, next_at, next_event, after_at}
-use Rattle.wg_play.specs.Late.{Answers, IsAnswered, is_made, after_call, after_calls}
+use Rattle.wg_play.specs.Lanes.{Lane, drawn, kept, finish_by, event_sent, event_of, answered_by, settled, settle, next_at, next_event, after_at}
+use Rattle.wg_play.specs.Late.{Answers, no_answer, IsAnswered, is_made, after_call, after_calls}
 use Rattle.wg_play.specs.Play.{after_}
 use Rattle.wg_play.specs.Through.{IsReplied, GoesThrough, LanesGoThrough}
 use Rattle.wg_play.specs.Turns.{Gives, after_all}
@@ -86,16 +94,49 @@ some_kind None found e = absurd (cc (e))
 some_kind (Some slot) None e = absurd (cc (e))
 some_kind (Some slot) (Some k) e = (k, refl)
 
-pub event_answered : (setup : Setup) (sight : Sight) (call : BoundCall) (entry : Entry) → event_of sight call ≡ entry.event → IsReplied setup entry → Answers call entry.reply.answer
-event_answered setup sight (Record on command made) entry is replied = tt
-event_answered setup sight (Ask request made) entry is replied = λ some.
-    let kind = some_kind made (kind_made request) some in
-    let form : form_of entry.event ≡ Making = ap form_of (sym is) ∙ sent_makes sight request kind.0 kind.1 in
-    ap (λ (r : Reply). is_made r.answer) replied.is ∙ made_reply setup replied.past entry.event form
+-- So it is of a currentTexture that asks for one.
 
-pub kept_answered : (sight after : Sight) (call : BoundCall) (answer : Answer) → kept sight call ≡ Some after → Answers call answer
-kept_answered sight after (Record on command made) answer is = tt
-kept_answered sight after (Ask request made) answer is = absurd (cc (is))
+abbrev nothing_kept : Sight → Option (RequestOf HandleValue) → Option Sight
+nothing_kept new asked = option_map_or (λ (request : RequestOf HandleValue). None) asked (Some new)
+
+abbrev event_if : Option (RequestOf HandleValue) → Event
+event_if asked = option_map_or event_asked asked (Late unknown.reference)
+
+stage_makes : (new : Sight) (canvas : CanvasValue) (stage : Stage) → nothing_kept new (stage_asked canvas stage) ≡ None → form_of (event_if (stage_asked canvas stage)) ≡ Making
+stage_makes new canvas Unset e = absurd (cc (e))
+stage_makes new canvas (Empty setting) e = refl
+stage_makes new canvas (Filled setting texture) e = absurd (cc (e))
+
+abbrev current_of : Option CanvasValue → Option (RequestOf HandleValue)
+current_of found = option_and_then (λ canvas. act_asked canvas Current) found
+
+place_makes : (new : Sight) (found : Option CanvasValue) → nothing_kept new (current_of found) ≡ None → form_of (event_if (current_of found)) ≡ Making
+place_makes new None e = absurd (cc (e))
+place_makes new (Some canvas) e = stage_makes new canvas canvas.stage e
+
+canvas_makes : (sight : Sight) (call : CanvasOf ℕ) (made : Option ℕ) → kept sight (Canvas call made) ≡ None → is_some (made_of (Canvas call made)) ≡ true → form_of (event_of sight (Canvas call made)) ≡ Making
+canvas_makes sight call None unkept some = absurd (cc (some))
+canvas_makes sight (Create width height) (Some slot) unkept some = absurd (cc (unkept))
+canvas_makes sight (On canvas (Configure format usage)) (Some slot) unkept some = absurd (cc (some))
+canvas_makes sight (On canvas Current) (Some slot) unkept some =
+    place_makes (drawn sight (On canvas Current) (Some slot) None) (canvas_at sight.own (place_in sight canvas)) unkept
+canvas_makes sight (On canvas Present) (Some slot) unkept some = absurd (cc (some))
+
+replied_made : (setup : Setup) (entry : Entry) → IsReplied setup entry → form_of entry.event ≡ Making → is_made entry.reply.answer ≡ true
+replied_made setup entry replied form = ap (λ (r : Reply). is_made r.answer) replied.is ∙ made_reply setup replied.past entry.event form
+
+pub event_answered : (setup : Setup) (sight : Sight) (call : BoundCall) (entry : Entry) → kept sight call ≡ None → event_of sight call ≡ entry.event → IsReplied setup entry → Answers call entry.reply.answer
+event_answered setup sight (Record on command made) entry unkept is replied = tt
+event_answered setup sight (Canvas call made) entry unkept is replied = λ some. replied_made setup entry replied (ap form_of (sym is) ∙ canvas_makes sight call made unkept some)
+event_answered setup sight (Ask request made) entry unkept is replied = λ some.
+    let kind = some_kind made (kind_made request) some in
+    replied_made setup entry replied (ap form_of (sym is) ∙ sent_makes sight request kind.0 kind.1)
+
+-- a call that is kept has no answer, so that any will do
+pub kept_answered : (call : BoundCall) → Answers call no_answer
+kept_answered (Record on command made) = tt
+kept_answered (Ask request made) = λ some. refl
+kept_answered (Canvas call made) = λ some. refl
 
 -- ---- a lane that keeps its next calls
 
@@ -135,11 +176,11 @@ module _ (setup : Setup) where
   by_call call calls goes sight (Some after) is entries replied gives =
       let same = settled_by sight call calls (Some after) is in
       let more = goes after entries replied (gives_same (lane_of sight (call ∷ calls)) (lane_of after calls) same entries gives) in
-      let here = after_is sight call Plain (Some after) is in
+      let here = after_is sight call no_answer (Some after) is in
       record {
-        calls = (call, Plain) ∷ more.calls;
+        calls = (call, no_answer) ∷ more.calls;
         are = ap (λ cs. call ∷ cs) more.are;
-        answered = All-cons IsAnswered (call, Plain) more.calls (kept_answered sight after call Plain is) more.answered;
+        answered = All-cons IsAnswered (call, no_answer) more.calls (kept_answered call) more.answered;
         end = end_same (lane_of sight (call ∷ calls)) (lane_of after calls) same entries ∙ (more.end ∙ ap (λ (s : Sight). lane_of (after_calls setup.serial s more.calls) []) (sym here));
       }
   by_call call calls goes sight None is [] replied gives = absurd (cc (ap next_at (sym (settled_by sight call calls None is)) ∙ gives))
@@ -152,7 +193,7 @@ module _ (setup : Setup) where
       record {
         calls = (call, e.reply.answer) ∷ more.calls;
         are = ap (λ cs. call ∷ cs) more.are;
-        answered = All-cons IsAnswered (call, e.reply.answer) more.calls (event_answered setup sight call e event (All-head (IsReplied setup) e entries replied)) more.answered;
+        answered = All-cons IsAnswered (call, e.reply.answer) more.calls (event_answered setup sight call e is event (All-head (IsReplied setup) e entries replied)) more.answered;
         end = ap (λ (l : Lane). end_of (after_at setup.serial l e.reply) entries) same ∙ (more.end ∙ ap (λ (s : Sight). lane_of (after_calls setup.serial s more.calls) []) (sym here));
       }
 

@@ -87,6 +87,10 @@ pub is_bundle_encoder : (k : Kind) → admits wanted.BundleEncoder k ≡ true �
 is_bundle_encoder kind.BundleEncoder e = refl
 is_bundle_encoder _ e = absurd (cc)
 
+pub is_canvas : (k : Kind) → admits wanted.Canvas k ≡ true → k ≡ kind.Canvas
+is_canvas kind.Canvas e = refl
+is_canvas _ e = absurd (cc)
+
 abbrev EncoderOrPass : Kind → Type 0
 EncoderOrPass k = (has_recorder k ≡ true) ⊎ (is_pass k ≡ true)
 

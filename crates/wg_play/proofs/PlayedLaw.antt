@@ -1,6 +1,6 @@
 -- A script whose names are bound is played through: each call as what it is, over what calls before it have made.
 use Rattle.std.proofs.Common.{◌≡◌, ◌≢◌, ℕ, zero, suc, ◌+◌, ◌<◌, ◌≤◌, nat_lt, Bool, true, false, ◌||◌, Option, Some, None, List, [], ◌∷◌, ◌++◌, length, map, reverse, refl, ap, ap₂, sym, ◌∙◌, subst, inl, inr, arith, append_assoc, append-nil, if◌then◌else◌}
-use Rattle.std.specs.Prelude.{All, slice_get}
+use Rattle.std.specs.Prelude.{All, Contains, slice_get}
 use Rattle.std.specs.Option.{option_map_or}
 use Rattle.std.specs.List.{flat_map, list_any}
 use Rattle.std.proofs.lemmas.Bool.Decides.{nat_tests}
@@ -8,14 +8,20 @@ use Rattle.std.proofs.lemmas.List.{map-append}
 use Rattle.std.proofs.lemmas.List.Concat.{flat_map-append}
 use Rattle.std.proofs.lemmas.List.Elements.{All-nil, All-head, All-tail, All-weaker, Contains-append_left, Contains-append_right, Contains-append_cases}
 use Rattle.wg_types.specs.Handles.{HandleValue}
+use Rattle.wg_types.specs.declared.canvases.CanvasCall.TheVariants.{Configure, Current, Present}
+use Rattle.wg_types.specs.declared.canvases.CanvasOf.{CanvasOf}
+use Rattle.wg_types.specs.declared.canvases.CanvasOf.TheVariants.{Create, On}
 use Rattle.wg_types.specs.declared.commands.CommandOf.{CommandOf}
 use Rattle.wg_types.specs.declared.requests.RequestOf.{RequestOf}
+use Rattle.wg_types.specs.declared.wanted.Kind.{Kind}
+use Rattle.wg_types.specs.declared.wanted.Kind.TheVariants as kinds
 use Rattle.wg_types.specs.declared.wanted.Wanted.{Wanted}
 use Rattle.wg_history.specs.declared.events.Setup.{Setup}
 use Rattle.wg_history.specs.Entries.{Entry, Past}
+use Rattle.wg_history.specs.Rules.{is_genuine}
 use Rattle.wg_script.specs.CallOf.{BoundCall}
-use Rattle.wg_script.specs.declared.calls.CallOf.TheVariants.{Record, Ask}
-use Rattle.wg_names.specs.Uses.{uses_of}
+use Rattle.wg_script.specs.declared.calls.CallOf.TheVariants.{Record, Ask, Canvas}
+use Rattle.wg_names.specs.Uses.{made_of, uses_of}
 use Rattle.wg_names.specs.Bound.{made_by, made_in, IsFound, IsBound}
 use Rattle.wg_names.proofs.BoundLemmas.{found_uses}
 use Rattle.wg_play.specs.declared.objects.Object.{Object}
@@ -26,17 +32,18 @@ use Rattle.wg_play.specs.Lanes.{Lane, settle, stand_seen, starts, next_event}
 use Rattle.wg_play.specs.Turns.{made_by as entries_by, after_all}
 use Rattle.wg_play.specs.Play.{after_}
 use Rattle.wg_play.specs.Late.{Answered as AnsweredCall, IsAnswered, after_calls, slots_before, finishes, has_pass_ended}
-use Rattle.wg_play.specs.Found.{Holds, phase_of}
+use Rattle.wg_play.specs.Found.{IsOf, Holds, object_in_sight, phase_of}
 use Rattle.wg_play.specs.Kept.{IsKept, AreKept, SeesGenuine, LanesSee}
-use Rattle.wg_play.specs.Played.{PlayedCall, PlayedPhase, calls_in, entries_in, lanes_in, with_answer, answered_lanes, objects_next, objects_after, sight_after, seen_calls, is_late_after, IsPlayedAs, IsOfCall, StandsForMade, past_at, IsMoment, IsPlayedAt, PlayGoesThrough}
+use Rattle.wg_play.specs.Played.{PlayedCall, PlayedPhase, calls_in, entries_in, lanes_in, with_answer, answered_lanes, objects_next, objects_after, sight_after, seen_calls, is_late_after, IsPlayedAs, IsOfCanvas, IsOfCall, StandsForMade, past_at, IsMoment, IsPlayedAt, PlayGoesThrough}
 use Rattle.wg_play.proofs.Turning.{onto}
 use Rattle.wg_play.proofs.Phases.{onto_back, onto_more}
 use Rattle.wg_play.proofs.Keeping.{settled_sees}
 use Rattle.wg_play.proofs.LateLaw.{first_after, late_is_finished}
-use Rattle.wg_play.proofs.FoundLaw.{at_least, below, earlier_from, others_after, bound_is_found, gathered_is_held}
+use Rattle.wg_play.proofs.FoundLaw.{at_least, below, earlier_from, others_after, SeesAll, sees_before, bound_is_found, gathered_is_held}
 use Rattle.wg_play.proofs.Numbered.{Slots, AreFrom, slots_of, from_zero, from_front, from_back, lane_in, lane_from, call_in}
 use Rattle.wg_play.proofs.Backward.{play_back}
-use Rattle.wg_play.proofs.Running.{HasVerb, RunsAs, Runs, lane_with, goes_to, runs_front, runs_at, lane_answered, recorded_as, asked_as, settled_back}
+use Rattle.wg_play.proofs.Running.{HasVerb, RunsAs, Runs, lane_with, goes_to, runs_front, runs_at, lane_answered, recorded_as, asked_as, drawn_as, settled_back}
+use Rattle.wg_play.proofs.Following.{same_kind}
 use Rattle.wg_play.proofs.Encoders.{encoder_is}
 use Rattle.wg_play.proofs.Makers.{lane_same, lanes_same, calls_more, made_among, IsFrom, IsMadeAt, MadeFrom, none_made, lane_made, start_at, AllRun, all_answered, MadeAll, lanes_joined}
 use Rattle.wg_play.proofs.PlayedPhases.{lanes_length, after_part, PhaseRuns, PhasesRun, entries_of, script_runs, phase_at, all_interleaved, lane_run_at, lane_sees_at}
@@ -71,18 +78,68 @@ kept_here P (x ∷ objects) zero what all is = let same : x ≡ what = cc (is) i
 kept_here P (x ∷ objects) (suc place) what all is = kept_here P objects place what (All-tail P x objects all) is
 
 module _ (setup : Setup) (some : setup.serial ≢ 0) where
+  -- the texture of a canvas that a name stands for is genuine
+  abbrev ShowsGenuine : Past → BoundCall → HandleValue → Type 0
+  ShowsGenuine past call handle = (asked : CanvasOf ℕ) (made : Option ℕ) → call ≡ Canvas asked made → IsOfCanvas setup past handle asked
+
   of_object : (past : Past) (what : Object) (call : BoundCall) (found : Option Entry) → IsFrom setup.serial (handle_in what) call found
-      → IsKept setup past what → IsOfCall setup past (handle_in what) call found
-  of_object past what (Record on command made) found from kept = tt
-  of_object past what (Ask request made) None from kept = absurd from
-  of_object past (object.Made handle recorder) (Ask request made) (Some entry) from kept = record { device = from.0; answer = from.1; genuine = kept }
-  of_object past (object.Pass encoder number) (Ask request made) (Some entry) from kept = absurd (some (sym from.0))
+      → IsKept setup past what → ShowsGenuine past call (handle_in what) → IsOfCall setup past (handle_in what) call found
+  of_object past what (Record on command made) found from kept shows = tt
+  of_object past what (Canvas call made) found from kept shows = shows call made refl
+  of_object past what (Ask request made) None from kept shows = absurd from
+  of_object past (object.Made handle recorder) (Ask request made) (Some entry) from kept shows = record { device = from.0; answer = from.1; genuine = kept }
+  of_object past (object.Pass encoder number) (Ask request made) (Some entry) from kept shows = absurd (some (sym from.0))
+  of_object past (object.Canvas canvas) (Ask request made) (Some entry) from kept shows = absurd (some (sym from.0))
+  of_object past (object.Shown None) (Ask request made) (Some entry) from kept shows = absurd (some (sym from.0))
+  of_object past (object.Shown (Some texture)) (Ask request made) (Some entry) from kept shows = record { device = from.0; answer = from.1; genuine = kept }
 
   of_place : (past : Past) (objects : List Object) (place : ℕ) (maker : PlayedCall) → AreKept setup past objects
-      → IsMadeAt setup.serial objects place maker → IsOfCall setup past (handle_at objects place) maker.0 maker.1
-  of_place past objects place maker kept made =
-      subst (λ (o : Option Object). IsOfCall setup past (option_map_or handle_in o unknown) maker.0 maker.1) (sym made.is)
-      (of_object past made.what maker.0 maker.1 made.of (kept_here (IsKept setup past) objects place made.what kept made.is))
+      → IsMadeAt setup.serial objects place maker → ShowsGenuine past maker.0 (handle_at objects place) → IsOfCall setup past (handle_at objects place) maker.0 maker.1
+  of_place past objects place maker kept made shows =
+      let same : handle_at objects place ≡ handle_in made.what = ap (λ (o : Option Object). option_map_or handle_in o unknown) made.is in
+      subst (λ (h : HandleValue). IsOfCall setup past h maker.0 maker.1) (sym same)
+      (of_object past made.what maker.0 maker.1 made.of (kept_here (IsKept setup past) objects place made.what kept made.is)
+      (subst (ShowsGenuine past maker.0) same shows))
+
+  -- a slot of the kind of a canvas's texture stands for one that is genuine
+
+  shown_genuine : (past : Past) (what : Object) → IsOf kinds.CanvasTexture what → IsKept setup past what → is_genuine setup past (handle_in what) ≡ true
+  shown_genuine past (object.Made handle recorder) of kept = kept
+  shown_genuine past (object.Pass encoder number) of kept = absurd (cc (of))
+  shown_genuine past (object.Canvas canvas) of kept = absurd (cc (of.0))
+  shown_genuine past (object.Shown None) of kept = absurd of.1
+  shown_genuine past (object.Shown (Some texture)) of kept = kept
+
+  kept_seen : (past : Past) (sight : Sight) (slot : ℕ) (what : Object) → SeesGenuine setup past sight → object_in_sight sight slot ≡ Some what → IsKept setup past what
+  kept_seen past sight slot what sees is = by_slot (nat_lt slot sight.first) is
+    where
+      by_slot : (b : Bool) → (if b then slice_get sight.others slot else slice_get sight.own (place_in sight slot)) ≡ Some what → IsKept setup past what
+      by_slot true e = kept_here (IsKept setup past) sight.others slot what sees.0 e
+      by_slot false e = kept_here (IsKept setup past) sight.own (place_in sight slot) what sees.1 e
+
+  abbrev SlotsShow : Past → Sight → Slots → Type 0
+  SlotsShow past sight made = (slot : ℕ) → Contains made (slot, kinds.CanvasTexture) → is_genuine setup past (handle_in_sight sight slot) ≡ true
+
+  slots_show : (past : Past) (sight : Sight) (made : Slots) → SeesAll sight made → SeesGenuine setup past sight → SlotsShow past sight made
+  slots_show past sight made seen sees slot there =
+      let found = seen slot kinds.CanvasTexture there in
+      ap (λ (h : HandleValue). is_genuine setup past h) found.handle ∙ shown_genuine past found.what found.of (kept_seen past sight slot found.what sees found.is)
+
+  canvas_shows : (past : Past) (sight : Sight) (made : Slots) (slot : ℕ) (k : Kind) → SlotsShow past sight made → Contains made (slot, k)
+      → (asked : CanvasOf ℕ) (name : Option ℕ) → made_of (Canvas asked name) ≡ Some (slot, k) → IsOfCanvas setup past (handle_in_sight sight slot) asked
+  canvas_shows past sight made slot k shows there (Create width height) name makes = tt
+  canvas_shows past sight made slot k shows there (On canvas call) None makes = absurd (cc (makes))
+  canvas_shows past sight made slot k shows there (On canvas (Configure format usage)) (Some name) makes = absurd (cc (makes))
+  canvas_shows past sight made slot k shows there (On canvas Current) (Some name) makes =
+      let same : Some kinds.CanvasTexture ≡ Some k = same_kind name slot (Some kinds.CanvasTexture) k makes in
+      let is : k ≡ kinds.CanvasTexture = cc (same) in
+      shows slot (subst (λ x. Contains made (slot, x)) is there)
+  canvas_shows past sight made slot k shows there (On canvas Present) (Some name) makes = absurd (cc (makes))
+
+  shows_by : (past : Past) (sight : Sight) (made : Slots) (slot : ℕ) (k : Kind) (call : BoundCall) → SlotsShow past sight made → Contains made (slot, k) → made_of call ≡ Some (slot, k)
+      → ShowsGenuine past call (handle_in_sight sight slot)
+  shows_by past sight made slot k call shows there makes asked name is =
+      canvas_shows past sight made slot k shows there asked name (sym (ap (λ (c : BoundCall). made_of c) is) ∙ makes)
 
   other_handle : (sight : Sight) (slot : ℕ) → slot < sight.first → handle_in_sight sight slot ≡ handle_at sight.others slot
   other_handle sight slot less =
@@ -98,10 +155,11 @@ module _ (setup : Setup) (some : setup.serial ≢ 0) where
   stands_for : (past : Past) (sight : Sight) (others ours : List PlayedCall) → AreFrom 0 (slots_of (made_in (calls_in others)))
       → AreFrom sight.first (slots_of (made_in (calls_in ours)))
       → length (made_in (calls_in others)) ≤ sight.first → MadeAll setup sight.others others → MadeFrom setup sight.first sight.own ours
-      → SeesGenuine setup past sight
+      → SeesGenuine setup past sight → SlotsShow past sight (made_in (calls_in others) ++ made_in (calls_in ours))
       → (used : ℕ × Wanted) → IsFound (made_in (calls_in others) ++ made_in (calls_in ours)) (made_in (calls_in ours)) used
       → StandsForMade setup past sight (others ++ ours) used
-  stands_for past sight others ours from_others from_ours short all own sees used found =
+  stands_for past sight others ours from_others from_ours short all own sees shows used found =
+      let made : Slots = made_in (calls_in others) ++ made_in (calls_in ours) in
       elim (Contains-append_cases (made_in (calls_in others)) (made_in (calls_in ours)) (used.0, found.kind) found.stands) [
         | inl other ↦ let there = made_among others (used.0, found.kind) other in
             let low = below 0 (made_in (calls_in others)) used.0 found.kind from_others other in
@@ -113,7 +171,8 @@ module _ (setup : Setup) (some : setup.serial ≢ 0) where
               makes = there.makes;
               fits = found.fits;
               of = subst (λ (h : HandleValue). IsOfCall setup past h there.maker.0 there.maker.1) (sym (other_handle sight used.0 less))
-                  (of_place past sight.others used.0 there.maker sees.0 (all there.maker used.0 found.kind there.is_there there.makes));
+                  (of_place past sight.others used.0 there.maker sees.0 (all there.maker used.0 found.kind there.is_there there.makes)
+                  (subst (ShowsGenuine past there.maker.0) (other_handle sight used.0 less) (shows_by past sight made used.0 found.kind there.maker.0 shows found.stands there.makes)));
             }
         | inr mine ↦ let there = made_among ours (used.0, found.kind) mine in
             let from = at_least sight.first (made_in (calls_in ours)) used.0 found.kind from_ours mine in
@@ -124,7 +183,8 @@ module _ (setup : Setup) (some : setup.serial ≢ 0) where
               makes = there.makes;
               fits = found.fits;
               of = subst (λ (h : HandleValue). IsOfCall setup past h there.maker.0 there.maker.1) (sym (own_handle sight used.0 from))
-                  (of_place past sight.own (place_in sight used.0) there.maker sees.1 (own there.maker used.0 found.kind there.is_there there.makes));
+                  (of_place past sight.own (place_in sight used.0) there.maker sees.1 (own there.maker used.0 found.kind there.is_there there.makes)
+                  (subst (ShowsGenuine past there.maker.0) (own_handle sight used.0 from) (shows_by past sight made used.0 found.kind there.maker.0 shows found.stands there.makes)));
             }
       ]
 
@@ -193,6 +253,7 @@ module _ (setup : Setup) (some : setup.serial ≢ 0) where
       → ((request : RequestOf ℕ) (made : Option ℕ) → call ≡ Ask request made → HasVerb sight request) → IsPlayedAs sight before call found
   how_by sight before (Record on command made) found runs late verb = recorded_as setup sight before on command made found runs (late on command made refl)
   how_by sight before (Ask request made) found runs late verb = asked_as setup sight before request made found runs (verb request made refl)
+  how_by sight before (Canvas call made) found runs late verb = drawn_as setup sight call made found runs
 
   lane_split : (lanes_before lanes_after : List (List PlayedCall)) (before after : List PlayedCall) (call : PlayedCall)
       → map calls_in (lanes_before ++ (before ++ call ∷ after) ∷ lanes_after)
@@ -279,11 +340,11 @@ module _ (setup : Setup) (some : setup.serial ≢ 0) where
   -- each name that the call uses stands for what was made as that
   names_at : (earlier later : List PlayedPhase) (lanes_before lanes_after : List (List PlayedCall)) (before after : List PlayedCall) (call : PlayedCall)
       → BoundAt earlier later lanes_before lanes_after (calls_in before ++ call.0 ∷ calls_in after)
-      → MadeAll setup (objects_after setup.serial [] earlier) (calls_of earlier)
+      → Holds (objects_after setup.serial [] earlier) (slots_in earlier) → MadeAll setup (objects_after setup.serial [] earlier) (calls_of earlier)
       → Runs setup (start_at setup (objects_after setup.serial [] earlier) (slots_before (map lanes_in earlier) (map calls_in lanes_before))) before
       → (past : Past) → SeesGenuine setup past (sight_after setup.serial earlier lanes_before before)
       → All (StandsForMade setup past (sight_after setup.serial earlier lanes_before before) (seen_calls earlier before)) (uses_of call.0)
-  names_at earlier later lanes_before lanes_after before after call bound made runs past sees =
+  names_at earlier later lanes_before lanes_after before after call bound holds made runs past sees =
       let others : List Object = objects_after setup.serial [] earlier in
       let first : ℕ = slots_before (map lanes_in earlier) (map calls_in lanes_before) in
       let start : Sight = start_at setup others first in
@@ -307,11 +368,19 @@ module _ (setup : Setup) (some : setup.serial ≢ 0) where
       let short : length (made_in (calls_in (calls_of earlier))) ≤ sight.first = omega (arith, first_is, count) in
       let others_is : sight.others ≡ others = others_after setup.serial (map with_answer before) start in
       let zero_is : first ≡ first + 0 = omega arith in
+      let answered : All IsAnswered (map with_answer before) = lane_answered setup before start runs in
+      let seen : SeesAll sight (slots_in earlier ++ ours)
+      = subst (λ (cs : List BoundCall). SeesAll sight (slots_in earlier ++ made_in cs)) (lane_same before)
+      (sees_before (map lanes_in earlier) (map lanes_in later) (map calls_in lanes_before) (map calls_in lanes_after) (map with_answer before) call.0 (calls_in after)
+      (subst (λ (cs : List BoundCall). BoundAt earlier later lanes_before lanes_after (cs ++ call.0 ∷ calls_in after)) (sym (lane_same before)) bound)
+      answered setup.serial others holds).seen in
+      let shows : SlotsShow past sight (made_in (calls_in (calls_of earlier)) ++ ours)
+      = subst (λ (ms : Slots). SlotsShow past sight (ms ++ ours)) (sym same) (slots_show past sight (slots_in earlier ++ ours) seen sees) in
       let own : MadeFrom setup sight.first sight.own before
       = lane_made setup before [] start (none_made setup first) runs (subst (λ n. AreFrom n (slots_of ours)) zero_is numbers) in
       All-weaker (IsFound (made_in (calls_in (calls_of earlier)) ++ ours) ours) (StandsForMade setup past sight (calls_of earlier ++ before))
       (λ used is. stands_for past sight (calls_of earlier) before from_others (subst (λ n. AreFrom n (slots_of ours)) (sym first_is) numbers) short
-      (subst (λ (os : List Object). MadeAll setup os (calls_of earlier)) (sym others_is) made) own sees used is)
+      (subst (λ (os : List Object). MadeAll setup os (calls_of earlier)) (sym others_is) made) own sees shows used is)
       (uses_of call.0) (subst (λ (ms : Slots). All (IsFound (ms ++ ours) ours) (uses_of call.0)) (sym same) found)
 
   played_at : (earlier later : List PlayedPhase) (phase : PlayedPhase) (lanes_before lanes_after : List (List PlayedCall)) (before after : List PlayedCall)
@@ -348,7 +417,7 @@ module _ (setup : Setup) (some : setup.serial ≢ 0) where
             let genuine = genuine_at earlier phase lanes_before lanes_after before after call others first lanes_are first_is here front_runs front moment in
             record {
               genuine = genuine;
-              names = names_at earlier later lanes_before lanes_after before after call bound_here stands.made front_runs
+              names = names_at earlier later lanes_before lanes_after before after call bound_here stands.held stands.made front_runs
                   (past_at earlier front) genuine;
             };
       }

@@ -1,29 +1,34 @@
 -- The calls of a lane as they were played: what each became, and what the lane sees after them.
 use Rattle.std.proofs.Common.{◌≡◌, ℕ, zero, suc, Bool, true, false, Option, Some, None, List, [], ◌∷◌, ◌++◌, map, refl, sym, ap, subst, ◌∙◌, if◌then◌else◌}
-use Rattle.std.specs.Prelude.{All}
+use Rattle.std.specs.Prelude.{All, option_map}
 use Rattle.std.specs.Option.{option_map_or, option_to_list}
 use Rattle.std.proofs.lemmas.List.Elements.{All-nil, All-cons, All-head, All-tail}
+use Rattle.wg_types.specs.Handles.{HandleValue}
 use Rattle.wg_types.specs.Commands.{Command}
+use Rattle.wg_types.specs.declared.canvases.CanvasOf.{CanvasOf}
 use Rattle.wg_types.specs.declared.commands.CommandOf.{CommandOf}
-use Rattle.wg_types.specs.declared.replies.Answer.TheVariants.{Plain}
 use Rattle.wg_types.specs.declared.requests.RequestOf.{RequestOf}
 use Rattle.wg_encoder.specs.Recorders.{RecorderValue}
+use Rattle.wg_history.specs.declared.events.Event.{Event}
+use Rattle.wg_history.specs.declared.events.Event.TheVariants.{Late}
 use Rattle.wg_history.specs.declared.events.Setup.{Setup}
 use Rattle.wg_history.specs.Entries.{Entry, Past, verb_of}
+use Rattle.wg_history.specs.Rules.{is_genuine}
 use Rattle.wg_calls.specs.Calls.{event_asked}
 use Rattle.wg_script.specs.CallOf.{BoundCall}
-use Rattle.wg_script.specs.declared.calls.CallOf.TheVariants.{Record, Ask}
+use Rattle.wg_script.specs.declared.calls.CallOf.TheVariants.{Record, Ask, Canvas}
 use Rattle.wg_play.specs.declared.objects.Object.{Object}
 use Rattle.wg_play.specs.declared.objects.Object.TheVariants as object
 use Rattle.wg_play.specs.declared.objects.Stand.{Stand}
-use Rattle.wg_play.specs.Objects.{changed, with_recorder, recorded_by, recorded_on, begun_by, is_late_on}
+use Rattle.wg_play.specs.Objects.{unknown, changed, with_recorder, recorded_by, recorded_on, begun_by, is_late_on}
 use Rattle.wg_play.specs.Sights.{Sight}
-use Rattle.wg_play.specs.Lanes.{Lane, kept, settled, settle, next_at, answered_by, after_at, event_of, event_sent, request_seen, noted_on, command_seen, stand_seen}
-use Rattle.wg_play.specs.Late.{IsAnswered, after_call, after_calls}
+use Rattle.wg_play.specs.Lanes.{Lane, canvas_asks, drawn, kept, settled, settle, next_at, answered_by, after_at, event_of, event_sent, request_seen, noted_on, command_seen, stand_seen}
+use Rattle.wg_play.specs.Late.{no_answer, IsAnswered, after_call, after_calls}
 use Rattle.wg_play.specs.Through.{IsReplied}
-use Rattle.wg_play.specs.Kept.{IsKept, AreKept, SeesGenuine}
-use Rattle.wg_play.specs.Played.{PlayedCall, calls_in, entries_in, with_answer, is_late_after, IsRecordedAs, IsPlayedAs}
+use Rattle.wg_play.specs.Kept.{IsKeptIn, IsKept, AreKept, SeesGenuine}
+use Rattle.wg_play.specs.Played.{IsDrawnAs, PlayedCall, calls_in, entries_in, with_answer, is_late_after, IsRecordedAs, IsPlayedAs}
 use Rattle.wg_play.proofs.Slots.{with_tail}
+use Rattle.wg_play.proofs.Drawn.{drawn_others, all_front, drawn_had}
 use Rattle.wg_play.proofs.Passage.{event_answered, kept_answered, GivesAll, end_of, gives_same, end_same, settled_by, after_is}
 
 abbrev pub lane_with : Sight → List BoundCall → Lane
@@ -36,7 +41,7 @@ HasVerb sight request = verb_of (event_sent sight request) ≡ verb_of (event_as
 module _ (setup : Setup) where
   -- a call was kept, or became this entry
   abbrev pub RunsAs : Sight → BoundCall → Option Entry → Type 0
-  RunsAs sight call None = kept sight call ≡ Some (after_call setup.serial sight (call, Plain))
+  RunsAs sight call None = kept sight call ≡ Some (after_call setup.serial sight (call, no_answer))
   RunsAs sight call (Some entry) = (kept sight call ≡ None) × (event_of sight call ≡ entry.event) × IsReplied setup entry
 
   abbrev pub Runs : Sight → List PlayedCall → Type 0
@@ -60,7 +65,7 @@ module _ (setup : Setup) where
       → GivesAll setup (lane_with sight (call ∷ calls)) entries → LaneRuns sight (call ∷ calls) entries
   call_runs call calls goes sight (Some after) is entries replied gives =
       let same = settled_by setup sight call calls (Some after) is in
-      let here : after_call setup.serial sight (call, Plain) ≡ after = after_is setup sight call Plain (Some after) is in
+      let here : after_call setup.serial sight (call, no_answer) ≡ after = after_is setup sight call no_answer (Some after) is in
       let more = goes after entries replied (gives_same setup (lane_with sight (call ∷ calls)) (lane_with after calls) same entries gives) in
       record {
         plays = (call, None) ∷ more.plays;
@@ -102,7 +107,7 @@ module _ (setup : Setup) where
       → end_of setup (lane_with sight (call ∷ (calls_in before ++ more))) (option_to_list found ++ entries_in before)
       ≡ settle (lane_with (after_calls setup.serial (after_call setup.serial sight (with_answer (call, found))) (map with_answer before)) more)
   call_goes call None before more goes sight here runs =
-      let after : Sight = after_call setup.serial sight (call, Plain) in
+      let after : Sight = after_call setup.serial sight (call, no_answer) in
       let calls : List BoundCall = calls_in before ++ more in
       end_same setup (lane_with sight (call ∷ calls)) (lane_with after calls) (settled_by setup sight call calls (Some after) here) (entries_in before)
       ∙ goes after runs
@@ -129,8 +134,8 @@ module _ (setup : Setup) where
   -- ---- its calls are answered
 
   one_answered : (sight : Sight) (call : BoundCall) (found : Option Entry) → RunsAs sight call found → IsAnswered (with_answer (call, found))
-  one_answered sight call None runs = kept_answered sight (after_call setup.serial sight (call, Plain)) call Plain runs
-  one_answered sight call (Some e) runs = event_answered setup sight call e runs.1 runs.2
+  one_answered sight call None runs = kept_answered call
+  one_answered sight call (Some e) runs = event_answered setup sight call e runs.0 runs.1 runs.2
 
   pub call_answered : (sight : Sight) (call : PlayedCall) → RunsAs sight call.0 call.1 → IsAnswered (with_answer call)
   call_answered sight call runs = one_answered sight call.0 call.1 runs
@@ -156,7 +161,7 @@ module _ (setup : Setup) where
       → is_late_on sight.own (stand_seen sight on) ≡ is_late_after sight before on → IsRecordedAs sight before on found
   recorded_as sight before on command made None runs same = record {
     late = sym (late_kept (is_late_on sight.own (stand_seen sight on)) (noted_on sight (stand_seen sight on) (command_seen sight command) made)
-        (after_call setup.serial sight (Record on command made, Plain)) runs) ∙ same;
+        (after_call setup.serial sight (Record on command made, no_answer)) runs) ∙ same;
     event = λ entry e. absurd (cc (e));
   }
   recorded_as sight before on command made (Some e) runs same = record {
@@ -170,16 +175,32 @@ module _ (setup : Setup) where
   asked_as sight before request made None runs verb = absurd (cc (runs))
   asked_as sight before request made (Some e) runs verb = record { entry = e; is = refl; event = sym runs.1; verb = sym (ap verb_of runs.1) ∙ verb }
 
+  abbrev kept_if : Sight → Option (RequestOf HandleValue) → Option Sight
+  kept_if new asked = option_map_or (λ (request : RequestOf HandleValue). None) asked (Some new)
+
+  drawn_kept : (asked : Option (RequestOf HandleValue)) (new after : Sight) → kept_if new asked ≡ Some after → asked ≡ None
+  drawn_kept None new after e = refl
+  drawn_kept (Some request) new after e = absurd (cc (e))
+
+  drawn_sent : (asked : Option (RequestOf HandleValue)) (new : Sight) (event : Event) → kept_if new asked ≡ None → option_map_or event_asked asked (Late unknown.reference) ≡ event
+      → Some event ≡ option_map event_asked asked
+  drawn_sent None new event e is = absurd (cc (e))
+  drawn_sent (Some request) new event e is = ap (λ (x : Event). Some x) (sym is)
+
+  pub drawn_as : (sight : Sight) (call : CanvasOf ℕ) (made : Option ℕ) (found : Option Entry) → RunsAs sight (Canvas call made) found → IsDrawnAs sight call found
+  drawn_as sight call made None runs =
+      let none : canvas_asks sight call ≡ None = drawn_kept (canvas_asks sight call) (drawn sight call made None) (after_call setup.serial sight (Canvas call made, no_answer)) runs in
+      sym (ap (option_map event_asked) none)
+  drawn_as sight call made (Some e) runs = drawn_sent (canvas_asks sight call) (drawn sight call made None) e.event runs.0 runs.1
+
   -- ---- what is genuine once calls are kept was so before
 
   module _ (past : Past) where
-    all_front : (P : Object → Type 0) (xs ys : List Object) → All P (xs ++ ys) → All P xs
-    all_front P [] ys all = All-nil P
-    all_front P (x ∷ xs) ys all = All-cons P x xs (All-head P x (xs ++ ys) all) (all_front P xs ys (All-tail P x (xs ++ ys) all))
-
     object_back : (change : RecorderValue → RecorderValue) (o : Object) → IsKept setup past (changed o change) → IsKept setup past o
     object_back change (object.Made handle recorder) genuine = genuine
     object_back change (object.Pass encoder number) genuine = tt
+    object_back change (object.Canvas canvas) genuine = genuine
+    object_back change (object.Shown texture) genuine = genuine
 
     objects_back : (change : RecorderValue → RecorderValue) (objects : List Object) (place : ℕ) → AreKept setup past (with_recorder objects place change)
         → AreKept setup past objects
@@ -211,6 +232,14 @@ module _ (setup : Setup) where
         by_late (is_late_on sight.own (stand_seen sight on)) sight (noted_on sight (stand_seen sight on) (command_seen sight command) made) after
         (noted_back sight (stand_seen sight on) (command_seen sight command) made) e sees
     kept_back sight (Ask request made) after e sees = absurd (cc (e))
+    kept_back sight (Canvas call made) after e sees =
+        let asks = drawn_kept (canvas_asks sight call) (drawn sight call made None) after e in
+        let same : kept_if (drawn sight call made None) None ≡ Some after = ap (kept_if (drawn sight call made None)) (sym asks) ∙ e in
+        let is : drawn sight call made None ≡ after = cc (same) in
+        let there : SeesGenuine setup past (drawn sight call made None) = subst (SeesGenuine setup past) (sym is) sees in (
+          subst (AreKept setup past) (drawn_others sight call made None) there.0,
+          drawn_had (λ handle. is_genuine setup past handle ≡ true) (IsKeptIn setup past) tt sight call made asks there.1,
+        )
 
     call_back : (sight : Sight) (call : BoundCall) (calls : List BoundCall)
         → ((after : Sight) → SeesGenuine setup past (settled after calls).sight → SeesGenuine setup past after)

@@ -1,6 +1,6 @@
 -- What a call ends is its own lane's, and has a recorder of the kind that the call ends: so its event has the verb of the call, and
 -- what is known of that which it makes is of the kind that the call makes.
-use Rattle.std.proofs.Common.{◌≡◌, ℕ, true, Option, Some, None, [], ◌∷◌, refl, sym, ap, subst, ◌∙◌, inl, inr, if◌then◌else◌}
+use Rattle.std.proofs.Common.{◌≡◌, ℕ, true, Option, Some, None, [], ◌∷◌, refl, sym, ap, subst, ◌∙◌, inl, inr, if◌then◌else◌, true≢false}
 use Rattle.std.specs.Prelude.{All, Contains, List, is_some, option_map, option_and_then, slice_get}
 use Rattle.std.specs.Option.{option_map_or}
 use Rattle.std.proofs.lemmas.List.Elements.{All-head}
@@ -9,6 +9,7 @@ use Rattle.wg_types.specs.Requests.{kind_made, named as asked_of}
 use Rattle.wg_types.specs.declared.handles.ObjRef.{ObjRef}
 use Rattle.wg_types.specs.declared.handles.Info.{Info}
 use Rattle.wg_types.specs.declared.render.TargetInfo.{TargetInfo}
+use Rattle.wg_types.specs.declared.canvases.CanvasOf.{CanvasOf}
 use Rattle.wg_types.specs.declared.requests.RequestOf.{RequestOf}
 use Rattle.wg_types.specs.declared.requests.RequestOf.TheVariants.{Finish, FinishBundle}
 use Rattle.wg_types.specs.declared.wanted.Kind.{Kind}
@@ -22,14 +23,14 @@ use Rattle.wg_types.specs.declared.replies.Verb.TheVariants.{Call}
 use Rattle.wg_history.specs.Entries.{verb_of}
 use Rattle.wg_calls.specs.Calls.{event_asked, info_asked, finish_event, finished_info, recording_of, finish_of, known_of_finish}
 use Rattle.wg_script.specs.CallOf.{BoundCall}
-use Rattle.wg_script.specs.declared.calls.CallOf.TheVariants.{Record, Ask}
+use Rattle.wg_script.specs.declared.calls.CallOf.TheVariants.{Record, Ask, Canvas}
 use Rattle.wg_names.specs.Bound.{IsFound, CallIsBound}
 use Rattle.wg_play.specs.declared.objects.Object.{Object}
 use Rattle.wg_play.specs.declared.objects.Object.TheVariants as object
 use Rattle.wg_play.specs.Objects.{unknown, handle_in, recorder_in, reference_at, recorder_at, ended_by}
 use Rattle.wg_play.specs.Sights.{Sight, place_in, handle_in_sight}
 use Rattle.wg_play.specs.Lanes.{finish_by, finish_known, request_seen, event_sent, info_sent}
-use Rattle.wg_play.specs.Found.{is_pass, has_recorder, IsOpenAs, IsOf, StandsAt}
+use Rattle.wg_play.specs.Found.{is_pass, has_recorder, IsOpenAs, IsOf, StandsAt, CanvasIsSeen}
 use Rattle.wg_play.proofs.Ended.{is_finish}
 use Rattle.wg_play.proofs.Following.{info_kind, MakesAs}
 use Rattle.wg_play.proofs.Numbered.{Slots}
@@ -76,6 +77,8 @@ no_pass _ p q = cc (p)
 
 open_in : (k : Kind) (what : Object) (found : Option Object) → has_recorder k ≡ true → found ≡ Some what → IsOf k what → IsOpenAs k (option_map_or handle_in found unknown).reference (option_and_then recorder_in found)
 open_in k (object.Pass encoder number) found p is of = absurd (no_pass k p of)
+open_in k (object.Canvas canvas) found p is of = absurd (true≢false (sym p ∙ ap has_recorder of.0))
+open_in k (object.Shown texture) found p is of = absurd (true≢false (sym p ∙ ap has_recorder of.0))
 open_in k (object.Made handle recorder) found p is of =
     subst (λ (o : Option Object). IsOpenAs k (option_map_or handle_in o unknown).reference (option_and_then recorder_in o)) (sym is) (of.1 p)
 
@@ -170,6 +173,11 @@ sends_as sight made ours request owns all = by_ended (ended_by request) refl
           (bundle_sends sight encoder (owns encoder kinds.BundleEncoder refl (ends_bundle_encoder made ours encoder (subst (λ (r : RequestOf ℕ). All (IsFound made ours) (asked_of r)) same all))))
     ]
 
-pub makes_as : (sight : Sight) (made ours : Slots) (call : BoundCall) → OwnsEncoders sight ours → CallIsBound made ours call → MakesAs sight call
-makes_as sight made ours (Record on command slot) owns bound = tt
-makes_as sight made ours (Ask request slot) owns bound = (sends_as sight made ours request owns bound).makes
+-- and what a call of a canvas finds is seen
+abbrev pub CanvasSeen : Sight → BoundCall → Type 0
+CanvasSeen sight call = (asked : CanvasOf ℕ) (made : Option ℕ) → call ≡ Canvas asked made → CanvasIsSeen sight asked
+
+pub makes_as : (sight : Sight) (made ours : Slots) (call : BoundCall) → OwnsEncoders sight ours → CanvasSeen sight call → CallIsBound made ours call → MakesAs sight call
+makes_as sight made ours (Record on command slot) owns seen bound = tt
+makes_as sight made ours (Ask request slot) owns seen bound = (sends_as sight made ours request owns bound).makes
+makes_as sight made ours (Canvas call slot) owns seen bound = seen call slot refl

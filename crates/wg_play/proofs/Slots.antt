@@ -36,6 +36,8 @@ recorder_changed : (change : RecorderValue → RecorderValue) (found : Option Ob
 recorder_changed change None = refl
 recorder_changed change (Some (object.Made handle recorder)) = refl
 recorder_changed change (Some (object.Pass encoder number)) = refl
+recorder_changed change (Some (object.Canvas canvas)) = refl
+recorder_changed change (Some (object.Shown texture)) = refl
 
 pub own_recorder : (change : RecorderValue → RecorderValue) (objects : List Object) (slot : ℕ) → recorder_at (with_recorder objects slot change) slot ≡ option_map change (recorder_at objects slot)
 own_recorder change objects slot = ap (λ found. option_and_then recorder_in found) (own_at change objects slot) ∙ recorder_changed change (slice_get objects slot)
@@ -86,6 +88,8 @@ stand_found : (found : Option Object) (slot : ℕ) (r : RecorderValue) → optio
 stand_found None slot r e = absurd (cc)
 stand_found (Some (object.Made handle recorder)) slot r e = refl
 stand_found (Some (object.Pass encoder number)) slot r e = absurd (cc)
+stand_found (Some (object.Canvas canvas)) slot r e = absurd (cc)
+stand_found (Some (object.Shown texture)) slot r e = absurd (cc)
 
 pub stand_encoder : (objects : List Object) (slot : ℕ) (r : RecorderValue) → recorder_at objects slot ≡ Some r → stand_at objects slot ≡ record { encoder = slot; on = Encoder }
 stand_encoder objects slot r e = stand_found (slice_get objects slot) slot r e

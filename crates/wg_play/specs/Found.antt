@@ -1,26 +1,34 @@
 -- What the slots of a script whose names are bound stand for, as its lanes are played. An encoder is one of either kind, a command
 -- encoder or a bundle encoder.
-use Rattle.std.specs.Prelude.{◌≡◌, ℕ, ◌+◌, nat_lt, Bool, true, false, List, [], ◌∷◌, ◌++◌, length, map, slice_get, All, Contains, Option, Some, is_some, option_map, if◌then◌else◌}
+use Rattle.std.specs.Prelude.{◌≡◌, ◌≢◌, ℕ, ◌+◌, nat_lt, Bool, true, false, List, [], ◌∷◌, ◌++◌, length, map, slice_get, All, Contains, Option, Some, None, is_some, option_map, if◌then◌else◌}
 use Rattle.std.specs.List.{flat_map}
 use Rattle.wg_types.specs.Kinds.{kind_of}
 use Rattle.wg_types.specs.Commands.{place_wanted, named_on}
 use Rattle.wg_types.specs.Requests.{kind_made, named as asked_of}
 use Rattle.wg_types.specs.Wanted.{admits}
+use Rattle.wg_types.specs.Handles.{HandleValue}
+use Rattle.wg_types.specs.declared.canvases.CanvasCall.{CanvasCall}
+use Rattle.wg_types.specs.declared.canvases.CanvasCall.TheVariants.{Current}
+use Rattle.wg_types.specs.declared.canvases.CanvasOf.{CanvasOf}
+use Rattle.wg_types.specs.declared.canvases.CanvasOf.TheVariants.{Create, On}
 use Rattle.wg_types.specs.declared.commands.CommandOf.{CommandOf}
 use Rattle.wg_types.specs.declared.handles.ObjRef.{ObjRef}
 use Rattle.wg_types.specs.declared.requests.RequestOf.{RequestOf}
 use Rattle.wg_types.specs.declared.wanted.Kind.{Kind}
 use Rattle.wg_types.specs.declared.wanted.Kind.TheVariants as kinds
 use Rattle.wg_types.specs.declared.wanted.Wanted.{Wanted}
+use Rattle.wg_canvas.specs.Canvases.{CanvasValue, HasTexture}
+use Rattle.wg_canvas.specs.declared.canvas.Stage.TheVariants.{Unset}
 use Rattle.wg_encoder.specs.Recorders.{RecorderValue}
 use Rattle.wg_history.specs.Entries.{verb_of}
 use Rattle.wg_calls.specs.Calls.{event_asked}
 use Rattle.wg_script.specs.CallOf.{BoundCall}
-use Rattle.wg_script.specs.declared.calls.CallOf.TheVariants.{Record, Ask}
+use Rattle.wg_script.specs.declared.calls.CallOf.TheVariants.{Record, Ask, Canvas}
 use Rattle.wg_names.specs.Bound.{Made, made_in, IsBound}
 use Rattle.wg_names.specs.Uses.{wants_own}
 use Rattle.wg_play.specs.declared.objects.Object.{Object}
 use Rattle.wg_play.specs.declared.objects.Object.TheVariants as object
+use Rattle.wg_play.specs.Canvases.{canvas_at}
 use Rattle.wg_play.specs.Objects.{handle_in, reference_at, recorder_at, ended_by}
 use Rattle.wg_play.specs.Sights.{Sight, place_in, handle_in_sight}
 use Rattle.wg_play.specs.Lanes.{Lane, stand_seen, request_seen, event_sent, info_sent, count_made, gathered}
@@ -85,11 +93,19 @@ pub record IsOpenAs (kind : Kind) (encoder : ObjRef) (found : Option RecorderVal
   pub is_open : IsOpenFor encoder found
   pub kind_is : recorder_kind is_open.recorder ≡ kind
 
+-- a texture that a canvas has
+abbrev pub IsShown : Option HandleValue → Type 0
+IsShown None = ⊥
+IsShown (Some texture) = kind_of texture.info ≡ kinds.Texture
+
 -- An object of a kind is one of which its handle knows that it is of that kind; an encoder has a recorder of its kind, which is open
--- for it. A pass is what the calls make that begin one.
+-- for it. A pass is what the calls make that begin one, a canvas is what a createCanvas makes, whose texture is one, and the texture
+-- of a canvas is what a currentTexture shows: so a drop, which asks for none of these three, names what was made for it.
 abbrev pub IsOf : Kind → Object → Type 0
 IsOf kind (object.Made handle recorder) = (kind_of handle.info ≡ kind) × (has_recorder kind ≡ true → IsOpenAs kind handle.reference recorder)
 IsOf kind (object.Pass encoder number) = is_pass kind ≡ true
+IsOf kind (object.Canvas canvas) = (kind ≡ kinds.Canvas) × HasTexture canvas.stage
+IsOf kind (object.Shown texture) = (kind ≡ kinds.CanvasTexture) × IsShown texture
 
 -- something of a kind stands at a place
 pub record StandsAt (objects : List Object) (place : ℕ) (kind : Kind) : Type 0 where
@@ -140,9 +156,21 @@ pub record IsSeenBy (sight : Sight) (made : Made ℕ) (request : RequestOf ℕ) 
   pub verb : verb_of (event_sent sight request) ≡ verb_of (event_asked (request_seen sight request))
   pub makes : option_map kind_of (info_sent sight request) ≡ kind_made request
 
+-- A call of a canvas finds one of the lane's own, whose texture is one; and a currentTexture one that was configured.
+pub record IsSeenSet (sight : Sight) (canvas : ℕ) (call : CanvasCall) : Type 0 where
+  pub found : CanvasValue
+  pub is : canvas_at sight.own (place_in sight canvas) ≡ Some found
+  pub texture : HasTexture found.stage
+  pub set : call ≡ Current → found.stage ≢ Unset
+
+abbrev pub CanvasIsSeen : Sight → CanvasOf ℕ → Type 0
+CanvasIsSeen sight (Create width height) = Unit {0}
+CanvasIsSeen sight (On canvas call) = IsSeenSet sight canvas call
+
 abbrev pub CallIsFound : Sight → Made ℕ → BoundCall → Type 0
 CallIsFound sight made (Record on command slot) = IsSeenOn sight made on command
 CallIsFound sight made (Ask request slot) = IsSeenBy sight made request
+CallIsFound sight made (Canvas call slot) = CanvasIsSeen sight call
 
 -- ---- the laws
 

@@ -1,5 +1,7 @@
 -- Every handle that a lane keeps is genuine in what has happened.
-use Rattle.std.specs.Prelude.{◌≡◌, ◌≢◌, ℕ, true, List, All, Some}
+use Rattle.std.specs.Prelude.{◌≡◌, ◌≢◌, ℕ, true, List, All, Option, Some, None}
+use Rattle.wg_types.specs.Handles.{HandleValue}
+use Rattle.wg_canvas.specs.Canvases.{texture_of}
 use Rattle.wg_history.specs.declared.events.Setup.{Setup}
 use Rattle.wg_history.specs.Entries.{Past}
 use Rattle.wg_history.specs.Rules.{is_genuine}
@@ -11,10 +13,21 @@ use Rattle.wg_play.specs.Lanes.{Lane, next_event, starts, gathered}
 use Rattle.wg_play.specs.Turns.{Midway, lane_at, turned}
 use Rattle.wg_play.specs.Play.{after_}
 
--- the handle of an object is genuine in a past; a pass has none
+-- the texture of a canvas, if it has one
+abbrev pub IsKeptIn : Setup → Past → Option HandleValue → Type 0
+IsKeptIn setup past None = Unit {0}
+IsKeptIn setup past (Some texture) = is_genuine setup past texture ≡ true
+
+-- what is said of the handle of an object, and of the texture of a canvas and of each name of one, if there is one; a pass has none
+abbrev pub Each : (HandleValue → Type 0) → (Option HandleValue → Type 0) → Object → Type 0
+Each OfObject OfTexture (object.Made handle recorder) = OfObject handle
+Each OfObject OfTexture (object.Pass encoder number) = Unit {0}
+Each OfObject OfTexture (object.Canvas canvas) = OfTexture (texture_of canvas)
+Each OfObject OfTexture (object.Shown texture) = OfTexture texture
+
+-- the handle of an object is genuine in a past, and so is that of the texture of a canvas
 abbrev pub IsKept : Setup → Past → Object → Type 0
-IsKept setup past (object.Made handle recorder) = is_genuine setup past handle ≡ true
-IsKept setup past (object.Pass encoder number) = Unit {0}
+IsKept setup past what = Each (λ handle. is_genuine setup past handle ≡ true) (IsKeptIn setup past) what
 
 abbrev pub AreKept : Setup → Past → List Object → Type 0
 AreKept setup past objects = All (IsKept setup past) objects

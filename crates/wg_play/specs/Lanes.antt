@@ -6,19 +6,25 @@ use Rattle.wg_types.specs.declared.commands.CommandOf.{CommandOf}
 use Rattle.wg_types.specs.declared.handles.Info.{Info}
 use Rattle.wg_types.specs.Commands.{Command, map_refs}
 use Rattle.wg_types.specs.Requests.{map_refs as map_asked}
+use Rattle.wg_types.specs.declared.canvases.CanvasCall.{CanvasCall}
+use Rattle.wg_types.specs.declared.canvases.CanvasOf.{CanvasOf}
+use Rattle.wg_types.specs.declared.canvases.CanvasOf.TheVariants.{Create, On}
 use Rattle.wg_types.specs.declared.replies.Answer.{Answer}
 use Rattle.wg_types.specs.declared.replies.Reply.{Reply}
 use Rattle.wg_types.specs.declared.requests.RequestOf.{RequestOf}
+use Rattle.wg_canvas.specs.declared.canvas.Stage.TheVariants.{Unset}
 use Rattle.wg_encoder.specs.Recorders.{RecorderValue}
 use Rattle.wg_history.specs.declared.events.Event.{Event}
 use Rattle.wg_history.specs.declared.events.Event.TheVariants.{Late}
 use Rattle.wg_script.specs.CallOf.{BoundCall}
-use Rattle.wg_script.specs.declared.calls.CallOf.TheVariants.{Record, Ask}
+use Rattle.wg_script.specs.declared.calls.CallOf.TheVariants.{Record, Ask, Canvas}
 use Rattle.wg_names.specs.Bound.{made_in}
 use Rattle.wg_calls.specs.Calls.{event_asked, info_asked, finish_of, known_of_finish, handle_of}
 use Rattle.wg_play.specs.declared.objects.Object.{Object}
+use Rattle.wg_play.specs.declared.objects.Object.TheVariants as object
 use Rattle.wg_play.specs.declared.objects.Stand.{Stand}
-use Rattle.wg_play.specs.Objects.{reference_at, recorder_at, stand_at, is_late_on, recorded_on, begun_by, taken_on, ended_by, object_of}
+use Rattle.wg_play.specs.Canvases.{asked_at, given_by, acted_at, shown_at}
+use Rattle.wg_play.specs.Objects.{unknown, reference_at, recorder_at, stand_at, is_late_on, recorded_on, begun_by, taken_on, ended_by, object_of}
 use Rattle.wg_play.specs.Sights.{Sight, place_in, handle_in_sight, with_more}
 
 -- ---- recording calls
@@ -36,11 +42,34 @@ stand_seen sight on = stand_at sight.own (place_in sight on)
 abbrev pub noted_on : Sight → Stand → Command → Option ℕ → Sight
 noted_on sight stand command made = record sight { own = recorded_on sight.own stand command ++ begun_by sight.own stand.encoder command made }
 
--- A recording call that is not late is kept by its encoder's recorder, and is no event. What the lane sees after it; of every
--- other call there is nothing.
+-- ---- calls of canvases
+
+-- what a call of a canvas asks of the device, if it asks something; a new canvas asks nothing
+abbrev pub canvas_asks : Sight → CanvasOf ℕ → Option (RequestOf HandleValue)
+canvas_asks sight (Create width height) = None
+canvas_asks sight (On canvas call) = asked_at sight.own (place_in sight canvas) call
+
+-- What the lane sees after it, where the device made this for it, or nothing: a new canvas has the next slot, and so has the name that
+-- a currentTexture makes, of the texture that is current then.
+abbrev pub new_canvas : ℕ → ℕ → Option ℕ → List Object
+new_canvas width height made = option_map_or (λ slot. object.Canvas (record { width = width; height = height; stage = Unset }) ∷ []) made []
+
+abbrev pub with_own : Sight → List Object → Sight
+with_own sight objects = record sight { own = objects }
+
+abbrev pub drawn_on : List Object → ℕ → CanvasCall → Option ℕ → List Object
+drawn_on objects place call made = objects ++ shown_at objects place call made
+
+abbrev pub drawn : Sight → CanvasOf ℕ → Option ℕ → Option HandleValue → Sight
+drawn sight (Create width height) made given = with_more sight (new_canvas width height made)
+drawn sight (On canvas call) made given = with_own sight (drawn_on (acted_at sight.own (place_in sight canvas) call given) (place_in sight canvas) call made)
+
+-- A recording call that is not late is kept by its encoder's recorder, and is no event; nor is a call of a canvas that asks nothing of
+-- the device. What the lane sees after it; of every other call there is nothing.
 abbrev pub kept : Sight → BoundCall → Option Sight
 kept sight (Record on command made) = if is_late_on sight.own (stand_seen sight on) then None else Some (noted_on sight (stand_seen sight on) (command_seen sight command) made)
 kept sight (Ask request made) = None
+kept sight (Canvas call made) = option_map_or (λ request. None) (canvas_asks sight call) (Some (drawn sight call made None))
 
 -- ---- events
 
@@ -67,24 +96,26 @@ event_sent sight request = option_map_or (λ encoder. finish_by (recorder_at sig
 abbrev pub info_sent : Sight → RequestOf ℕ → Option Info
 info_sent sight request = option_map_or (λ encoder. finish_known (recorder_at sight.own (place_in sight encoder)) (info_asked (request_seen sight request))) (ended_by request) (info_asked (request_seen sight request))
 
--- the event that a call is; a recording call is one where it is late
+-- the event that a call is; a recording call is one where it is late, and a call of a canvas where it asks something, so that the
+-- last case is not met
 abbrev pub event_of : Sight → BoundCall → Event
 event_of sight (Record on command made) = Late (reference_at sight.own (stand_seen sight on).encoder)
 event_of sight (Ask request made) = event_sent sight request
+event_of sight (Canvas call made) = option_map_or event_asked (canvas_asks sight call) (Late unknown.reference)
 
 -- what the lane sees once the event has taken what it carries
 abbrev pub taken_by : Sight → BoundCall → Sight
 taken_by sight (Record on command made) = noted_on sight (stand_seen sight on) (command_seen sight command) made
 taken_by sight (Ask request made) = option_map_or (λ encoder. record sight { own = taken_on sight.own (place_in sight encoder) }) (ended_by request) sight
+taken_by sight (Canvas call made) = sight
 
 -- the handle of what was made by this answer, of which so much is known, if something was made
 abbrev pub handle_known : ℕ → Option Info → Answer → Option HandleValue
 handle_known serial info answer = option_and_then (λ known. handle_of serial known answer) info
 
--- the handle of what a call has made that was answered so, if it makes something that has a slot
-abbrev pub handle_kept : ℕ → Sight → BoundCall → Answer → Option HandleValue
-handle_kept serial sight (Record on command made) answer = None
-handle_kept serial sight (Ask request made) answer = option_and_then (λ slot. handle_known serial (info_sent sight request) answer) made
+-- the handle of what a call of the device has made that was answered so, if it makes something that has a slot
+abbrev pub handle_kept : ℕ → Sight → RequestOf ℕ → Option ℕ → Answer → Option HandleValue
+handle_kept serial sight request made answer = option_and_then (λ slot. handle_known serial (info_sent sight request) answer) made
 
 -- what the lane sees once the event was answered: what it has made has the next slot
 abbrev pub with_handle : Sight → Option HandleValue → Sight
@@ -92,7 +123,9 @@ with_handle sight None = sight
 with_handle sight (Some handle) = with_more sight (object_of handle ∷ [])
 
 abbrev pub answered_by : ℕ → Sight → BoundCall → Answer → Sight
-answered_by serial sight call answer = with_handle (taken_by sight call) (handle_kept serial sight call answer)
+answered_by serial sight (Record on command made) answer = taken_by sight (Record on command made)
+answered_by serial sight (Ask request made) answer = with_handle (taken_by sight (Ask request made)) (handle_kept serial sight request made answer)
+answered_by serial sight (Canvas call made) answer = drawn sight call made (given_by serial (canvas_asks sight call) answer)
 
 -- ---- lanes
 
@@ -101,7 +134,7 @@ pub record Lane : Type 0 where
   pub sight : Sight
   pub left : List BoundCall
 
--- the lane at its next event, with the recording calls before it kept
+-- the lane at its next event, with the calls before it kept that are none
 abbrev pub settled : Sight → List BoundCall → Lane
 settled sight [] = record { sight = sight; left = [] }
 settled sight (call ∷ calls) = option_map_or (λ after. settled after calls) (kept sight call) (record { sight = sight; left = call ∷ calls })

@@ -11,7 +11,7 @@ use Rattle.wg_types.specs.declared.replies.Answer.{Answer}
 use Rattle.wg_types.specs.declared.replies.Answer.TheVariants.{Made, Queued, Promised, Plain, BadCompletion}
 use Rattle.wg_encoder.specs.Recorders.{RecorderValue, pass_ended as ended_within}
 use Rattle.wg_script.specs.CallOf.{BoundCall}
-use Rattle.wg_script.specs.declared.calls.CallOf.TheVariants.{Record, Ask}
+use Rattle.wg_script.specs.declared.calls.CallOf.TheVariants.{Record, Ask, Canvas}
 use Rattle.wg_names.specs.Bound.{made_in, IsBound}
 use Rattle.wg_names.specs.Uses.{made_of}
 use Rattle.wg_play.specs.declared.objects.Object.{Object}
@@ -33,11 +33,16 @@ is_made Promised = false
 is_made Plain = false
 is_made BadCompletion = false
 
--- A call of the device that makes something which has a slot is answered that this was made, valid or not. Every other answer may
--- be any.
+-- A call that makes something which has a slot is answered that this was made, valid or not, as a call of the device is that makes
+-- something, and a currentTexture where it is an event. Every other answer may be any.
 abbrev pub Answers : BoundCall → Answer → Type 0
 Answers (Record on command made) answer = Unit {0}
 Answers (Ask request made) answer = is_some (made_of (Ask request made)) ≡ true → is_made answer ≡ true
+Answers (Canvas call made) answer = is_some (made_of (Canvas call made)) ≡ true → is_made answer ≡ true
+
+-- the answer of a call that was kept, which has none, so that any will do
+abbrev pub no_answer : Answer
+no_answer = Made 0 false
 
 abbrev pub IsAnswered : Answered → Type 0
 IsAnswered call = Answers call.0 call.1
@@ -63,12 +68,14 @@ slots_before earlier lanes = length (flat_map (flat_map made_in) earlier) + leng
 abbrev pub finishes : ℕ → BoundCall → Bool
 finishes slot (Record on command made) = false
 finishes slot (Ask request made) = option_map_or (λ encoder. encoder == slot) (ended_by request) false
+finishes slot (Canvas call made) = false
 
 -- the encoder on which a call begins the pass of a slot
 abbrev pub begun_as : ℕ → BoundCall → Option ℕ
 begun_as slot (Record on command None) = None
 begun_as slot (Record on command (Some made)) = if is_some (kind_begun command) && (made == slot) then Some on else None
 begun_as slot (Ask request made) = None
+begun_as slot (Canvas call made) = None
 
 -- The encoder of a slot on which a recording call stands that comes after these calls: that on which one of them has begun the
 -- pass of the slot, or the slot itself.

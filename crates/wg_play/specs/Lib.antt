@@ -1,3 +1,4 @@
+pub mod Canvases
 pub mod Objects
 pub mod Sights
 pub mod Lanes
@@ -8,3 +9,4 @@ pub mod Found
 pub mod Through
 pub mod Kept
 pub mod Played
+pub mod Presented

@@ -1,6 +1,6 @@
 -- What the calls of a lane have made, each at its place, from 0 on. An encoder is one of either kind, a command encoder or a bundle
 -- encoder, which has no passes.
-use Rattle.std.specs.Prelude.{ℕ, nat_lt, not, ◌||◌, List, [], ◌∷◌, Option, Some, None, option_and_then, option_map, slice_get, slice_set, if◌then◌else◌, Bool, true, false}
+use Rattle.std.specs.Prelude.{ℕ, nat_lt, not, ◌||◌, List, [], ◌∷◌, Option, Some, None, option_and_then, option_map, slice_get, slice_set, if◌then◌else◌, Bool, true, false, unwrap_or}
 use Rattle.std.specs.Option.{option_map_or}
 use Rattle.wg_types.specs.Handles.{HandleValue}
 use Rattle.wg_types.specs.declared.handles.ObjRef.{ObjRef}
@@ -22,11 +22,13 @@ use Rattle.wg_play.specs.declared.objects.Stand.{Stand}
 abbrev pub unknown : HandleValue
 unknown = record { reference = record { device = 0; number = 0 }; valid = false; info = info.CommandBuffer }
 
--- What a call has made: an object as its caller holds it, with the recorder of an encoder; or a pass, by the place of its
--- encoder and its number there.
+-- What a call has made: an object as its caller holds it, with the recorder of an encoder; a pass, by the place of its
+-- encoder and its number there; a canvas; or a name for the texture of one, if it has one.
 abbrev pub handle_in : Object → HandleValue
 handle_in (object.Made handle recorder) = handle
 handle_in (object.Pass encoder number) = unknown
+handle_in (object.Canvas canvas) = unknown
+handle_in (object.Shown texture) = unwrap_or texture unknown
 
 abbrev pub handle_at : List Object → ℕ → HandleValue
 handle_at objects place = option_map_or handle_in (slice_get objects place) unknown
@@ -38,6 +40,8 @@ reference_at objects place = (handle_at objects place).reference
 abbrev pub recorder_in : Object → Option RecorderValue
 recorder_in (object.Made handle recorder) = recorder
 recorder_in (object.Pass encoder number) = None
+recorder_in (object.Canvas canvas) = None
+recorder_in (object.Shown texture) = None
 
 abbrev pub recorder_at : List Object → ℕ → Option RecorderValue
 recorder_at objects place = option_and_then recorder_in (slice_get objects place)
@@ -45,6 +49,8 @@ recorder_at objects place = option_and_then recorder_in (slice_get objects place
 abbrev pub changed : Object → (RecorderValue → RecorderValue) → Object
 changed (object.Made handle recorder) change = object.Made handle (option_map change recorder)
 changed (object.Pass encoder number) change = object.Pass encoder number
+changed (object.Canvas canvas) change = object.Canvas canvas
+changed (object.Shown texture) change = object.Shown texture
 
 -- the objects with a change of an encoder's recorder
 abbrev pub with_recorder : List Object → ℕ → (RecorderValue → RecorderValue) → List Object
@@ -54,6 +60,8 @@ with_recorder objects place change = option_map_or (λ x. slice_set objects plac
 abbrev pub stand_in : ℕ → Object → Stand
 stand_in place (object.Made handle recorder) = record { encoder = place; on = Encoder }
 stand_in place (object.Pass encoder number) = record { encoder = encoder; on = Pass number }
+stand_in place (object.Canvas canvas) = record { encoder = place; on = Encoder }
+stand_in place (object.Shown texture) = record { encoder = place; on = Encoder }
 
 abbrev pub stand_at : List Object → ℕ → Stand
 stand_at objects place = option_map_or (stand_in place) (slice_get objects place) (record { encoder = place; on = Encoder })

@@ -1,10 +1,12 @@
 -- What a script has given that was played: each of its calls, with the entry that it became where it is an event.
 use Rattle.std.specs.Prelude.{◌≡◌, ◌≢◌, ℕ, List, [], ◌∷◌, ◌++◌, length, map, reverse, get_or, Bool, true, ◌||◌, Option, Some, None, is_some, All, Contains}
-use Rattle.std.specs.Option.{option_map_or, option_to_list}
+use Rattle.std.specs.Option.{option_map, option_map_or, option_to_list}
 use Rattle.std.specs.List.{flat_map, list_any}
 use Rattle.wg_types.specs.Handles.{HandleValue}
 use Rattle.wg_types.specs.Wanted.{admits}
-use Rattle.wg_types.specs.declared.replies.Answer.TheVariants.{Made, Plain}
+use Rattle.wg_types.specs.declared.replies.Answer.TheVariants.{Made}
+use Rattle.wg_types.specs.declared.canvases.CanvasOf.{CanvasOf}
+use Rattle.wg_types.specs.declared.canvases.CanvasOf.TheVariants.{Create, On}
 use Rattle.wg_types.specs.declared.requests.RequestOf.{RequestOf}
 use Rattle.wg_types.specs.declared.wanted.Kind.{Kind}
 use Rattle.wg_types.specs.declared.wanted.Wanted.{Wanted}
@@ -15,22 +17,22 @@ use Rattle.wg_history.specs.Rules.{is_genuine}
 use Rattle.wg_history.specs.Answers.{Run}
 use Rattle.wg_calls.specs.Calls.{event_asked}
 use Rattle.wg_script.specs.CallOf.{BoundCall}
-use Rattle.wg_script.specs.declared.calls.CallOf.TheVariants.{Record, Ask}
+use Rattle.wg_script.specs.declared.calls.CallOf.TheVariants.{Record, Ask, Canvas}
 use Rattle.wg_names.specs.Bound.{IsBound}
 use Rattle.wg_names.specs.Uses.{made_of, uses_of}
 use Rattle.wg_play.specs.declared.objects.Object.{Object}
 use Rattle.wg_play.specs.Objects.{reference_at}
 use Rattle.wg_play.specs.Sights.{Sight, handle_in_sight}
-use Rattle.wg_play.specs.Lanes.{stand_seen, request_seen, event_sent, gathered}
+use Rattle.wg_play.specs.Lanes.{stand_seen, canvas_asks, request_seen, event_sent, gathered}
 use Rattle.wg_play.specs.Turns.{made_by, callers_of}
-use Rattle.wg_play.specs.Late.{Answered, after_calls, slots_before, finishes, encoder_of, has_pass_ended}
+use Rattle.wg_play.specs.Late.{Answered, no_answer, after_calls, slots_before, finishes, encoder_of, has_pass_ended}
 use Rattle.wg_play.specs.Found.{ended_from}
 use Rattle.wg_play.specs.Kept.{AreKept, SeesGenuine}
 use Rattle.wg_play.specs.Play.{Play, Interleaves}
 
 -- ---- calls as they were played
 
--- a call, with the entry that it became; a recording call that was kept became none
+-- a call, with the entry that it became; a call that was kept became none
 abbrev pub PlayedCall : Type 0
 PlayedCall = BoundCall × Option Entry
 
@@ -54,9 +56,9 @@ IsInterleaved phase = (n : ℕ) → made_by n phase.entries ≡ entries_in (get_
 
 -- ---- what a lane sees at a call
 
--- a call with its answer; one that was kept has none, so that any will do
+-- a call with its answer
 abbrev pub with_answer : PlayedCall → Answered
-with_answer call = (call.0, option_map_or (λ (entry : Entry). entry.reply.answer) call.1 Plain)
+with_answer call = (call.0, option_map_or (λ (entry : Entry). entry.reply.answer) call.1 no_answer)
 
 abbrev pub answered_lanes : List (List PlayedCall) → List (List Answered)
 answered_lanes lanes = map (λ calls. map with_answer calls) lanes
@@ -91,6 +93,10 @@ pub record IsRecordedAs (sight : Sight) (before : List BoundCall) (on : ℕ) (fo
   pub late : is_some found ≡ is_late_after sight before on
   pub event : (entry : Entry) → found ≡ Some entry → entry.event ≡ Late (reference_at sight.own (stand_seen sight on).encoder)
 
+-- a call of a canvas became one exactly where it asks something of the device, and is then the event of that
+abbrev pub IsDrawnAs : Sight → CanvasOf ℕ → Option Entry → Type 0
+IsDrawnAs sight call found = option_map (λ (entry : Entry). entry.event) found ≡ option_map event_asked (canvas_asks sight call)
+
 -- every other call became one, which is its event, and has the verb of the call
 pub record IsAskedAs (sight : Sight) (request : RequestOf ℕ) (found : Option Entry) : Type 0 where
   pub entry : Entry
@@ -101,6 +107,7 @@ pub record IsAskedAs (sight : Sight) (request : RequestOf ℕ) (found : Option E
 abbrev pub IsPlayedAs : Sight → List BoundCall → BoundCall → Option Entry → Type 0
 IsPlayedAs sight before (Record on command made) found = IsRecordedAs sight before on found
 IsPlayedAs sight before (Ask request made) found = IsAskedAs sight request found
+IsPlayedAs sight before (Canvas call made) found = IsDrawnAs sight call found
 
 -- ---- what a name stands for
 
@@ -111,11 +118,17 @@ pub record IsOfEntry (setup : Setup) (past : Past) (handle : HandleValue) (entry
   pub answer : entry.reply.answer ≡ Made handle.reference.number handle.valid
   pub genuine : is_genuine setup past handle ≡ true
 
--- what a call has made is an object, or a pass, which has no handle
+-- what a currentTexture shows is genuine, whether it was made for it or was there; a canvas has no handle
+abbrev pub IsOfCanvas : Setup → Past → HandleValue → CanvasOf ℕ → Type 0
+IsOfCanvas setup past handle (Create width height) = Unit {0}
+IsOfCanvas setup past handle (On canvas call) = is_genuine setup past handle ≡ true
+
+-- what a call has made is an object, the texture of a canvas, or a pass or a canvas, which have no handle
 abbrev pub IsOfCall : Setup → Past → HandleValue → BoundCall → Option Entry → Type 0
 IsOfCall setup past handle (Record on command made) found = Unit {0}
 IsOfCall setup past handle (Ask request made) None = ⊥
 IsOfCall setup past handle (Ask request made) (Some entry) = IsOfEntry setup past handle entry
+IsOfCall setup past handle (Canvas call made) found = IsOfCanvas setup past handle call
 
 -- A name that a call uses stands for what one of these calls has made, as which that made it.
 pub record StandsForMade (setup : Setup) (past : Past) (sight : Sight) (seen : List PlayedCall) (used : ℕ × Wanted) : Type 0 where

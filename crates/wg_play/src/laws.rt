@@ -3,6 +3,7 @@ ghost use Rattle.wg_play.specs.Found.{BoundIsFound, GatheredIsHeld};
 ghost use Rattle.wg_play.specs.Kept.{StartsGenuine, TurnsGenuine, GathersGenuine};
 ghost use Rattle.wg_play.specs.Late.{LateIsFinished};
 ghost use Rattle.wg_play.specs.Played.{PlayInterleaves, PlayGoesThrough};
+ghost use Rattle.wg_play.specs.Presented.{PresentsExpire};
 ghost use Rattle.wg_play.specs.Through.{LanesGoThrough};
 
 /// In each lane of a script whose names are bound, a recording call is late exactly where a call before it
@@ -39,4 +40,12 @@ pub fn genuine_handles()
 pub fn played_scripts()
     ensures interleaves { PlayInterleaves }
     ensures through { PlayGoesThrough }
+{}
+
+/// Where a script was played through, a texture that a canvas presented has expired: each later submit whose
+/// command buffers use it and each later writeTexture of it answers Plain, on a device that is not lost with
+/// the fault of rule 193 or 210 where no earlier rule is unmet. No drop names it, and a valid one is released
+/// at the first entry, from its first destroy on, after which every operation that uses it is complete.
+pub fn presented_textures()
+    ensures { PresentsExpire }
 {}

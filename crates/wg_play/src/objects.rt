@@ -1,5 +1,6 @@
 //! What the calls of a lane have made, each at its place. An encoder is one of either kind, a command
-//! encoder or a bundle encoder, which has no passes.
+//! encoder or a bundle encoder, which has no passes. A canvas is one of the lane's own, and each name of a
+//! texture of one is an object more.
 ghost use Rattle.std.specs.Prelude.{◌≡◌, true, [], option_to_list, slice_get, vec_len, vec_capacity, IfOk, OnOk, OnErr};
 ghost use Rattle.std.specs.Option.{option_map, option_map_or};
 ghost use Rattle.wg_play.specs.declared.objects.Object.TheVariants.{Pass};
@@ -9,13 +10,15 @@ ghost use Rattle.wg_play.specs.Objects.{handle_at, reference_at, recorder_in, ch
 use std::alloc::Global;
 use std::sync::Arc;
 use wg_calls::{bundle_recorder_for, recorder_for};
+use wg_canvas::Canvas;
 use wg_encoder::{Noted, Recorder};
 use wg_entry::NoMemory;
 use wg_types::commands::{Command, On};
 use wg_types::handles::{Handle, Info, ObjRef};
 
-/// What a call has made: an object as its caller holds it, with the recorder of an encoder; or a pass, by
-/// the place of its encoder and its number there. Passes are no objects of a device.
+/// What a call has made: an object as its caller holds it, with the recorder of an encoder; a pass, by the
+/// place of its encoder and its number there; a canvas; or a name for the texture of one, if it has one.
+/// Passes and canvases are no objects of a device.
 #[derive(Drop)]
 pub enum Object {
     Made {
@@ -26,6 +29,8 @@ pub enum Object {
         encoder: u32,
         number: u32,
     },
+    Canvas(Canvas),
+    Shown(Option<Handle>),
 }
 
 /// Where a recording call stands: the place of its encoder, and whether on that itself or on a pass of it.
@@ -46,8 +51,8 @@ pub fn handle_at(alloc: Global, objects: &[Object], place: u32) -> Result<Handle
     ensures { IfOk result (λ handle. handle ≡ handle_at objects.now place) }
 {
     match objects.get(place as usize) {
-        Some(Object::Made { handle, .. }) => handle.share(),
-        Some(Object::Pass { .. }) | None => {
+        Some(Object::Made { handle, .. } | Object::Shown(Some(handle))) => handle.share(),
+        Some(Object::Pass { .. } | Object::Canvas(_) | Object::Shown(None)) | None => {
             Ok(Handle::new(UNKNOWN, false, Arc::new(alloc, Info::CommandBuffer)?))
         }
     }
@@ -58,8 +63,8 @@ pub fn reference_at(objects: &[Object], place: u32) -> ObjRef
     ensures { result ≡ reference_at objects.now place }
 {
     match objects.get(place as usize) {
-        Some(Object::Made { handle, .. }) => handle.reference(),
-        Some(Object::Pass { .. }) | None => UNKNOWN,
+        Some(Object::Made { handle, .. } | Object::Shown(Some(handle))) => handle.reference(),
+        Some(Object::Pass { .. } | Object::Canvas(_) | Object::Shown(None)) | None => UNKNOWN,
     }
 }
 
@@ -72,7 +77,7 @@ pub fn stand_at(objects: &[Object], place: u32) -> Stand
             encoder: *encoder,
             on: On::Pass(*number),
         },
-        Some(Object::Made { .. }) | None => Stand {
+        Some(Object::Made { .. } | Object::Canvas(_) | Object::Shown(_)) | None => Stand {
             encoder: place,
             on: On::Encoder,
         },
@@ -114,7 +119,10 @@ fn record_in(object: &mut Object, on: On, command: Command) -> Result<Noted, NoM
             recorder: Some(recorder),
             ..
         } => record_by(recorder, on, command),
-        Object::Made { recorder: None, .. } | Object::Pass { .. } => {
+        Object::Made { recorder: None, .. }
+        | Object::Pass { .. }
+        | Object::Canvas(_)
+        | Object::Shown(_) => {
             drop(command);
             Ok(Noted::Late)
         }
@@ -152,7 +160,13 @@ fn passes_at(objects: &[Object], place: u32) -> u32
                 ..
             },
         ) => recorder.passes(),
-        Some(Object::Made { recorder: None, .. }) | Some(Object::Pass { .. }) | None => 0,
+        Some(
+            Object::Made { recorder: None, .. }
+            | Object::Pass { .. }
+            | Object::Canvas(_)
+            | Object::Shown(_),
+        )
+        | None => 0,
     }
 }
 

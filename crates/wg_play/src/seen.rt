@@ -72,6 +72,7 @@ fn makes(call: &BoundCall) -> bool
     match call {
         BoundCall::Record { command, made, .. } => made.is_some() && command.kind_begun().is_some(),
         BoundCall::Ask { request, made } => made.is_some() && request.kind_made().is_some(),
+        BoundCall::Canvas { call, made } => made.is_some() && call.kind_made().is_some(),
     }
 }
 

@@ -1,5 +1,6 @@
 pub mod Going
 pub mod Calls
+pub mod Drawing
 pub mod Meeting
 pub mod Played
 pub mod Seating

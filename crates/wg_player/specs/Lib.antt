@@ -1,3 +1,4 @@
 pub mod Moves
 pub mod Seats
 pub mod Whole
+pub mod Drawing

@@ -36,12 +36,12 @@ pub record HasSent (serial : ℕ) (sight sight_after : Sight) (call : BoundCall)
   pub sent : kept sight call ≡ None
   pub sees : sight_after ≡ answered_by serial sight call entry.reply.answer
 
--- a call was kept by a recorder, and made no entry
+-- a call was kept, by a recorder or by a canvas, and made no entry
 pub record HasKept (sight sight_after : Sight) (call : BoundCall) (made made_after : List Entry) : Type 0 where
   pub kept : kept sight call ≡ Some sight_after
   pub same : made_after ≡ made
 
--- a call was played, as an event or as a recording call
+-- a call was played, as an event or as a call that is none
 abbrev pub HasPlayed : ℕ → Sight → Sight → BoundCall → List Entry → List Entry → Type 0
 HasPlayed serial sight sight_after call made made_after =
     HasSent serial sight sight_after call made made_after ⊎ HasKept sight sight_after call made made_after

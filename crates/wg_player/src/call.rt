@@ -8,6 +8,7 @@ ghost use Rattle.wg_play.specs.Objects.{changed, recorder_in, recorder_at, taken
 ghost use Rattle.wg_play.specs.Sights.{SeesSame, sight_of};
 ghost use Rattle.wg_player.specs.Moves.{HasAskedBy, HasPlayedBy};
 
+use crate::canvas::play_canvas;
 use std::alloc::Global;
 use std::sync::Wait;
 use wg_device::{Device, DevicePass};
@@ -107,7 +108,10 @@ fn finish_in(
             recorder: Some(recorder),
             ..
         } => finish(rt, device, pass, recorder, asked),
-        Object::Made { recorder: None, .. } | Object::Pass { .. } => ask(rt, device, pass, asked),
+        Object::Made { recorder: None, .. }
+        | Object::Pass { .. }
+        | Object::Canvas(_)
+        | Object::Shown(_) => ask(rt, device, pass, asked),
     }
 }
 
@@ -203,5 +207,6 @@ pub fn play_call(
             play_command(rt, device, pass, seen, *on, command, *made)
         }
         BoundCall::Ask { request, made } => play_request(rt, device, pass, seen, request, *made),
+        BoundCall::Canvas { call, made } => play_canvas(rt, device, pass, seen, call, *made),
     }
 }

@@ -2,6 +2,7 @@
 #![tactic(auto)]
 
 mod call;
+mod canvas;
 mod lane;
 mod meets;
 mod phase;

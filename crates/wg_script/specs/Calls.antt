@@ -1,6 +1,6 @@
--- Which call an object is, or the first script rule that it breaks: for each call that is built, its
--- keys, and what each holds, in the order in which they are read. Calls on textures, bindings, compute
--- passes, rendering, queries and bundles have definitions of their own.
+-- Which call an object is, or the first script rule that it breaks: for each call its keys, and what
+-- each holds, in the order in which they are read. Calls on textures, bindings, compute passes, rendering,
+-- queries, bundles and canvases have definitions of their own.
 use Rattle.std.specs.Prelude.{ℕ, List, [], ◌∷◌, false, codes, Option, Some, None, option_and_then, Result, Err}
 use Rattle.serde_json.specs.Data.{Data}
 use Rattle.serde_json.specs.Find.{get, as_str}
@@ -14,6 +14,7 @@ use Rattle.wg_script.specs.PassCalls.{bare_of, begin_compute_pass_of, end_of, se
 use Rattle.wg_script.specs.RenderCalls.{create_render_of, begin_render_pass_of, set_vertex_buffer_of, set_index_buffer_of, draw_of, draw_indexed_of, draw_indirect_of, draw_indexed_indirect_of}
 use Rattle.wg_script.specs.QueryCalls.{create_queries_of, resolve_queries_of, begin_occlusion_of, end_occlusion_of}
 use Rattle.wg_script.specs.BundleCalls.{create_bundle_encoder_of, finish_bundle_of, execute_bundles_of}
+use Rattle.wg_script.specs.CanvasCalls.{create_canvas_of, configure_canvas_of, current_texture_of, present_of}
 use Rattle.wg_types.specs.Words.{word_of}
 use Rattle.wg_types.specs.declared.words.Word.{Word}
 use Rattle.wg_types.specs.declared.words.Word.TheVariants as word
@@ -153,7 +154,7 @@ pop_debug_group_of d = bare_of PopDebugGroup d
 
 -- ---- which call
 
--- a call that is built, by its keys. Script rule 13: the word names a call that is not built yet
+-- a call by its keys
 abbrev pub call_as : Word → Data → Result Call ℕ
 call_as word.CreateBuffer d = create_buffer_of d
 call_as word.CreateTexture d = create_texture_of d
@@ -205,10 +206,10 @@ call_as word.DrawIndexedIndirect d = draw_indexed_indirect_of d
 call_as word.BeginOcclusionQuery d = begin_occlusion_of d
 call_as word.EndOcclusionQuery d = end_occlusion_of d
 call_as word.ExecuteBundles d = execute_bundles_of d
-call_as word.CreateCanvas d = Err 13
-call_as word.ConfigureCanvas d = Err 13
-call_as word.CurrentTexture d = Err 13
-call_as word.Present d = Err 13
+call_as word.CreateCanvas d = create_canvas_of d
+call_as word.ConfigureCanvas d = configure_canvas_of d
+call_as word.CurrentTexture d = current_texture_of d
+call_as word.Present d = present_of d
 
 -- script rule 6: the word names no call, or there is no word
 abbrev pub call_named : Option Word → Data → Result Call ℕ

@@ -1,5 +1,5 @@
-//! Reads a call: a function for each call that is built, with its keys. Those of calls on textures, bindings,
-//! compute passes, rendering, queries and bundles stand in files of their own.
+//! Reads a call: a function for each, with its keys. Those of calls on textures, bindings, compute passes,
+//! rendering, queries, bundles and canvases stand in files of their own.
 ghost use Rattle.std.specs.Prelude.{◌≡◌};
 ghost use Rattle.serde_json.specs.View.{view};
 ghost use Rattle.wg_script.specs.Giving.{Gives};
@@ -12,6 +12,7 @@ use crate::binding_calls::{
 use crate::bundle_calls::{create_bundle_encoder, execute_bundles, finish_bundle};
 use crate::calling::{asking, making, recording};
 use crate::calls::Call;
+use crate::canvas_calls::{configure_canvas, create_canvas, current_texture, present};
 use crate::lists::list_at;
 use crate::name::Name;
 use crate::pass_calls::{
@@ -279,9 +280,10 @@ fn call_as(alloc: Global, word: Word, call: &Value) -> Result<Call, Refusal>
         Word::BeginOcclusionQuery => begin_occlusion_query(alloc, call),
         Word::EndOcclusionQuery => end_occlusion_query(alloc, call),
         Word::ExecuteBundles => execute_bundles(alloc, call),
-        Word::CreateCanvas | Word::ConfigureCanvas | Word::CurrentTexture | Word::Present => Err(
-            Refusal::Rule(13),
-        ),
+        Word::CreateCanvas => create_canvas(alloc, call),
+        Word::ConfigureCanvas => configure_canvas(alloc, call),
+        Word::CurrentTexture => current_texture(alloc, call),
+        Word::Present => present(alloc, call),
     }
 }
 

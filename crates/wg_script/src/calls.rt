@@ -4,12 +4,13 @@ ghost use Rattle.wg_script.specs.CallOf.{map_call};
 use crate::NoMemory;
 use crate::name::Name;
 use std::alloc::Global;
+use wg_types::canvases::CanvasOf;
 use wg_types::commands::CommandOf;
 use wg_types::refs::{self, Find};
 use wg_types::requests::RequestOf;
 
-/// A call of a script, with its names as `R`. A recording call stands on an encoder or a pass, and any
-/// other asks the device. The key `as` is `made`.
+/// A call of a script, with its names as `R`. A recording call stands on an encoder or a pass; a call of
+/// a canvas may ask the device, and any other does. The key `as` is `made`.
 #[derive(Drop)]
 pub enum CallOf<R> {
     Record {
@@ -19,6 +20,10 @@ pub enum CallOf<R> {
     },
     Ask {
         request: RequestOf<R>,
+        made: Option<R>,
+    },
+    Canvas {
+        call: CanvasOf<R>,
         made: Option<R>,
     },
 }
@@ -47,6 +52,10 @@ impl<R> CallOf<R> {
             }),
             CallOf::Ask { request, made } => Ok(CallOf::Ask {
                 request: request.map(alloc, find)?,
+                made: refs::map_maybe(find, made)?,
+            }),
+            CallOf::Canvas { call, made } => Ok(CallOf::Canvas {
+                call: call.map(find)?,
                 made: refs::map_maybe(find, made)?,
             }),
         }

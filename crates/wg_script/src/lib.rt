@@ -8,6 +8,7 @@ mod bundle_calls;
 mod call_reading;
 mod calling;
 mod calls;
+mod canvas_calls;
 mod draft;
 mod limits;
 mod lists;

@@ -19,7 +19,8 @@ use Rattle.wg_gen.specs.Counts.{counts_in}
 use Rattle.wg_gen.specs.Alike.{MayGenerate, counts_for, CountsAlike}
 use Rattle.wg_top.specs.Words.{lanes_in}
 use Rattle.wg_top.specs.Line.{counted_text, line_of}
-use Rattle.wg_top.specs.Ending.{Taking, IsPlayedOn, IsCounted, TakesLine}
+use Rattle.wg_io.specs.Exchange.{Taking}
+use Rattle.wg_top.specs.Ending.{IsPlayedOn, IsCounted, TakesLine}
 use Rattle.wg_top.proofs.Reported.{is_played}
 
 -- a script was played, whatever was printed then

@@ -2,21 +2,23 @@
 use Rattle.std.specs.Prelude.{◌≡◌, ◌≤◌, ◌<◌, ◌^◌, ℕ, List, [], ◌∷◌, codes, decimal, Option, Some, None, unwrap_or, option_to_list}
 use Rattle.wg_gen.specs.Alike.{MayGenerate}
 use Rattle.wg_top.specs.declared.words.Job.{Job}
-use Rattle.wg_top.specs.declared.words.Job.TheVariants.{Run, Generate}
+use Rattle.wg_top.specs.declared.words.Job.TheVariants.{Run, Generate, Check}
 
 -- how many lanes a generated script has: one where none is asked for
 abbrev pub lanes_in : Option ℕ → ℕ
 lanes_in lanes = unwrap_or lanes 1
 
--- The single word `run`; or `gen` and how many iterations, or how many in each of how many lanes. Numbers stand in decimal digits,
+-- The single word `run` or `check`; or `gen` and how many iterations, or how many in each of how many lanes. Numbers stand in decimal digits,
 -- without leading zeros.
 abbrev pub words_for : Job → List (List ℕ)
 words_for Run = codes "run" ∷ []
+words_for Check = codes "check" ∷ []
 words_for (Generate count None) = codes "gen" ∷ decimal count ∷ []
 words_for (Generate count (Some lanes)) = codes "gen" ∷ decimal count ∷ decimal lanes ∷ []
 
 abbrev pub MayAsk : Job → Type 0
 MayAsk Run = Unit {0}
+MayAsk Check = Unit {0}
 MayAsk (Generate count lanes) = MayGenerate count (lanes_in lanes)
 
 -- the words ask for a job

@@ -1,5 +1,5 @@
 //! The words of a command line.
-ghost use Rattle.std.specs.Prelude.{◌≤◌, IsTrue, map, string_bytes, option_map};
+ghost use Rattle.std.specs.Prelude.{◌≤◌, ◌∷◌, [], IsTrue, map, string_bytes, option_map};
 ghost use Rattle.wg_gen.specs.Alike.{MayGenerate};
 ghost use Rattle.wg_top.specs.Words.{IsJobOf, Spells, generation_words};
 
@@ -8,6 +8,8 @@ ghost use Rattle.wg_top.specs.Words.{IsJobOf, Spells, generation_words};
 pub enum Job {
     /// A script is read and played.
     Run,
+    /// A trace is read and judged.
+    Check,
     /// A script is generated, of so many iterations in each of so many lanes, and played. Without a number
     /// of lanes it has one, and its barriers and clears are counted too.
     Generate { count: u32, lanes: Option<u32> },
@@ -48,12 +50,25 @@ fn generation(count: &str, lanes: Option<&str>) -> Option<Job>
     }
 }
 
-/// The job that the words ask for: the single word `run`, or `gen` and one or two numbers.
+/// The job that one word asks for.
+fn named(word: &str) -> Option<Job>
+    ensures { IsJobOf (word.now ∷ []) result }
+{
+    if word == "run" {
+        return Some(Job::Run);
+    }
+    if word == "check" {
+        return Some(Job::Check);
+    }
+    None
+}
+
+/// The job that the words ask for: the single word `run` or `check`, or `gen` and one or two numbers.
 pub fn job_of(words: &[String]) -> Option<Job>
     ensures { IsJobOf (map string_bytes words.now) result }
 {
     match words {
-        [word] if word.as_str() == "run" => Some(Job::Run),
+        [word] => named(word.as_str()),
         [word, count] if word.as_str() == "gen" => generation(count.as_str(), None),
         [word, count, lanes] if word.as_str() == "gen" => {
             generation(count.as_str(), Some(lanes.as_str()))

@@ -8,3 +8,7 @@ returns-in_ok-map_maybe-in-Record g c =
 pub returns-in_ok-map_maybe-in-Ask : goal.returns-in_ok-map_maybe-in-Ask
 returns-in_ok-map_maybe-in-Ask g c =
     rw c.in-Ask.is (rw (c.in_ok-map-in-Ask.ensures, c.in_ok-map_maybe-in-Ask.ensures) refl)
+
+pub returns-in_ok-map_maybe-in-Canvas : goal.returns-in_ok-map_maybe-in-Canvas
+returns-in_ok-map_maybe-in-Canvas g c =
+    rw c.in-Canvas.is (rw (c.in_ok-map-in-Canvas.ensures, c.in_ok-map_maybe-in-Canvas.ensures) refl)

@@ -1,0 +1,66 @@
+-- The laws of buffers, textures and query sets that are destroyed.
+use Rattle.std.specs.Prelude.{◌≡◌, ℕ, Bool, true, false, not, ◌&&◌, nat_le, List, [], ◌∷◌, ◌++◌, reverse, Some, None, is_some, count_by, if◌then◌else◌}
+use Rattle.std.specs.List.{list_any}
+use Rattle.wg_types.specs.declared.textures.TextureSpot.{TextureSpot}
+use Rattle.wg_types.specs.declared.textures.DataLayout.{DataLayout}
+use Rattle.wg_model.specs.Rules.{Rule, first_unmet}
+use Rattle.wg_model.specs.Recorded.{buffers_of}
+use Rattle.wg_model.specs.TexelCopies.{write_texture_rules}
+use Rattle.wg_history.specs.declared.events.Setup.{Setup}
+use Rattle.wg_history.specs.declared.events.Event.TheVariants.{Submit, WriteTexture, Destroy}
+use Rattle.wg_history.specs.Entries.{Entry, Past}
+use Rattle.wg_history.specs.Objects.{ObjRef, is_texture_info, has_memory, texture_or_none_at, is_own, is_valid, resource_at}
+use Rattle.wg_history.specs.Operations.{submit_uses, last_use, completed}
+use Rattle.wg_history.specs.Rules.{is_dropped, is_destroyed, is_consumed, is_busy, are_distinct, any_used, listed_rules}
+use Rattle.wg_history.specs.Loss.{is_lost}
+use Rattle.wg_history.specs.Answers.{Plain, fault_of, reply_to, Run}
+use Rattle.wg_history.specs.ReleaseLaws.{releases_object}
+use Rattle.wg_history.specs.Traces.{Trace}
+
+-- A destroy of a resource of this device that was not dropped destroys it, valid or not, and also where it is destroyed already.
+abbrev pub DestroyExpires : Type 0
+DestroyExpires = (setup : Setup) (past : Past) (entry : Entry) (object : ObjRef) → entry.event ≡ Destroy object → is_own setup past has_memory object ≡ true → is_dropped setup past object.number ≡ false → is_destroyed setup (entry ∷ past) object.number ≡ true
+
+abbrev pub StaysExpired : Type 0
+StaysExpired = (setup : Setup) (newer past : Past) (n : ℕ) → is_destroyed setup past n ≡ true → is_destroyed setup (newer ++ past) n ≡ true
+
+-- the rules of submit that go before 193, and those of writeTexture that go before 210
+abbrev pub submit_before : Setup → Past → List ObjRef → List Rule
+submit_before setup past buffers = listed_rules setup past buffers
+    ++ ((190, not (list_any (λ (buffer : ObjRef). is_consumed setup past buffer.number) buffers))
+    ∷ ((191, are_distinct buffers)
+    ∷ ((192, not (any_used buffers_of (is_busy setup past) past buffers))
+    ∷ [])))
+
+abbrev pub write_before : Setup → Past → ObjRef → TextureSpot → DataLayout → List ℕ → ℕ → List Rule
+write_before setup past texture spot layout size data_size =
+    (10, is_own setup past is_texture_info texture)
+    ∷ ((11, not (is_dropped setup past texture.number))
+    ∷ ((12, is_valid past texture.number)
+    ∷ write_texture_rules (texture_or_none_at past texture.number) spot layout size data_size))
+
+-- Once an object is destroyed, a submit of command buffers that use it answers Plain;
+abbrev pub SubmitIsPlain : Type 0
+SubmitIsPlain = (setup : Setup) (past : Past) (buffers : List ObjRef) (n : ℕ) → is_destroyed setup past n ≡ true → submit_uses past buffers n ≡ true → (reply_to setup past (Submit buffers)).answer ≡ Plain
+
+-- and where the device is not lost and no earlier rule is unmet, its fault is of rule 193. A destroyed buffer that they use would
+-- have rule 192 unmet; a texture or a query set has this one unmet.
+abbrev pub SubmitIsRefused : Type 0
+SubmitIsRefused = (setup : Setup) (past : Past) (buffers : List ObjRef) (n : ℕ) → is_destroyed setup past n ≡ true → submit_uses past buffers n ≡ true → first_unmet (submit_before setup past buffers) ≡ None → is_lost past ≡ false → (reply_to setup past (Submit buffers)).fault ≡ Some (fault_of past 193)
+
+-- So does a writeTexture of it, with rule 210.
+abbrev pub WriteIsPlain : Type 0
+WriteIsPlain = (setup : Setup) (past : Past) (texture : ObjRef) (spot : TextureSpot) (layout : DataLayout) (size : List ℕ) (data_size : ℕ) → is_destroyed setup past texture.number ≡ true → (reply_to setup past (WriteTexture texture spot layout size data_size)).answer ≡ Plain
+
+abbrev pub WriteIsRefused : Type 0
+WriteIsRefused = (setup : Setup) (past : Past) (texture : ObjRef) (spot : TextureSpot) (layout : DataLayout) (size : List ℕ) (data_size : ℕ) → is_destroyed setup past texture.number ≡ true → first_unmet (write_before setup past texture spot layout size data_size) ≡ None → is_lost past ≡ false → (reply_to setup past (WriteTexture texture spot layout size data_size)).fault ≡ Some (fault_of past 210)
+
+-- an object that has memory and is valid is destroyed, and every operation so far that uses it is complete
+abbrev pub is_over : Setup → Past → ℕ → Bool
+is_over setup past n = is_some (resource_at past n) && is_destroyed setup past n && nat_le (last_use past n) (completed past)
+
+-- Of an object that was not dropped by then, the trace of each beginning of a history has one release where it is over after that, and
+-- else none. So the release stands at the first entry, from the first destroy on, after which all that uses it is complete; and where
+-- there is no such entry there is none.
+abbrev pub FreedOnceOver : Type 0
+FreedOnceOver = (setup : Setup) (history : List Entry) (n : ℕ) → Run setup history → is_dropped setup (reverse history) n ≡ false → count_by (releases_object n) (Trace setup history) ≡ (if is_over setup (reverse history) n then 1 else 0)

@@ -1,0 +1,14 @@
+pub mod Whole
+pub mod Fields
+pub mod Numbers
+pub mod Words
+pub mod Sets
+pub mod Said
+pub mod Lines
+pub mod Splits
+pub mod Apart
+pub mod Rules
+pub mod Back
+pub mod Reports
+pub mod Rows
+pub mod Shaping

@@ -1,0 +1,4 @@
+pub mod Texts
+pub mod Shapes
+pub mod Printable
+pub mod Laws
