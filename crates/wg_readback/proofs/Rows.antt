@@ -60,7 +60,7 @@ cell_filled (Slice object mip depth) = omega arith
 cell_filled (Query object at) = omega arith
 
 -- the set of a part
-or_set : (a b : Usages) → IsSet a → IsSet b → IsSet (record { 0 = bit_or a.0 b.0 })
+pub or_set : (a b : Usages) → IsSet a → IsSet b → IsSet (record { 0 = bit_or a.0 b.0 })
 or_set a b h k = let more : a.0 ≤ bit_or a.0 b.0 = le_or_l a.0 b.0 in let some : 0 < a.0 = h.0 in (omega arith, or_lt 13 a.0 b.0 h.1 k.1)
 
 pub row_set_is : (p : Part) (rows : List (PartRun × Usages)) → EachRow IsShapedUse rows → IsFrom (row_set p rows)

@@ -25,7 +25,7 @@ steps_shaped (Free object sort ∷ items) h = steps_shaped items h.1
 
 set_of_shaped : (s : Step) (p : Part) → IsShapedStep s → IsFrom (set_of s p)
 unfolding set_of
-set_of_shaped s p h = row_set_is p s.uses h.uses
+set_of_shaped s p h = row_set_is p s.uses h.0.uses
 
 set_at_shaped : (p : Part) (steps : List Step) (k : ℕ) → EachRow IsShapedStep steps → IsFrom (set_at p steps k)
 set_at_shaped p [] k h = tt
@@ -118,11 +118,13 @@ clears_uses [] = tt
 clears_uses (c ∷ cells) = ((part_filled (part_of c), (lit< tt, lit< tt)), clears_uses cells)
 
 clear_shaped : (place : StepPlace) (cells : List Cell) → IsShapedStep (clear_of place cells)
-clear_shaped place cells = record {
-  uses = printed_each part_sort same_set (IsFilled part_sort IsSet) (filled_joins part_sort IsSet part_widens) (map (λ (c : Cell). (part_run (part_of c), clear_usage)) cells) (clears_uses cells);
-  accesses = (written_shaped cells).0;
-  once = (written_shaped cells).1;
-}
+clear_shaped place cells = (
+  record {
+    uses = printed_each part_sort same_set (IsFilled part_sort IsSet) (filled_joins part_sort IsSet part_widens) (map (λ (c : Cell). (part_run (part_of c), clear_usage)) cells) (clears_uses cells);
+    accesses = (written_shaped cells).0;
+  },
+  (written_shaped cells).1,
+)
 
 clear_added : (trace : List Item) (place : StepPlace) (cells : List Cell) → IsShaped trace → IsShaped (add_clear trace place cells)
 clear_added trace place [] h = h

@@ -66,7 +66,7 @@ accesses_whole (row ∷ rows) has fits = (cells_whole row.0 has.0 fits.0, access
 
 item_whole : (item : Item) → IsShapedItem item → IsSmallItem item → IsItem item
 item_whole (Bar part from to) has fits = (part_whole part has.0 fits, has.1, has.2)
-item_whole (StepItem step) has fits = (fits.place, uses_whole step.uses has.uses fits.uses, accesses_whole step.accesses has.accesses fits.accesses)
+item_whole (StepItem step) has fits = (fits.place, uses_whole step.uses has.0.uses fits.uses, accesses_whole step.accesses has.0.accesses fits.accesses)
 item_whole (Free object sort) has fits = fits
 
 pub items_whole : (items : List Item) → EachRow IsShapedItem items → EachRow IsSmallItem items → AreItems items
@@ -76,5 +76,5 @@ items_whole (item ∷ items) has fits = (item_whole item has.0 fits.0, items_who
 pub items_once : (items : List Item) → EachRow IsShapedItem items → AreOnce items
 items_once [] has = tt
 items_once (Bar part from to ∷ items) has = items_once items has.1
-items_once (StepItem step ∷ items) has = (has.0.once, items_once items has.1)
+items_once (StepItem step ∷ items) has = (has.0.1, items_once items has.1)
 items_once (Free object sort ∷ items) has = items_once items has.1

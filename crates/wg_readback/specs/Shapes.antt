@@ -31,11 +31,17 @@ IsShapedUse row = HasPart row.0 × IsSet row.1
 abbrev pub IsShapedAccess : Cells × Kind → Type 0
 IsShapedAccess row = HasCell row.0
 
--- A step has no empty row and no empty set, and gives no cell twice.
-pub record IsShapedStep (step : Step) : Type 0 where
+-- A step has no empty row and no empty set,
+pub record IsFilledStep (step : Step) : Type 0 where
   pub uses : EachRow IsShapedUse step.uses
   pub accesses : EachRow IsShapedAccess step.accesses
-  pub once : (c : Cell) → OneCovers c step.accesses
+
+-- and gives no cell twice.
+abbrev pub IsOnceStep : Step → Type 0
+IsOnceStep step = (c : Cell) → OneCovers c step.accesses
+
+abbrev pub IsShapedStep : Step → Type 0
+IsShapedStep step = IsFilledStep step × IsOnceStep step
 
 abbrev pub IsShapedItem : Item → Type 0
 IsShapedItem (Bar part from to) = HasPart part × IsFrom from × IsSet to

@@ -1,0 +1,11 @@
+//! The traces of histories have the shape that is read back. The laws are the contracts of functions that do nothing.
+#![tactic(auto)]
+
+ghost use Rattle.wg_shaped.specs.Shaped.{HistoryIsShaped, StepsAreFilled};
+
+/// No step of a history has an empty row or an empty set; and its trace has the shape that is read back,
+/// if none of its steps gives a cell twice.
+pub fn traces_are_shaped()
+    ensures filled { StepsAreFilled }
+    ensures shaped { HistoryIsShaped }
+{}
