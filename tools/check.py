@@ -10,11 +10,17 @@ import clash
 import notrace
 import script as scripts
 from beside import Beside, DoNotMatch
-from ends import BAD_TRACE, DIFFERS, SILENT, TOO_LARGE, UNREAD, End
+from ends import BAD_TRACE, DIFFERS, NO_MEMORY, TOO_LARGE, UNREAD, UNWRITTEN, End
 from places import NotJson, escaped
 from report import NotReport, Report
 
-OF_TRACES = {**SILENT, UNREAD: "the program could not read the trace", TOO_LARGE: "the text has more than 67108864 bytes, so it is not read as a trace at all"}
+# What the program's own statuses mean where it writes nothing.
+OF_TRACES = {
+    UNREAD: "the program could not read the trace",
+    UNWRITTEN: "the program could not write its answer",
+    NO_MEMORY: "the program had no memory for the trace",
+    TOO_LARGE: "the text has more than 67108864 bytes, so it is not read as a trace at all",
+}
 AGREE = "in every order of the steps that keeps the barriers, each read sees what it sees as printed, and so does the end"
 
 

@@ -40,7 +40,8 @@ def beside_of(checked):
 def picture(data, name, program, text=None):
     """The page of a trace, with the answer of the check above it, and its status."""
     checked = Checked(data, name, program, text)
-    lines = [f"<pre class='fault'>{escape(chr(10).join(checked.lines()))}</pre>" if checked.status else f"<p>{escape(checked.lines()[0])}</p>"]
+    said = checked.lines()
+    lines = [f"<pre class='fault'>{escape(chr(10).join(said))}</pre>"] if checked.status else [f"<p>{escape(line)}</p>" for line in said]
     if checked.line.startswith("bad trace"):
         return pictures.page(name, lines[0]), checked.status
     beside = beside_of(checked)
