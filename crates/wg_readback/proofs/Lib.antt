@@ -12,3 +12,5 @@ pub mod Back
 pub mod Reports
 pub mod Rows
 pub mod Shaping
+pub mod Told
+pub mod Exact

@@ -14,6 +14,10 @@ ReadsBack = (before : List ℕ) (trace : List Item) → IsFront before → IsPri
 abbrev pub ReportReadsBack : Type 0
 ReportReadsBack = (entries : List Told) (trace : List Item) → IsPrintable trace → trace_in (trace_behind (history_text entries) trace) ≡ Ok trace
 
+-- Each trace that is read is printable, so that nothing is asked of a trace but what the reader asks.
+abbrev pub ReadIsPrintable : Type 0
+ReadIsPrintable = (bytes : List ℕ) (trace : List Item) → trace_in bytes ≡ Ok trace → IsPrintable trace
+
 -- The trace of works whose steps have their shape has its shape: barriers and clears have it of themselves.
 abbrev pub TraceIsShaped : Type 0
 TraceIsShaped = (works : List Work) → EachRow IsShapedStep (work_steps works) → IsShaped (trace_of works)

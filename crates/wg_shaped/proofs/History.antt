@@ -24,12 +24,13 @@ use Rattle.wg_history.specs.Loss.{Awaited, mapping, work, Wait}
 use Rattle.wg_history.specs.Rules.{unmap_rule, settles_mapped, waits_of, mapped_at}
 use Rattle.wg_history.specs.Answers.{Answer, Queued}
 use Rattle.wg_history.specs.Steps.{group_of, write_groups, steps_at, submit_groups, groups_in, written_back, read_back, unmap_groups, read_groups, host_groups, groups_of, steps_back}
-use Rattle.wg_history.specs.Traces.{works}
+use Rattle.wg_history.specs.Traces.{Trace, works}
 use Rattle.wg_history.proofs.Declared.{steps_in_append}
 use Rattle.wg_history.proofs.Every.{trace_works, steps_works}
 use Rattle.wg_readback.specs.Shapes.{IsFilledStep, IsOnceStep, IsShapedStep, IsShaped}
 use Rattle.wg_readback.proofs.Shaping.{trace_is_shaped}
-use Rattle.wg_shaped.specs.Shaped.{StepsAreFilled, HistoryIsShaped}
+use Rattle.wg_readback.proofs.Reports.{report_reads_back}
+use Rattle.wg_shaped.specs.Shaped.{StepsAreFilled, HistoryIsShaped, HistoryReadsBack, told}
 use Rattle.wg_shaped.proofs.Touched.{FilledIf, write_filled, host_filled, recorded_filled}
 
 abbrev AreFilled : List (List Step) → Type 0
@@ -128,3 +129,7 @@ past_shaped setup past h = trace_is_shaped (works setup past) (subst (EachRow Is
 
 pub history_is_shaped : HistoryIsShaped
 history_is_shaped setup history h = subst IsShaped (trace_works setup (reverse history)) (past_shaped setup (reverse history) h)
+
+pub history_reads_back : HistoryReadsBack
+history_reads_back setup history once small steps =
+    report_reads_back (map told history) (Trace setup history) (record { shaped = history_is_shaped setup history once; small = small; steps = steps })

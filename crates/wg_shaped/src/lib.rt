@@ -1,11 +1,13 @@
 //! The traces of histories have the shape that is read back. The laws are the contracts of functions that do nothing.
 #![tactic(auto)]
 
-ghost use Rattle.wg_shaped.specs.Shaped.{HistoryIsShaped, StepsAreFilled};
+ghost use Rattle.wg_shaped.specs.Shaped.{HistoryIsShaped, HistoryReadsBack, StepsAreFilled};
 
 /// No step of a history has an empty row or an empty set; and its trace has the shape that is read back,
-/// if none of its steps gives a cell twice.
+/// if none of its steps gives a cell twice. Then what is printed of the history and its trace is read as
+/// that trace, if its numbers are small enough.
 pub fn traces_are_shaped()
     ensures filled { StepsAreFilled }
     ensures shaped { HistoryIsShaped }
+    ensures read { HistoryReadsBack }
 {}
