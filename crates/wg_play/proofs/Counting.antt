@@ -1,5 +1,5 @@
 -- No two calls of a script that was played have made an object of the same number.
-use Rattle.std.proofs.Common.{◌≡◌, ℕ, zero, suc, ◌+◌, ◌-◌, ◌<◌, ◌≤◌, eqb, cond, Bool, true, false, ◌&&◌, ◌==◌, List, [], ◌∷◌, ◌++◌, length, reverse, get_or, Option, Some, None, refl, ap, sym, ◌∙◌, subst, ◌⊎◌, inl, inr, arith, if◌then◌else◌}
+use Rattle.std.proofs.Common.{◌≡◌, ℕ, zero, suc, ◌+◌, ◌-◌, ◌<◌, ◌≤◌, cond, Bool, true, false, ◌&&◌, ◌==◌, List, [], ◌∷◌, ◌++◌, length, reverse, get_or, Option, Some, None, refl, ap, sym, ◌∙◌, subst, ◌⊎◌, inl, inr, arith, if◌then◌else◌}
 use Rattle.std.specs.Prelude.{All, Contains}
 use Rattle.std.specs.List.{flat_map}
 use Rattle.std.specs.Option.{option_map_or, option_to_list}
@@ -14,9 +14,8 @@ use Rattle.wg_history.specs.declared.events.Form.{Form}
 use Rattle.wg_history.specs.declared.events.Form.TheVariants.{Making, Queue, Promise as Promising, Completion, Plain as Plainly}
 use Rattle.wg_history.specs.Entries.{effects_of, Entry, Past}
 use Rattle.wg_history.specs.Objects.{is_making, is_making_form, count}
-use Rattle.wg_history.specs.Answers.{is_taken, answer_by, reply_to, IsRun}
+use Rattle.wg_history.specs.Answers.{is_taken, answer_by, IsRun}
 use Rattle.wg_history.proofs.Runs.{newest, others}
-use Rattle.wg_script.specs.CallOf.{BoundCall}
 use Rattle.wg_play.specs.Turns.{made_by}
 use Rattle.wg_play.specs.Played.{PlayedCall, PlayedPhase, entries_in, IsInterleaved}
 use Rattle.wg_play.proofs.Turning.{same_caller, other_caller}

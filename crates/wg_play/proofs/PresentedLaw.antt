@@ -1,8 +1,7 @@
 -- The textures of canvases are never dropped, and the entry of a present destroys one: from then on it is refused, and it is released
 -- once it is over.
-use Rattle.std.proofs.Common.{◌≡◌, ◌≢◌, ℕ, Bool, true, false, not, ◌&&◌, ◌||◌, ◌==◌, List, [], ◌∷◌, ◌++◌, length, map, reverse, Option, Some, None, is_some, is_none, refl, ap, sym, ◌∙◌, subst, ◌⊎◌, inl, inr, append_assoc, append-nil, true≢false, if◌then◌else◌}
+use Rattle.std.proofs.Common.{◌≡◌, ℕ, Bool, true, false, ◌&&◌, ◌==◌, List, [], ◌∷◌, ◌++◌, length, map, reverse, Option, Some, None, is_some, is_none, refl, ap, sym, ◌∙◌, subst, inl, inr, append_assoc, append-nil, true≢false, if◌then◌else◌}
 use Rattle.std.specs.Prelude.{All, option_map, option_and_then}
-use Rattle.std.specs.List.{flat_map}
 use Rattle.std.specs.Option.{option_map_or}
 use Rattle.std.proofs.lemmas.Bool.{and_parts, and_from, eqb-true, eq-eqb}
 use Rattle.std.proofs.lemmas.List.{reverse-append, reverse-reverse}
@@ -17,18 +16,14 @@ use Rattle.wg_types.specs.declared.canvases.CanvasCall.{CanvasCall}
 use Rattle.wg_types.specs.declared.canvases.CanvasCall.TheVariants.{Configure, Current, Present}
 use Rattle.wg_types.specs.declared.canvases.CanvasOf.{CanvasOf}
 use Rattle.wg_types.specs.declared.canvases.CanvasOf.TheVariants.{Create, On}
-use Rattle.wg_types.specs.declared.commands.CommandOf.{CommandOf}
 use Rattle.wg_types.specs.declared.handles.Info.{Info}
 use Rattle.wg_types.specs.declared.handles.Info.TheVariants as info
 use Rattle.wg_types.specs.declared.handles.ObjRef.{ObjRef}
 use Rattle.wg_types.specs.declared.replies.Reply.{Reply}
 use Rattle.wg_types.specs.declared.requests.RequestOf.{RequestOf}
 use Rattle.wg_types.specs.declared.requests.RequestOf.TheVariants.{Drop as AskDrop, Destroy as AskDestroy}
-use Rattle.wg_types.specs.declared.textures.DataLayout.{DataLayout}
-use Rattle.wg_types.specs.declared.textures.TextureSpot.{TextureSpot}
 use Rattle.wg_types.specs.declared.wanted.Kind.{Kind}
 use Rattle.wg_types.specs.declared.wanted.Kind.TheVariants as kinds
-use Rattle.wg_types.specs.declared.wanted.Wanted.{Wanted}
 use Rattle.wg_types.specs.declared.wanted.Wanted.TheVariants as wanted
 use Rattle.wg_canvas.specs.Canvases.{CanvasValue, texture_of, asked_at as stage_asked, act_asked}
 use Rattle.wg_canvas.specs.declared.canvas.Stage.{Stage}
@@ -40,10 +35,8 @@ use Rattle.wg_history.specs.Entries.{Entry, Past, verb_of}
 use Rattle.wg_history.specs.Answers.{IsRun, Run, reply_to}
 use Rattle.wg_history.specs.Infos.{same_kind}
 use Rattle.wg_history.specs.Objects.{count, has_memory, is_own, info_at}
-use Rattle.wg_history.specs.Operations.{submit_uses}
 use Rattle.wg_model.specs.Rules.{first_unmet}
 use Rattle.wg_history.specs.Rules.{drop_list, drops, dropped_at, is_dropped, is_destroyed, is_genuine}
-use Rattle.wg_expiry.specs.Expiry.{submit_before, write_before}
 use Rattle.wg_expiry.proofs.Expired.{destroy_expires, stays_expired, submit_is_plain, submit_is_refused, write_is_plain, write_is_refused, freed_once_over}
 use Rattle.wg_calls.specs.Calls.{event_asked}
 use Rattle.wg_script.specs.CallOf.{BoundCall}
@@ -56,18 +49,17 @@ use Rattle.wg_play.specs.Lanes.{canvas_asks, request_seen, event_sent}
 use Rattle.wg_play.specs.Late.{slots_before}
 use Rattle.wg_play.specs.Found.{is_pass}
 use Rattle.wg_play.specs.Kept.{IsKeptIn}
-use Rattle.wg_play.specs.Played.{PlayedCall, PlayedPhase, calls_in, lanes_in, IsInterleaved, objects_after, sight_after, seen_calls, IsDrawnAs, IsOfCall, StandsForMade, past_at, IsMoment, SeesMade, IsPlayedAt, EachIsPlayed, IsPlayedThrough}
-use Rattle.wg_play.specs.Presented.{IsRefused, HasExpired, GivenAt, PresentsExpire}
+use Rattle.wg_play.specs.Played.{PlayedCall, PlayedPhase, calls_in, lanes_in, IsInterleaved, objects_after, sight_after, seen_calls, IsDrawnAs, IsOfCall, StandsForMade, IsMoment, SeesMade, IsPlayedAt, EachIsPlayed}
+use Rattle.wg_play.specs.Presented.{HasExpired, GivenAt, PresentsExpire}
 use Rattle.wg_play.proofs.Drawn.{canvas_has}
 use Rattle.wg_play.proofs.Following.{same_kind as same_made}
 use Rattle.wg_play.proofs.Making.{makes_canvas}
 use Rattle.wg_play.proofs.Holding.{pass_kind}
-use Rattle.wg_play.proofs.Turning.{Answered, onto}
+use Rattle.wg_play.proofs.Turning.{onto}
 use Rattle.wg_play.proofs.Phases.{onto_back, onto_more, run_before, answered_of, answered_parts}
-use Rattle.wg_play.proofs.Backward.{play_interleaves}
-use Rattle.wg_play.proofs.Givers.{entries_of, IsGiven, given_at}
+use Rattle.wg_play.proofs.Givers.{entries_of, given_at}
 use Rattle.wg_play.proofs.Counting.{IsIn, is_in, in_left, in_right, in_either, makes as makes_n, call_makes, lane_calls, all_calls, made_by_one}
-use Rattle.wg_play.proofs.Shown.{Any, IsGivenBy, GivenIf, Shows, DrawnAs, drawn_so, AreDrawn, lane_shows}
+use Rattle.wg_play.proofs.Shown.{Any, IsGivenBy, GivenIf, Shows, drawn_so, lane_shows}
 
 -- ---- calls among all calls
 

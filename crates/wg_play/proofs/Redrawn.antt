@@ -1,12 +1,12 @@
 -- What stands at a place after a change of one canvas.
-use Rattle.std.proofs.Common.{◌≡◌, ◌≢◌, ℕ, zero, suc, Option, Some, None, List, [], ◌∷◌, ◌++◌, length, refl, sym, ap, subst, ◌∙◌}
+use Rattle.std.proofs.Common.{◌≡◌, ◌≢◌, ℕ, zero, suc, Option, Some, None, List, [], ◌∷◌, ◌++◌, length, refl, ap, ◌∙◌}
 use Rattle.std.specs.Prelude.{option_and_then, option_map, slice_get, slice_set}
 use Rattle.std.specs.Option.{option_map_or}
 use Rattle.wg_types.specs.Handles.{HandleValue}
 use Rattle.wg_types.specs.declared.canvases.CanvasFormat.{CanvasFormat}
 use Rattle.wg_types.specs.declared.canvases.CanvasCall.{CanvasCall}
 use Rattle.wg_types.specs.declared.canvases.CanvasCall.TheVariants.{Configure, Current, Present}
-use Rattle.wg_canvas.specs.Canvases.{CanvasValue, expired_at, filled_at, filled_if, acted}
+use Rattle.wg_canvas.specs.Canvases.{CanvasValue, expired_at, filled_at, acted}
 use Rattle.wg_canvas.specs.declared.canvas.Stage.{Stage}
 use Rattle.wg_canvas.specs.declared.canvas.Stage.TheVariants.{Unset, Empty, Filled}
 use Rattle.wg_encoder.specs.Recorders.{RecorderValue}
