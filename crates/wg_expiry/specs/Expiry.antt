@@ -19,7 +19,8 @@ use Rattle.wg_history.specs.Traces.{Trace}
 
 -- A destroy of a resource of this device that was not dropped destroys it, valid or not, and also where it is destroyed already.
 abbrev pub DestroyExpires : Type 0
-DestroyExpires = (setup : Setup) (past : Past) (entry : Entry) (object : ObjRef) → entry.event ≡ Destroy object → is_own setup past has_memory object ≡ true → is_dropped setup past object.number ≡ false → is_destroyed setup (entry ∷ past) object.number ≡ true
+DestroyExpires = (setup : Setup) (past : Past) (entry : Entry) (object : ObjRef) → entry.event ≡ Destroy object
+    → is_own setup past has_memory object ≡ true → is_dropped setup past object.number ≡ false → is_destroyed setup (entry ∷ past) object.number ≡ true
 
 abbrev pub StaysExpired : Type 0
 StaysExpired = (setup : Setup) (newer past : Past) (n : ℕ) → is_destroyed setup past n ≡ true → is_destroyed setup (newer ++ past) n ≡ true
@@ -41,19 +42,27 @@ write_before setup past texture spot layout size data_size =
 
 -- Once an object is destroyed, a submit of command buffers that use it answers Plain;
 abbrev pub SubmitIsPlain : Type 0
-SubmitIsPlain = (setup : Setup) (past : Past) (buffers : List ObjRef) (n : ℕ) → is_destroyed setup past n ≡ true → submit_uses past buffers n ≡ true → (reply_to setup past (Submit buffers)).answer ≡ Plain
+SubmitIsPlain = (setup : Setup) (past : Past) (buffers : List ObjRef) (n : ℕ)
+    → is_destroyed setup past n ≡ true → submit_uses past buffers n ≡ true → (reply_to setup past (Submit buffers)).answer ≡ Plain
 
 -- and where the device is not lost and no earlier rule is unmet, its fault is of rule 193. A destroyed buffer that they use would
 -- have rule 192 unmet; a texture or a query set has this one unmet.
 abbrev pub SubmitIsRefused : Type 0
-SubmitIsRefused = (setup : Setup) (past : Past) (buffers : List ObjRef) (n : ℕ) → is_destroyed setup past n ≡ true → submit_uses past buffers n ≡ true → first_unmet (submit_before setup past buffers) ≡ None → is_lost past ≡ false → (reply_to setup past (Submit buffers)).fault ≡ Some (fault_of past 193)
+SubmitIsRefused = (setup : Setup) (past : Past) (buffers : List ObjRef) (n : ℕ)
+    → is_destroyed setup past n ≡ true → submit_uses past buffers n ≡ true
+    → first_unmet (submit_before setup past buffers) ≡ None → is_lost past ≡ false → (reply_to setup past (Submit buffers)).fault ≡ Some (fault_of past 193)
 
 -- So does a writeTexture of it, with rule 210.
 abbrev pub WriteIsPlain : Type 0
-WriteIsPlain = (setup : Setup) (past : Past) (texture : ObjRef) (spot : TextureSpot) (layout : DataLayout) (size : List ℕ) (data_size : ℕ) → is_destroyed setup past texture.number ≡ true → (reply_to setup past (WriteTexture texture spot layout size data_size)).answer ≡ Plain
+WriteIsPlain = (setup : Setup) (past : Past) (texture : ObjRef) (spot : TextureSpot) (layout : DataLayout) (size : List ℕ) (data_size : ℕ)
+    → is_destroyed setup past texture.number ≡ true
+    → (reply_to setup past (WriteTexture texture spot layout size data_size)).answer ≡ Plain
 
 abbrev pub WriteIsRefused : Type 0
-WriteIsRefused = (setup : Setup) (past : Past) (texture : ObjRef) (spot : TextureSpot) (layout : DataLayout) (size : List ℕ) (data_size : ℕ) → is_destroyed setup past texture.number ≡ true → first_unmet (write_before setup past texture spot layout size data_size) ≡ None → is_lost past ≡ false → (reply_to setup past (WriteTexture texture spot layout size data_size)).fault ≡ Some (fault_of past 210)
+WriteIsRefused = (setup : Setup) (past : Past) (texture : ObjRef) (spot : TextureSpot) (layout : DataLayout) (size : List ℕ) (data_size : ℕ)
+    → is_destroyed setup past texture.number ≡ true
+    → first_unmet (write_before setup past texture spot layout size data_size) ≡ None → is_lost past ≡ false
+    → (reply_to setup past (WriteTexture texture spot layout size data_size)).fault ≡ Some (fault_of past 210)
 
 -- an object that has memory and is valid is destroyed, and every operation so far that uses it is complete
 abbrev pub is_over : Setup → Past → ℕ → Bool
@@ -63,4 +72,5 @@ is_over setup past n = is_some (resource_at past n) && is_destroyed setup past n
 -- else none. So the release stands at the first entry, from the first destroy on, after which all that uses it is complete; and where
 -- there is no such entry there is none.
 abbrev pub FreedOnceOver : Type 0
-FreedOnceOver = (setup : Setup) (history : List Entry) (n : ℕ) → Run setup history → is_dropped setup (reverse history) n ≡ false → count_by (releases_object n) (Trace setup history) ≡ (if is_over setup (reverse history) n then 1 else 0)
+FreedOnceOver = (setup : Setup) (history : List Entry) (n : ℕ) → Run setup history → is_dropped setup (reverse history) n ≡ false
+    → count_by (releases_object n) (Trace setup history) ≡ (if is_over setup (reverse history) n then 1 else 0)

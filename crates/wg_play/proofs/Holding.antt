@@ -238,7 +238,7 @@ new_object objects (Some handle) slot k fits kind = record { what = object_of ha
 
 -- The texture that a currentTexture shows of a canvas that is configured was made for it, or was there.
 
-stage_filled : (canvas : CanvasValue) (given : Option HandleValue) → (filled_if canvas given).stage ≡ option_map_or (filled_at canvas.stage) given canvas.stage
+pub stage_filled : (canvas : CanvasValue) (given : Option HandleValue) → (filled_if canvas given).stage ≡ option_map_or (filled_at canvas.stage) given canvas.stage
 stage_filled canvas None = refl
 stage_filled canvas (Some texture) = refl
 

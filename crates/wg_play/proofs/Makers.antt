@@ -1,8 +1,8 @@
 -- What a call has made stands at the place of its slot, with the handle that its entry gave.
-use Rattle.std.proofs.Common.{◌≡◌, ℕ, ◌+◌, ◌-◌, ◌≤◌, Option, Some, None, List, [], ◌∷◌, ◌++◌, length, map, refl, sym, ap, subst, ◌∙◌, inl, inr, arith, append_assoc, append-nil}
-use Rattle.std.specs.Prelude.{All, Contains, option_map, option_and_then, slice_get}
+use Rattle.std.proofs.Common.{◌≡◌, true, ℕ, ◌+◌, ◌-◌, ◌≤◌, Option, Some, None, List, [], ◌∷◌, ◌++◌, length, map, refl, sym, ap, subst, ◌∙◌, inl, inr, arith, append_assoc, append-nil}
+use Rattle.std.specs.Prelude.{All, Contains, option_map, option_and_then, slice_get, unwrap_or}
 use Rattle.std.specs.List.{flat_map}
-use Rattle.std.specs.Option.{option_to_list}
+use Rattle.std.specs.Option.{option_map_or, option_to_list}
 use Rattle.std.proofs.lemmas.Bool.{cases_eq}
 use Rattle.std.proofs.lemmas.List.{length-append}
 use Rattle.std.proofs.lemmas.List.Elements.{All-nil, All-cons, All-head, All-tail, Contains-append_left, Contains-append_right, Contains-append_cases, Contains-push_cases}
@@ -12,11 +12,16 @@ use Rattle.wg_types.specs.declared.canvases.CanvasCall.TheVariants.{Configure, C
 use Rattle.wg_types.specs.declared.canvases.CanvasOf.{CanvasOf}
 use Rattle.wg_types.specs.declared.canvases.CanvasOf.TheVariants.{Create, On}
 use Rattle.wg_types.specs.declared.handles.Info.{Info}
+use Rattle.wg_types.specs.declared.handles.Info.TheVariants as info
+use Rattle.wg_types.specs.declared.requests.RequestOf.{RequestOf}
+use Rattle.wg_types.specs.declared.textures.TextureInfo.{TextureInfo}
 use Rattle.wg_types.specs.declared.replies.Answer.{Answer}
 use Rattle.wg_types.specs.declared.replies.Answer.TheVariants.{Made, Queued, Promised, Plain, BadCompletion}
 use Rattle.wg_types.specs.declared.wanted.Kind.{Kind}
-use Rattle.wg_canvas.specs.Canvases.{CanvasValue, texture_of, acted}
-use Rattle.wg_canvas.specs.declared.canvas.Stage.TheVariants.{Unset}
+use Rattle.wg_canvas.specs.Canvases.{CanvasValue, texture_at, texture_of, texture_asked, asked_at as stage_asked, act_asked, info_of, filled_at, acted}
+use Rattle.wg_canvas.specs.declared.canvas.Setting.{Setting}
+use Rattle.wg_canvas.specs.declared.canvas.Stage.{Stage}
+use Rattle.wg_canvas.specs.declared.canvas.Stage.TheVariants.{Unset, Empty, Filled}
 use Rattle.wg_encoder.specs.Recorders.{RecorderValue}
 use Rattle.wg_history.specs.declared.events.Setup.{Setup}
 use Rattle.wg_history.specs.Entries.{Entry}
@@ -28,20 +33,21 @@ use Rattle.wg_names.specs.Bound.{made_by, made_in}
 use Rattle.wg_play.specs.declared.objects.Object.{Object}
 use Rattle.wg_play.specs.declared.objects.Object.TheVariants as object
 use Rattle.wg_play.specs.declared.objects.Stand.{Stand}
-use Rattle.wg_play.specs.Canvases.{canvas_at, redrawn, with_canvas, given_by, acted_at, shown_at}
-use Rattle.wg_play.specs.Objects.{handle_in, changed, with_recorder, recorded_by, recorded_on, begun_by, ended_by, object_of}
+use Rattle.wg_play.specs.Canvases.{canvas_at, redrawn, with_canvas, asked_at, given_by, acted_at, shown_at}
+use Rattle.wg_play.specs.Objects.{unknown, handle_in, changed, with_recorder, recorded_by, recorded_on, begun_by, ended_by, object_of}
 use Rattle.wg_play.specs.Sights.{Sight, place_in}
-use Rattle.wg_play.specs.Lanes.{canvas_asks, new_canvas, drawn, command_seen, stand_seen, info_sent, handle_known, handle_kept, count_made, gathered}
-use Rattle.wg_play.specs.Late.{Answered, IsAnswered, after_call, after_calls}
+use Rattle.wg_play.specs.Lanes.{kept, canvas_asks, new_canvas, drawn, command_seen, stand_seen, info_sent, handle_known, handle_kept, count_made, gathered}
+use Rattle.wg_play.specs.Late.{is_made, Answers, Answered, IsAnswered, after_call, after_calls}
 use Rattle.wg_play.specs.Found.{ended_from, phase_of}
 use Rattle.wg_play.specs.Played.{PlayedCall, calls_in, with_answer, answered_lanes}
 use Rattle.wg_play.proofs.Slots.{own_at, other_at, at_append, at_new}
-use Rattle.wg_play.proofs.Redrawn.{redrawn_own, redrawn_other, redrawn_length, redrawn_handle}
+use Rattle.wg_play.proofs.Passage.{event_answered}
+use Rattle.wg_play.proofs.Redrawn.{own_canvas, redrawn_own, redrawn_other, redrawn_length, redrawn_handle}
 use Rattle.wg_play.proofs.Following.{ended_on, with_kept, after_record, after_ask, after_canvas, same_first, Fits, handle_fits}
 use Rattle.wg_play.proofs.Lateness.{ended_length}
 use Rattle.wg_play.proofs.Making.{call_length}
 use Rattle.wg_play.proofs.Numbered.{only, Slots, AreFrom, slots_of, first_from, from_front, from_back}
-use Rattle.wg_play.proofs.Holding.{call_makes}
+use Rattle.wg_play.proofs.Holding.{stage_filled, call_makes}
 use Rattle.wg_play.proofs.LateLaw.{first_after}
 use Rattle.wg_play.proofs.FoundLaw.{at_least, at_behind}
 use Rattle.wg_play.proofs.Running.{RunsAs, Runs, call_answered, lane_answered}
@@ -106,12 +112,20 @@ lane_length serial (call ∷ calls) sight all =
 
 -- ---- the handle of what a call made
 
--- that of an object is of its entry
+abbrev pub IsAnswer : ℕ → Answer → HandleValue → Type 0
+IsAnswer serial answer handle = (handle.reference.device ≡ serial) × (answer ≡ Made handle.reference.number handle.valid)
+
+-- that of an object is of its entry, and so is that of the texture of a canvas which was made by one
+abbrev pub IsFromCanvas : ℕ → HandleValue → CanvasOf ℕ → Option Entry → Type 0
+IsFromCanvas serial handle (Create width height) found = Unit {0}
+IsFromCanvas serial handle (On canvas call) None = Unit {0}
+IsFromCanvas serial handle (On canvas call) (Some entry) = IsAnswer serial entry.reply.answer handle
+
 abbrev pub IsFrom : ℕ → HandleValue → BoundCall → Option Entry → Type 0
 IsFrom serial handle (Record on command made) found = Unit {0}
 IsFrom serial handle (Ask request made) None = ⊥
-IsFrom serial handle (Ask request made) (Some entry) = (handle.reference.device ≡ serial) × (entry.reply.answer ≡ Made handle.reference.number handle.valid)
-IsFrom serial handle (Canvas call made) found = Unit {0}
+IsFrom serial handle (Ask request made) (Some entry) = IsAnswer serial entry.reply.answer handle
+IsFrom serial handle (Canvas call made) found = IsFromCanvas serial handle call found
 
 pub record IsMadeAt (serial : ℕ) (objects : List Object) (place : ℕ) (maker : PlayedCall) : Type 0 where
   pub what : Object
@@ -168,21 +182,73 @@ drawn_made serial sight (On canvas call) made given place maker was =
     let objects : List Object = acted_at sight.own at call given in
     made_append serial objects (shown_at objects at call made) place maker (made_redrawn serial (λ found. acted found call given) sight.own at place maker was)
 
+-- The texture that a currentTexture shows which asks for one was made by its answer.
+
+abbrev kept_if : Sight → Option (RequestOf HandleValue) → Option Sight
+kept_if new asked = option_map_or (λ (request : RequestOf HandleValue). None) asked (Some new)
+
+made_from : (serial : ℕ) (setting : Setting) (known : TextureInfo) (answer : Answer) → is_made answer ≡ true
+    → IsAnswer serial answer (unwrap_or (texture_at (option_map_or (filled_at (Empty setting)) (handle_of serial (info.Texture known) answer) (Empty setting))) unknown)
+made_from serial setting known (Made number valid) made = (refl, refl)
+made_from serial setting known (Queued op) made = absurd (cc (made))
+made_from serial setting known Promised made = absurd (cc (made))
+made_from serial setting known Plain made = absurd (cc (made))
+made_from serial setting known BadCompletion made = absurd (cc (made))
+
+stage_from : (serial : ℕ) (new : Sight) (canvas : CanvasValue) (answer : Answer) (stage : Stage) → kept_if new (stage_asked canvas stage) ≡ None → is_made answer ≡ true
+    → IsAnswer serial answer (unwrap_or (texture_at (option_map_or (filled_at stage) (given_by serial (stage_asked canvas stage) answer) stage)) unknown)
+stage_from serial new canvas answer Unset unkept made = absurd (cc (unkept))
+stage_from serial new canvas answer (Empty setting) unkept made = made_from serial setting (info_of canvas setting) answer made
+stage_from serial new canvas answer (Filled setting texture) unkept made = absurd (cc (unkept))
+
+canvas_from : (serial : ℕ) (new : Sight) (found : Option CanvasValue) (answer : Answer) → kept_if new (option_and_then (λ c. act_asked c Current) found) ≡ None → is_made answer ≡ true
+    → IsAnswer serial answer (unwrap_or (option_and_then texture_of (option_map (λ c. acted c Current (given_by serial (option_and_then (λ c. act_asked c Current) found) answer)) found)) unknown)
+canvas_from serial new None answer unkept made = absurd (cc (unkept))
+canvas_from serial new (Some canvas) answer unkept made =
+    subst (λ (stage : Stage). IsAnswer serial answer (unwrap_or (texture_at stage) unknown)) (sym (stage_filled canvas (given_by serial (texture_asked canvas) answer)))
+    (stage_from serial new canvas answer canvas.stage unkept made)
+
+shown_from : (serial : ℕ) (sight new : Sight) (place : ℕ) (answer : Answer) → kept_if new (asked_at sight.own place Current) ≡ None → is_made answer ≡ true
+    → IsAnswer serial answer (unwrap_or (option_and_then texture_of (canvas_at (acted_at sight.own place Current (given_by serial (asked_at sight.own place Current) answer)) place)) unknown)
+shown_from serial sight new place answer unkept made =
+    subst (λ (found : Option CanvasValue). IsAnswer serial answer (unwrap_or (option_and_then texture_of found) unknown))
+    (sym (own_canvas (λ c. acted c Current (given_by serial (asked_at sight.own place Current) answer)) sight.own place))
+    (canvas_from serial new (canvas_at sight.own place) answer unkept made)
+
+-- where a call became an entry, it was not kept, and the entry was answered as it must be
+SentAs : Sight → BoundCall → Option Entry → Type 0
+SentAs sight call found = (entry : Entry) → found ≡ Some entry → (kept sight call ≡ None) × Answers call entry.reply.answer
+
+current_from : (serial : ℕ) (sight : Sight) (canvas name : ℕ) (found : Option Entry) → SentAs sight (Canvas (On canvas Current) (Some name)) found
+    → IsFromCanvas serial (unwrap_or (option_and_then texture_of (canvas_at (acted_at sight.own (place_in sight canvas) Current
+    (given_by serial (asked_at sight.own (place_in sight canvas) Current) (with_answer (Canvas (On canvas Current) (Some name), found)).1)) (place_in sight canvas))) unknown) (On canvas Current) found
+unfolding SentAs
+current_from serial sight canvas name None sent = tt
+current_from serial sight canvas name (Some entry) sent =
+    let as_sent = sent entry refl in
+    shown_from serial sight (drawn sight (On canvas Current) (Some name) None) (place_in sight canvas) entry.reply.answer as_sent.0 (as_sent.1 refl)
+
 -- what a call of a canvas makes stands at the next place
-drawn_new : (serial : ℕ) (sight : Sight) (call : CanvasOf ℕ) (made : Option ℕ) (given : Option HandleValue) (found : Option Entry) (slot : ℕ) (k : Kind)
-    → made_of (Canvas call made) ≡ Some (slot, k) → IsMadeAt serial (drawn sight call made given).own (length sight.own) (Canvas call made, found)
-drawn_new serial sight call None given found slot k e = absurd (cc (e))
-drawn_new serial sight (Create width height) (Some name) given found slot k e =
+drawn_new : (serial : ℕ) (sight : Sight) (call : CanvasOf ℕ) (made : Option ℕ) (found : Option Entry) (slot : ℕ) (k : Kind) → SentAs sight (Canvas call made) found
+    → made_of (Canvas call made) ≡ Some (slot, k)
+    → IsMadeAt serial (drawn sight call made (given_by serial (canvas_asks sight call) (with_answer (Canvas call made, found)).1)).own (length sight.own) (Canvas call made, found)
+drawn_new serial sight call None found slot k sent e = absurd (cc (e))
+drawn_new serial sight (Create width height) (Some name) found slot k sent e =
     let new : Object = object.Canvas (record { width = width; height = height; stage = Unset }) in
     record { what = new; is = at_new sight.own new; of = tt }
-drawn_new serial sight (On canvas (Configure format usage)) (Some name) given found slot k e = absurd (cc (e))
-drawn_new serial sight (On canvas Current) (Some name) given found slot k e =
+drawn_new serial sight (On canvas (Configure format usage)) (Some name) found slot k sent e = absurd (cc (e))
+drawn_new serial sight (On canvas Current) (Some name) found slot k sent e =
     let at : ℕ = place_in sight canvas in
+    let given : Option HandleValue = given_by serial (asked_at sight.own at Current) (with_answer (Canvas (On canvas Current) (Some name), found)).1 in
     let objects : List Object = acted_at sight.own at Current given in
     let new : Object = object.Shown (option_and_then texture_of (canvas_at objects at)) in
     let count : length objects ≡ length sight.own = redrawn_length (λ c. acted c Current given) sight.own at in
-    record { what = new; is = subst (λ n. slice_get (objects ++ new ∷ []) n ≡ Some new) count (at_new objects new); of = tt }
-drawn_new serial sight (On canvas Present) (Some name) given found slot k e = absurd (cc (e))
+    record {
+      what = new;
+      is = subst (λ n. slice_get (objects ++ new ∷ []) n ≡ Some new) count (at_new objects new);
+      of = current_from serial sight canvas name found sent;
+    }
+drawn_new serial sight (On canvas Present) (Some name) found slot k sent e = absurd (cc (e))
 
 -- it stays where it is
 call_leaves : (serial : ℕ) (sight : Sight) (call : BoundCall) (answer : Answer) (place : ℕ) (maker : PlayedCall) → IsMadeAt serial sight.own place maker
@@ -200,9 +266,6 @@ call_leaves serial sight (Ask request made) answer place maker was =
 call_leaves serial sight (Canvas call made) answer place maker was =
     subst (λ (s : Sight). IsMadeAt serial s.own place maker) (sym (after_canvas serial sight call made answer))
     (drawn_made serial sight call made (given_by serial (canvas_asks sight call) answer) place maker was)
-
-abbrev pub IsAnswer : ℕ → Answer → HandleValue → Type 0
-IsAnswer serial answer handle = (handle.reference.device ≡ serial) × (answer ≡ Made handle.reference.number handle.valid)
 
 pub handle_from : (serial : ℕ) (known : Info) (answer : Answer) (handle : HandleValue) → handle_of serial known answer ≡ Some handle
     → IsAnswer serial answer handle
@@ -228,6 +291,12 @@ new_made serial objects (Some handle) slot k maker fits from =
     record { what = object_of handle; is = at_new objects (object_of handle); of = from handle refl }
 
 module _ (setup : Setup) where
+  sent_as : (sight : Sight) (call : BoundCall) (found : Option Entry) → RunsAs setup sight call found → SentAs sight call found
+  unfolding SentAs
+  sent_as sight call None runs = λ entry e. absurd (cc (e))
+  sent_as sight call (Some x) runs = λ entry e. (let same : x ≡ entry = cc (e) in
+      (runs.0, subst (λ (y : Entry). Answers call y.reply.answer) same (event_answered setup sight call x runs.0 runs.1 runs.2)))
+
   -- and what a call has made stands at the next place
   call_new : (sight : Sight) (call : BoundCall) (found : Option Entry) (slot : ℕ) (k : Kind) → RunsAs setup sight call found → made_of call ≡ Some (slot, k)
       → IsMadeAt setup.serial (after_call setup.serial sight (with_answer (call, found))).own (length sight.own) (call, found)
@@ -249,7 +318,7 @@ module _ (setup : Setup) where
   call_new sight (Canvas call made) found slot k runs e =
       let answer : Answer = (with_answer (Canvas call made, found)).1 in
       subst (λ (s : Sight). IsMadeAt setup.serial s.own (length sight.own) (Canvas call made, found)) (sym (after_canvas setup.serial sight call made answer))
-      (drawn_new setup.serial sight call made (given_by setup.serial (canvas_asks sight call) answer) found slot k e)
+      (drawn_new setup.serial sight call made found slot k (sent_as sight (Canvas call made) found runs) e)
 
   -- ---- calls of a lane, one after another
 

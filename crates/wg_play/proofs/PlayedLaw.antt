@@ -45,7 +45,7 @@ use Rattle.wg_play.proofs.Backward.{play_back}
 use Rattle.wg_play.proofs.Running.{HasVerb, RunsAs, Runs, lane_with, goes_to, runs_front, runs_at, lane_answered, recorded_as, asked_as, drawn_as, settled_back}
 use Rattle.wg_play.proofs.Following.{same_kind}
 use Rattle.wg_play.proofs.Encoders.{encoder_is}
-use Rattle.wg_play.proofs.Makers.{lane_same, lanes_same, calls_more, made_among, IsFrom, IsMadeAt, MadeFrom, none_made, lane_made, start_at, AllRun, all_answered, MadeAll, lanes_joined}
+use Rattle.wg_play.proofs.Makers.{lane_same, lanes_same, calls_more, made_among, IsFromCanvas, IsFrom, IsMadeAt, MadeFrom, none_made, lane_made, start_at, AllRun, all_answered, MadeAll, lanes_joined}
 use Rattle.wg_play.proofs.PlayedPhases.{lanes_length, after_part, PhaseRuns, PhasesRun, entries_of, script_runs, phase_at, all_interleaved, lane_run_at, lane_sees_at}
 
 -- what the calls of phases make, and all their calls
@@ -79,13 +79,22 @@ kept_here P (x ∷ objects) (suc place) what all is = kept_here P objects place 
 
 module _ (setup : Setup) (some : setup.serial ≢ 0) where
   -- the texture of a canvas that a name stands for is genuine
+  abbrev IsShownSo : Past → HandleValue → CanvasOf ℕ → Type 0
+  IsShownSo past handle (Create width height) = Unit {0}
+  IsShownSo past handle (On canvas call) = is_genuine setup past handle ≡ true
+
+  of_canvas : (past : Past) (handle : HandleValue) (asked : CanvasOf ℕ) (found : Option Entry) → IsFromCanvas setup.serial handle asked found → IsShownSo past handle asked → IsOfCanvas setup past handle asked found
+  of_canvas past handle (Create width height) found from shown = tt
+  of_canvas past handle (On canvas call) None from shown = shown
+  of_canvas past handle (On canvas call) (Some entry) from shown = record { device = from.0; answer = from.1; genuine = shown }
+
   abbrev ShowsGenuine : Past → BoundCall → HandleValue → Type 0
-  ShowsGenuine past call handle = (asked : CanvasOf ℕ) (made : Option ℕ) → call ≡ Canvas asked made → IsOfCanvas setup past handle asked
+  ShowsGenuine past call handle = (asked : CanvasOf ℕ) (made : Option ℕ) → call ≡ Canvas asked made → IsShownSo past handle asked
 
   of_object : (past : Past) (what : Object) (call : BoundCall) (found : Option Entry) → IsFrom setup.serial (handle_in what) call found
       → IsKept setup past what → ShowsGenuine past call (handle_in what) → IsOfCall setup past (handle_in what) call found
   of_object past what (Record on command made) found from kept shows = tt
-  of_object past what (Canvas call made) found from kept shows = shows call made refl
+  of_object past what (Canvas call made) found from kept shows = of_canvas past (handle_in what) call found from (shows call made refl)
   of_object past what (Ask request made) None from kept shows = absurd from
   of_object past (object.Made handle recorder) (Ask request made) (Some entry) from kept shows = record { device = from.0; answer = from.1; genuine = kept }
   of_object past (object.Pass encoder number) (Ask request made) (Some entry) from kept shows = absurd (some (sym from.0))
@@ -126,7 +135,7 @@ module _ (setup : Setup) (some : setup.serial ≢ 0) where
       ap (λ (h : HandleValue). is_genuine setup past h) found.handle ∙ shown_genuine past found.what found.of (kept_seen past sight slot found.what sees found.is)
 
   canvas_shows : (past : Past) (sight : Sight) (made : Slots) (slot : ℕ) (k : Kind) → SlotsShow past sight made → Contains made (slot, k)
-      → (asked : CanvasOf ℕ) (name : Option ℕ) → made_of (Canvas asked name) ≡ Some (slot, k) → IsOfCanvas setup past (handle_in_sight sight slot) asked
+      → (asked : CanvasOf ℕ) (name : Option ℕ) → made_of (Canvas asked name) ≡ Some (slot, k) → IsShownSo past (handle_in_sight sight slot) asked
   canvas_shows past sight made slot k shows there (Create width height) name makes = tt
   canvas_shows past sight made slot k shows there (On canvas call) None makes = absurd (cc (makes))
   canvas_shows past sight made slot k shows there (On canvas (Configure format usage)) (Some name) makes = absurd (cc (makes))

@@ -118,17 +118,18 @@ pub record IsOfEntry (setup : Setup) (past : Past) (handle : HandleValue) (entry
   pub answer : entry.reply.answer ≡ Made handle.reference.number handle.valid
   pub genuine : is_genuine setup past handle ≡ true
 
--- what a currentTexture shows is genuine, whether it was made for it or was there; a canvas has no handle
-abbrev pub IsOfCanvas : Setup → Past → HandleValue → CanvasOf ℕ → Type 0
-IsOfCanvas setup past handle (Create width height) = Unit {0}
-IsOfCanvas setup past handle (On canvas call) = is_genuine setup past handle ≡ true
+-- what a currentTexture shows was made by its entry, where it became one, and is genuine where it was there; a canvas has no handle
+abbrev pub IsOfCanvas : Setup → Past → HandleValue → CanvasOf ℕ → Option Entry → Type 0
+IsOfCanvas setup past handle (Create width height) found = Unit {0}
+IsOfCanvas setup past handle (On canvas call) None = is_genuine setup past handle ≡ true
+IsOfCanvas setup past handle (On canvas call) (Some entry) = IsOfEntry setup past handle entry
 
 -- what a call has made is an object, the texture of a canvas, or a pass or a canvas, which have no handle
 abbrev pub IsOfCall : Setup → Past → HandleValue → BoundCall → Option Entry → Type 0
 IsOfCall setup past handle (Record on command made) found = Unit {0}
 IsOfCall setup past handle (Ask request made) None = ⊥
 IsOfCall setup past handle (Ask request made) (Some entry) = IsOfEntry setup past handle entry
-IsOfCall setup past handle (Canvas call made) found = IsOfCanvas setup past handle call
+IsOfCall setup past handle (Canvas call made) found = IsOfCanvas setup past handle call found
 
 -- A name that a call uses stands for what one of these calls has made, as which that made it.
 pub record StandsForMade (setup : Setup) (past : Past) (sight : Sight) (seen : List PlayedCall) (used : ℕ × Wanted) : Type 0 where

@@ -33,8 +33,8 @@ pub record HasExpired (setup : Setup) (front back : List Entry) (texture : ObjRe
   pub submits : (between rest : List Entry) (entry : Entry) (buffers : List ObjRef) → back ≡ between ++ entry ∷ rest → entry.event ≡ Submit buffers
       → submit_uses (reverse (front ++ between)) buffers texture.number ≡ true
       → IsRefused (reverse (front ++ between)) entry 193 (submit_before setup (reverse (front ++ between)) buffers)
-  pub writes : (between rest : List Entry) (entry : Entry) (target : ObjRef) (spot : TextureSpot) (layout : DataLayout) (size : List ℕ) (data_size : ℕ) → back ≡ between ++ entry ∷ rest
-      → entry.event ≡ WriteTexture target spot layout size data_size → target.number ≡ texture.number
+  pub writes : (between rest : List Entry) (entry : Entry) (target : ObjRef) (spot : TextureSpot) (layout : DataLayout) (size : List ℕ) (data_size : ℕ)
+      → back ≡ between ++ entry ∷ rest → entry.event ≡ WriteTexture target spot layout size data_size → target.number ≡ texture.number
       → IsRefused (reverse (front ++ between)) entry 210 (write_before setup (reverse (front ++ between)) target spot layout size data_size)
   pub released : (before rest : List Entry) → front ++ back ≡ before ++ rest
       → count_by (releases_object texture.number) (Trace setup before) ≡ (if is_over setup (reverse before) texture.number then 1 else 0)
@@ -60,7 +60,8 @@ pub record GivenAt (plays : List PlayedPhase) (front : List Entry) (entry : Entr
 -- the destroy of its texture, as a present does exactly where its canvas has one, and so does a configureCanvas, that texture has expired
 -- after it.
 abbrev pub PresentsExpire : Type 0
-PresentsExpire = (setup : Setup) (phases : List (List (List BoundCall))) (history : List Entry) → Run setup history → (through : IsPlayedThrough setup phases history)
+PresentsExpire = (setup : Setup) (phases : List (List (List BoundCall))) (history : List Entry) → Run setup history
+    → (through : IsPlayedThrough setup phases history)
     → (front back : List Entry) (entry : Entry) (call : CanvasOf ℕ) (made : Option ℕ) (texture : ObjRef)
     → history ≡ front ++ entry ∷ back → GivenAt through.plays front entry (Canvas call made) → entry.event ≡ Destroy texture
     → HasExpired setup (front ++ entry ∷ []) back texture
