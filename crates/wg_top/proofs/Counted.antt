@@ -13,12 +13,15 @@ use Rattle.wg_script.specs.declared.draft.Script.{Script}
 use Rattle.wg_names.specs.Bound.{IsBound}
 use Rattle.wg_play.specs.Turns.{callers_of}
 use Rattle.wg_play.specs.Play.{setup_of, callers_for, Play}
+use Rattle.wg_play.specs.Played.{IsPlayedThrough}
+use Rattle.wg_play.proofs.PresentedLaw.{presents_expire}
 use Rattle.wg_player.specs.Whole.{IsPlayedOut}
 use Rattle.wg_gen.specs.Generator.{generated, phases_of}
 use Rattle.wg_gen.specs.Counts.{counts_in}
 use Rattle.wg_gen.specs.Alike.{MayGenerate, counts_for, CountsAlike}
 use Rattle.wg_top.specs.Words.{lanes_in}
 use Rattle.wg_top.specs.Line.{counted_text, line_of}
+use Rattle.wg_top.specs.Report.{IsPlayed}
 use Rattle.wg_io.specs.Exchange.{Taking}
 use Rattle.wg_top.specs.Ending.{IsPlayedOn, IsCounted, TakesLine}
 use Rattle.wg_top.proofs.Reported.{is_played}
@@ -30,7 +33,17 @@ pub record WasPlayed (script : Script) (ended : Closed CoreValue) : Type 0 where
   pub out : IsPlayedOut (setup_of script) script.phases (passes_of ended) (state_of ended) (entries_of ended)
 
 pub played_on : (script : Script) (ended : Closed CoreValue) → WasPlayed script ended → IsBound script.phases → IsPlayedOn script ended
-played_on script ended was bound = record { setup = was.setup; callers = was.callers; out = was.out; through = was.out.through bound; played = is_played (setup_of script) (state_of ended) was.setup }
+played_on script ended was bound =
+    let through : IsPlayedThrough (setup_of script) script.phases (state_of ended).history = was.out.through bound in
+    let played : IsPlayed (setup_of script) (state_of ended).history = is_played (setup_of script) (state_of ended) was.setup in
+    record {
+      setup = was.setup;
+      callers = was.callers;
+      out = was.out;
+      through = through;
+      expired = presents_expire (setup_of script) script.phases (state_of ended).history played.run through;
+      played = played;
+    }
 
 -- the same line, said of the device's setup
 line_is : (lanes : Option ℕ) (setup : Setup) (core : CoreValue) (history : List Entry) (trace : List Item) → core.setup ≡ setup
