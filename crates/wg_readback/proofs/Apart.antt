@@ -11,13 +11,13 @@ use Rattle.wg_readtrace.specs.Given.{overlap, is_given}
 use Rattle.wg_readback.proofs.Whole.{AreCells, AreAccesses}
 
 -- the cell of a run's line at a place
-cell_at : Cells → ℕ → Cell
+pub cell_at : Cells → ℕ → Cell
 cell_at (Bytes object lo hi) at = Byte object at
 cell_at (Layers object aspect mip lo hi) at = Texels object aspect mip at
 cell_at (Slices object mip lo hi) at = Slice object mip at
 cell_at (Queries object lo hi) at = Query object at
 
-spot_at : (run : Cells) (at : ℕ) → cell_spot (cell_at run at) ≡ (cell_line run, at)
+pub spot_at : (run : Cells) (at : ℕ) → cell_spot (cell_at run at) ≡ (cell_line run, at)
 unfolding cell_at
 spot_at (Bytes object lo hi) at = refl
 spot_at (Layers object aspect mip lo hi) at = refl

@@ -82,7 +82,7 @@ unfolding covers
 none_covers c row [] h e = tt
 none_covers c row (next ∷ rows) h e = (false_from_ne_true (covers_spot cell_sort next.0 (cell_spot c)) (λ k. no_overlap cell_sort row next (cell_spot c) h.0 e k), none_covers c row rows h.1 e)
 
-apart_once : (rows : List (Cells × Kind)) → Apart cell_sort rows → (c : Cell) → OneCovers c rows
+pub apart_once : (rows : List (Cells × Kind)) → Apart cell_sort rows → (c : Cell) → OneCovers c rows
 apart_once [] h c = tt
 apart_once (row ∷ rows) h c = ((λ e. none_covers c row rows h.1 e), apart_once rows h.2 c)
 

@@ -1,3 +1,5 @@
 pub mod Filling
 pub mod Touched
 pub mod History
+pub mod Fitting
+pub mod Copying
