@@ -5,3 +5,5 @@ pub mod Fitting
 pub mod Copying
 pub mod Scoping
 pub mod Telling
+pub mod Attaching
+pub mod Recorded

@@ -1,14 +1,11 @@
 -- Touches whose usage scope is compatible agree at each cell, but for those of attachments.
 use Rattle.std.specs.Prelude.{filter}
-use Rattle.std.specs.List.{flat_map}
-use Rattle.std.proofs.Common.{◌≡◌, ℕ, List, [], ◌∷◌, ◌++◌, map, Bool, true, false, ◌&&◌, ◌||◌, cond, Option, Some, None, is_none, ap, refl, sym, ◌∙◌, subst, ◌⊎◌, inl, inr, true≢false}
-use Rattle.std.specs.Option.{option_or}
-use Rattle.wg_types.specs.declared.usages.Usages.{Usages}
+use Rattle.std.proofs.Common.{◌≡◌, List, [], ◌∷◌, map, Bool, true, false, ◌&&◌, ◌||◌, cond, None, ap, refl, sym, ◌∙◌, subst, inl, inr, true≢false}
 use Rattle.wg_rows.specs.Rows.{EachRow}
-use Rattle.wg_rows.specs.Runs.{Part, Cell, Cells, Bytes, Layers, Slices, Queries, cell_line, covers, part_of, run_part}
-use Rattle.wg_rows.specs.Uses.{Kind, Read, Write, Both}
+use Rattle.wg_rows.specs.Runs.{Cell, Cells, Bytes, Layers, Slices, Queries, cell_line, covers, part_of}
+use Rattle.wg_rows.specs.Uses.{Read, Write, Both}
 use Rattle.wg_rows.proofs.Lying.{cells_lie}
-use Rattle.wg_model.specs.Scopes.{Use, is_within, agree, Among, ClashAt, Compatible, clash, IsVerdict}
+use Rattle.wg_model.specs.Scopes.{Use, is_within, agree, Among, Compatible, clash, IsVerdict}
 use Rattle.wg_model.specs.Touches.{Touch, use_of, in_scope, is_scoped}
 use Rattle.wg_model.proofs.Verdicts.{verdict_is}
 use Rattle.wg_shaped.proofs.Fitting.{Agree, AllAgree, AgreeWith, same_line}

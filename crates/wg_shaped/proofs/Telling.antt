@@ -1,62 +1,40 @@
 -- All that passes touch is told by how it is used.
-use Rattle.std.proofs.Common.{◌≡◌, ℕ, ◌*◌, zero, suc, Bool, true, false, ◌==◌, ◌&&◌, List, [], ◌∷◌, ◌++◌, map, Option, Some, None, is_none, option_to_list, refl, slice_get, reverse, if◌then◌else◌}
+use Rattle.std.proofs.Common.{◌≡◌, ℕ, Bool, true, false, List, [], ◌∷◌, ◌++◌, map, Option, Some, None, refl, if◌then◌else◌}
 use Rattle.std.specs.List.{flat_map}
-use Rattle.wg_types.specs.declared.steps.QueueWrite.TheVariants.{Buffer as BufferWrite, Texture as TextureWrite}
-use Rattle.wg_types.specs.declared.steps.StepName.TheVariants as name
-use Rattle.wg_types.specs.declared.commands.On.{On}
-use Rattle.wg_types.specs.declared.commands.On.TheVariants.{Encoder, Pass}
 use Rattle.wg_types.specs.Commands.{Command}
-use Rattle.wg_types.specs.declared.commands.CommandOf.TheVariants.{BeginComputePass, BeginRenderPass, CopyBufferToBuffer, CopyBufferToTexture, CopyTextureToBuffer, CopyTextureToTexture, ClearBuffer, ResolveQuerySet, SetBindGroup, Dispatch, DispatchIndirect, SetVertexBuffer, SetIndexBuffer, DrawIndirect, DrawIndexedIndirect, BeginOcclusionQuery, BeginOcclusionQuery, ExecuteBundles}
-use Rattle.wg_types.specs.declared.mappings.Mapping.{Mapping}
-use Rattle.wg_types.specs.declared.mappings.MapMode.{MapMode}
-use Rattle.wg_types.specs.declared.mappings.MapMode.TheVariants.{Read as ReadMode, Write as WriteMode}
+use Rattle.wg_types.specs.declared.commands.CommandOf.TheVariants.{SetBindGroup, SetVertexBuffer, SetIndexBuffer, DrawIndirect, DrawIndexedIndirect, BeginOcclusionQuery, BeginOcclusionQuery, ExecuteBundles}
 use Rattle.wg_types.specs.declared.textures.TextureInfo.{TextureInfo}
-use Rattle.wg_types.specs.declared.textures.TextureSpot.{TextureSpot}
-use Rattle.wg_types.specs.declared.textures.DataLayout.{DataLayout}
 use Rattle.wg_rows.specs.Runs.{Cells}
 use Rattle.wg_rows.specs.Uses.{Kind, Write}
-use Rattle.wg_orders.specs.Steps.{Step, StepPlace}
-use Rattle.wg_model.specs.Formats.{texel_to}
-use Rattle.wg_model.specs.Subresources.{copied_cells, has_no_texel}
-use Rattle.wg_model.specs.TexelCopies.{whole_spot}
-use Rattle.wg_model.specs.Commands.{texture_of, query_bytes}
-use Rattle.wg_model.specs.Walk.{Kept, PassSoFar, open_pass, is_open, pass_does, does_within, does_at, doings, deeds, verdict}
 use Rattle.wg_model.specs.Commands.{size_or_rest}
-use Rattle.wg_model.specs.Touches.{Touch, Doing, deed_of, placed, touching, step_of, read_cells, written_cells, bytes_at, target_kind, copied_to, copied_from, layout_bytes, range_touches, buffer_to_buffer_touches, buffer_to_texture_touches, texture_to_buffer_touches, texture_to_texture_touches, unless, encoder_does, resolve_set_touches}
+use Rattle.wg_model.specs.Touches.{Touch}
 use Rattle.wg_types.specs.declared.groups.GroupLayoutInfo.{GroupLayoutInfo}
-use Rattle.wg_types.specs.declared.bindings.BufferBinding.{BufferBinding}
 use Rattle.wg_types.specs.declared.bindings.BufferBinding.TheVariants.{Uniform, Storage, ReadOnlyStorage}
 use Rattle.wg_types.specs.declared.bindings.StorageAccess.TheVariants.{ReadOnly, WriteOnly, ReadWrite}
 use Rattle.wg_types.specs.declared.bindings.BindingKind.{BindingKind}
 use Rattle.wg_types.specs.declared.bindings.BindingKind.TheVariants.{Buffer, Sampler, Texture, StorageTexture}
 use Rattle.wg_types.specs.declared.commands.BoundGroup.{BoundGroup}
 use Rattle.wg_rows.specs.Rows.{EachRow}
-use Rattle.wg_orders.specs.Steps.{is_clear_name}
 use Rattle.wg_model.specs.Bound.{Place, kind_touch, resource_cells, place_touches, layouts_places, bound_touches}
 use Rattle.wg_model.specs.Bound.{set_places}
-use Rattle.wg_model.specs.Settings.{Settings, settings, layouts_set, indirect_touch}
-use Rattle.wg_model.specs.Compute.{compute_does, dispatch_touches}
+use Rattle.wg_model.specs.Settings.{Settings, layouts_set, indirect_touch}
+use Rattle.wg_model.specs.Compute.{dispatch_touches}
 use Rattle.wg_model.specs.Attachments.{RenderBegin, ColorTarget, DepthTarget, handle_cells, color_cells, attach_kind, attached, attachment_usage, resolve_touches, color_touches, aspect_how, depth_how, cells_aspect, depth_touch, depth_touches, targets_touches}
-use Rattle.wg_model.specs.Render.{RenderSet, render_set, touches_over, command_touches, bound_group_touches, render_does, render_does_by}
+use Rattle.wg_model.specs.Render.{command_touches, bound_group_touches}
 use Rattle.wg_types.specs.declared.bundles.BundleInfo.{BundleInfo}
 use Rattle.wg_types.specs.declared.bundles.BundleTouch.{BundleTouch}
 use Rattle.wg_types.specs.declared.bundles.BundleUse.{BundleUse}
 use Rattle.wg_types.specs.declared.bundles.BundleUse.TheVariants.{Input, Constant, StorageRead, Storage as StorageUse}
 use Rattle.wg_model.specs.Bundles.{known_bundle, bundle_how, bundle_touch, touches_within, executed_touches}
-use Rattle.wg_model.specs.Queries.{set_of_pass, query_begun_touches}
+use Rattle.wg_model.specs.Queries.{query_begun_touches}
 use Rattle.wg_types.specs.Handles.{HandleValue}
 use Rattle.wg_types.specs.declared.parts.Aspect.{Aspect}
 use Rattle.wg_types.specs.declared.parts.Aspect.TheVariants as aspect
-use Rattle.wg_types.specs.declared.commands.Bracket.{Bracket}
-use Rattle.wg_types.specs.declared.commands.Bracket.TheVariants as brackets
-use Rattle.wg_types.specs.Commands.{bracket}
 use Rattle.wg_types.specs.declared.render.LoadOp.{LoadOp}
 use Rattle.wg_types.specs.declared.render.StoreOp.{StoreOp}
-use Rattle.wg_rows.specs.Uses.{Usages, kind_writes, only_reads}
-use Rattle.wg_model.specs.Recorded.{write_buffer_step, write_texture_step, host_name, host_touches, host_step}
+use Rattle.wg_rows.specs.Uses.{Usages}
 use Rattle.std.specs.Prelude.{nat_lt, min, ◌+◌}
 use Rattle.std.specs.Option.{option_map_or}
-use Rattle.wg_types.specs.declared.render.TargetInfo.{TargetInfo}
 use Rattle.wg_types.specs.declared.bindings.BoundResource.{BoundResource}
 use Rattle.wg_types.specs.declared.bindings.BoundResource.TheVariants.{Buffer as BoundBuffer, View as BoundView, Sampler as BoundSampler}
 use Rattle.wg_types.specs.declared.textures.TextureDim.{TextureDim}
