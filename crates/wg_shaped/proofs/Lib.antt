@@ -7,3 +7,5 @@ pub mod Scoping
 pub mod Telling
 pub mod Attaching
 pub mod Recorded
+pub mod Groups
+pub mod Running

@@ -15,6 +15,10 @@ use Rattle.wg_model.specs.Bundles.{known_bundle}
 use Rattle.wg_model.specs.Scopes.{first_clash}
 use Rattle.wg_model.specs.Walk.{ScopesOf}
 use Rattle.wg_model.specs.Recorded.{StepsOf}
+use Rattle.wg_history.specs.declared.events.Setup.{Setup}
+use Rattle.wg_history.specs.Entries.{Entry, recorded_by}
+use Rattle.wg_history.specs.Answers.{Run}
+use Rattle.wg_history.specs.Steps.{Steps}
 use Rattle.wg_readback.specs.Shapes.{IsOnceStep}
 
 -- The view of a color attachment has a dimension of its texture, as each view that is made.
@@ -43,3 +47,11 @@ RecordedAreOnce =
     → EachRow (λ kept. IsFair kept.1) commands
     → first_clash (ScopesOf device targets commands) ≡ None
     → EachRow IsOnceStep (StepsOf place device targets commands)
+
+-- The commands that an entry's event carries are fair.
+abbrev pub IsFairEntry : Entry → Type 0
+IsFairEntry entry = EachRow (λ kept. IsFair kept.1) (recorded_by entry.event)
+
+-- So no step of a history gives a cell twice whose replies are the right ones.
+abbrev pub HistoryIsOnce : Type 0
+HistoryIsOnce = (setup : Setup) (history : List Entry) → Run setup history → EachRow IsFairEntry history → EachRow IsOnceStep (Steps setup history)
