@@ -1,11 +1,9 @@
 -- What copies and clears touch agrees at each cell.
-use Rattle.std.specs.Prelude.{nat_lt, Option, Some, None, is_none, option_to_list}
-use Rattle.std.specs.List.{list_any}
-use Rattle.std.proofs.Common.{◌≡◌, ℕ, ◌+◌, ◌*◌, ◌==◌, List, [], ◌∷◌, ◌++◌, map, Bool, true, false, ◌&&◌, ◌||◌, not, ap, refl, sym, ◌∙◌, subst, if◌then◌else◌, true≢false, eqb-true, eq-eqb}
+use Rattle.std.specs.Prelude.{nat_lt, None, is_none, option_to_list}
+use Rattle.std.proofs.Common.{◌≡◌, ℕ, ◌+◌, ◌*◌, ◌==◌, List, [], ◌∷◌, map, Bool, true, false, ◌&&◌, not, ap, sym, ◌∙◌, subst, if◌then◌else◌, true≢false, eqb-true, eq-eqb}
 use Rattle.std.proofs.lemmas.Bool.{and_parts, and_from, or_left, or_right}
 use Rattle.wg_types.specs.Commands.{Command}
-use Rattle.wg_types.specs.declared.commands.CommandOf.TheVariants.{CopyBufferToBuffer, CopyBufferToTexture, CopyTextureToBuffer, CopyTextureToTexture, ClearBuffer, ResolveQuerySet, BeginComputePass, BeginRenderPass}
-use Rattle.wg_types.specs.Handles.{HandleValue}
+use Rattle.wg_types.specs.declared.commands.CommandOf.TheVariants.{CopyBufferToBuffer, CopyBufferToTexture, CopyTextureToBuffer, CopyTextureToTexture, ClearBuffer, ResolveQuerySet}
 use Rattle.wg_types.specs.declared.parts.Aspect.{Aspect}
 use Rattle.wg_types.specs.declared.parts.Aspect.TheVariants.{Color, Depth, Stencil}
 use Rattle.wg_types.specs.declared.parts.Kind.{Kind}
@@ -14,26 +12,25 @@ use Rattle.wg_types.specs.declared.textures.TextureDim.{TextureDim}
 use Rattle.wg_types.specs.declared.textures.TextureDim.TheVariants as texture_dim
 use Rattle.wg_types.specs.declared.textures.TextureInfo.{TextureInfo}
 use Rattle.wg_types.specs.declared.textures.TextureSpot.{TextureSpot}
-use Rattle.wg_types.specs.declared.textures.DataLayout.{DataLayout}
 use Rattle.wg_types.specs.declared.handles.ObjRef.{ObjRef}
 use Rattle.wg_types.specs.Formats.{row}
 use Rattle.wg_types.specs.Textures.{depth}
 use Rattle.wg_rows.specs.Rows.{EachRow}
 use Rattle.wg_rows.specs.Runs.{Part, Subresource, Buffer, QuerySet, Cell, Cells, Bytes, Layers, Slices, Queries, cell_line, covers, part_of}
 use Rattle.wg_rows.specs.Uses.{Read, Write}
-use Rattle.wg_model.specs.Rules.{first_unmet, AreMet}
+use Rattle.wg_model.specs.Rules.{AreMet}
 use Rattle.wg_model.proofs.Unmet.{all_met}
 use Rattle.wg_model.specs.Formats.{named_aspects, texel_to, texel_from}
 use Rattle.wg_model.specs.Equality.{same_reference}
-use Rattle.wg_model.specs.Subresources.{first_layer, end_layer, texture_cells, layer_cells, copied_cells, copies_meet, has_no_texel}
+use Rattle.wg_model.specs.Subresources.{first_layer, end_layer, texture_cells, copied_cells, copies_meet, has_no_texel}
 use Rattle.wg_model.specs.TexelCopies.{whole_spot, bytes_in}
 use Rattle.wg_model.specs.Commands.{texture_of, size_or_rest, query_bytes, command_rules}
-use Rattle.wg_model.specs.Touches.{Touch, Doing, copy_src_usage, copy_dst_usage, read_cells, written_cells, bytes_at, target_kind, range_kind, copied_to, copied_from, layout_bytes, range_touches, range_written, queries_read, buffer_to_buffer_touches, buffer_to_texture_touches, texture_to_buffer_touches, texture_to_texture_touches, resolve_set_touches, unless, encoder_does}
+use Rattle.wg_model.specs.Touches.{Doing, copy_src_usage, copy_dst_usage, read_cells, written_cells, bytes_at, target_kind, range_kind, copied_to, copied_from, layout_bytes, queries_read, unless, encoder_does}
 use Rattle.wg_model.specs.Walk.{encoder_gives}
 use Rattle.wg_subres.specs.Has.{copy_has, is_accessed}
 use Rattle.wg_subres.proofs.Covered.{copied_cells_lie}
 use Rattle.wg_subres.proofs.Meeting.{copies_meet_where}
-use Rattle.wg_shaped.proofs.Fitting.{Agree, AllAgree, AgreeWith, agree_joined, map_agree, apart_agree}
+use Rattle.wg_shaped.proofs.Fitting.{AllAgree, AgreeWith, agree_joined, map_agree, apart_agree}
 
 -- cells of textures
 abbrev IsTextures : Cells → Type 0
@@ -130,18 +127,25 @@ pub encoder_agree : (device depth_ : ℕ) (command : Command) → encoder_gives 
 unfolding encoder_does
 encoder_agree device depth_ (CopyBufferToBuffer source source_offset target target_offset size) e =
     let met : AreMet (command_rules device depth_ (CopyBufferToBuffer source source_offset target target_offset size)) = all_met (command_rules device depth_ (CopyBufferToBuffer source source_offset target target_offset size)) (ap is_none e) in
-    unless_agree (size == 0) _
-    ((apart_agree (read_cells (bytes_at source.reference.number source_offset size)) (written_cells Write (bytes_at target.reference.number target_offset size))
-    (heads_apart source.reference.number target.reference.number source_offset (source_offset + size) target_offset (target_offset + size)
-    (λ n. not_true (same_reference source.reference target.reference) met.1.1.1.1.1.1.1.1.0 (not_same source.reference target.reference device (and_parts _ _ met.0).0 (and_parts _ _ met.1.1.0).0 n))), tt), (tt, tt))
+    unless_agree (size == 0) _ (
+      (
+        apart_agree (read_cells (bytes_at source.reference.number source_offset size)) (written_cells Write (bytes_at target.reference.number target_offset size))
+            (heads_apart source.reference.number target.reference.number source_offset (source_offset + size) target_offset (target_offset + size)
+            (λ n. not_true (same_reference source.reference target.reference) met.1.1.1.1.1.1.1.1.0 (not_same source.reference target.reference device (and_parts _ _ met.0).0 (and_parts _ _ met.1.1.0).0 n))),
+        tt,
+      ),
+      (tt, tt),
+    )
 encoder_agree device depth_ (CopyBufferToTexture buffer layout texture spot size) e =
-    unless_agree (has_no_texel size) _
-    (bytes_agree buffer.reference.number layout.offset (layout.offset + layout_bytes layout (texel_to spot.aspect (texture_of texture).format) size) (copy_src_usage, Read) (copy_dst_usage, target_kind (texture_of texture) spot size) (copied_cells texture.reference.number (texture_of texture) spot size) (copied_textures texture.reference.number (texture_of texture) spot size),
-    map_agree (copy_dst_usage, target_kind (texture_of texture) spot size) (copied_cells texture.reference.number (texture_of texture) spot size))
+    unless_agree (has_no_texel size) _ (
+      bytes_agree buffer.reference.number layout.offset (layout.offset + layout_bytes layout (texel_to spot.aspect (texture_of texture).format) size) (copy_src_usage, Read) (copy_dst_usage, target_kind (texture_of texture) spot size) (copied_cells texture.reference.number (texture_of texture) spot size) (copied_textures texture.reference.number (texture_of texture) spot size),
+      map_agree (copy_dst_usage, target_kind (texture_of texture) spot size) (copied_cells texture.reference.number (texture_of texture) spot size),
+    )
 encoder_agree device depth_ (CopyTextureToBuffer buffer layout texture spot size) e =
-    unless_agree (has_no_texel size) _
-    (bytes_agree buffer.reference.number layout.offset (layout.offset + layout_bytes layout (texel_from spot.aspect (texture_of texture).format) size) (copy_dst_usage, range_kind (layout_bytes layout (texel_from spot.aspect (texture_of texture).format) size) (bytes_in (texel_from spot.aspect (texture_of texture).format)) size) (copy_src_usage, Read) (copied_cells texture.reference.number (texture_of texture) spot size) (copied_textures texture.reference.number (texture_of texture) spot size),
-    map_agree (copy_src_usage, Read) (copied_cells texture.reference.number (texture_of texture) spot size))
+    unless_agree (has_no_texel size) _ (
+      bytes_agree buffer.reference.number layout.offset (layout.offset + layout_bytes layout (texel_from spot.aspect (texture_of texture).format) size) (copy_dst_usage, range_kind (layout_bytes layout (texel_from spot.aspect (texture_of texture).format) size) (bytes_in (texel_from spot.aspect (texture_of texture).format)) size) (copy_src_usage, Read) (copied_cells texture.reference.number (texture_of texture) spot size) (copied_textures texture.reference.number (texture_of texture) spot size),
+      map_agree (copy_src_usage, Read) (copied_cells texture.reference.number (texture_of texture) spot size),
+    )
 encoder_agree device depth_ (CopyTextureToTexture source source_mip source_origin target target_mip target_origin size) e =
     let met : AreMet (command_rules device depth_ (CopyTextureToTexture source source_mip source_origin target target_mip target_origin size)) = all_met (command_rules device depth_ (CopyTextureToTexture source source_mip source_origin target target_mip target_origin size)) (ap is_none e) in
     let from : TextureSpot = whole_spot source_mip source_origin in
@@ -155,7 +159,12 @@ encoder_agree device depth_ (CopyTextureToTexture source source_mip source_origi
     (λ n meet. not_both (same_reference source.reference target.reference) (copies_meet (texture_of source) from (texture_of target) to size) met.1.1.1.1.1.1.1.1.1.1.0 (not_same source.reference target.reference device (and_parts _ _ met.0).0 (and_parts _ _ met.1.1.0).0 n) meet))))
 encoder_agree device depth_ (ClearBuffer buffer offset size) e = unless_agree (size_or_rest buffer offset size == 0) _ (tt, tt)
 encoder_agree device depth_ (ResolveQuerySet queries first count buffer offset) e =
-    unless_agree (count == 0) _
-    ((apart_agree (queries_read queries.reference.number first count) (written_cells Write (bytes_at buffer.reference.number offset (query_bytes * count)))
-    (queries_apart queries.reference.number buffer.reference.number first (first + count) offset (offset + query_bytes * count)), tt), (tt, tt))
+    unless_agree (count == 0) _ (
+      (
+        apart_agree (queries_read queries.reference.number first count) (written_cells Write (bytes_at buffer.reference.number offset (query_bytes * count)))
+            (queries_apart queries.reference.number buffer.reference.number first (first + count) offset (offset + query_bytes * count)),
+        tt,
+      ),
+      (tt, tt),
+    )
 encoder_agree device depth_ _ e = tt

@@ -1,11 +1,10 @@
 -- A step whose touches agree at each cell gives none twice.
 use Rattle.std.specs.Prelude.{filter}
-use Rattle.std.proofs.Common.{◌≡◌, ℕ, List, [], ◌∷◌, ◌++◌, map, Bool, true, false, ◌&&◌, ◌||◌, cond, ap, refl, sym, ◌∙◌}
-use Rattle.std.specs.List.{list_any}
+use Rattle.std.proofs.Common.{◌≡◌, ℕ, List, [], ◌∷◌, ◌++◌, map, Bool, true, false, cond, ap, refl, sym, ◌∙◌}
 use Rattle.std.proofs.lemmas.Bool.{and_parts, ltb-true}
 use Rattle.wg_types.specs.declared.parts.Kind.{Kind}
 use Rattle.wg_types.specs.declared.usages.Usages.{Usages}
-use Rattle.wg_rows.specs.Rows.{Spot, covers_spot, list_eq, in_range, EachRow, Apart, Fits, AllFit}
+use Rattle.wg_rows.specs.Rows.{Spot, covers_spot, list_eq, in_range, EachRow, Fits, AllFit}
 use Rattle.wg_rows.specs.Runs.{Cell, Cells, cell_line, cell_lo, cell_hi, cell_spot, cell_sort, covers}
 use Rattle.wg_rows.specs.Uses.{same_kind, printed_accesses}
 use Rattle.wg_rows.proofs.Put.{list_eq_true}

@@ -31,23 +31,8 @@ use Rattle.wg_readback.specs.Shapes.{IsFilledStep, IsOnceStep, IsShapedStep, IsS
 use Rattle.wg_readback.proofs.Shaping.{trace_is_shaped}
 use Rattle.wg_readback.proofs.Reports.{report_reads_back}
 use Rattle.wg_shaped.specs.Shaped.{StepsAreFilled, HistoryIsShaped, HistoryReadsBack, told}
-use Rattle.wg_shaped.proofs.Touched.{FilledIf, write_filled, host_filled, recorded_filled}
-
-abbrev AreFilled : List (List Step) → Type 0
-AreFilled groups = EachRow IsFilledStep (steps_in groups)
-
-group_filled : (o : Option Step) → FilledIf o → AreFilled (group_of o)
-group_filled None h = tt
-group_filled (Some step) h = (h, tt)
-
-both_filled : (a b : List (List Step)) → AreFilled a → AreFilled b → AreFilled (a ++ b)
-both_filled a b h k = subst (EachRow IsFilledStep) (sym (steps_in_append a b)) (each_joined IsFilledStep (steps_in a) (steps_in b) h k)
-
--- steps of queue writes and of submits
-writes_filled : (answer : Answer) (write : QueueWrite) → AreFilled (write_groups answer write)
-unfolding write_groups
-writes_filled (Queued op) write = group_filled (write_step (Op op) write) (write_filled (Op op) write)
-writes_filled _ write = tt
+use Rattle.wg_shaped.proofs.Groups.{Each, both_each, writes_each, hosts_each, listed_each}
+use Rattle.wg_shaped.proofs.Touched.{write_filled, host_filled, recorded_filled}
 
 made_filled : (place : StepPlace) (o : Option Entry) → EachRow IsFilledStep (map (placed place) (option_map_or (λ entry. deeds_by entry.event) o []))
 made_filled place None = tt
@@ -57,60 +42,24 @@ made_filled place (Some entry) = by_recording (recording_in entry.event)
     by_recording None = tt
     by_recording (Some recording) = recorded_filled place recording.device recording.targets recording.commands
 
-listed_filled : (past : Past) (op : ℕ) (buffers : List ObjRef) → AreFilled (map (λ buffer. steps_at (Op op) past buffer.number) buffers)
-listed_filled past op [] = tt
-listed_filled past op (buffer ∷ buffers) =
-    each_joined IsFilledStep (steps_at (Op op) past buffer.number) (steps_in (map (λ buffer. steps_at (Op op) past buffer.number) buffers)) (made_filled (Op op) (maker past buffer.number)) (listed_filled past op buffers)
+all_filled : (past : Past) (op : ℕ) (buffers : List ObjRef) → EachRow (λ (buffer : ObjRef). EachRow IsFilledStep (steps_at (Op op) past buffer.number)) buffers
+all_filled past op [] = tt
+all_filled past op (buffer ∷ buffers) = (made_filled (Op op) (maker past buffer.number), all_filled past op buffers)
 
-submits_filled : (past : Past) (answer : Answer) (buffers : List ObjRef) → AreFilled (submit_groups past answer buffers)
+submits_filled : (past : Past) (answer : Answer) (buffers : List ObjRef) → Each IsFilledStep (submit_groups past answer buffers)
 unfolding submit_groups
-submits_filled past (Queued op) buffers = listed_filled past op buffers
+submits_filled past (Queued op) buffers = listed_each IsFilledStep past op buffers (all_filled past op buffers)
 submits_filled past _ buffers = tt
 
-called_filled : (past : Past) (answer : Answer) (call : QueueCall) → AreFilled (groups_in past answer call)
+called_filled : (past : Past) (answer : Answer) (call : QueueCall) → Each IsFilledStep (groups_in past answer call)
 called_filled past answer (submitting buffers) = submits_filled past answer buffers
-called_filled past answer (writing target write) = writes_filled answer write
+called_filled past answer (writing target write) = writes_each IsFilledStep write_filled answer write
 called_filled past answer no_call = tt
 
--- steps of the host
-written_filled : (mode : MapMode) (place : StepPlace) (buffer : ℕ) (m : Mapping) → FilledIf (written_back mode place buffer m)
-written_filled WriteMode place buffer m = host_filled place buffer m
-written_filled ReadMode place buffer m = tt
-
-read_filled : (mode : MapMode) (place : StepPlace) (buffer : ℕ) (m : Mapping) → FilledIf (read_back mode place buffer m)
-read_filled ReadMode place buffer m = host_filled place buffer m
-read_filled WriteMode place buffer m = tt
-
-unmap_filled : (setup : Setup) (past : Past) (o : Option ObjRef) → AreFilled (unmap_groups setup past o)
-unmap_filled setup past None = tt
-unmap_filled setup past (Some buffer) = by_rule (is_none (unmap_rule setup past buffer))
-  where
-    by_mapping : (o : Option Mapping) → AreFilled (group_of (option_and_then (λ m. written_back m.mode (Host (length past)) buffer.number m) o))
-    by_mapping None = tt
-    by_mapping (Some m) = group_filled (written_back m.mode (Host (length past)) buffer.number m) (written_filled m.mode (Host (length past)) buffer.number m)
-
-    by_rule : (b : Bool) → AreFilled (if b then group_of (option_and_then (λ m. written_back m.mode (Host (length past)) buffer.number m) (mapped_at setup past buffer.number)) else [])
-    by_rule true = by_mapping (mapped_at setup past buffer.number)
-    by_rule false = tt
-
-one_read : (at : ℕ) (settled : List Settlement) (promise : ℕ) (awaited : Awaited) → AreFilled (read_groups at settled promise awaited)
-one_read at settled promise (work ops) = tt
-one_read at settled promise (mapping buffer last m) = by_test (settles_mapped settled promise)
-  where
-    by_test : (b : Bool) → AreFilled (if b then group_of (read_back m.mode (Host at) buffer m) else [])
-    by_test true = group_filled (read_back m.mode (Host at) buffer m) (read_filled m.mode (Host at) buffer m)
-    by_test false = tt
-
-reads_filled : (at : ℕ) (settled : List Settlement) (waits : List Wait) → AreFilled (flat_map (λ (wait : Wait). read_groups at settled wait.promise wait.awaited) waits)
-reads_filled at settled [] = tt
-reads_filled at settled (wait ∷ waits) = both_filled (read_groups at settled wait.promise wait.awaited) (flat_map (λ (w : Wait). read_groups at settled w.promise w.awaited) waits) (one_read at settled wait.promise wait.awaited) (reads_filled at settled waits)
-
-entry_filled : (setup : Setup) (past : Past) (entry : Entry) → AreFilled (groups_of setup past entry)
+entry_filled : (setup : Setup) (past : Past) (entry : Entry) → Each IsFilledStep (groups_of setup past entry)
 entry_filled setup past entry =
-    both_filled (groups_in past entry.reply.answer (queue_call (known_textures past) entry.event)) (host_groups setup past entry)
-    (called_filled past entry.reply.answer (queue_call (known_textures past) entry.event))
-    (both_filled (unmap_groups setup past (effects_of entry.event).unmapped) (flat_map (λ (wait : Wait). read_groups (length past) entry.reply.settled wait.promise wait.awaited) (waits_of entry past))
-    (unmap_filled setup past (effects_of entry.event).unmapped) (reads_filled (length past) entry.reply.settled (waits_of entry past)))
+    both_each IsFilledStep (groups_in past entry.reply.answer (queue_call (known_textures past) entry.event)) (host_groups setup past entry)
+    (called_filled past entry.reply.answer (queue_call (known_textures past) entry.event)) (hosts_each IsFilledStep host_filled setup past entry)
 
 -- all of them
 past_filled : (setup : Setup) (past : Past) → EachRow IsFilledStep (steps_back setup past)

@@ -3,3 +3,9 @@ pub mod Touched
 pub mod History
 pub mod Fitting
 pub mod Copying
+pub mod Scoping
+pub mod Telling
+pub mod Attaching
+pub mod Recorded
+pub mod Groups
+pub mod Running

@@ -58,6 +58,7 @@ use Rattle.wg_model.specs.Walk.{DeedsOf}
 use Rattle.wg_rows.specs.Uses.{Read}
 use Rattle.wg_model.proofs.StepLaws.{each_joined}
 use Rattle.wg_readback.specs.Shapes.{IsSet, IsFilledStep}
+use Rattle.wg_shaped.proofs.Groups.{If, Writes, Hosts}
 use Rattle.wg_shaped.proofs.Filling.{AreSets, step_filled}
 
 -- What each step touches.
@@ -82,15 +83,11 @@ textures_sets : (source : ℕ) (from_info : TextureInfo) (from : TextureSpot) (t
 textures_sets source from_info from target to_info to size = joined_sets (copied_from source from_info from size) (copied_to target to_info to size) (copied_from_sets source from_info from size) (copied_to_sets target to_info to size)
 
 -- a step that may be left out
-abbrev pub FilledIf : Option Step → Type 0
-FilledIf None = Unit {0}
-FilledIf (Some step) = IsFilledStep step
-
-by_size : (b : Bool) (step : Step) → IsFilledStep step → FilledIf (if b then None else Some step)
+by_size : (b : Bool) (step : Step) → IsFilledStep step → If IsFilledStep (if b then None else Some step)
 by_size true step h = tt
 by_size false step h = h
 
-pub write_filled : (place : StepPlace) (write : QueueWrite) → FilledIf (write_step place write)
+pub write_filled : (place : StepPlace) (write : QueueWrite) → If IsFilledStep (write_step place write)
 write_filled place (BufferWrite buffer offset size) = by_size (size == 0) (write_buffer_step place buffer.number offset size) (step_filled place (name.WriteBuffer, range_touches buffer.number offset size) (range_sets buffer.number offset size))
 write_filled place (TextureWrite texture info spot layout size) = by_size (has_no_texel size) (write_texture_step place texture.number info spot size) (step_filled place (name.WriteTexture, copied_to texture.number info spot size) (copied_to_sets texture.number info spot size))
 
@@ -98,7 +95,7 @@ host_sets : (buffer lo hi : ℕ) (mode : MapMode) → AreSets (host_touches buff
 host_sets buffer lo hi ReadMode = ((lit< tt, lit< tt), tt)
 host_sets buffer lo hi WriteMode = ((lit< tt, lit< tt), tt)
 
-pub host_filled : (place : StepPlace) (buffer : ℕ) (m : Mapping) → FilledIf (host_step place buffer m)
+pub host_filled : (place : StepPlace) (buffer : ℕ) (m : Mapping) → If IsFilledStep (host_step place buffer m)
 host_filled place buffer m = by_size (m.lo == m.hi) (touching place (host_name m.mode) (host_touches buffer m)) (step_filled place (host_name m.mode, host_touches buffer m) (host_sets buffer m.lo m.hi m.mode))
 
 -- what commands on encoders touch
