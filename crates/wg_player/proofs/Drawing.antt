@@ -1,8 +1,8 @@
 -- What a call of a canvas is once it was played.
-use Rattle.std.proofs.Common.{◌≡◌, ℕ, ◌<◌, ◌≤◌, List, [], ◌∷◌, ◌++◌, length, Option, Some, None, slice_get, slice_set, refl, ap, sym, ◌∙◌, subst, inl, inr, append-nil}
+use Rattle.std.proofs.Common.{◌≡◌, ℕ, ◌≤◌, List, length, Option, Some, None, slice_get, slice_set, refl, ap, sym, ◌∙◌, subst, inl, inr, append-nil}
 use Rattle.std.specs.Prelude.{option_map, option_and_then}
 use Rattle.std.specs.Option.{option_map_or}
-use Rattle.std.proofs.lemmas.Option.{slice_get_read, slice_get_past}
+use Rattle.std.proofs.lemmas.Option.{slice_get_past}
 use Rattle.wg_types.specs.Handles.{HandleValue}
 use Rattle.wg_types.specs.declared.handles.Info.TheVariants.{Texture}
 use Rattle.wg_types.specs.declared.replies.Answer.{Answer}
@@ -15,7 +15,7 @@ use Rattle.wg_types.specs.declared.canvases.CanvasCall.{CanvasCall}
 use Rattle.wg_types.specs.declared.canvases.CanvasCall.TheVariants.{Configure, Current, Present}
 use Rattle.wg_types.specs.declared.canvases.CanvasOf.TheVariants.{Create, On}
 use Rattle.wg_canvas.specs.Makers.{IsMade, HasSent, sent_as}
-use Rattle.wg_canvas.specs.Canvases.{CanvasValue, texture_of, asked_at as asked_in, texture_made, made_if, act_asked, act_made, acted}
+use Rattle.wg_canvas.specs.Canvases.{CanvasValue, texture_of, info_of, asked_at as asked_in, texture_made, made_if, act_asked, act_made, acted}
 use Rattle.wg_canvas.specs.declared.canvas.Stage.{Stage}
 use Rattle.wg_canvas.specs.declared.canvas.Stage.TheVariants.{Unset, Empty, Filled}
 use Rattle.wg_calls.specs.Calls.{event_asked, info_asked, handle_made}
@@ -76,7 +76,7 @@ module _ {M : Type 0} (sent : M → List Entry) (who : M → ℕ) (serial : ℕ)
   as_asked : (canvas : CanvasValue) (stage : Stage) (reply : Option Reply) → HasSent sent who event_asked old new (asked_in canvas stage) reply
       → HasAskedIf serial (asked_in canvas stage) (made_if serial (asked_in canvas stage) reply) (sent old) (sent new)
   as_asked canvas Unset reply was = as_none reply was
-  as_asked canvas (Empty setting) reply was = as_some _ reply (created_is serial _) was
+  as_asked canvas (Empty setting) reply was = as_some (CreateTexture (info_of canvas setting)) reply (created_is serial (info_of canvas setting)) was
   as_asked canvas (Filled setting texture) reply was = as_none reply was
 
   as_act : (canvas : CanvasValue) (call : CanvasCall) (reply : Option Reply) → HasSent sent who event_asked old new (act_asked canvas call) reply
