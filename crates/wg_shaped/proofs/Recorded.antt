@@ -44,7 +44,7 @@ clear_from : (scopes : List (List Use)) → first_clash scopes ≡ None → AreC
 clear_from [] e = tt
 clear_from (scope ∷ scopes) e = let parts = or_none (clash scope) (first_clash scopes) e in (parts.0, clear_from scopes parts.1)
 
-each_parts : {A : Type 0} (P : A → Type 0) (xs ys : List A) → EachRow P (xs ++ ys) → EachRow P xs × EachRow P ys
+pub each_parts : {A : Type 0} (P : A → Type 0) (xs ys : List A) → EachRow P (xs ++ ys) → EachRow P xs × EachRow P ys
 each_parts P [] ys h = (tt, h)
 each_parts P (x ∷ xs) ys h = let parts : EachRow P xs × EachRow P ys = each_parts P xs ys h.1 in ((h.0, parts.0), parts.1)
 
@@ -69,10 +69,10 @@ agree_attached : (touches : List Touch) → AllAgree touches → AttachedAgree t
 agree_attached [] h = tt
 agree_attached (a ∷ touches) h = (agree_with a touches h.0, agree_attached touches h.1)
 
-abbrev AreFair : List Command → Type 0
+abbrev pub AreFair : List Command → Type 0
 AreFair commands = EachRow IsFair commands
 
-over_told : (queries : Option (ℕ × ℕ)) (first : List Touch) (earlier : List Command) → AreFair earlier → AreTold first → AreTold (touches_over queries first earlier)
+pub over_told : (queries : Option (ℕ × ℕ)) (first : List Touch) (earlier : List Command) → AreFair earlier → AreTold first → AreTold (touches_over queries first earlier)
 over_told queries first [] fair h = h
 over_told queries first (command ∷ earlier) fair h =
     each_joined _ (touches_over queries first earlier) (command_touches queries command) (over_told queries first earlier fair.1 h) (plain_told (command_touches queries command) (command_plain queries command fair.0))
@@ -124,7 +124,7 @@ abbrev IsMetPass : ℕ → Option PassSoFar → Type 0
 IsMetPass device None = Unit {0}
 IsMetPass device (Some pass) = pass_rule device pass.begin pass.earlier ≡ None
 
-abbrev AreFairKept : Kept → Type 0
+abbrev pub AreFairKept : Kept → Type 0
 AreFairKept kept = EachRow (λ (one : On × Command). IsFair one.1) kept
 
 begun_fair : (opened : Option PassSoFar) (number : ℕ) (command : Command) → IsFair command → IsFairPass opened → IsFairPass (pass_begun opened number command)
@@ -198,7 +198,7 @@ placed_once : (place : StepPlace) (done : List Doing) → EachRow AgreeDoing don
 placed_once place [] h = tt
 placed_once place (doing ∷ done) h = (step_once place doing h.0, placed_once place done h.1)
 
-each_reverse : (kept : Kept) → AreFairKept kept → AreFairKept (reverse kept)
+pub each_reverse : (kept : Kept) → AreFairKept kept → AreFairKept (reverse kept)
 each_reverse [] h = tt
 each_reverse (one ∷ kept) h = subst AreFairKept (sym (reverse-append (one ∷ []) kept)) (each_joined (λ (one : On × Command). IsFair one.1) (reverse kept) (one ∷ []) (each_reverse kept h.1) (h.0, tt))
 
