@@ -156,11 +156,11 @@ open_fair [] fair = tt
 open_fair (kept ∷ older) fair = one_fair (open_pass older) (begins older) kept.0 kept.1 fair.0 (open_fair older fair.1)
 
 -- One more command: what the pass before it has, and what it does.
-abbrev Step_holds : ℕ → Option PassSoFar → Option Doing → Type 0
-Step_holds device opened done = IsMetPass device opened × EachRow AgreeDoing (option_to_list done)
+abbrev Holds : ℕ → Option PassSoFar → Option Doing → Type 0
+Holds device opened done = IsMetPass device opened × EachRow AgreeDoing (option_to_list done)
 
 within_holds : (device : ℕ) (opened : Option PassSoFar) (command : Command) → IsFairPass opened → handed device opened command ≡ None → IsMetPass device (pass_after opened command)
-    → AreClear (map scope_in (option_to_list (does_within opened command))) → Step_holds device opened (does_within opened command)
+    → AreClear (map scope_in (option_to_list (does_within opened command))) → Holds device opened (does_within opened command)
 within_holds device None command fair e met clear = (tt, tt)
 within_holds device (Some pass) command fair e met clear =
     let whole : pass_rule device pass.begin (command ∷ pass.earlier) ≡ None = by_end (is_end command) e met in
@@ -171,17 +171,17 @@ within_holds device (Some pass) command fair e met clear =
     by_end true e met = e
     by_end false e met = met
 
-encoder_holds : (device depth : ℕ) (opened : Option PassSoFar) (command : Command) → encoder_gives device opened depth command ≡ None → Step_holds device opened (does_at opened Encoder command)
+encoder_holds : (device depth : ℕ) (opened : Option PassSoFar) (command : Command) → encoder_gives device opened depth command ≡ None → Holds device opened (does_at opened Encoder command)
 encoder_holds device depth (Some pass) command e = absurd (cc)
 encoder_holds device depth None command e = (tt, encoder_agree device depth command e)
 
 at_holds : (device depth number : ℕ) (opened : Option PassSoFar) (on : On) (command : Command) → IsFairPass opened → given device opened depth on command ≡ None → IsMetPass device (open_after opened number on command)
-    → AreClear (scopes_at opened on command) → Step_holds device opened (does_at opened on command)
+    → AreClear (scopes_at opened on command) → Holds device opened (does_at opened on command)
 at_holds device depth number opened Encoder command fair e met clear = encoder_holds device depth opened command e
 at_holds device depth number opened (Pass pass) command fair e met clear = by_open (is_open opened pass) e met clear
   where
     by_open : (b : Bool) → (if b then handed device opened command else None) ≡ None → IsMetPass device (if b then pass_after opened command else opened)
-        → AreClear (map scope_in (option_to_list (if b then does_within opened command else None))) → Step_holds device opened (if b then does_within opened command else None)
+        → AreClear (map scope_in (option_to_list (if b then does_within opened command else None))) → Holds device opened (if b then does_within opened command else None)
     by_open true e met clear = within_holds device opened command fair e met clear
     by_open false e met clear = (met, tt)
 
@@ -190,7 +190,7 @@ all_hold device [] fair e met clear = tt
 all_hold device (kept ∷ older) fair e met clear =
     let rules : (verdict device older ≡ None) × (given device (open_pass older) (encoder_depth older) kept.0 kept.1 ≡ None) = or_none (verdict device older) (given device (open_pass older) (encoder_depth older) kept.0 kept.1) e in
     let scopes : AreClear (usage_scopes older) × AreClear (scopes_at (open_pass older) kept.0 kept.1) = each_parts (λ (scope : List Use). clash scope ≡ None) (usage_scopes older) (scopes_at (open_pass older) kept.0 kept.1) clear in
-    let one : Step_holds device (open_pass older) (does_at (open_pass older) kept.0 kept.1) = at_holds device (encoder_depth older) (begins older) (open_pass older) kept.0 kept.1 (open_fair older fair.1) rules.1 met scopes.1 in
+    let one : Holds device (open_pass older) (does_at (open_pass older) kept.0 kept.1) = at_holds device (encoder_depth older) (begins older) (open_pass older) kept.0 kept.1 (open_fair older fair.1) rules.1 met scopes.1 in
     each_joined AgreeDoing (doings older) (option_to_list (does_at (open_pass older) kept.0 kept.1)) (all_hold device older fair.1 rules.0 one.0 scopes.0) one.1
 
 -- the steps
