@@ -17,6 +17,7 @@ use Rattle.wg_model.specs.Rules.{AreMet}
 use Rattle.wg_model.specs.Subresources.{view_cells}
 use Rattle.wg_model.specs.Touches.{Touch}
 use Rattle.wg_model.specs.Attachments.{RenderBegin, ColorTarget, DepthTarget, Attached, attached_view, attachment_of, depth_view, color_view, attached_whole, color_attached, target_views, attached_views, color_fits, slice_fits, attached_meet, attached_are_apart, begin_rules, attachment_usage, handle_cells, sliced, color_cells, attach_kind, attached, resolve_touches, color_touches, depth_how, cells_aspect, depth_touch, depth_touches, targets_touches}
+use Rattle.wg_model.proofs.StepLaws.{each_joined}
 use Rattle.wg_subres.specs.Has.{is_accessed}
 use Rattle.wg_subres.specs.Attached.{attached_has, IsAttachable}
 use Rattle.wg_subres.proofs.Attaching.{attached_meet_where}
@@ -49,16 +50,12 @@ block_apart : (a b : Attached) (t : Touch) (block : List Touch) → attached_mee
 block_apart a b t [] apart fits fits2 own owns = tt
 block_apart a b t (u ∷ block) apart fits fits2 own owns = (one_apart a b t u apart fits fits2 own owns.0, block_apart a b t block apart fits fits2 own owns.1)
 
-each_more : {A : Type 0} (P : A → Type 0) (xs ys : List A) → EachRow P xs → EachRow P ys → EachRow P (xs ++ ys)
-each_more P [] ys a b = b
-each_more P (x ∷ xs) ys a b = (a.0, each_more P xs ys a.1 b)
-
 rest_apart : (a : Attached) (t : Touch) (views : List Attached) (touches : List Touch) → IsAttachable a → Of a t → list_any (attached_meet a) views ≡ false → Along views touches → AgreeWith touches t
 rest_apart a t [] touches fits own none along = subst (λ (ts : List Touch). AgreeWith ts t) (sym along) tt
 rest_apart a t (b ∷ views) touches fits own none along =
     let parts : (attached_meet a b ≡ false) × (list_any (attached_meet a) views ≡ false) = or_parts (attached_meet a b) (list_any (attached_meet a) views) none in
     subst (λ (ts : List Touch). AgreeWith ts t) (sym along.is)
-    (each_more (Agree t) along.block along.rest (block_apart a b t along.block parts.0 fits along.fits own along.own) (rest_apart a t views along.rest fits own parts.1 along.more))
+    (each_joined (Agree t) along.block along.rest (block_apart a b t along.block parts.0 fits along.fits own along.own) (rest_apart a t views along.rest fits own parts.1 along.more))
 
 cross_apart : (a : Attached) (these : List Touch) (views : List Attached) (touches : List Touch) → IsAttachable a → EachRow (Of a) these → list_any (attached_meet a) views ≡ false → Along views touches → EachRow (AgreeWith touches) these
 cross_apart a [] views touches fits owns none along = tt

@@ -69,15 +69,15 @@ bytes_agree object lo hi how other [] h = tt
 bytes_agree object lo hi how other (run ∷ cells) h = (apart_agree (Bytes object lo hi, how) (run, other) (bytes_apart object lo hi run h.0), bytes_agree object lo hi how other cells h.1)
 
 -- two lists of cells with none in common
-abbrev None_common : List Cells → List Cells → Type 0
-None_common xs ys = (c : Cell) → is_accessed xs c ≡ true → is_accessed ys c ≡ true → ⊥
+abbrev ShareNone : List Cells → List Cells → Type 0
+ShareNone xs ys = (c : Cell) → is_accessed xs c ≡ true → is_accessed ys c ≡ true → ⊥
 
 one_cross : (x : Cells) (ys : List Cells) (how other : Usages × Kind) → ((c : Cell) → covers x c ≡ true → is_accessed ys c ≡ true → ⊥) → AgreeWith (map (λ (run : Cells). (run, other)) ys) (x, how)
 one_cross x [] how other h = tt
 one_cross x (y ∷ ys) how other h =
     ((λ c e f. absurd (h c e (or_left (covers y c) (is_accessed ys c) f))), one_cross x ys how other (λ c e f. h c e (or_right (covers y c) (is_accessed ys c) f)))
 
-all_cross : (xs ys : List Cells) (how other : Usages × Kind) → None_common xs ys → EachRow (AgreeWith (map (λ (run : Cells). (run, other)) ys)) (map (λ (run : Cells). (run, how)) xs)
+all_cross : (xs ys : List Cells) (how other : Usages × Kind) → ShareNone xs ys → EachRow (AgreeWith (map (λ (run : Cells). (run, other)) ys)) (map (λ (run : Cells). (run, how)) xs)
 all_cross [] ys how other h = tt
 all_cross (x ∷ xs) ys how other h =
     (one_cross x ys how other (λ c e f. h c (or_left (covers x c) (is_accessed xs c) e) f), all_cross xs ys how other (λ c e f. h c (or_right (covers x c) (is_accessed xs c) e) f))
@@ -89,7 +89,7 @@ copy_number texture other info info2 spot spot2 size (Buffer object) e h = absur
 copy_number texture other info info2 spot spot2 size (QuerySet object) e h = absurd (true≢false (sym e))
 
 copies_apart : (texture other : ℕ) (info info2 : TextureInfo) (spot spot2 : TextureSpot) (size : List ℕ) → (texture ≡ other → copies_meet info spot info2 spot2 size ≡ true → ⊥)
-    → None_common (copied_cells texture info spot size) (copied_cells other info2 spot2 size)
+    → ShareNone (copied_cells texture info spot size) (copied_cells other info2 spot2 size)
 copies_apart texture other info info2 spot spot2 size ne c e f =
     let first : copy_has texture info spot size (part_of c) ≡ true = copied_cells_lie texture info spot size c e in
     let second : copy_has other info2 spot2 size (part_of c) ≡ true = copied_cells_lie other info2 spot2 size c f in

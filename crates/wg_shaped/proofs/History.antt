@@ -1,36 +1,27 @@
 -- The steps of a history have no empty row and no empty set, and its trace has its shape.
-use Rattle.std.proofs.Common.{ℕ, Bool, true, false, List, [], ◌∷◌, ◌++◌, length, Option, Some, None, is_none, option_and_then, map, reverse, sym, subst, if◌then◌else◌}
-use Rattle.std.specs.List.{flat_map}
+use Rattle.std.proofs.Common.{ℕ, List, [], ◌∷◌, Option, Some, None, map, reverse, sym, subst}
 use Rattle.std.specs.Option.{option_map_or}
 use Rattle.wg_types.specs.declared.handles.ObjRef.{ObjRef}
-use Rattle.wg_types.specs.declared.mappings.Mapping.{Mapping}
-use Rattle.wg_types.specs.declared.mappings.MapMode.{MapMode}
-use Rattle.wg_types.specs.declared.mappings.MapMode.TheVariants.{Read as ReadMode, Write as WriteMode}
-use Rattle.wg_types.specs.declared.replies.Settlement.{Settlement}
-use Rattle.wg_types.specs.declared.steps.QueueWrite.{QueueWrite}
-use Rattle.wg_types.specs.declared.steps.StepPlace.TheVariants.{Op, Host}
+use Rattle.wg_types.specs.declared.steps.StepPlace.TheVariants.{Op}
 use Rattle.wg_rows.specs.Rows.{EachRow}
 use Rattle.wg_orders.specs.Steps.{Step, StepPlace}
 use Rattle.wg_orders.specs.Trace.{steps_in, trace_of}
 use Rattle.wg_model.specs.Touches.{placed}
 use Rattle.wg_model.specs.Walk.{DeedsOf}
-use Rattle.wg_model.specs.Recorded.{write_step}
 use Rattle.wg_model.proofs.StepLaws.{each_joined}
 use Rattle.wg_encoder.specs.Recorders.{RecordingValue}
-use Rattle.wg_history.specs.Entries.{Entry, Past, recording_in, deeds_by, effects_of, QueueCall, no_call, submitting, writing, queue_call}
+use Rattle.wg_history.specs.Entries.{Entry, Past, recording_in, deeds_by, QueueCall, no_call, submitting, writing, queue_call}
 use Rattle.wg_history.specs.declared.events.Setup.{Setup}
 use Rattle.wg_history.specs.Objects.{maker, known_textures}
-use Rattle.wg_history.specs.Loss.{Awaited, mapping, work, Wait}
-use Rattle.wg_history.specs.Rules.{unmap_rule, settles_mapped, waits_of, mapped_at}
 use Rattle.wg_history.specs.Answers.{Answer, Queued}
-use Rattle.wg_history.specs.Steps.{group_of, write_groups, steps_at, submit_groups, groups_in, written_back, read_back, unmap_groups, read_groups, host_groups, groups_of, steps_back}
+use Rattle.wg_history.specs.Steps.{steps_at, submit_groups, groups_in, host_groups, groups_of, steps_back}
 use Rattle.wg_history.specs.Traces.{Trace, works}
-use Rattle.wg_history.proofs.Declared.{steps_in_append}
 use Rattle.wg_history.proofs.Every.{trace_works, steps_works}
 use Rattle.wg_readback.specs.Shapes.{IsFilledStep, IsOnceStep, IsShapedStep, IsShaped}
 use Rattle.wg_readback.proofs.Shaping.{trace_is_shaped}
 use Rattle.wg_readback.proofs.Reports.{report_reads_back}
 use Rattle.wg_shaped.specs.Shaped.{StepsAreFilled, HistoryIsShaped, HistoryReadsBack, told}
+use Rattle.wg_shaped.proofs.Running.{history_is_once}
 use Rattle.wg_shaped.proofs.Groups.{Each, both_each, writes_each, hosts_each, listed_each}
 use Rattle.wg_shaped.proofs.Touched.{write_filled, host_filled, recorded_filled}
 
@@ -77,8 +68,8 @@ past_shaped : (setup : Setup) (past : Past) → EachRow IsOnceStep (steps_back s
 past_shaped setup past h = trace_is_shaped (works setup past) (subst (EachRow IsShapedStep) (sym (steps_works setup past)) (both_of_each (steps_back setup past) (past_filled setup past) h))
 
 pub history_is_shaped : HistoryIsShaped
-history_is_shaped setup history h = subst IsShaped (trace_works setup (reverse history)) (past_shaped setup (reverse history) h)
+history_is_shaped setup history run = subst IsShaped (trace_works setup (reverse history)) (past_shaped setup (reverse history) (history_is_once setup history run))
 
 pub history_reads_back : HistoryReadsBack
-history_reads_back setup history once small steps =
-    report_reads_back (map told history) (Trace setup history) (record { shaped = history_is_shaped setup history once; small = small; steps = steps })
+history_reads_back setup history run small steps =
+    report_reads_back (map told history) (Trace setup history) (record { shaped = history_is_shaped setup history run; small = small; steps = steps })

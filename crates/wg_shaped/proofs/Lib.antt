@@ -9,3 +9,5 @@ pub mod Attaching
 pub mod Recorded
 pub mod Groups
 pub mod Running
+pub mod Bundling
+pub mod Genuine

@@ -44,7 +44,7 @@ clear_from : (scopes : List (List Use)) → first_clash scopes ≡ None → AreC
 clear_from [] e = tt
 clear_from (scope ∷ scopes) e = let parts = or_none (clash scope) (first_clash scopes) e in (parts.0, clear_from scopes parts.1)
 
-each_parts : {A : Type 0} (P : A → Type 0) (xs ys : List A) → EachRow P (xs ++ ys) → EachRow P xs × EachRow P ys
+pub each_parts : {A : Type 0} (P : A → Type 0) (xs ys : List A) → EachRow P (xs ++ ys) → EachRow P xs × EachRow P ys
 each_parts P [] ys h = (tt, h)
 each_parts P (x ∷ xs) ys h = let parts : EachRow P xs × EachRow P ys = each_parts P xs ys h.1 in ((h.0, parts.0), parts.1)
 
@@ -69,10 +69,10 @@ agree_attached : (touches : List Touch) → AllAgree touches → AttachedAgree t
 agree_attached [] h = tt
 agree_attached (a ∷ touches) h = (agree_with a touches h.0, agree_attached touches h.1)
 
-abbrev AreFair : List Command → Type 0
+abbrev pub AreFair : List Command → Type 0
 AreFair commands = EachRow IsFair commands
 
-over_told : (queries : Option (ℕ × ℕ)) (first : List Touch) (earlier : List Command) → AreFair earlier → AreTold first → AreTold (touches_over queries first earlier)
+pub over_told : (queries : Option (ℕ × ℕ)) (first : List Touch) (earlier : List Command) → AreFair earlier → AreTold first → AreTold (touches_over queries first earlier)
 over_told queries first [] fair h = h
 over_told queries first (command ∷ earlier) fair h =
     each_joined _ (touches_over queries first earlier) (command_touches queries command) (over_told queries first earlier fair.1 h) (plain_told (command_touches queries command) (command_plain queries command fair.0))
@@ -124,7 +124,7 @@ abbrev IsMetPass : ℕ → Option PassSoFar → Type 0
 IsMetPass device None = Unit {0}
 IsMetPass device (Some pass) = pass_rule device pass.begin pass.earlier ≡ None
 
-abbrev AreFairKept : Kept → Type 0
+abbrev pub AreFairKept : Kept → Type 0
 AreFairKept kept = EachRow (λ (one : On × Command). IsFair one.1) kept
 
 begun_fair : (opened : Option PassSoFar) (number : ℕ) (command : Command) → IsFair command → IsFairPass opened → IsFairPass (pass_begun opened number command)
@@ -156,11 +156,11 @@ open_fair [] fair = tt
 open_fair (kept ∷ older) fair = one_fair (open_pass older) (begins older) kept.0 kept.1 fair.0 (open_fair older fair.1)
 
 -- One more command: what the pass before it has, and what it does.
-abbrev Step_holds : ℕ → Option PassSoFar → Option Doing → Type 0
-Step_holds device opened done = IsMetPass device opened × EachRow AgreeDoing (option_to_list done)
+abbrev Holds : ℕ → Option PassSoFar → Option Doing → Type 0
+Holds device opened done = IsMetPass device opened × EachRow AgreeDoing (option_to_list done)
 
 within_holds : (device : ℕ) (opened : Option PassSoFar) (command : Command) → IsFairPass opened → handed device opened command ≡ None → IsMetPass device (pass_after opened command)
-    → AreClear (map scope_in (option_to_list (does_within opened command))) → Step_holds device opened (does_within opened command)
+    → AreClear (map scope_in (option_to_list (does_within opened command))) → Holds device opened (does_within opened command)
 within_holds device None command fair e met clear = (tt, tt)
 within_holds device (Some pass) command fair e met clear =
     let whole : pass_rule device pass.begin (command ∷ pass.earlier) ≡ None = by_end (is_end command) e met in
@@ -171,17 +171,17 @@ within_holds device (Some pass) command fair e met clear =
     by_end true e met = e
     by_end false e met = met
 
-encoder_holds : (device depth : ℕ) (opened : Option PassSoFar) (command : Command) → encoder_gives device opened depth command ≡ None → Step_holds device opened (does_at opened Encoder command)
+encoder_holds : (device depth : ℕ) (opened : Option PassSoFar) (command : Command) → encoder_gives device opened depth command ≡ None → Holds device opened (does_at opened Encoder command)
 encoder_holds device depth (Some pass) command e = absurd (cc)
 encoder_holds device depth None command e = (tt, encoder_agree device depth command e)
 
 at_holds : (device depth number : ℕ) (opened : Option PassSoFar) (on : On) (command : Command) → IsFairPass opened → given device opened depth on command ≡ None → IsMetPass device (open_after opened number on command)
-    → AreClear (scopes_at opened on command) → Step_holds device opened (does_at opened on command)
+    → AreClear (scopes_at opened on command) → Holds device opened (does_at opened on command)
 at_holds device depth number opened Encoder command fair e met clear = encoder_holds device depth opened command e
 at_holds device depth number opened (Pass pass) command fair e met clear = by_open (is_open opened pass) e met clear
   where
     by_open : (b : Bool) → (if b then handed device opened command else None) ≡ None → IsMetPass device (if b then pass_after opened command else opened)
-        → AreClear (map scope_in (option_to_list (if b then does_within opened command else None))) → Step_holds device opened (if b then does_within opened command else None)
+        → AreClear (map scope_in (option_to_list (if b then does_within opened command else None))) → Holds device opened (if b then does_within opened command else None)
     by_open true e met clear = within_holds device opened command fair e met clear
     by_open false e met clear = (met, tt)
 
@@ -190,7 +190,7 @@ all_hold device [] fair e met clear = tt
 all_hold device (kept ∷ older) fair e met clear =
     let rules : (verdict device older ≡ None) × (given device (open_pass older) (encoder_depth older) kept.0 kept.1 ≡ None) = or_none (verdict device older) (given device (open_pass older) (encoder_depth older) kept.0 kept.1) e in
     let scopes : AreClear (usage_scopes older) × AreClear (scopes_at (open_pass older) kept.0 kept.1) = each_parts (λ (scope : List Use). clash scope ≡ None) (usage_scopes older) (scopes_at (open_pass older) kept.0 kept.1) clear in
-    let one : Step_holds device (open_pass older) (does_at (open_pass older) kept.0 kept.1) = at_holds device (encoder_depth older) (begins older) (open_pass older) kept.0 kept.1 (open_fair older fair.1) rules.1 met scopes.1 in
+    let one : Holds device (open_pass older) (does_at (open_pass older) kept.0 kept.1) = at_holds device (encoder_depth older) (begins older) (open_pass older) kept.0 kept.1 (open_fair older fair.1) rules.1 met scopes.1 in
     each_joined AgreeDoing (doings older) (option_to_list (does_at (open_pass older) kept.0 kept.1)) (all_hold device older fair.1 rules.0 one.0 scopes.0) one.1
 
 -- the steps
@@ -198,7 +198,7 @@ placed_once : (place : StepPlace) (done : List Doing) → EachRow AgreeDoing don
 placed_once place [] h = tt
 placed_once place (doing ∷ done) h = (step_once place doing h.0, placed_once place done h.1)
 
-each_reverse : (kept : Kept) → AreFairKept kept → AreFairKept (reverse kept)
+pub each_reverse : (kept : Kept) → AreFairKept kept → AreFairKept (reverse kept)
 each_reverse [] h = tt
 each_reverse (one ∷ kept) h = subst AreFairKept (sym (reverse-append (one ∷ []) kept)) (each_joined (λ (one : On × Command). IsFair one.1) (reverse kept) (one ∷ []) (each_reverse kept h.1) (h.0, tt))
 

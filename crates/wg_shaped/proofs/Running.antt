@@ -1,19 +1,15 @@
 -- No step of a history gives a cell twice whose replies are the right ones.
 use Rattle.std.specs.Prelude.{reverse}
 use Rattle.std.specs.Option.{option_or, option_map_or}
-use Rattle.std.proofs.Common.{◌≡◌, ℕ, ◌+◌, ◌==◌, ◌&&◌, not, List, [], ◌∷◌, ◌++◌, map, Bool, true, false, Option, Some, None, is_none, ap, refl, sym, ◌∙◌, subst, if◌then◌else◌, true≢false}
+use Rattle.std.proofs.Common.{◌≡◌, ℕ, ◌+◌, ◌==◌, ◌&&◌, not, List, [], ◌∷◌, ◌++◌, map, Bool, true, false, Option, Some, None, is_none, refl, sym, subst, if◌then◌else◌, true≢false}
 use Rattle.std.proofs.lemmas.Bool.{and_parts}
-use Rattle.std.proofs.lemmas.List.{reverse-append}
 use Rattle.wg_types.specs.declared.handles.ObjRef.{ObjRef}
-use Rattle.wg_types.specs.declared.commands.On.{On}
-use Rattle.wg_types.specs.Commands.{Command}
 use Rattle.wg_types.specs.declared.mappings.Mapping.{Mapping}
 use Rattle.wg_types.specs.declared.steps.QueueWrite.{QueueWrite}
 use Rattle.wg_types.specs.declared.steps.QueueWrite.TheVariants.{Buffer as BufferWrite, Texture as TextureWrite}
 use Rattle.wg_types.specs.declared.steps.StepName.TheVariants as name
 use Rattle.wg_types.specs.declared.steps.StepPlace.TheVariants.{Op}
 use Rattle.wg_rows.specs.Rows.{EachRow}
-use Rattle.wg_rows.specs.Uses.{Kind}
 use Rattle.wg_orders.specs.Steps.{Step, StepPlace}
 use Rattle.wg_orders.specs.Trace.{steps_in}
 use Rattle.wg_model.specs.Rules.{Rule, first_unmet, AreMet}
@@ -27,7 +23,7 @@ use Rattle.wg_model.proofs.StepLaws.{each_joined}
 use Rattle.wg_history.specs.declared.events.Setup.{Setup}
 use Rattle.wg_history.specs.declared.events.Event.{Event}
 use Rattle.wg_history.specs.declared.events.Event.TheVariants.{Finish, Submit, WriteBuffer, WriteTexture}
-use Rattle.wg_history.specs.Entries.{Entry, Past, recorded_by, deeds_by, effects_of, queue_call}
+use Rattle.wg_history.specs.Entries.{Entry, Past, deeds_by, effects_of, queue_call}
 use Rattle.wg_history.specs.Objects.{is_making, count, maker, is_valid, is_made_valid, known_textures}
 use Rattle.wg_history.specs.Loss.{is_lost}
 use Rattle.wg_history.specs.Rules.{encoder_rules, recording_rules, finish_rule, listed_rules, together_rules, submit_list, submit_rule}
@@ -39,7 +35,8 @@ use Rattle.wg_history.specs.Steps.{steps_at, submit_groups, groups_in, host_grou
 use Rattle.wg_history.proofs.Makers.{made_met}
 use Rattle.wg_history.proofs.Runs.{newest, others}
 use Rattle.wg_readback.specs.Shapes.{IsOnceStep}
-use Rattle.wg_shaped.specs.Once.{IsFair, IsFairEntry, HistoryIsOnce}
+use Rattle.wg_shaped.specs.Once.{HistoryIsOnce}
+use Rattle.wg_shaped.proofs.Genuine.{or_none, accepted_fair}
 use Rattle.wg_shaped.proofs.Fitting.{map_agree, step_once}
 use Rattle.wg_shaped.proofs.Recorded.{recorded_are_once}
 use Rattle.wg_shaped.proofs.Groups.{If, Each, both_each, writes_each, hosts_each, listed_each}
@@ -58,34 +55,30 @@ host_once : (place : StepPlace) (buffer : ℕ) (m : Mapping) → If IsOnceStep (
 host_once place buffer m = by_size (m.lo == m.hi) (touching place (host_name m.mode) (host_touches buffer m)) (step_once place (host_name m.mode, host_touches buffer m) (tt, tt))
 
 -- a recording that was accepted
-or_none : {A : Type 0} (a b : Option A) → is_none (option_or a b) ≡ true → (is_none a ≡ true) × (is_none b ≡ true)
-or_none None b e = (refl, e)
-or_none (Some x) b e = absurd (true≢false (sym e))
-
 none_is : {A : Type 0} (o : Option A) → is_none o ≡ true → o ≡ None
 none_is None e = refl
 none_is (Some x) e = absurd (true≢false (sym e))
 
-event_once : (setup : Setup) (older : Past) (place : StepPlace) (event : Event) → EachRow (λ (kept : On × Command). IsFair kept.1) (recorded_by event)
+event_once : (setup : Setup) (older : Past) (place : StepPlace) (event : Event) → IsRun setup older
     → is_made_valid (answer_by older (effects_of event).form (not (is_lost older) && is_none (first_rule setup older event))) ≡ true → EachRow IsOnceStep (map (placed place) (deeds_by event))
 unfolding finish_rule
-event_once setup older place (Finish encoder recording) fair made =
+event_once setup older place (Finish encoder recording) run made =
     let rules : is_none (finish_rule setup older encoder recording) ≡ true = (and_parts (not (is_lost older)) (is_none (finish_rule setup older encoder recording)) made).1 in
     let later = or_none (first_unmet (encoder_rules setup older _ encoder)) (option_or (Verdict recording.device recording.targets recording.commands) (first_unmet (recording_rules setup older encoder.number recording))) rules in
     let last = or_none (Verdict recording.device recording.targets recording.commands) (first_unmet (recording_rules setup older encoder.number recording)) later.1 in
     let met : AreMet (recording_rules setup older encoder.number recording) = all_met (recording_rules setup older encoder.number recording) last.1 in
-    recorded_are_once place recording.device recording.targets recording.commands fair (none_is (first_clash (ScopesOf recording.device recording.targets recording.commands)) met.1.1.1.0)
-event_once setup older place _ fair made = tt
+    recorded_are_once place recording.device recording.targets recording.commands (accepted_fair setup older encoder.number recording.commands run met.1.1.0) (none_is (first_clash (ScopesOf recording.device recording.targets recording.commands)) met.1.1.1.0)
+event_once setup older place _ run made = tt
 
-made_once : (setup : Setup) (past : Past) (place : StepPlace) (n : ℕ) → IsRun setup past → EachRow IsFairEntry past → is_valid past n ≡ true
+made_once : (setup : Setup) (past : Past) (place : StepPlace) (n : ℕ) → IsRun setup past → is_valid past n ≡ true
     → EachRow IsOnceStep (map (placed place) (option_map_or (λ entry. deeds_by entry.event) (maker past n) []))
-made_once setup [] place n run fair valid = tt
-made_once setup (entry ∷ older) place n run fair valid = by_maker (is_making entry.event && count older == n) valid (made_once setup older place n (others setup entry older run) fair.1)
+made_once setup [] place n run valid = tt
+made_once setup (entry ∷ older) place n run valid = by_maker (is_making entry.event && count older == n) valid (made_once setup older place n (others setup entry older run))
   where
     by_maker : (b : Bool) → option_map_or (λ entry. is_made_valid entry.reply.answer) (if b then Some entry else maker older n) false ≡ true
         → (is_valid older n ≡ true → EachRow IsOnceStep (map (placed place) (option_map_or (λ entry. deeds_by entry.event) (maker older n) [])))
         → EachRow IsOnceStep (map (placed place) (option_map_or (λ entry. deeds_by entry.event) (if b then Some entry else maker older n) []))
-    by_maker true valid rest = event_once setup older place entry.event fair.0 (made_met setup entry older (newest setup entry older run) valid)
+    by_maker true valid rest = event_once setup older place entry.event (others setup entry older run) (made_met setup entry older (newest setup entry older run) valid)
     by_maker false valid rest = rest valid
 
 -- a submit that was accepted
@@ -93,42 +86,38 @@ met_front : (xs ys : List Rule) → AreMet (xs ++ ys) → AreMet xs
 met_front [] ys h = tt
 met_front (x ∷ xs) ys h = (h.0, met_front xs ys h.1)
 
-listed_once : (setup : Setup) (past : Past) (op : ℕ) (buffers : List ObjRef) → IsRun setup past → EachRow IsFairEntry past → AreMet (listed_rules setup past buffers)
+listed_once : (setup : Setup) (past : Past) (op : ℕ) (buffers : List ObjRef) → IsRun setup past → AreMet (listed_rules setup past buffers)
     → EachRow (λ (buffer : ObjRef). EachRow IsOnceStep (steps_at (Op op) past buffer.number)) buffers
-listed_once setup past op [] run fair met = tt
-listed_once setup past op (buffer ∷ buffers) run fair met =
-    (made_once setup past (Op op) buffer.number run fair met.1.1.0, listed_once setup past op buffers run fair met.1.1.1)
+listed_once setup past op [] run met = tt
+listed_once setup past op (buffer ∷ buffers) run met =
+    (made_once setup past (Op op) buffer.number run met.1.1.0, listed_once setup past op buffers run met.1.1.1)
 
-event_groups : (setup : Setup) (past : Past) (event : Event) → IsRun setup past → EachRow IsFairEntry past
+event_groups : (setup : Setup) (past : Past) (event : Event) → IsRun setup past
     → Each IsOnceStep (groups_in past (answer_by past (effects_of event).form (not (is_lost past) && is_none (first_rule setup past event))) (queue_call (known_textures past) event))
 unfolding submit_rule submit_groups
-event_groups setup past (Submit buffers) run fair = by_done (not (is_lost past) && is_none (submit_rule setup past buffers)) refl
+event_groups setup past (Submit buffers) run = by_done (not (is_lost past) && is_none (submit_rule setup past buffers)) refl
   where
     by_done : (b : Bool) → not (is_lost past) && is_none (submit_rule setup past buffers) ≡ b → Each IsOnceStep (submit_groups past (if b then Queued (issued past + 1) else Plain) buffers)
     by_done true e =
         listed_each IsOnceStep past (issued past + 1) buffers
-        (listed_once setup past (issued past + 1) buffers run fair
+        (listed_once setup past (issued past + 1) buffers run
         (met_front (listed_rules setup past buffers) (together_rules setup past buffers) (all_met (submit_list setup past buffers) (and_parts (not (is_lost past)) (is_none (submit_rule setup past buffers)) e).1)))
     by_done false e = tt
-event_groups setup past (WriteBuffer buffer offset size) run fair = writes_each IsOnceStep write_once _ _
-event_groups setup past (WriteTexture texture spot layout size data_size) run fair = writes_each IsOnceStep write_once _ _
-event_groups setup past _ run fair = tt
+event_groups setup past (WriteBuffer buffer offset size) run = writes_each IsOnceStep write_once _ _
+event_groups setup past (WriteTexture texture spot layout size data_size) run = writes_each IsOnceStep write_once _ _
+event_groups setup past _ run = tt
 
-entry_once : (setup : Setup) (past : Past) (entry : Entry) → entry.reply ≡ reply_to setup past entry.event → IsRun setup past → EachRow IsFairEntry past → Each IsOnceStep (groups_of setup past entry)
-entry_once setup past entry right run fair =
+entry_once : (setup : Setup) (past : Past) (entry : Entry) → entry.reply ≡ reply_to setup past entry.event → IsRun setup past → Each IsOnceStep (groups_of setup past entry)
+entry_once setup past entry right run =
     both_each IsOnceStep (groups_in past entry.reply.answer (queue_call (known_textures past) entry.event)) (host_groups setup past entry)
-    (subst (λ (reply : Reply). Each IsOnceStep (groups_in past reply.answer (queue_call (known_textures past) entry.event))) (sym right) (event_groups setup past entry.event run fair))
+    (subst (λ (reply : Reply). Each IsOnceStep (groups_in past reply.answer (queue_call (known_textures past) entry.event))) (sym right) (event_groups setup past entry.event run))
     (hosts_each IsOnceStep host_once setup past entry)
 
-past_once : (setup : Setup) (past : Past) → IsRun setup past → EachRow IsFairEntry past → EachRow IsOnceStep (steps_back setup past)
-past_once setup [] run fair = tt
-past_once setup (entry ∷ older) run fair =
-    each_joined IsOnceStep (steps_back setup older) (steps_in (groups_of setup older entry)) (past_once setup older (others setup entry older run) fair.1)
-    (entry_once setup older entry (newest setup entry older run) (others setup entry older run) fair.1)
-
-each_reverse : (entries : List Entry) → EachRow IsFairEntry entries → EachRow IsFairEntry (reverse entries)
-each_reverse [] h = tt
-each_reverse (entry ∷ entries) h = subst (EachRow IsFairEntry) (sym (reverse-append (entry ∷ []) entries)) (each_joined IsFairEntry (reverse entries) (entry ∷ []) (each_reverse entries h.1) (h.0, tt))
+past_once : (setup : Setup) (past : Past) → IsRun setup past → EachRow IsOnceStep (steps_back setup past)
+past_once setup [] run = tt
+past_once setup (entry ∷ older) run =
+    each_joined IsOnceStep (steps_back setup older) (steps_in (groups_of setup older entry)) (past_once setup older (others setup entry older run))
+    (entry_once setup older entry (newest setup entry older run) (others setup entry older run))
 
 pub history_is_once : HistoryIsOnce
-history_is_once setup history run fair = past_once setup (reverse history) run (each_reverse history fair)
+history_is_once setup history run = past_once setup (reverse history) run

@@ -16,7 +16,7 @@ pub data Told (t : Touch) : Type 0 where
   Reads : is_scoped t.0 ≡ true → is_within 43 t.1.0 ≡ true → is_within 4 t.1.0 ≡ false → is_within 16 t.1.0 ≡ false → t.1.1 ≡ Read → Told t
   Stores : is_scoped t.0 ≡ true → is_within 43 t.1.0 ≡ false → is_within 4 t.1.0 ≡ true → is_within 16 t.1.0 ≡ false → t.1.1 ≡ Both → Told t
   Attaches : is_scoped t.0 ≡ true → is_within 43 t.1.0 ≡ false → is_within 4 t.1.0 ≡ false → is_within 16 t.1.0 ≡ true → Told t
-  WritesQueries : is_scoped t.0 ≡ false → t.1.1 ≡ Write → Told t
+  WritesQueries : is_scoped t.0 ≡ false → t.1.0.0 ≡ 256 → t.1.1 ≡ Write → Told t
 
 abbrev pub AreTold : List Touch → Type 0
 AreTold touches = EachRow Told touches
@@ -64,13 +64,13 @@ told_agree : (uses : List Use) (a b : Touch) → Compatible uses → InScope use
 told_agree uses a b compatible in_a in_b (Reads s r w t k) (Reads s2 r2 w2 t2 k2) att c e h = k ∙ sym k2
 told_agree uses a b compatible in_a in_b (Stores s r w t k) (Stores s2 r2 w2 t2 k2) att c e h = k ∙ sym k2
 told_agree uses a b compatible in_a in_b (Attaches s r w t) (Attaches s2 r2 w2 t2) att c e h = att t t2 c e h
-told_agree uses a b compatible in_a in_b (WritesQueries s k) (WritesQueries s2 k2) att c e h = k ∙ sym k2
-told_agree uses a b compatible in_a in_b (WritesQueries s k) (Reads s2 r2 w2 t2 k2) att c e h = absurd (scoped_apart b.0 a.0 s2 s (same_line b.0 a.0 c h e))
-told_agree uses a b compatible in_a in_b (WritesQueries s k) (Stores s2 r2 w2 t2 k2) att c e h = absurd (scoped_apart b.0 a.0 s2 s (same_line b.0 a.0 c h e))
-told_agree uses a b compatible in_a in_b (WritesQueries s k) (Attaches s2 r2 w2 t2) att c e h = absurd (scoped_apart b.0 a.0 s2 s (same_line b.0 a.0 c h e))
-told_agree uses a b compatible in_a in_b (Reads s r w t k) (WritesQueries s2 k2) att c e h = absurd (scoped_apart a.0 b.0 s s2 (same_line a.0 b.0 c e h))
-told_agree uses a b compatible in_a in_b (Stores s r w t k) (WritesQueries s2 k2) att c e h = absurd (scoped_apart a.0 b.0 s s2 (same_line a.0 b.0 c e h))
-told_agree uses a b compatible in_a in_b (Attaches s r w t) (WritesQueries s2 k2) att c e h = absurd (scoped_apart a.0 b.0 s s2 (same_line a.0 b.0 c e h))
+told_agree uses a b compatible in_a in_b (WritesQueries s q k) (WritesQueries s2 q2 k2) att c e h = k ∙ sym k2
+told_agree uses a b compatible in_a in_b (WritesQueries s q k) (Reads s2 r2 w2 t2 k2) att c e h = absurd (scoped_apart b.0 a.0 s2 s (same_line b.0 a.0 c h e))
+told_agree uses a b compatible in_a in_b (WritesQueries s q k) (Stores s2 r2 w2 t2 k2) att c e h = absurd (scoped_apart b.0 a.0 s2 s (same_line b.0 a.0 c h e))
+told_agree uses a b compatible in_a in_b (WritesQueries s q k) (Attaches s2 r2 w2 t2) att c e h = absurd (scoped_apart b.0 a.0 s2 s (same_line b.0 a.0 c h e))
+told_agree uses a b compatible in_a in_b (Reads s r w t k) (WritesQueries s2 q2 k2) att c e h = absurd (scoped_apart a.0 b.0 s s2 (same_line a.0 b.0 c e h))
+told_agree uses a b compatible in_a in_b (Stores s r w t k) (WritesQueries s2 q2 k2) att c e h = absurd (scoped_apart a.0 b.0 s s2 (same_line a.0 b.0 c e h))
+told_agree uses a b compatible in_a in_b (Attaches s r w t) (WritesQueries s2 q2 k2) att c e h = absurd (scoped_apart a.0 b.0 s s2 (same_line a.0 b.0 c e h))
 told_agree uses a b compatible in_a in_b (Reads s r w t k) (Stores s2 r2 w2 t2 k2) att c e h =
     absurd (no_three (is_within 43 a.1.0) (is_within 43 b.1.0) (is_within 4 a.1.0) (is_within 4 b.1.0) (is_within 16 a.1.0) (is_within 16 b.1.0) (stand_together uses a b compatible (in_a s) (in_b s2) c e h) (right_false _ _ r2) (left_false _ _ w) (left_false _ _ t))
 told_agree uses a b compatible in_a in_b (Reads s r w t k) (Attaches s2 r2 w2 t2) att c e h =

@@ -186,7 +186,7 @@ executed_plain (bundle ∷ bundles) h = plain_joined (touches_within (known_bund
 -- what commands of render passes touch
 query_plain : (queries : Option (ℕ × ℕ)) (index : ℕ) → ArePlain (query_begun_touches queries index)
 query_plain None index = tt
-query_plain (Some set) index = ((WritesQueries refl refl, refl), tt)
+query_plain (Some set) index = ((WritesQueries refl refl refl, refl), tt)
 
 pub command_plain : (queries : Option (ℕ × ℕ)) (command : Command) → IsFair command → ArePlain (command_touches queries command)
 command_plain queries (SetBindGroup index group offsets) h = plain_joined (bound_group_touches (Some (index, record { group = group; offsets = offsets }))) [] (places_plain (set_places (Some (record { group = group; offsets = offsets })))) tt

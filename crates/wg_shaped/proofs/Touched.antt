@@ -58,7 +58,7 @@ use Rattle.wg_model.specs.Walk.{DeedsOf}
 use Rattle.wg_rows.specs.Uses.{Read}
 use Rattle.wg_model.proofs.StepLaws.{each_joined}
 use Rattle.wg_readback.specs.Shapes.{IsSet, IsFilledStep}
-use Rattle.wg_shaped.proofs.Groups.{If, Writes, Hosts}
+use Rattle.wg_shaped.proofs.Groups.{If}
 use Rattle.wg_shaped.proofs.Filling.{AreSets, step_filled}
 
 -- What each step touches.

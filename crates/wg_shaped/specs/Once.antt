@@ -16,7 +16,7 @@ use Rattle.wg_model.specs.Scopes.{first_clash}
 use Rattle.wg_model.specs.Walk.{ScopesOf}
 use Rattle.wg_model.specs.Recorded.{StepsOf}
 use Rattle.wg_history.specs.declared.events.Setup.{Setup}
-use Rattle.wg_history.specs.Entries.{Entry, recorded_by}
+use Rattle.wg_history.specs.Entries.{Entry}
 use Rattle.wg_history.specs.Answers.{Run}
 use Rattle.wg_history.specs.Steps.{Steps}
 use Rattle.wg_readback.specs.Shapes.{IsOnceStep}
@@ -48,10 +48,7 @@ RecordedAreOnce =
     → first_clash (ScopesOf device targets commands) ≡ None
     → EachRow IsOnceStep (StepsOf place device targets commands)
 
--- The commands that an entry's event carries are fair.
-abbrev pub IsFairEntry : Entry → Type 0
-IsFairEntry entry = EachRow (λ kept. IsFair kept.1) (recorded_by entry.event)
-
--- So no step of a history gives a cell twice whose replies are the right ones.
+-- So no step of a history gives a cell twice whose replies are the right ones: a recording is accepted only if its scopes are
+-- compatible, and what its handles tell is as it was made.
 abbrev pub HistoryIsOnce : Type 0
-HistoryIsOnce = (setup : Setup) (history : List Entry) → Run setup history → EachRow IsFairEntry history → EachRow IsOnceStep (Steps setup history)
+HistoryIsOnce = (setup : Setup) (history : List Entry) → Run setup history → EachRow IsOnceStep (Steps setup history)

@@ -4,21 +4,22 @@ use Rattle.wg_types.specs.declared.steps.Item.{Item}
 use Rattle.wg_rows.specs.Rows.{EachRow}
 use Rattle.wg_history.specs.declared.events.Setup.{Setup}
 use Rattle.wg_history.specs.Entries.{Entry, verb_of}
+use Rattle.wg_history.specs.Answers.{Run}
 use Rattle.wg_history.specs.Steps.{Steps}
 use Rattle.wg_history.specs.Traces.{Trace}
 use Rattle.wg_readtrace.specs.Forms.{most_53}
 use Rattle.wg_readtrace.specs.Reading.{trace_in}
 use Rattle.wg_readback.specs.Texts.{Told, trace_behind, history_text}
 use Rattle.wg_readback.specs.Printable.{IsSmallItem, step_count}
-use Rattle.wg_readback.specs.Shapes.{IsFilledStep, IsOnceStep, IsShaped}
+use Rattle.wg_readback.specs.Shapes.{IsFilledStep, IsShaped}
 
 -- No step of a history has an empty row or an empty set.
 abbrev pub StepsAreFilled : Type 0
 StepsAreFilled = (setup : Setup) (history : List Entry) → EachRow IsFilledStep (Steps setup history)
 
--- So its trace has its shape, if no step gives a cell twice. Those are the steps without clears, which have it of themselves.
+-- So its trace has its shape, if its replies are the right ones.
 abbrev pub HistoryIsShaped : Type 0
-HistoryIsShaped = (setup : Setup) (history : List Entry) → EachRow IsOnceStep (Steps setup history) → IsShaped (Trace setup history)
+HistoryIsShaped = (setup : Setup) (history : List Entry) → Run setup history → IsShaped (Trace setup history)
 
 -- an entry, as it is printed
 abbrev pub told : Entry → Told
@@ -28,12 +29,12 @@ told entry = (entry.who, verb_of entry.event, entry.reply)
 abbrev pub report_of : List Entry → List Item → List ℕ
 report_of history trace = trace_behind (history_text (map told history)) trace
 
--- What is printed of a history and its trace is read as that trace, if no step gives a cell twice, and its numbers are ones that
--- the reader takes.
+-- What is printed of a history and its trace is read as that trace, if its replies are the right ones, and its numbers are ones
+-- that the reader takes.
 abbrev pub HistoryReadsBack : Type 0
 HistoryReadsBack =
     (setup : Setup) (history : List Entry)
-    → EachRow IsOnceStep (Steps setup history)
+    → Run setup history
     → EachRow IsSmallItem (Trace setup history)
     → step_count (Trace setup history) ≤ most_53 + 1
     → trace_in (report_of history (Trace setup history)) ≡ Ok (Trace setup history)

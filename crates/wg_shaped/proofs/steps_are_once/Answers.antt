@@ -6,4 +6,4 @@ pub returns-clause-recorded : goal.returns-clause-recorded
 returns-clause-recorded _ place device targets commands fair clear = recorded_are_once place device targets commands fair clear
 
 pub returns-clause-history : goal.returns-clause-history
-returns-clause-history _ setup history run fair = history_is_once setup history run fair
+returns-clause-history _ setup history run = history_is_once setup history run

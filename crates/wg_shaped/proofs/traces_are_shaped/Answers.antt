@@ -5,7 +5,7 @@ pub returns-clause-filled : goal.returns-clause-filled
 returns-clause-filled _ setup history = steps_are_filled setup history
 
 pub returns-clause-shaped : goal.returns-clause-shaped
-returns-clause-shaped _ setup history once = history_is_shaped setup history once
+returns-clause-shaped _ setup history run = history_is_shaped setup history run
 
 pub returns-clause-read : goal.returns-clause-read
-returns-clause-read _ setup history once small steps = history_reads_back setup history once small steps
+returns-clause-read _ setup history run small steps = history_reads_back setup history run small steps
