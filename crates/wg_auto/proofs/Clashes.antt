@@ -3,7 +3,7 @@ use Rattle.std.proofs.Common.{◌≡◌, ℕ, List, [], ◌∷◌, Option, Some,
 use Rattle.std.specs.List.{list_all, list_any}
 use Rattle.std.proofs.lemmas.Bool.Decides.{nat_tests}
 use Rattle.std.proofs.lemmas.Bool.{or_left, or_right}
-use Rattle.wg_auto.proofs.Walked.{after_first}
+use Rattle.wg_auto.proofs.Walked.{first_of, second_of, after_first}
 use Rattle.wg_types.specs.declared.bindings.BindingKind.{BindingKind}
 use Rattle.wg_types.specs.declared.bindings.BindingKind.TheVariants.{Buffer, Sampler, Texture, StorageTexture}
 use Rattle.wg_types.specs.declared.bindings.IfaceEntry.{IfaceEntry}
@@ -33,14 +33,6 @@ bool_chain false true c e = absurd (true≢false (sym e))
 
 number_chain : (a b c : ℕ) → (a == b) ≡ true → (a == c) ≡ (b == c)
 number_chain a b c e = let same : a ≡ b = grind (arith, nat_tests, e) in ap (λ (n : ℕ). n == c) same
-
-pub first_of : (x y : Bool) → (x && y) ≡ true → x ≡ true
-first_of true y e = refl
-first_of false y e = absurd (true≢false (sym e))
-
-pub second_of : (x y : Bool) → (x && y) ≡ true → y ≡ true
-second_of true y e = e
-second_of false y e = absurd (true≢false (sym e))
 
 three_chain : (x y z a a2 b b2 c c2 : Bool) → (x && y && z) ≡ true → (x ≡ true → a ≡ a2) → (y ≡ true → b ≡ b2) → (z ≡ true → c ≡ c2) → (a && b && c) ≡ (a2 && b2 && c2)
 three_chain x y z a a2 b b2 c c2 e f g h = ap₂ ◌&&◌ (ap₂ ◌&&◌ (f (first_of x y (first_of (x && y) z e))) (g (second_of x y (first_of (x && y) z e)))) (h (second_of (x && y) z e))

@@ -13,7 +13,7 @@ use_before a b = place_before a.group a.binding b.group b.binding
 abbrev pub is_clash : IfaceEntry → IfaceEntry → Bool
 is_clash used next = used.group == next.group && used.binding == next.binding && not (same_use used.kind next.kind)
 
--- the same of the one behind it, if there is one
+-- whether a use clashes so with the one behind it, if there is one
 abbrev pub clashes_with_next : IfaceEntry → List IfaceEntry → Bool
 clashes_with_next used [] = false
 clashes_with_next used (next ∷ uses) = is_clash used next

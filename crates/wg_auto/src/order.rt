@@ -9,23 +9,11 @@ use wg_formats::same_binding_kind;
 use wg_types::NoMemory;
 use wg_types::bindings::{BindingKind, IfaceEntry};
 
-fn is_before(a: &IfaceEntry, b: &IfaceEntry) -> bool
-    ensures { result ≡ use_before a.now b.now }
-{
-    a.group < b.group || a.group == b.group && a.binding < b.binding
-}
-
 /// The order of two uses, by the group and then by the binding.
 fn by_place(a: &IfaceEntry, b: &IfaceEntry) -> Ordering
     ensures { result ≡ (if use_before a.now b.now then Ordering.Less else (if use_before b.now a.now then Ordering.Greater else Ordering.Equal)) }
 {
-    if is_before(a, b) {
-        Ordering::Less
-    } else if is_before(b, a) {
-        Ordering::Greater
-    } else {
-        Ordering::Equal
-    }
+    a.group.cmp(&b.group).then(a.binding.cmp(&b.binding))
 }
 
 /// The uses in the order of their places, and of one place in the order in which they stood.
@@ -48,20 +36,18 @@ fn same_use(a: BindingKind, b: BindingKind) -> bool
     }
 }
 
+/// Whether a use is of the same place as the next and of another kind.
 fn is_clash(used: &IfaceEntry, next: &IfaceEntry) -> bool
     ensures { result ≡ is_clash used.now next.now }
 {
     used.group == next.group && used.binding == next.binding && !same_use(used.kind, next.kind)
 }
 
-/// The same of the one behind it, if there is one.
+/// Whether a use clashes so with the one behind it, if there is one.
 fn clashes_with_next(used: &IfaceEntry, uses: &[IfaceEntry]) -> bool
     ensures { result ≡ clashes_with_next used.now uses.now }
 {
-    match uses.first() {
-        Some(next) => is_clash(used, next),
-        None => false,
-    }
+    uses.first().is_some_and(|next| is_clash(used, next))
 }
 
 /// The place of the first use of which the next is of the same place and of another kind.
