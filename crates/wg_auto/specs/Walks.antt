@@ -36,7 +36,8 @@ entries_from group (Some entry) [] = entry ∷ []
 entries_from group None (used ∷ uses) = if used.group == group then entries_from group (Some (entry_used used)) uses else entries_from group None uses
 entries_from group (Some entry) (used ∷ uses) =
     if used.group == group
-    then (if entry.binding == used.binding then entries_from group (Some (entry_shared entry used)) uses else entry ∷ entries_from group (Some (entry_used used)) uses)
+    then (if entry.binding == used.binding then entries_from group (Some (entry_shared entry used)) uses
+    else entry ∷ entries_from group (Some (entry_used used)) uses)
     else entries_from group (Some entry) uses
 
 -- The same uses of each place.
