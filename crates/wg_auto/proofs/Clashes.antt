@@ -198,16 +198,6 @@ pub none_clash : (iface uses : List IfaceEntry) → in_order uses ≡ true → S
 none_clash iface uses order same none group binding =
     ap differ (sym (same group binding)) ∙ alike_agree (uses_of group binding uses) (alike_ahead group binding uses order (ap (is_ahead group binding) none))
 
-pub least_clash : (iface uses : List IfaceEntry) (group binding : ℕ) → in_order uses ≡ true → SameUses uses iface → first_clash uses ≡ Some (group, binding) → IsLeastClash iface group binding
-least_clash iface uses group binding order same found = record {
-  clashes = ap differ (sym (same group binding)) ∙ clash_differs uses group binding found;
-  least = λ group2 binding2 clash. by_ahead group2 binding2 clash (place_before group2 binding2 group binding) refl;
-}
-  where
-    by_ahead : (group2 binding2 : ℕ) → clash_at iface group2 binding2 ≡ true → (b : Bool) → place_before group2 binding2 group binding ≡ b → b ≡ false
-    by_ahead group2 binding2 clash true e = sym clash ∙ (ap differ (sym (same group2 binding2)) ∙ alike_agree (uses_of group2 binding2 uses) (alike_ahead group2 binding2 uses order (ap (is_ahead group2 binding2) found ∙ e)))
-    by_ahead group2 binding2 clash false e = refl
-
 -- Whether kinds agree is whether there is a clash.
 all_pass : (p : IfaceEntry → Bool) (xs : List IfaceEntry) → ((x : IfaceEntry) → p x ≡ true) → list_all p xs ≡ true
 all_pass p [] passes = refl
@@ -230,3 +220,24 @@ agree_some iface (used ∷ xs) group binding agree = by_place (is_use_of group b
 
 pub agree_none : (iface : List IfaceEntry) → kinds_agree iface ≡ true → (group binding : ℕ) → clash_at iface group binding ≡ false
 agree_none iface agree group binding = ⊎_elim (λ e. ap differ e) (λ e. e) (agree_some iface iface group binding agree)
+
+disagreeing : (iface : List IfaceEntry) (group binding : ℕ) → clash_at iface group binding ≡ true → kinds_agree iface ≡ false
+disagreeing iface group binding clash = by_kinds (kinds_agree iface) refl
+  where
+    by_kinds : (agree : Bool) → kinds_agree iface ≡ agree → agree ≡ false
+    by_kinds true e = absurd (true≢false (sym clash ∙ agree_none iface e group binding))
+    by_kinds false e = refl
+
+pub least_clash : (iface uses : List IfaceEntry) (group binding : ℕ) → in_order uses ≡ true → SameUses uses iface → first_clash uses ≡ Some (group, binding) → IsLeastClash iface group binding
+least_clash iface uses group binding order same found = record {
+  disagree = disagreeing iface group binding clashes;
+  clashes = clashes;
+  least = λ group2 binding2 clash. by_ahead group2 binding2 clash (place_before group2 binding2 group binding) refl;
+}
+  where
+    clashes : clash_at iface group binding ≡ true
+    clashes = ap differ (sym (same group binding)) ∙ clash_differs uses group binding found
+
+    by_ahead : (group2 binding2 : ℕ) → clash_at iface group2 binding2 ≡ true → (b : Bool) → place_before group2 binding2 group binding ≡ b → b ≡ false
+    by_ahead group2 binding2 clash true e = sym clash ∙ (ap differ (sym (same group2 binding2)) ∙ alike_agree (uses_of group2 binding2 uses) (alike_ahead group2 binding2 uses order (ap (is_ahead group2 binding2) found ∙ e)))
+    by_ahead group2 binding2 clash false e = refl

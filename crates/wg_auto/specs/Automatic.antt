@@ -37,8 +37,9 @@ kinds_agree iface = list_all (λ (used : IfaceEntry). not (clash_at iface used.g
 abbrev pub place_before : ℕ → ℕ → ℕ → ℕ → Bool
 place_before group binding group2 binding2 = nat_lt group group2 || (group == group2 && nat_lt binding binding2)
 
--- Shaders use this binding of this group as different kinds, and none that comes before it.
+-- Kinds do not agree: shaders use this binding of this group as different kinds, and none that comes before it.
 pub record IsLeastClash (iface : List IfaceEntry) (group binding : ℕ) : Type 0 where
+  pub disagree : kinds_agree iface ≡ false
   pub clashes : clash_at iface group binding ≡ true
   pub least : (group2 binding2 : ℕ) → clash_at iface group2 binding2 ≡ true → place_before group2 binding2 group binding ≡ false
 
