@@ -3,6 +3,8 @@
 #![tactic(auto)]
 
 #[cfg(test)]
+mod auto;
+#[cfg(test)]
 mod bars;
 #[cfg(test)]
 mod buffers;

@@ -1,0 +1,3 @@
+pub mod Automatic
+pub mod Walks
+pub mod Merged
