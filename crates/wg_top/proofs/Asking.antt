@@ -5,7 +5,7 @@ use Rattle.std.proofs.lemmas.Slice.Eq.{bytes_eq-Decides}
 use Rattle.wg_gen.specs.Alike.{MayGenerate}
 use Rattle.wg_top.specs.Words.{Spells, Asks, AsksNothing, IsJobOf, generation_words, lanes_in}
 use Rattle.wg_top.specs.declared.words.Job.{Job}
-use Rattle.wg_top.specs.declared.words.Job.TheVariants.{Run, Generate}
+use Rattle.wg_top.specs.declared.words.Job.TheVariants.{Run, Generate, Check}
 
 -- ---- numbers that may be asked for
 
@@ -35,6 +35,7 @@ alike_none lanes m is same = rw (is, same) tt
 -- a word that spells no number asks for nothing
 pub no_count : (count : List ℕ) (lanes : Option (List ℕ)) → Spells count None → AsksNothing (generation_words count lanes)
 no_count count lanes none Run asks = cc asks.0
+no_count count lanes none Check asks = cc asks.0
 no_count count lanes none (Generate n None) asks = none n asks.1.some (count_small n 1 asks.1) (cc asks.0)
 no_count count lanes none (Generate n (Some m)) asks = none n asks.1.some (count_small n m asks.1) (cc asks.0)
 
@@ -45,6 +46,7 @@ same_number word n m spelled small is = decimal_injective m n (omega arith) (ome
 -- numbers that may not be asked for ask for nothing
 pub too_many : (count : List ℕ) (lanes : Option (List ℕ)) (n : ℕ) (m : Option ℕ) → Spells count (Some n) → SpellsAlike lanes m → (MayGenerate n (lanes_in m) → ⊥) → AsksNothing (generation_words count lanes)
 too_many count lanes n m spelled alike not Run asks = cc asks.0
+too_many count lanes n m spelled alike not Check asks = cc asks.0
 too_many count None n None spelled alike not (Generate k None) asks = not (subst (λ (number : ℕ). MayGenerate number 1) (same_number count n k spelled (count_small k 1 asks.1) (cc asks.0)) asks.1)
 too_many count None n None spelled alike not (Generate k (Some l)) asks = cc asks.0
 too_many count None n (Some m) spelled alike not (Generate k l) asks = absurd alike
@@ -82,8 +84,8 @@ the_word word text b is holds = (bytes_eq-Decides word text).0 (sym is ∙ holds
 
 -- ---- the jobs of lists of words
 
-pub asks_run : (xs : List (String Global)) (x : String Global) → length xs ≡ 1 → x ≡ get_or xs 0 x → string_bytes x ≡ codes "run" → Asks (map string_bytes xs) Run
-asks_run xs x few first is = (one_word xs x few first ∙ ap (λ (word : List ℕ). word ∷ []) is, tt)
+pub job_named : (xs : List (String Global)) (x : String Global) (job : Option Job) → length xs ≡ 1 → x ≡ get_or xs 0 x → IsJobOf (string_bytes x ∷ []) job → IsJobOf (map string_bytes xs) job
+job_named xs x job few first asked = subst (λ (words : List (List ℕ)). IsJobOf words job) (sym (one_word xs x few first)) asked
 
 pub job_alone : (xs : List (String Global)) (x y : String Global) (job : Option Job) → length xs ≡ 2 → x ≡ get_or xs 0 x → y ≡ get_or xs 1 y → string_bytes x ≡ codes "gen"
     → IsJobOf (generation_words (string_bytes y) None) job → IsJobOf (map string_bytes xs) job
