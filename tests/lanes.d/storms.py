@@ -47,7 +47,7 @@ def entries_of(text, word):
     for number, caller, each, rest in found:
         if each == word:
             of_callers.setdefault(caller, []).append((int(number), rest.partition(" settle ")[0]))
-    return list(zip(*of_callers.values(), strict=True))
+    return list(zip(*of_callers.values()))
 
 
 GONE, DESTROYED = "plain fault validation 11 uncaptured", "plain fault validation 192 uncaptured"
@@ -55,7 +55,7 @@ GONE, DESTROYED = "plain fault validation 11 uncaptured", "plain fault validatio
 
 def wrong_drops(text):
     """Of each buffer one drop is good, every destroy before it is too, and what comes after it has rule 11; and it is given back once."""
-    for number, (drops, destroys) in enumerate(zip(entries_of(text, "drop"), entries_of(text, "destroy"), strict=True)):
+    for number, (drops, destroys) in enumerate(zip(entries_of(text, "drop"), entries_of(text, "destroy"))):
         good = [entry for entry, said in drops if said == "plain"]
         if len(good) != 1 or any(said != ("plain" if entry <= good[0] else GONE) for entry, said in [*drops, *destroys]):
             return f"buffer {number}: its drops and destroys answer {sorted([*drops, *destroys])}"
@@ -64,7 +64,7 @@ def wrong_drops(text):
 
 def wrong_submits(text):
     """Of each buffer each submit before the destroy is an operation, and each one after it has rule 192; and it is given back once."""
-    for number, (submits, ((destroyed, said),)) in enumerate(zip(entries_of(text, "submit"), entries_of(text, "destroy"), strict=True)):
+    for number, (submits, ((destroyed, said),)) in enumerate(zip(entries_of(text, "submit"), entries_of(text, "destroy"))):
         if said != "plain" or any(not answer.startswith("op ") if entry < destroyed else answer != DESTROYED for entry, answer in submits):
             return f"buffer {number}: it is destroyed by entry {destroyed}, and its submits answer {sorted(submits)}"
     return wrong_releases(text)
