@@ -51,4 +51,3 @@ mod tracker;
 #[cfg(test)]
 mod types;
 #[cfg(test)]
-mod verdicts;
