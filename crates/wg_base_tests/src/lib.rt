@@ -50,4 +50,3 @@ mod textures;
 mod tracker;
 #[cfg(test)]
 mod types;
-#[cfg(test)]
