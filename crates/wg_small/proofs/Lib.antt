@@ -5,3 +5,4 @@ pub mod Hosts
 pub mod Recorded
 pub mod History
 pub mod Reading
+pub mod Ranges

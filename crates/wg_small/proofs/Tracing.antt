@@ -140,7 +140,7 @@ group_added said closed trace (s ∷ steps) h k =
     all_added said closed (add_clear trace s.place (to_clear trace (s ∷ steps))) (s ∷ steps)
     (clear_added said closed trace s.place (to_clear trace (s ∷ steps)) h k.0.stands (cleared said closed trace (s ∷ steps) k)) k
 
-each_parts : {A : Type 0} (P : A → Type 0) (xs ys : List A) → EachRow P (xs ++ ys) → EachRow P xs × EachRow P ys
+pub each_parts : {A : Type 0} (P : A → Type 0) (xs ys : List A) → EachRow P (xs ++ ys) → EachRow P xs × EachRow P ys
 each_parts P [] ys h = (tt, h)
 each_parts P (x ∷ xs) ys h = let parts : EachRow P xs × EachRow P ys = each_parts P xs ys h.1 in ((h.0, parts.0), parts.1)
 

@@ -12,6 +12,7 @@ use Rattle.wg_rows.specs.Runs.{PartRun, BufferPart, LayerParts, QueryPart, Cells
 use Rattle.wg_history.specs.declared.events.Setup.{Setup}
 use Rattle.wg_history.specs.Entries.{Entry}
 use Rattle.wg_history.specs.Answers.{Run}
+use Rattle.wg_history.specs.Steps.{Steps}
 use Rattle.wg_history.specs.Traces.{Trace}
 use Rattle.wg_readtrace.specs.Forms.{most_32, most_53}
 use Rattle.wg_readtrace.specs.Reading.{trace_in}
@@ -71,16 +72,24 @@ IsAnyPlace place = Unit {0}
 abbrev pub IsAnyObject : ℕ → Type 0
 IsAnyObject number = Unit {0}
 
-abbrev pub HasSmallRanges : Item → Type 0
-HasSmallRanges = ItemHas IsAnyPlace IsSmallRange HaveSmallRange IsAnyObject
+abbrev pub HasSmallRanges : Step → Type 0
+HasSmallRanges = StepHas IsAnyPlace IsSmallRange HaveSmallRange
+
+-- the same of an item
+abbrev pub HoldsSmallRanges : Item → Type 0
+HoldsSmallRanges = ItemHas IsAnyPlace IsSmallRange HaveSmallRange IsAnyObject
+
+-- They are small in the trace of a history, in its barriers and clears too, where they are in its steps.
+abbrev pub RangesOfSteps : Type 0
+RangesOfSteps = (setup : Setup) (history : List Entry) → EachRow HasSmallRanges (Steps setup history) → EachRow HoldsSmallRanges (Trace setup history)
 
 -- What is printed of a run and its trace is read as that trace, if the history is not longer than the greatest number that the
--- reader takes, and what its parts and cells are of their objects is small enough.
+-- reader takes, and what the steps use and access of their objects is small enough.
 abbrev pub ReadsBackByRanges : Type 0
 ReadsBackByRanges =
     (setup : Setup) (history : List Entry)
     → Run setup history
     → length history ≤ most_53
-    → EachRow HasSmallRanges (Trace setup history)
+    → EachRow HasSmallRanges (Steps setup history)
     → step_count (Trace setup history) ≤ most_53 + 1
     → trace_in (report_of history (Trace setup history)) ≡ Ok (Trace setup history)

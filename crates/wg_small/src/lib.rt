@@ -1,11 +1,13 @@
 //! How large the numbers in the traces of histories are. The laws are the contracts of functions that do nothing.
 #![tactic(auto)]
 
-ghost use Rattle.wg_small.specs.Small.{NumbersAreWithin, ReadsBackByRanges};
+ghost use Rattle.wg_small.specs.Small.{NumbersAreWithin, RangesOfSteps, ReadsBackByRanges};
 
 /// The operations, entries and objects in the trace of a history whose replies are the right ones are numbered within its
-/// length, so that its report is read back where mip levels, layers, slices, queries and bytes are small enough.
+/// length, so that its report is read back where the mip levels, layers, slices, queries and bytes of its steps are small
+/// enough, as those of its barriers and clears are then.
 pub fn numbers_are_small()
     ensures within { NumbersAreWithin }
+    ensures ranges { RangesOfSteps }
     ensures read { ReadsBackByRanges }
 {}
