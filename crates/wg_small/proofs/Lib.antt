@@ -6,3 +6,5 @@ pub mod Recorded
 pub mod History
 pub mod Reading
 pub mod Ranges
+pub mod Limited
+pub mod Mapped

@@ -1,6 +1,7 @@
 //! How large the numbers in the traces of histories are. The laws are the contracts of functions that do nothing.
 #![tactic(auto)]
 
+ghost use Rattle.wg_small.specs.Limits.{MappingsAreWithinLimits, ObjectsAreWithinLimits};
 ghost use Rattle.wg_small.specs.Small.{NumbersAreWithin, RangesOfSteps, ReadsBackByRanges};
 
 /// The operations, entries and objects in the trace of a history whose replies are the right ones are numbered within its
@@ -10,4 +11,11 @@ pub fn numbers_are_small()
     ensures within { NumbersAreWithin }
     ensures ranges { RangesOfSteps }
     ensures read { ReadsBackByRanges }
+{}
+
+/// In a history whose replies are the right ones a valid buffer, texture or query set is within the limits of the device, and
+/// what is mapped ends no later than the greatest buffer may.
+pub fn objects_are_within_limits()
+    ensures objects { ObjectsAreWithinLimits }
+    ensures mappings { MappingsAreWithinLimits }
 {}
