@@ -8,3 +8,5 @@ pub mod Reading
 pub mod Ranges
 pub mod Limited
 pub mod Mapped
+pub mod Copied
+pub mod Stepped

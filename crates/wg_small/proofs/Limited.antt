@@ -37,7 +37,7 @@ made_known setup older (CreateBuffer info) known made =
     leb-true info.size setup.limits.max_buffer_size met.1.1.1.0
 made_known setup older (CreateTexture info) known made =
     let met = all_met (create_texture_rules setup.limits info ++ budget_rules setup older (texture_bytes info)) (and_parts (not (is_lost older)) (is_none (create_texture_rule setup older info)) made).1 in
-    met.1.1.0
+    (met.1.1.0, met.1.1.1.0)
 made_known setup older (CreateQuerySet info) known made =
     let met = all_met (create_queries_rules setup.limits info ++ budget_rules setup older (bytes_of (Queries info))) (and_parts (not (is_lost older)) (is_none (create_query_set_rule setup older info)) made).1 in
     leb-true info.count setup.limits.max_queries_per_set met.0

@@ -33,7 +33,7 @@ use Rattle.wg_small.specs.Limits.{IsMappedWithin, MappingsAreWithinLimits}
 use Rattle.wg_small.proofs.Limited.{IfKnown, made_known, valid_within}
 
 -- the size of a valid buffer
-buffer_size : (setup : Setup) (past : Past) (n : ℕ) → IsRun setup past → is_valid past n ≡ true → (unwrap_or (buffer_at past n) no_buffer).size ≤ setup.limits.max_buffer_size
+pub buffer_size : (setup : Setup) (past : Past) (n : ℕ) → IsRun setup past → is_valid past n ≡ true → (unwrap_or (buffer_at past n) no_buffer).size ≤ setup.limits.max_buffer_size
 buffer_size setup past n run valid = by_info (info_at past n) refl
   where
     by_info : (o : Option Info) → info_at past n ≡ o → (unwrap_or (option_and_then as_buffer o) no_buffer).size ≤ setup.limits.max_buffer_size

@@ -1,5 +1,5 @@
 -- The numbers of the objects of parts and cells, of operations and of entries.
-use Rattle.std.proofs.Common.{◌≡◌, ℕ, ◌+◌, ◌<◌, ◌≤◌, ◌==◌, List, [], ◌∷◌, map, Bool, true, false, nat_lt, refl, sym, ◌∙◌, subst, arith, if◌then◌else◌, length}
+use Rattle.std.proofs.Common.{◌≡◌, ℕ, ◌+◌, ◌<◌, ◌≤◌, ◌==◌, List, [], ◌∷◌, map, Bool, true, false, nat_lt, nat_le, refl, sym, ◌∙◌, subst, arith, if◌then◌else◌, length}
 use Rattle.std.proofs.lemmas.Bool.{and_parts, and_from, lt-ltb, le-leb, eq-eqb, eqb-true}
 use Rattle.std.proofs.lemmas.Bool.Decides.{nat_tests}
 use Rattle.wg_types.specs.declared.parts.Aspect.{Aspect}
@@ -95,7 +95,7 @@ first_covered (BufferPart object) h = and_from (list_eq (object ∷ (0 ∷ [])) 
 first_covered (QueryPart object) h = and_from (list_eq (object ∷ (1 ∷ [])) (object ∷ (1 ∷ []))) true (line_same (object ∷ (1 ∷ []))) refl
 first_covered (LayerParts object aspect mip lo hi) h =
     and_from (list_eq (part_line (LayerParts object aspect mip lo hi)) (part_line (LayerParts object aspect mip lo hi))) (in_range lo hi lo) (line_same (part_line (LayerParts object aspect mip lo hi)))
-    (and_from _ _ (le-leb lo lo (omega arith)) (lt-ltb lo hi h))
+    (and_from (nat_le lo lo) (nat_lt lo hi) (le-leb lo lo (omega arith)) (lt-ltb lo hi h))
 
 pub within_told : (most : ℕ) → IsTold (IsPartWithin most)
 within_told most = record {
