@@ -1,0 +1,12 @@
+pub mod Tracing
+pub mod Doings
+pub mod Objects
+pub mod Hosts
+pub mod Recorded
+pub mod History
+pub mod Reading
+pub mod Ranges
+pub mod Limited
+pub mod Mapped
+pub mod Copied
+pub mod Stepped

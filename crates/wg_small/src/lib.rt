@@ -1,0 +1,28 @@
+//! How large the numbers in the traces of histories are. The laws are the contracts of functions that do nothing.
+#![tactic(auto)]
+
+ghost use Rattle.wg_small.specs.Limits.{MappingsAreWithinLimits, ObjectsAreWithinLimits, RangesOfRecordings, ReadsBackByRecordings};
+ghost use Rattle.wg_small.specs.Small.{NumbersAreWithin, RangesOfSteps, ReadsBackByRanges};
+
+/// The operations, entries and objects in the trace of a history whose replies are the right ones are numbered within its
+/// length, so that its report is read back where the mip levels, layers, slices, queries and bytes of its steps are small
+/// enough, as those of its barriers and clears are then.
+pub fn numbers_are_small()
+    ensures within { NumbersAreWithin }
+    ensures ranges { RangesOfSteps }
+    ensures read { ReadsBackByRanges }
+{}
+
+/// In a history whose replies are the right ones a valid buffer, texture or query set is within the limits of the device, and
+/// what is mapped ends no later than the greatest buffer may.
+pub fn objects_are_within_limits()
+    ensures objects { ObjectsAreWithinLimits }
+    ensures mappings { MappingsAreWithinLimits }
+{}
+
+/// Where no limit of the device is better than the best, queue writes and host accesses have small ranges. So all steps of such a
+/// history have where its recordings do, and its report is then read as its trace.
+pub fn ranges_are_small()
+    ensures steps { RangesOfRecordings }
+    ensures read { ReadsBackByRecordings }
+{}
