@@ -24,7 +24,7 @@ use Rattle.wg_rows.specs.Runs.{Cells, Bytes}
 use Rattle.wg_rows.specs.Uses.{Usages, Kind, Read, Both}
 use Rattle.wg_model.specs.Rules.{Rule}
 use Rattle.wg_model.specs.Layouts.{is_dynamic, may_write}
-use Rattle.wg_model.specs.Equality.{equivalent}
+use Rattle.wg_model.specs.Equality.{equivalent_for}
 use Rattle.wg_model.specs.Subresources.{ranges_meet, views_meet, view_cells}
 use Rattle.wg_model.specs.Touches.{Touch, constant_usage, storage_usage, storage_read_usage}
 
@@ -65,6 +65,27 @@ layouts_in info.Encoder = []
 layouts_in (info.BundleEncoder known) = []
 layouts_in info.CommandBuffer = []
 layouts_in (info.Bundle known) = []
+
+-- whether a pipeline derived its layouts itself, if it is one
+abbrev pub is_automatic : Info → Bool
+is_automatic (info.Buffer known) = false
+is_automatic (info.Texture known) = false
+is_automatic (info.View known) = false
+is_automatic (info.Sampler known) = false
+is_automatic (info.GroupLayout known) = false
+is_automatic (info.PipelineLayout known) = false
+is_automatic (info.Group known) = false
+is_automatic (info.Compute known) = known.auto
+is_automatic (info.Render known) = known.auto
+is_automatic (info.Queries known) = false
+is_automatic info.Encoder = false
+is_automatic (info.BundleEncoder known) = false
+is_automatic info.CommandBuffer = false
+is_automatic (info.Bundle known) = false
+
+-- the pipeline, by its number, to which the layouts of a pipeline count as exclusive: itself, where it derived them
+abbrev pub owner_of : HandleValue → Option ℕ
+owner_of handle = if is_automatic handle.info then Some handle.reference.number else None
 
 -- how many of a layout's bindings take a dynamic offset
 abbrev pub dynamics : List LayoutEntry → ℕ
@@ -129,16 +150,17 @@ abbrev pub info_set : Option BoundGroup → Option GroupInfo
 info_set None = None
 info_set (Some bound) = known_group bound.group
 
--- whether a group is set with an equivalent layout, or the layout has no entry
-abbrev pub layout_fits : GroupLayoutInfo → Option BoundGroup → Bool
-layout_fits layout group =
+-- whether a group is set with an equivalent layout, or the layout has no entry; the layout counts as exclusive to this pipeline, or
+-- to none
+abbrev pub layout_fits : Option ℕ → GroupLayoutInfo → Option BoundGroup → Bool
+layout_fits owner layout group =
     not (has_entries layout)
-    || option_map_or (λ (known : GroupInfo). equivalent layout.entries known.layout_info.entries) (info_set group) false
+    || option_map_or (λ (known : GroupInfo). equivalent_for owner layout known.layout_info) (info_set group) false
 
 -- the same of each layout, the first of which has this index
-abbrev pub layouts_fit : List GroupLayoutInfo → List (Option BoundGroup) → ℕ → Bool
-layouts_fit [] groups index = true
-layouts_fit (layout ∷ layouts) groups index = layout_fits layout (slice_index_or groups index None) && layouts_fit layouts groups (index + 1)
+abbrev pub layouts_fit : Option ℕ → List GroupLayoutInfo → List (Option BoundGroup) → ℕ → Bool
+layouts_fit owner [] groups index = true
+layouts_fit owner (layout ∷ layouts) groups index = layout_fits owner layout (slice_index_or groups index None) && layouts_fit owner layouts groups (index + 1)
 
 -- what a group that is set binds
 abbrev pub set_places : Option BoundGroup → List Place
@@ -172,10 +194,11 @@ abbrev pub are_clear : List Place → Bool
 are_clear [] = true
 are_clear (place ∷ places) = not (list_any (overlap place) places) && are_clear places
 
--- 341 each group of the pipeline's layout that has an entry is set with an equivalent layout; 342 no two bindings of these
--- groups that one stage sees overlap where shaders may write one of them
-unfoldable pub bound_rules : List GroupLayoutInfo → List (Option BoundGroup) → List Rule
-bound_rules layouts groups = (341, layouts_fit layouts groups 0) ∷ ((342, are_clear (layouts_places layouts groups 0)) ∷ [])
+-- 341 each group of the pipeline's layout that has an entry is set: the set group's layout has the same entries, and is exclusive to
+-- the pipeline where that derived its layouts itself, else to none; 342 no two bindings of these groups that one stage sees
+-- overlap where shaders may write one of them
+unfoldable pub bound_rules : Option ℕ → List GroupLayoutInfo → List (Option BoundGroup) → List Rule
+bound_rules owner layouts groups = (341, layouts_fit owner layouts groups 0) ∷ ((342, are_clear (layouts_places layouts groups 0)) ∷ [])
 
 -- What is bound is used and accessed as the kind of its binding says, whatever stages see it: each cell of a bound range and
 -- each cell of a view's subresources.

@@ -47,6 +47,13 @@ same_list same [] (y ∷ ys) = false
 same_list same (x ∷ xs) [] = false
 same_list same (x ∷ xs) (y ∷ ys) = same x y && same_list same xs ys
 
+-- whether two are left out, or are the same
+abbrev pub same_option : {X : Type 0} → (X → X → Bool) → Option X → Option X → Bool
+same_option same None None = true
+same_option same None (Some b) = false
+same_option same (Some a) None = false
+same_option same (Some a) (Some b) = same a b
+
 -- whether two references are of one object
 abbrev pub same_reference : ObjRef → ObjRef → Bool
 same_reference a b = a.device == b.device && a.number == b.number
@@ -122,8 +129,12 @@ same_bound_resource _ _ = false
 abbrev pub same_bound_entry : BoundEntry → BoundEntry → Bool
 same_bound_entry a b = a.binding == b.binding && same_bound_resource a.resource b.resource
 
+-- whether two are exclusive to the same pipeline, by its number, or neither is
+abbrev pub same_owner : Option ℕ → Option ℕ → Bool
+same_owner a b = same_option (λ (m n : ℕ). m == n) a b
+
 abbrev pub same_group_layout : GroupLayoutInfo → GroupLayoutInfo → Bool
-same_group_layout a b = same_list same_layout_entry a.entries b.entries
+same_group_layout a b = same_list same_layout_entry a.entries b.entries && same_owner a.exclusive b.exclusive && same_option same_reference a.pipeline b.pipeline
 
 abbrev pub same_pipeline_layout : PipelineLayoutInfo → PipelineLayoutInfo → Bool
 same_pipeline_layout a b = same_list same_reference a.layouts b.layouts && same_list same_group_layout a.layouts_info b.layouts_info
@@ -132,7 +143,7 @@ abbrev pub same_group : GroupInfo → GroupInfo → Bool
 same_group a b = same_reference a.layout b.layout && same_group_layout a.layout_info b.layout_info && same_list same_bound_entry a.entries b.entries
 
 abbrev pub same_compute : ComputeInfo → ComputeInfo → Bool
-same_compute a b = same_reference a.layout b.layout && same_pipeline_layout a.layout_info b.layout_info && same_list same_iface_entry a.iface.entries b.iface.entries
+same_compute a b = same_option same_reference a.layout b.layout && same_pipeline_layout a.layout_info b.layout_info && same_bool a.auto b.auto && same_list same_iface_entry a.iface.entries b.iface.entries
 
 -- the place of a vertex format among those that there are
 abbrev pub vertex_format_number : VertexFormat → ℕ
@@ -159,13 +170,6 @@ same_attribute a b = vertex_format_number a.format == vertex_format_number b.for
 abbrev pub same_vertex_buffer : VertexBuffer → VertexBuffer → Bool
 same_vertex_buffer a b = a.stride == b.stride && vertex_step_number a.step == vertex_step_number b.step && same_list same_attribute a.attributes b.attributes
 
--- whether two are left out, or are the same
-abbrev pub same_option : {X : Type 0} → (X → X → Bool) → Option X → Option X → Bool
-same_option same None None = true
-same_option same None (Some b) = false
-same_option same (Some a) None = false
-same_option same (Some a) (Some b) = same a b
-
 abbrev pub same_depth_state : DepthState → DepthState → Bool
 same_depth_state a b = same_format a.format b.format && same_bool a.depth_write b.depth_write && same_bool a.stencil_write b.stencil_write
 
@@ -178,7 +182,7 @@ same_render_desc a b =
     && a.samples == b.samples
 
 abbrev pub same_render : RenderInfo → RenderInfo → Bool
-same_render a b = same_reference a.layout b.layout && same_pipeline_layout a.layout_info b.layout_info && same_render_desc a.desc b.desc
+same_render a b = same_option same_reference a.layout b.layout && same_pipeline_layout a.layout_info b.layout_info && same_bool a.auto b.auto && same_render_desc a.desc b.desc
 
 -- the entries of one binding
 abbrev pub of_binding : ℕ → List LayoutEntry → List LayoutEntry
@@ -188,3 +192,12 @@ of_binding n (entry ∷ entries) = if entry.binding == n then entry ∷ of_bindi
 -- whether two layouts have the same entries, sorted by their bindings: as many, and of each binding the same
 abbrev pub equivalent : List LayoutEntry → List LayoutEntry → Bool
 equivalent a b = length a == length b && list_all (λ (entry : LayoutEntry). same_list same_layout_entry (of_binding entry.binding a) (of_binding entry.binding b)) a
+
+-- whether a layout that counts as exclusive to this pipeline, or to none, is equivalent to one that is set: that has the same
+-- entries, and is exclusive to the same pipeline, or to none as well
+abbrev pub equivalent_for : Option ℕ → GroupLayoutInfo → GroupLayoutInfo → Bool
+equivalent_for owner layout set = same_owner owner set.exclusive && equivalent layout.entries set.entries
+
+-- whether two layouts are equivalent
+abbrev pub equivalent_layouts : GroupLayoutInfo → GroupLayoutInfo → Bool
+equivalent_layouts a b = equivalent_for a.exclusive a b

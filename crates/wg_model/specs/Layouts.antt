@@ -1,5 +1,5 @@
 -- The rules of bind group layouts and pipeline layouts (WebGPU, "Bind Group Layout Creation" and "Pipeline Layout Creation").
-use Rattle.std.specs.Prelude.{ℕ, Bool, true, false, not, ◌&&◌, ◌||◌, ◌==◌, nat_lt, nat_le, count_by, length, List, [], ◌∷◌, ◌++◌}
+use Rattle.std.specs.Prelude.{ℕ, Bool, true, false, not, ◌&&◌, ◌||◌, ◌==◌, nat_lt, nat_le, count_by, length, List, [], ◌∷◌, ◌++◌, is_none}
 use Rattle.std.specs.List.{list_all, list_any}
 use Rattle.wg_types.specs.Formats.{row}
 use Rattle.wg_types.specs.declared.limits.Limits.{Limits}
@@ -154,11 +154,19 @@ abbrev pub all_entries : List GroupLayoutInfo → List LayoutEntry
 all_entries [] = []
 all_entries (layout ∷ layouts) = layout.entries ++ all_entries layouts
 
--- createPipelineLayout: 140 there are no more groups than may be; 141 no stage sees more of a sort in all of them than it may;
--- 142 no more buffers in all of them are dynamic than may be.
-abbrev pub pipeline_layout_rules : Limits → List GroupLayoutInfo → List Rule
-pipeline_layout_rules limits layouts =
+-- The layouts of a pipeline together: 140 there are no more groups than may be; 141 no stage sees more of a sort in all of them
+-- than it may; 142 no more buffers in all of them are dynamic than may be.
+abbrev pub together_rules : Limits → List GroupLayoutInfo → List Rule
+together_rules limits layouts =
     (140, nat_le (length layouts) limits.max_bind_groups)
     ∷ ((141, stages_fit limits (all_entries layouts))
     ∷ ((142, dynamic_fits limits (all_entries layouts))
     ∷ []))
+
+-- whether any pipeline may use a layout
+abbrev pub is_for_all : GroupLayoutInfo → Bool
+is_for_all layout = is_none layout.exclusive
+
+-- createPipelineLayout: 140 to 142, and 143 none of the layouts is exclusive to a pipeline.
+abbrev pub pipeline_layout_rules : Limits → List GroupLayoutInfo → List Rule
+pipeline_layout_rules limits layouts = together_rules limits layouts ++ (143, list_all is_for_all layouts) ∷ []

@@ -1,5 +1,5 @@
 -- What is known of the objects that calls make of others: by what these are known as.
-use Rattle.std.specs.Prelude.{◌-◌, map, List, [], Option, unwrap_or}
+use Rattle.std.specs.Prelude.{ℕ, ◌-◌, map, List, [], false, Option, Some, None, is_none, option_map, unwrap_or, if◌then◌else◌}
 use Rattle.std.specs.Option.{option_map_or}
 use Rattle.wg_types.specs.declared.handles.ObjRef.{ObjRef}
 use Rattle.wg_types.specs.declared.handles.BufferInfo.{BufferInfo}
@@ -18,6 +18,8 @@ use Rattle.wg_types.specs.declared.bindings.GroupEntryOf.{GroupEntryOf}
 use Rattle.wg_types.specs.declared.bindings.BoundResource.{BoundResource}
 use Rattle.wg_types.specs.declared.bindings.BoundResource.TheVariants.{Buffer as BoundBuffer, View as BoundView, Sampler as BoundSampler}
 use Rattle.wg_types.specs.declared.bindings.BoundEntry.{BoundEntry}
+use Rattle.wg_types.specs.declared.bindings.LayoutEntry.{LayoutEntry}
+use Rattle.wg_types.specs.declared.bindings.IfaceEntry.{IfaceEntry}
 use Rattle.wg_types.specs.declared.groups.GroupLayoutInfo.{GroupLayoutInfo}
 use Rattle.wg_types.specs.declared.groups.PipelineLayoutInfo.{PipelineLayoutInfo}
 use Rattle.wg_types.specs.declared.groups.GroupInfo.{GroupInfo}
@@ -27,13 +29,15 @@ use Rattle.wg_types.specs.declared.groups.RenderInfo.{RenderInfo}
 use Rattle.wg_types.specs.declared.render.RenderDesc.{RenderDesc}
 use Rattle.wg_model.specs.Commands.{no_buffer, buffer_or_none, no_texture, texture_or_none}
 use Rattle.wg_model.specs.Views.{view_info}
+use Rattle.wg_model.specs.Bound.{is_automatic}
+use Rattle.wg_model.specs.Automatic.{automatic_layouts, entries_at, known_layouts}
 
 -- What stands for what is known of an object that is of another kind or none, which rule 10 refuses before it counts.
 abbrev pub no_view : ViewInfo
 no_view = record { texture = record { device = 0; number = 0 }; texture_info = no_texture; dim = Two; aspect = All; base_mip = 0; mips = 0; base_layer = 0; layers = 0 }
 
 abbrev pub no_group_layout : GroupLayoutInfo
-no_group_layout = record { entries = [] }
+no_group_layout = record { entries = []; exclusive = None; pipeline = None }
 
 abbrev pub no_pipeline_layout : PipelineLayoutInfo
 no_pipeline_layout = record { layouts = []; layouts_info = [] }
@@ -93,8 +97,27 @@ pipeline_layout_made reference known layouts = record { layouts = map reference 
 abbrev pub group_made : {R : Type 0} → (R → ObjRef) → (R → Option Info) → R → List (GroupEntryOf R) → GroupInfo
 group_made reference known layout entries = record { layout = reference layout; layout_info = known_group_layout (known layout); entries = map (bound_entry reference known) entries }
 
-abbrev pub compute_made : {R : Type 0} → (R → ObjRef) → (R → Option Info) → R → Interface → ComputeInfo
-compute_made reference known layout iface = record { layout = reference layout; layout_info = known_pipeline_layout (known layout); iface = iface }
+-- the layout of a pipeline: the one that it is made with, or what it derives from what its shaders use
+abbrev pub layout_made : {R : Type 0} → (R → Option Info) → Option R → List IfaceEntry → PipelineLayoutInfo
+layout_made known None iface = record { layouts = []; layouts_info = automatic_layouts iface }
+layout_made known (Some layout) iface = known_pipeline_layout (known layout)
 
-abbrev pub render_made : {R : Type 0} → (R → ObjRef) → (R → Option Info) → R → RenderDesc → RenderInfo
-render_made reference known layout desc = record { layout = reference layout; layout_info = known_pipeline_layout (known layout); desc = desc }
+abbrev pub compute_made : {R : Type 0} → (R → ObjRef) → (R → Option Info) → Option R → Interface → ComputeInfo
+compute_made reference known layout iface = record { layout = option_map reference layout; layout_info = layout_made known layout iface.entries; auto = is_none layout; iface = iface }
+
+abbrev pub render_made : {R : Type 0} → (R → ObjRef) → (R → Option Info) → Option R → RenderDesc → RenderInfo
+render_made reference known layout desc = record { layout = option_map reference layout; layout_info = layout_made known layout desc.iface; auto = is_none layout; desc = desc }
+
+-- A bind group layout that createBindGroupLayout makes is exclusive to no pipeline.
+abbrev pub group_layout_made : List LayoutEntry → GroupLayoutInfo
+group_layout_made entries = record { entries = entries; exclusive = None; pipeline = None }
+
+-- One that getBindGroupLayout makes has the entries of a group of the pipeline's layout. It refers to the pipeline, and is exclusive
+-- to it, by its number, where that derived its layout itself.
+abbrev pub group_layout_got : {R : Type 0} → (R → ObjRef) → (R → Option Info) → R → ℕ → GroupLayoutInfo
+group_layout_got reference known pipeline index =
+    record {
+      entries = entries_at (known_layouts (known pipeline)) index;
+      exclusive = if option_map_or is_automatic (known pipeline) false then Some (reference pipeline).number else None;
+      pipeline = Some (reference pipeline);
+    }

@@ -1,6 +1,6 @@
 -- What is set in passes (WebGPU, "Programmable Passes"): the pipeline and the bind groups, with the rules that go by them, and
 -- how many debug groups are open. The commands of a pass so far stand newest first.
-use Rattle.std.specs.Prelude.{ℕ, ◌+◌, ◌-◌, ◌%◌, ◌==◌, nat_le, Bool, true, false, List, [], ◌∷◌, Option, Some, None, is_some, if◌then◌else◌}
+use Rattle.std.specs.Prelude.{ℕ, ◌+◌, ◌-◌, ◌%◌, ◌==◌, nat_le, Bool, true, false, List, [], ◌∷◌, Option, Some, None, option_and_then, is_some, if◌then◌else◌}
 use Rattle.std.specs.Option.{option_or}
 use Rattle.wg_types.specs.Handles.{HandleValue}
 use Rattle.wg_types.specs.Commands.{Command, bracket, Act, begins, sets, runs, occludes, executes, neither, act}
@@ -14,7 +14,7 @@ use Rattle.wg_rows.specs.Uses.{Read}
 use Rattle.wg_model.specs.Buffers.{has_usage}
 use Rattle.wg_model.specs.Commands.{buffer_of}
 use Rattle.wg_model.specs.Touches.{Touch, bytes_at, input_usage}
-use Rattle.wg_model.specs.Bound.{known_group, layouts_in, set_rules, bound_rules}
+use Rattle.wg_model.specs.Bound.{known_group, layouts_in, owner_of, set_rules, bound_rules}
 
 -- how many debug groups are open after one more command
 abbrev pub depth_by : ℕ → Bracket → ℕ
@@ -119,6 +119,10 @@ pipeline_layouts (Some pipeline) = layouts_in pipeline.info
 abbrev pub layouts_set : Settings → List GroupLayoutInfo
 layouts_set set = pipeline_layouts set.pipeline
 
+-- the pipeline to which these count as exclusive, where that which is set derived them itself
+abbrev pub owner_set : Settings → Option ℕ
+owner_set set = option_and_then owner_of set.pipeline
+
 -- the end of a pass (WebGPU, "end"): 310 no debug group of the pass is open
 abbrev pub end_rules_by : ℕ → Bracket → List Rule
 end_rules_by depth brackets.BeginComputePass = []
@@ -138,7 +142,7 @@ given_rules (Some given) = set_rules given.0 (known_group given.1.group) given.1
 
 -- dispatches and draws: 340 a pipeline is set, and then the rules of the groups
 abbrev pub ready_rules : Settings → List Rule
-ready_rules set = (340, is_some set.pipeline) ∷ bound_rules (layouts_set set) set.groups
+ready_rules set = (340, is_some set.pipeline) ∷ bound_rules (owner_set set) (layouts_set set) set.groups
 
 -- what is asked of an indirect buffer (WebGPU, "dispatchWorkgroupsIndirect" and "drawIndirect"): 344 it has INDIRECT 256; 345
 -- the offset is a multiple of 4; 346 the bytes from there on fit

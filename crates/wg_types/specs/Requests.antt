@@ -1,13 +1,13 @@
 -- What calls of a device name and make.
-use Rattle.std.specs.Prelude.{List, [], ◌∷◌, map, Option, Some, None}
+use Rattle.std.specs.Prelude.{List, [], ◌∷◌, map, Option, Some, None, option_map}
 use Rattle.wg_types.specs.Bindings.{entries_named, map_entry}
-use Rattle.wg_types.specs.Refs.{all_wanted}
+use Rattle.wg_types.specs.Refs.{all_wanted, maybe_wanted}
 use Rattle.wg_types.specs.declared.wanted.Kind.{Kind}
 use Rattle.wg_types.specs.declared.wanted.Kind.TheVariants as kind
 use Rattle.wg_types.specs.declared.wanted.Wanted.{Wanted}
 use Rattle.wg_types.specs.declared.wanted.Wanted.TheVariants as wanted
 pub use Rattle.wg_types.specs.declared.requests.RequestOf.{RequestOf}
-use Rattle.wg_types.specs.declared.requests.RequestOf.TheVariants.{CreateBuffer, CreateTexture, CreateView, CreateSampler, CreateBindGroupLayout, CreatePipelineLayout, CreateBindGroup, CreateComputePipeline, CreateRenderPipeline, CreateQuerySet, CreateEncoder, CreateBundleEncoder, Finish, FinishBundle, Submit, WriteBuffer, WriteTexture, Destroy, Drop, Complete, PushErrorScope, PopErrorScope, Lose, WorkDone, MapAsync, Unmap}
+use Rattle.wg_types.specs.declared.requests.RequestOf.TheVariants.{CreateBuffer, CreateTexture, CreateView, CreateSampler, CreateBindGroupLayout, CreatePipelineLayout, CreateBindGroup, CreateComputePipeline, CreateRenderPipeline, GetBindGroupLayout, CreateQuerySet, CreateEncoder, CreateBundleEncoder, Finish, FinishBundle, Submit, WriteBuffer, WriteTexture, Destroy, Drop, Complete, PushErrorScope, PopErrorScope, Lose, WorkDone, MapAsync, Unmap}
 
 -- the kind of the object that a call makes, if it makes one
 abbrev pub kind_made : {R : Type 0} → RequestOf R → Option Kind
@@ -15,11 +15,12 @@ kind_made (CreateBuffer info) = Some kind.Buffer
 kind_made (CreateTexture info) = Some kind.Texture
 kind_made (CreateView texture asked) = Some kind.View
 kind_made (CreateSampler known) = Some kind.Sampler
-kind_made (CreateBindGroupLayout info) = Some kind.GroupLayout
+kind_made (CreateBindGroupLayout entries) = Some kind.GroupLayout
 kind_made (CreatePipelineLayout layouts) = Some kind.PipelineLayout
 kind_made (CreateBindGroup layout entries) = Some kind.Group
 kind_made (CreateComputePipeline layout iface) = Some kind.Compute
 kind_made (CreateRenderPipeline layout desc) = Some kind.Render
+kind_made (GetBindGroupLayout pipeline index) = Some kind.GroupLayout
 kind_made (CreateQuerySet info) = Some kind.Queries
 kind_made CreateEncoder = Some kind.Encoder
 kind_made (CreateBundleEncoder targets) = Some kind.BundleEncoder
@@ -44,11 +45,12 @@ named (CreateBuffer info) = []
 named (CreateTexture info) = []
 named (CreateView texture asked) = (texture, wanted.Texture) ∷ []
 named (CreateSampler known) = []
-named (CreateBindGroupLayout info) = []
+named (CreateBindGroupLayout entries) = []
 named (CreatePipelineLayout layouts) = all_wanted wanted.GroupLayout layouts
 named (CreateBindGroup layout entries) = (layout, wanted.GroupLayout) ∷ entries_named entries
-named (CreateComputePipeline layout iface) = (layout, wanted.PipelineLayout) ∷ []
-named (CreateRenderPipeline layout desc) = (layout, wanted.PipelineLayout) ∷ []
+named (CreateComputePipeline layout iface) = maybe_wanted wanted.PipelineLayout layout
+named (CreateRenderPipeline layout desc) = maybe_wanted wanted.PipelineLayout layout
+named (GetBindGroupLayout pipeline index) = (pipeline, wanted.Pipeline) ∷ []
 named (CreateQuerySet info) = []
 named CreateEncoder = []
 named (CreateBundleEncoder targets) = []
@@ -73,11 +75,12 @@ map_refs f (CreateBuffer info) = CreateBuffer info
 map_refs f (CreateTexture info) = CreateTexture info
 map_refs f (CreateView texture asked) = CreateView (f texture) asked
 map_refs f (CreateSampler known) = CreateSampler known
-map_refs f (CreateBindGroupLayout info) = CreateBindGroupLayout info
+map_refs f (CreateBindGroupLayout entries) = CreateBindGroupLayout entries
 map_refs f (CreatePipelineLayout layouts) = CreatePipelineLayout (map f layouts)
 map_refs f (CreateBindGroup layout entries) = CreateBindGroup (f layout) (map (map_entry f) entries)
-map_refs f (CreateComputePipeline layout iface) = CreateComputePipeline (f layout) iface
-map_refs f (CreateRenderPipeline layout desc) = CreateRenderPipeline (f layout) desc
+map_refs f (CreateComputePipeline layout iface) = CreateComputePipeline (option_map f layout) iface
+map_refs f (CreateRenderPipeline layout desc) = CreateRenderPipeline (option_map f layout) desc
+map_refs f (GetBindGroupLayout pipeline index) = GetBindGroupLayout (f pipeline) index
 map_refs f (CreateQuerySet info) = CreateQuerySet info
 map_refs f CreateEncoder = CreateEncoder
 map_refs f (CreateBundleEncoder targets) = CreateBundleEncoder targets

@@ -4,7 +4,7 @@ use Rattle.std.specs.List.{find}
 use Rattle.wg_types.specs.declared.steps.StepName.{StepName}
 use Rattle.wg_types.specs.declared.steps.StepName.TheVariants as name
 use Rattle.wg_types.specs.declared.words.Word.{Word}
-use Rattle.wg_types.specs.declared.words.Word.TheVariants.{CreateBuffer, CreateTexture, CreateView, CreateSampler, CreateBindGroupLayout, CreatePipelineLayout, CreateBindGroup, CreateComputePipeline, CreateRenderPipeline, CreateQuerySet, CreateEncoder, CreateBundleEncoder, BeginComputePass, BeginRenderPass, End, Finish, FinishBundle, PushDebugGroup, PopDebugGroup, Submit, WriteBuffer, WriteTexture, MapAsync, Unmap, WorkDone, Complete, Destroy, Drop, PushErrorScope, PopErrorScope, Lose, CopyBufferToBuffer, CopyBufferToTexture, CopyTextureToBuffer, CopyTextureToTexture, ClearBuffer, ResolveQuerySet, SetPipeline, SetBindGroup, SetVertexBuffer, SetIndexBuffer, Dispatch, DispatchIndirect, BeginOcclusionQuery, EndOcclusionQuery, ExecuteBundles, Draw, DrawIndexed, DrawIndirect, DrawIndexedIndirect, CreateCanvas, ConfigureCanvas, CurrentTexture, Present}
+use Rattle.wg_types.specs.declared.words.Word.TheVariants.{CreateBuffer, CreateTexture, CreateView, CreateSampler, CreateBindGroupLayout, CreatePipelineLayout, CreateBindGroup, CreateComputePipeline, CreateRenderPipeline, GetBindGroupLayout, CreateQuerySet, CreateEncoder, CreateBundleEncoder, BeginComputePass, BeginRenderPass, End, Finish, FinishBundle, PushDebugGroup, PopDebugGroup, Submit, WriteBuffer, WriteTexture, MapAsync, Unmap, WorkDone, Complete, Destroy, Drop, PushErrorScope, PopErrorScope, Lose, CopyBufferToBuffer, CopyBufferToTexture, CopyTextureToBuffer, CopyTextureToTexture, ClearBuffer, ResolveQuerySet, SetPipeline, SetBindGroup, SetVertexBuffer, SetIndexBuffer, Dispatch, DispatchIndirect, BeginOcclusionQuery, EndOcclusionQuery, ExecuteBundles, Draw, DrawIndexed, DrawIndirect, DrawIndexedIndirect, CreateCanvas, ConfigureCanvas, CurrentTexture, Present}
 
 -- the text of a word
 abbrev pub word_text : Word → List ℕ
@@ -17,6 +17,7 @@ word_text CreatePipelineLayout = codes "createPipelineLayout"
 word_text CreateBindGroup = codes "createBindGroup"
 word_text CreateComputePipeline = codes "createComputePipeline"
 word_text CreateRenderPipeline = codes "createRenderPipeline"
+word_text GetBindGroupLayout = codes "getBindGroupLayout"
 word_text CreateQuerySet = codes "createQuerySet"
 word_text CreateEncoder = codes "createEncoder"
 word_text CreateBundleEncoder = codes "createBundleEncoder"
@@ -63,10 +64,10 @@ word_text ConfigureCanvas = codes "configureCanvas"
 word_text CurrentTexture = codes "currentTexture"
 word_text Present = codes "present"
 
--- the words of all calls, built or not
+-- the words of all calls
 abbrev pub words : List Word
 words =
-    CreateBuffer ∷ CreateTexture ∷ CreateView ∷ CreateSampler ∷ CreateBindGroupLayout ∷ CreatePipelineLayout ∷ CreateBindGroup ∷ CreateComputePipeline ∷ CreateRenderPipeline ∷ CreateQuerySet ∷
+    CreateBuffer ∷ CreateTexture ∷ CreateView ∷ CreateSampler ∷ CreateBindGroupLayout ∷ CreatePipelineLayout ∷ CreateBindGroup ∷ CreateComputePipeline ∷ CreateRenderPipeline ∷ GetBindGroupLayout ∷ CreateQuerySet ∷
     CreateEncoder ∷ CreateBundleEncoder ∷ BeginComputePass ∷ BeginRenderPass ∷ End ∷ Finish ∷ FinishBundle ∷ PushDebugGroup ∷ PopDebugGroup ∷
     Submit ∷ WriteBuffer ∷ WriteTexture ∷ MapAsync ∷ Unmap ∷ WorkDone ∷ Complete ∷
     Destroy ∷ Drop ∷ PushErrorScope ∷ PopErrorScope ∷ Lose ∷

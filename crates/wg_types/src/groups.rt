@@ -6,10 +6,13 @@ use crate::items::Items;
 use crate::render::RenderDesc;
 use crate::shared::Shared;
 
-/// What a bind group layout was made with (WebGPU, "GPUBindGroupLayout").
+/// What a bind group layout was made with (WebGPU, "GPUBindGroupLayout"). One that was got of a pipeline
+/// has that pipeline, and is exclusive to it, by its number, if the pipeline derived its layout itself.
 #[derive(Clone, Drop)]
 pub struct GroupLayoutInfo {
-    pub entries: Items<LayoutEntry>,
+    pub entries: Shared<Items<LayoutEntry>>,
+    pub exclusive: Option<u64>,
+    pub pipeline: Option<ObjRef>,
 }
 
 /// What a pipeline layout was made with (WebGPU, "GPUPipelineLayout"): the layout of each group.
@@ -33,18 +36,21 @@ pub struct Interface {
     pub entries: Items<IfaceEntry>,
 }
 
-/// What a compute pipeline was made with (WebGPU, "GPUComputePipeline").
+/// What a compute pipeline was made with (WebGPU, "GPUComputePipeline"). One that derived its layout itself
+/// is automatic: `layout` is none then, and `layout_info` has what was derived, with no references.
 #[derive(Clone, Drop)]
 pub struct ComputeInfo {
-    pub layout: ObjRef,
+    pub layout: Option<ObjRef>,
     pub layout_info: Shared<PipelineLayoutInfo>,
+    pub auto: bool,
     pub iface: Shared<Interface>,
 }
 
-/// What a render pipeline was made with (WebGPU, "GPURenderPipeline").
+/// What a render pipeline was made with (WebGPU, "GPURenderPipeline"), automatic as a compute pipeline is.
 #[derive(Clone, Drop)]
 pub struct RenderInfo {
-    pub layout: ObjRef,
+    pub layout: Option<ObjRef>,
     pub layout_info: Shared<PipelineLayoutInfo>,
+    pub auto: bool,
     pub desc: Shared<RenderDesc>,
 }

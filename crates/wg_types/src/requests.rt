@@ -4,8 +4,8 @@ ghost use Rattle.wg_types.specs.Refs.{first_of};
 ghost use Rattle.wg_types.specs.Requests.{named, kind_made, map_refs};
 
 use crate::NoMemory;
-use crate::bindings::{GroupEntryOf, SamplerKind, each_entry, map_entries};
-use crate::groups::{GroupLayoutInfo, Interface};
+use crate::bindings::{GroupEntryOf, LayoutEntry, SamplerKind, each_entry, map_entries};
+use crate::groups::Interface;
 use crate::handles::{BufferInfo, QueriesInfo};
 use crate::items::Items;
 use crate::refs::{self, Ask, Find};
@@ -16,7 +16,8 @@ use crate::textures::{DataLayout, TextureInfo, TextureSpot, ViewAsked};
 use crate::wanted::{Kind, Wanted};
 use std::alloc::Global;
 
-/// One call of a device, with the objects that it names as `R`.
+/// One call of a device, with the objects that it names as `R`. A pipeline with no layout derives one
+/// itself.
 #[derive(Drop)]
 pub enum RequestOf<R> {
     CreateBuffer {
@@ -33,7 +34,7 @@ pub enum RequestOf<R> {
         kind: SamplerKind,
     },
     CreateBindGroupLayout {
-        info: Shared<GroupLayoutInfo>,
+        entries: Shared<Items<LayoutEntry>>,
     },
     CreatePipelineLayout {
         layouts: Items<R>,
@@ -43,12 +44,16 @@ pub enum RequestOf<R> {
         entries: Items<GroupEntryOf<R>>,
     },
     CreateComputePipeline {
-        layout: R,
+        layout: Option<R>,
         iface: Shared<Interface>,
     },
     CreateRenderPipeline {
-        layout: R,
+        layout: Option<R>,
         desc: Shared<RenderDesc>,
+    },
+    GetBindGroupLayout {
+        pipeline: R,
+        index: u32,
     },
     CreateQuerySet {
         info: QueriesInfo,
@@ -119,6 +124,7 @@ impl<R> RequestOf<R> {
             RequestOf::CreateBindGroup { .. } => Some(Kind::Group),
             RequestOf::CreateComputePipeline { .. } => Some(Kind::Compute),
             RequestOf::CreateRenderPipeline { .. } => Some(Kind::Render),
+            RequestOf::GetBindGroupLayout { .. } => Some(Kind::GroupLayout),
             RequestOf::CreateQuerySet { .. } => Some(Kind::Queries),
             RequestOf::CreateEncoder => Some(Kind::Encoder),
             RequestOf::CreateBundleEncoder { .. } => Some(Kind::BundleEncoder),
@@ -145,8 +151,9 @@ impl<R> RequestOf<R> {
             }
             RequestOf::CreateComputePipeline { layout, .. }
             | RequestOf::CreateRenderPipeline { layout, .. } => {
-                asked.ask(layout, Wanted::PipelineLayout)
+                refs::maybe(asked, layout, Wanted::PipelineLayout)
             }
+            RequestOf::GetBindGroupLayout { pipeline, .. } => asked.ask(pipeline, Wanted::Pipeline),
             RequestOf::Finish { encoder } => asked.ask(encoder, Wanted::Encoder),
             RequestOf::FinishBundle { encoder } => asked.ask(encoder, Wanted::BundleEncoder),
             RequestOf::Submit { buffers } => {
@@ -178,8 +185,8 @@ impl<R> RequestOf<R> {
                 asked: *asked,
             }),
             RequestOf::CreateSampler { kind } => Ok(RequestOf::CreateSampler { kind: *kind }),
-            RequestOf::CreateBindGroupLayout { info } => Ok(RequestOf::CreateBindGroupLayout {
-                info: info.share()?,
+            RequestOf::CreateBindGroupLayout { entries } => Ok(RequestOf::CreateBindGroupLayout {
+                entries: entries.share()?,
             }),
             RequestOf::CreatePipelineLayout { layouts } => Ok(RequestOf::CreatePipelineLayout {
                 layouts: refs::map_items(alloc, find, layouts.as_slice())?,
@@ -190,14 +197,20 @@ impl<R> RequestOf<R> {
             }),
             RequestOf::CreateComputePipeline { layout, iface } => {
                 Ok(RequestOf::CreateComputePipeline {
-                    layout: find.find(layout)?,
+                    layout: refs::map_maybe(find, layout)?,
                     iface: iface.share()?,
                 })
             }
             RequestOf::CreateRenderPipeline { layout, desc } => {
                 Ok(RequestOf::CreateRenderPipeline {
-                    layout: find.find(layout)?,
+                    layout: refs::map_maybe(find, layout)?,
                     desc: desc.share()?,
+                })
+            }
+            RequestOf::GetBindGroupLayout { pipeline, index } => {
+                Ok(RequestOf::GetBindGroupLayout {
+                    pipeline: find.find(pipeline)?,
+                    index: *index,
                 })
             }
             RequestOf::CreateQuerySet { info } => Ok(RequestOf::CreateQuerySet { info: *info }),

@@ -3,8 +3,7 @@ ghost use Rattle.std.specs.Prelude.{◌≡◌, Some};
 ghost use Rattle.wg_types.specs.Words.{word_text, word_of};
 ghost use Rattle.wg_types.specs.declared.words.Word.{Word};
 
-/// A call of a script, by its word. All that a script may name are here, those too that are not built
-/// yet.
+/// A call of a script, by its word.
 #[derive(Clone, Copy)]
 pub enum Word {
     CreateBuffer,
@@ -16,6 +15,7 @@ pub enum Word {
     CreateBindGroup,
     CreateComputePipeline,
     CreateRenderPipeline,
+    GetBindGroupLayout,
     CreateQuerySet,
     CreateEncoder,
     CreateBundleEncoder,
@@ -64,7 +64,7 @@ pub enum Word {
 }
 
 /// The calls that a script may name.
-const WORDS: [Word; 54] = [
+const WORDS: [Word; 55] = [
     Word::CreateBuffer,
     Word::CreateTexture,
     Word::CreateView,
@@ -74,6 +74,7 @@ const WORDS: [Word; 54] = [
     Word::CreateBindGroup,
     Word::CreateComputePipeline,
     Word::CreateRenderPipeline,
+    Word::GetBindGroupLayout,
     Word::CreateQuerySet,
     Word::CreateEncoder,
     Word::CreateBundleEncoder,
@@ -136,6 +137,7 @@ impl Word {
             Word::CreateBindGroup => "createBindGroup",
             Word::CreateComputePipeline => "createComputePipeline",
             Word::CreateRenderPipeline => "createRenderPipeline",
+            Word::GetBindGroupLayout => "getBindGroupLayout",
             Word::CreateQuerySet => "createQuerySet",
             Word::CreateEncoder => "createEncoder",
             Word::CreateBundleEncoder => "createBundleEncoder",
