@@ -1,5 +1,5 @@
 -- Bind group layouts that were got of pipelines, and the bind groups that were made for them.
-use Rattle.std.proofs.Common.{◌≡◌, ℕ, zero, suc, ◌+◌, ◌<◌, ◌≤◌, List, [], ◌∷◌, ◌++◌, length, reverse, Bool, true, false, not, ◌&&◌, ◌||◌, ◌==◌, nat_lt, Option, Some, None, is_some, is_none, option_map, option_and_then, slice_get, slice_index_or, refl, ap, ap₂, sym, ◌∙◌, subst, arith, add-one, if◌then◌else◌, true≢false}
+use Rattle.std.proofs.Common.{◌≡◌, ℕ, zero, suc, ◌+◌, ◌<◌, ◌≤◌, List, [], ◌∷◌, ◌++◌, length, reverse, Bool, true, false, not, ◌&&◌, ◌||◌, ◌==◌, nat_lt, Option, Some, None, is_some, is_none, option_map, option_and_then, slice_get, get_or, slice_index_or, refl, ap, ap₂, sym, ◌∙◌, subst, arith, add-one, if◌then◌else◌, true≢false}
 use Rattle.std.specs.Option.{option_map_or}
 use Rattle.std.proofs.lemmas.Bool.{and_parts, and_left, and_right, eqb-true}
 use Rattle.std.proofs.lemmas.Bool.Decides.{nat_tests}
@@ -135,8 +135,8 @@ layout_by setup past n layout run valid e =
 
 entries_there : (layout : GroupLayoutInfo) (layouts : List GroupLayoutInfo) (index : ℕ) → nat_lt index (length layouts) ≡ true → layout.entries ≡ entries_at layouts index → AreEntriesAt layout layouts index
 entries_there layout layouts index lt same =
-    let there : slice_get layouts index ≡ Some _ = slice_get-get_or layouts index layout (grind (arith, nat_tests, lt)) in
-    record { one = _; there = there; same = same ∙ ap (λ (o : Option GroupLayoutInfo). option_map_or (λ (l : GroupLayoutInfo). l.entries) o []) there }
+    let there : slice_get layouts index ≡ Some (get_or layouts index layout) = slice_get-get_or layouts index layout (grind (arith, nat_tests, lt)) in
+    record { one = get_or layouts index layout; there = there; same = same ∙ ap (λ (o : Option GroupLayoutInfo). option_map_or (λ (l : GroupLayoutInfo). l.entries) o []) there }
 
 pub entries_are_got : EntriesAreGot
 entries_are_got setup history n index pipeline layout run valid e event = by_layout (layout_by setup (reverse history) n layout run valid e)
