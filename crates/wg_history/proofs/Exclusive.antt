@@ -156,6 +156,9 @@ owner_is : (automatic : Bool) (number pipeline : ℕ) → (if automatic then Som
 owner_is true number pipeline e = (refl, cc (e))
 owner_is false number pipeline e = absurd (cc)
 
+same_got : (a b : ObjRef) (i j : ℕ) → Some (GetBindGroupLayout a i) ≡ Some (GetBindGroupLayout b j) → a ≡ b
+same_got a b i j e = cc (e)
+
 exclusive_by : (setup : Setup) (past : Past) (n pipeline : ℕ) (layout : GroupLayoutInfo) → LayoutBy setup past n layout → layout.exclusive ≡ Some pipeline → IsOfAutomatic setup past n pipeline
 exclusive_by setup past n pipeline layout (given entries its none) e = absurd (cc)
 exclusive_by setup past n pipeline layout (got number index its same lt) e =
@@ -169,8 +172,7 @@ exclusive_by setup past n pipeline layout (got number index its same lt) e =
 exclusive_to : (setup : Setup) (past : Past) (n pipeline : ℕ) (layout : GroupLayoutInfo) → LayoutBy setup past n layout → IsOfAutomatic setup past n pipeline → layout.exclusive ≡ Some pipeline
 exclusive_to setup past n pipeline layout (given entries its none) of_automatic = let event = of_automatic.got in absurd (cc)
 exclusive_to setup past n pipeline layout (got number index its same lt) of_automatic =
-    let event = of_automatic.got in
-    let one : number ≡ pipeline = cc in
+    let one : number ≡ pipeline = ap (λ (r : ObjRef). r.number) (same_got (own_ref setup number) (own_ref setup pipeline) index of_automatic.index (sym its ∙ of_automatic.got)) in
     let automatic : option_map_or is_automatic (info_at past number) false ≡ true = ap (λ (m : ℕ). option_map_or is_automatic (info_at past m) false) one ∙ of_automatic.automatic in
     ap (λ (l : GroupLayoutInfo). l.exclusive) same ∙ (ap (λ (b : Bool). if b then Some number else None) automatic ∙ ap (λ (m : ℕ). Some m) one)
 
