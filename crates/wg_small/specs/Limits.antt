@@ -6,8 +6,7 @@ use Rattle.wg_types.specs.declared.limits.Limits.{Limits}
 use Rattle.wg_types.specs.declared.mappings.Mapping.{Mapping}
 use Rattle.wg_model.specs.Textures.{within_limits, mips_fit}
 use Rattle.wg_types.specs.declared.steps.StepPlace.TheVariants.{Op}
-use Rattle.wg_limits.specs.declared.names.LimitName.{LimitName}
-use Rattle.wg_limits.specs.Limits.{best_limits, limit_of, no_better}
+use Rattle.wg_limits.specs.Limits.{AreNoBetter}
 use Rattle.wg_rows.specs.Rows.{EachRow}
 use Rattle.wg_model.specs.Touches.{placed}
 use Rattle.wg_history.specs.declared.events.Setup.{Setup}
@@ -45,10 +44,6 @@ IsMappedWithin limits (Some m) = m.hi ≤ limits.max_buffer_size
 
 abbrev pub MappingsAreWithinLimits : Type 0
 MappingsAreWithinLimits = (setup : Setup) (history : List Entry) (n : ℕ) → Run setup history → IsMappedWithin setup.limits (mapped_at setup (reverse history) n)
-
--- No limit is better than the best that a device can have.
-abbrev pub AreNoBetter : Limits → Type 0
-AreNoBetter limits = (name : LimitName) → no_better name (limit_of name limits) (limit_of name best_limits) ≡ true
 
 -- The ranges of what valid command buffers do are small.
 abbrev pub RecordsSmallRanges : Entry → Type 0
