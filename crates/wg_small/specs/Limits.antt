@@ -19,7 +19,7 @@ use Rattle.wg_history.specs.Traces.{Trace}
 use Rattle.wg_readtrace.specs.Forms.{most_53}
 use Rattle.wg_readtrace.specs.Reading.{trace_in}
 use Rattle.wg_readback.specs.Printable.{step_count}
-use Rattle.wg_shaped.specs.Shaped.{report_of}
+use Rattle.wg_shaped.specs.Reports.{report_of}
 use Rattle.wg_small.specs.Small.{HasSmallRanges}
 
 -- A buffer has no more bytes, a texture no greater extents and no more mip levels, and a query set no more queries than allowed.
@@ -68,4 +68,4 @@ ReadsBackByRecordings =
     → length history ≤ most_53
     → EachRow RecordsSmallRanges history
     → step_count (Trace setup history) ≤ most_53 + 1
-    → trace_in (report_of history (Trace setup history)) ≡ Ok (Trace setup history)
+    → trace_in (report_of setup history) ≡ Ok (Trace setup history)
