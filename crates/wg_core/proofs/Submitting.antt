@@ -1,9 +1,5 @@
 -- The first unmet rule of a submit, over the list of what its command buffers use.
-<<<<<<< crates/wg_core/proofs/Submitting.antt
-use Rattle.std.proofs.Common.{◌≡◌, ℕ, Bool, true, false, not, ◌||◌, List, [], ◌∷◌, Option, None, sym, ap, ap₂, ◌∙◌}
-=======
 use Rattle.std.proofs.Common.{◌≡◌, ℕ, Bool, true, false, not, ◌||◌, List, [], ◌∷◌, Option, None, Some, refl, sym, ap, ap₂, ◌∙◌, if◌then◌else◌}
->>>>>>> /work/shared/designs/forgetting/crates/wg_core/proofs/Submitting.antt
 use Rattle.std.specs.List.{list_any}
 use Rattle.std.specs.Option.{option_or}
 use Rattle.wg_types.specs.declared.handles.ObjRef.{ObjRef}
@@ -16,12 +12,8 @@ use Rattle.wg_history.specs.Objects.{is_own, is_command_buffer, is_valid}
 use Rattle.wg_history.specs.Rules.{is_destroyed, is_dropped, is_consumed, are_distinct, listed_rules, together_rules, any_used, is_busy, submit_rule}
 use Rattle.wg_state.specs.declared.uses.Used.{Used}
 use Rattle.wg_state.specs.Uses.{uses_of}
-<<<<<<< crates/wg_core/proofs/Submitting.antt
 use Rattle.wg_state.proofs.UsesLemmas.{used_buffers, used_textures, used_query_sets}
-=======
-use Rattle.wg_state.proofs.UsesLemmas.{used_buffers, used_textures}
 use Rattle.wg_state.specs.Recordings.{any_spent}
->>>>>>> /work/shared/designs/forgetting/crates/wg_core/proofs/Submitting.antt
 use Rattle.wg_core.specs.Plans.{use_rules}
 
 -- whether a texture or a query set is used that is destroyed
@@ -38,12 +30,8 @@ unfolding submit_rule
 submit_found setup past buffers uses rule listed consumed distinct uses_is rule_is =
     rule_is ∙ (ap (λ us. first_unmet (use_rules setup past us)) uses_is ∙ (uses_rules setup past buffers ∙ sym (
     first_unmet_joined (listed_rules setup past buffers) (together_rules setup past buffers)
-<<<<<<< crates/wg_core/proofs/Submitting.antt
     ∙ (ap (λ o. option_or o (first_unmet (together_rules setup past buffers))) (sym listed)
     ∙ ap₂ (λ a b. first_unmet ((190, not a) ∷ ((191, b) ∷ ((192, not (any_used buffers_of (is_busy setup past) past buffers)) ∷ ((193, not (any_gone setup past buffers)) ∷ []))))) consumed distinct))))
-=======
-    ∙ (ap (λ o. or_else o (first_unmet (together_rules setup past buffers))) (sym listed)
-    ∙ ap₂ (λ a b. first_unmet ((190, not a) ∷ ((191, b) ∷ ((192, not (any_used buffers_of (is_busy setup past) past buffers)) ∷ ((193, not (any_used textures_of (is_destroyed setup past) past buffers)) ∷ []))))) consumed distinct))))
 
 -- where the rules on each command buffer are met and none was consumed, none is spent
 listed_parts : (own dropped valid : Bool) (rest : Option ℕ) → None ≡ (if own then (if not dropped then (if valid then rest else Some 12) else Some 11) else Some 10) → (dropped ≡ false) × (None ≡ rest)
@@ -62,4 +50,3 @@ unspent setup past (buffer ∷ buffers) listed consumed =
     let parts = listed_parts (is_own setup past is_command_buffer buffer) (is_dropped setup past buffer.number) (is_valid past buffer.number) (first_unmet (listed_rules setup past buffers)) listed in
     let none = none_either (is_consumed setup past buffer.number) (list_any (λ buffer. is_consumed setup past buffer.number) buffers) consumed in
     ap₂ ◌||◌ (ap₂ ◌||◌ none.0 parts.0) (unspent setup past buffers parts.1 none.1)
->>>>>>> /work/shared/designs/forgetting/crates/wg_core/proofs/Submitting.antt

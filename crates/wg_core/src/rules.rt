@@ -1,10 +1,6 @@
 //! The first unmet rule of each event.
-<<<<<<< crates/wg_core/src/rules.rt
-ghost use Rattle.std.specs.Prelude.{◌≡◌, ◌==◌, ◌&&◌, ◌+◌, ◌*◌, ◌^◌, ◌<◌, reverse, [], Some, IsNone, IfOk, IfSome};
-=======
+ghost use Rattle.std.specs.Prelude.{◌≡◌, ◌==◌, ◌&&◌, ◌+◌, ◌*◌, ◌^◌, ◌<◌, reverse, [], Some, IsNone, IfOk, IfSome, false};
 ghost use Rattle.wg_state.specs.Recordings.{any_spent};
-ghost use Rattle.std.specs.Prelude.{◌≡◌, ◌==◌, ◌&&◌, ◌+◌, ◌^◌, ◌<◌, reverse, [], Some, IsNone, IfOk, IfSome, false};
->>>>>>> /work/shared/designs/forgetting/crates/wg_core/src/rules.rt
 ghost use Rattle.std.specs.List.{list_any};
 ghost use Rattle.wg_model.specs.Rules.{first_unmet};
 ghost use Rattle.wg_core.specs.Plans.{use_rules, ending_rules, IsMapInRange};

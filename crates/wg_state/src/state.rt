@@ -36,7 +36,7 @@ use wg_maps::Maps;
 use wg_queue::Queue;
 use wg_types::handles::{Info, ObjRef};
 use wg_types::mappings::{Mapping, PendingMap};
-use wg_types::replies::{Caught, FaultKind, How, Settlements};
+use wg_types::replies::{Caught, FaultKind, How, Reply, Settlements};
 use wg_types::steps::{Deed, Item};
 
 /// What is kept beside a history.
@@ -371,7 +371,7 @@ impl State {
     }
 
     /// Adds an entry, which makes this object, of which this is known, if it makes one, and of which the
-    /// operation uses these, and its releases to a trace, in room that there is.
+    /// operation uses these, and its releases to a trace, in room that there is, and gives its reply.
     #[tactic(auto, using(crate::proofs::Recorded::left_next, crate::proofs::LifeLemmas::drops_are))]
     pub fn add(
         &mut self,
@@ -380,7 +380,7 @@ impl State {
         made: Option<Made>,
         uses: &[Used],
         trace: &mut Vec<Item>,
-    )
+    ) -> Reply
         requires answers { entry.reply ≡ reply_to self.old.setup (reverse self.old.history) entry.event }
         requires used { AreUsed (reverse self.old.history) entry.reply.answer entry.event uses.now }
         requires info { info ≡ made_info (reverse self.old.history) entry.event }
@@ -391,6 +391,7 @@ impl State {
         requires room { vec_len trace.old + (length self.old.history + 1) ≤ vec_capacity trace.old }
         ensures setup { self.new.setup ≡ self.old.setup }
         ensures history { self.new.history ≡ self.old.history ++ entry ∷ [] }
+        ensures reply { result ≡ entry.reply }
         ensures trace { trace.new.items ≡ trace.old.items ++ map free (freed self.old.setup (entry ∷ reverse self.old.history)) }
     {
         forget_spent(
@@ -411,7 +412,9 @@ impl State {
             trace,
         );
         self.book.add(&entry, info);
-        keep(entry.event, &mut self.recordings);
+        let Entry { event, reply, .. } = entry;
+        keep(event, &mut self.recordings);
         self.spare -= 1;
+        reply
     }
 }
