@@ -52,7 +52,7 @@ total_one f (row ∷ rows) (row' ∷ new) (suc k) len made same =
 bytes_push : (rows : List Row) (row : Row) → live_bytes (rows ++ row ∷ []) ≡ live_bytes rows + live_of row
 bytes_push rows row = let e = bytes_total (rows ++ row ∷ []) in let f = bytes_total rows in let h = total_push live_of rows row in omega (arith, e, f, h)
 
-count_push : (rows : List Row) (row : Row) → live_count (rows ++ row ∷ []) ≡ live_count rows + one_of row
+pub count_push : (rows : List Row) (row : Row) → live_count (rows ++ row ∷ []) ≡ live_count rows + one_of row
 count_push rows row = let e = count_total (rows ++ row ∷ []) in let f = count_total rows in let h = total_push one_of rows row in omega (arith, e, f, h)
 
 -- its key
@@ -217,10 +217,11 @@ kept_released rows new k resource live live' is live_k notes updates count bytes
 -- less and less
 
 pub less_same : (live : Live) → IsLess live live
-less_same live = record { bytes = omega arith; places = λ more has. has }
+less_same live = record { bytes = omega arith; count = omega arith; places = λ more has. has }
 
 pub less_then : (old mid new : Live) → IsLess old mid → IsLess mid new → IsLess old new
 less_then old mid new first second = record {
   bytes = let e = first.bytes in let f = second.bytes in omega (arith, e, f);
+  count = let e = first.count in let f = second.count in omega (arith, e, f);
   places = λ more has. second.places more (first.places more has);
 }
