@@ -104,9 +104,13 @@ bytes_fit rows (Some resource) budget within fits = let e = bytes_push rows (new
 
 -- a note that leaves what is live
 
+pub live_by : (rows new : List Row) → length new ≡ length rows → ((n : ℕ) → n < length rows → ((row_at new n).resource ≡ (row_at rows n).resource) × ((row_at new n).released ≡ (row_at rows n).released)) → live_count new ≡ live_count rows
+live_by rows new len same =
+    count_total new ∙ (total_same one_of rows new len (λ n lt. ap₂ (λ (o : Option Resource) (b : Bool). if is_some o && not b then 1 else 0) (same n lt).0 (same n lt).1) ∙ sym (count_total rows))
+
 kept_by : (rows new : List Row) (live : Live) → length new ≡ length rows → ((n : ℕ) → n < length rows → ((row_at new n).resource ≡ (row_at rows n).resource) × ((row_at new n).released ≡ (row_at rows n).released)) → IsKept rows live → IsKept new live
 kept_by rows new live len same kept = record {
-  count = kept.count ∙ (count_total rows ∙ sym (count_total new ∙ total_same one_of rows new len (λ n lt. ap (λ b. if b then 1 else 0) (same_live n lt))));
+  count = kept.count ∙ sym (live_by rows new len same);
   bytes = kept.bytes ∙ sym (bytes_total new ∙ (total_same live_of rows new len (λ n lt. ap₂ (λ (o : Option Resource) (b : Bool). if b then 0 else option_map_or (λ (resource : Resource). resource.bytes) o 0) (same n lt).0 (same n lt).1) ∙ sym (bytes_total rows)));
   len = kept.len ∙ sym len;
   under_key = λ n lt is. let less : n < length rows = subst (λ m. n < m) len lt in kept.under_key n less (sym (same_live n less) ∙ is);

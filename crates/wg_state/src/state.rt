@@ -11,6 +11,7 @@ ghost use Rattle.wg_history.specs.Answers.{Run, reply_to, settle_all, kept_how, 
 ghost use Rattle.wg_history.specs.Releases.{freed};
 ghost use Rattle.wg_maps.specs.Mappings.{due_maps};
 ghost use Rattle.wg_state.specs.Rows.{AreUsed, made_by, links_of};
+ghost use Rattle.wg_life.specs.Lives.{live_count};
 ghost use Rattle.wg_state.specs.States.{IsKept};
 ghost use Rattle.wg_state.specs.Waits.{map_waits};
 ghost use Rattle.wg_state.specs.Uses.{uses_of};
@@ -72,7 +73,7 @@ fn note(
     requires queue_place { 0 < kept.old.queue.spare }
     requires errors_place { 0 < kept.old.errors.spare }
     requires maps_place { 0 < kept.old.maps.spare }
-    requires room { vec_len trace.old + (length book.now.entries + 1) ≤ vec_capacity trace.old }
+    requires room { vec_len trace.old + (live_count kept.old.life.rows + 1) ≤ vec_capacity trace.old }
     ensures kept { IsKept setup (entry.now ∷ reverse book.now.entries) kept.new.life kept.new.queue kept.new.errors kept.new.maps }
     ensures trace { trace.new.items ≡ trace.old.items ++ map free (freed setup (entry.now ∷ reverse book.now.entries)) }
     ensures spare { kept.old.life.spare ≤ kept.new.life.spare + 1 }
@@ -89,8 +90,8 @@ fn note(
 }
 
 /// A device's history, with what it says kept beside it. Contracts see what the device was opened
-/// with, the history, which is a run, for how many entries there is room, and for how many holds of
-/// objects.
+/// with, the history, which is a run, for how many entries there is room, for how many holds of objects,
+/// and how many resources are not released. The history is in the contracts alone.
 #[derive(Drop)]
 pub struct State {
     setup: Setup,
@@ -104,11 +105,12 @@ pub struct State {
 impl Model for State {
     ghost use Rattle.std.specs.Prelude.{◌≡◌, ◌≤◌, reverse};
     ghost use Rattle.wg_state.specs.States.{StateValue, IsKept};
+    ghost use Rattle.wg_life.specs.Lives.{live_count};
     ghost use Rattle.wg_state.specs.Recordings.{AreLeft};
 
     ghost Value = { StateValue };
 
-    ghost view = { λ s. record { setup = s.setup; history = s.book.entries; run = s.run; spare = s.spare; room = s.kept.life.room } };
+    ghost view = { λ s. record { setup = s.setup; history = s.book.entries; run = s.run; spare = s.spare; room = s.kept.life.room; live = live_count s.kept.life.rows } };
 
     ghost invariant = { λ s. record {
       device_is : s.book.device ≡ s.setup.serial;
@@ -352,10 +354,18 @@ impl State {
         names::made_by(alloc, event, info, valid)
     }
 
+    /// How many resources are not released.
+    pub fn live(&self) -> u64
+        ensures { result ≡ self.now.live }
+    {
+        self.kept.life.live()
+    }
+
     /// Makes room for one entry more, which makes this object, if it makes one.
     pub fn reserve(&mut self, made: &Option<Made>) -> Result<(), NoMemory>
         ensures setup { self.new.setup ≡ self.old.setup }
         ensures history { self.new.history ≡ self.old.history }
+        ensures live { self.new.live ≡ self.old.live }
         ensures room { OnOk result (0 < self.new.spare) }
         ensures links { OnOk result (links_of made.now < self.new.room) }
         ensures small { OnOk result (length self.new.history + 1 < 2 ^ 64) }
@@ -371,7 +381,8 @@ impl State {
     }
 
     /// Adds an entry, which makes this object, of which this is known, if it makes one, and of which the
-    /// operation uses these, and its releases to a trace, in room that there is, and gives its reply.
+    /// operation uses these, and its releases to a trace, in room that there is for all that is live and
+    /// one more, and gives its reply.
     #[tactic(auto, using(crate::proofs::Recorded::left_next, crate::proofs::LifeLemmas::drops_are))]
     pub fn add(
         &mut self,
@@ -388,7 +399,7 @@ impl State {
         requires place { 0 < self.old.spare }
         requires links { links_of made < self.old.room }
         requires small { length self.old.history + 1 < 2 ^ 64 }
-        requires room { vec_len trace.old + (length self.old.history + 1) ≤ vec_capacity trace.old }
+        requires room { vec_len trace.old + (self.old.live + 1) ≤ vec_capacity trace.old }
         ensures setup { self.new.setup ≡ self.old.setup }
         ensures history { self.new.history ≡ self.old.history ++ entry ∷ [] }
         ensures reply { result ≡ entry.reply }
