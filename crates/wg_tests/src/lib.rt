@@ -25,6 +25,8 @@ mod render;
 #[cfg(test)]
 mod slices;
 #[cfg(test)]
+mod steps;
+#[cfg(test)]
 mod tests;
 #[cfg(test)]
 mod threads;
