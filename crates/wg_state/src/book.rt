@@ -10,7 +10,7 @@ use wg_groups::making::Known;
 use wg_history::NoMemory;
 use wg_history::events::{Entry, Event};
 use wg_hub::{Hub, Made};
-use wg_told::Told;
+use wg_ghost::GhostList;
 use wg_types::handles::{Info, ObjRef};
 use wg_types::replies::Answer;
 use wg_types::textures::TextureInfo;
@@ -19,7 +19,7 @@ use wg_types::textures::TextureInfo;
 /// the serial of its device, its entries, and the number of those that it has room for.
 #[derive(Drop)]
 pub struct Book {
-    entries: Told<Entry>,
+    entries: GhostList<Entry>,
     len: u64,
     hub: Hub,
     spare: usize,
@@ -56,7 +56,7 @@ impl Book {
         ensures { result ≡ record { device = device; entries = []; spare = 0 } }
     {
         Book {
-            entries: Told::new(),
+            entries: GhostList::new(),
             len: 0,
             hub: Hub::new(alloc, device),
             spare: 0,
