@@ -162,8 +162,10 @@ fn count_of(rt: &HostRuntime) -> u32 {
 fn main(rt: HostRuntime) -> ExitCode {
     match drive(rt.alloc(), count_of(&rt)) {
         Ok((entries, items)) => {
-            println!(rt; "entries {} items {}", entries, items);
-            ExitCode::SUCCESS
+            match println!(rt; "entries {} items {}", entries, items) {
+                Ok(()) => ExitCode::SUCCESS,
+                Err(_) => ExitCode::from(5),
+            }
         }
         Err(NoMemory) => ExitCode::from(6),
     }
