@@ -25,13 +25,13 @@ still_dropped n (w ∷ ws) (suc k) le point =
 pub rotated_cut : (ws : List Waiting) (k : ℕ) → k ≤ length ws → take (length ws - k) (drop k ws ++ take k ws) ≡ drop k ws
 rotated_cut ws k le = ap (λ n. take n (drop k ws ++ take k ws)) (sym (length-drop k ws)) ∙ take_whole (drop k ws) (take k ws)
   where
-    take_whole : (xs ys : List Waiting) → take (length xs) (xs ++ ys) ≡ xs
-    take_whole [] ys = take_zero ys
-    take_whole (x ∷ xs) ys = ap (λ zs. x ∷ zs) (take_whole xs ys)
-
     take_zero : (ys : List Waiting) → take 0 ys ≡ []
     take_zero [] = refl
     take_zero (y ∷ ys) = refl
+
+    take_whole : (xs ys : List Waiting) → take (length xs) (xs ++ ys) ≡ xs
+    take_whole [] ys = take_zero ys
+    take_whole (x ∷ xs) ys = ap (λ zs. x ∷ zs) (take_whole xs ys)
 
 -- What is in order is so without the first.
 pub cut_in_order : (issued : ℕ) (ws : List Waiting) (k : ℕ) → k ≤ length ws → IsInOrder issued ws → IsInOrder issued (drop k ws)

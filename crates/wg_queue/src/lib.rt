@@ -49,7 +49,6 @@ fn count_due(waiting: &[Waiting], n: u64) -> usize
 }
 
 /// Takes the first promises out.
-#[tactic(auto, using(crate::proofs::Due::rotated_cut))]
 fn cut(waiting: &mut Vec<Waiting>, settled: usize)
     requires { settled ≤ vec_len waiting.old }
     ensures items { waiting.new.items ≡ drop settled waiting.old.items }
