@@ -464,7 +464,9 @@ pub fn first_rule(
         Event::CreateBuffer { info } => create_buffer(state, info),
         Event::CreateTexture { info } => create_texture(state, info),
         Event::CreateView { texture, desc } => create_view(state, *texture, desc),
-        Event::CreateBindGroupLayout { info } => group_rules::create_bind_group_layout(state, info),
+        Event::CreateBindGroupLayout { entries } => {
+            group_rules::create_bind_group_layout(state, entries.get().as_slice())
+        }
         Event::CreatePipelineLayout { layouts } => {
             group_rules::create_pipeline_layout(state, layouts.as_slice(), made)
         }
@@ -472,10 +474,13 @@ pub fn first_rule(
             group_rules::create_bind_group(state, *layout, entries.as_slice(), made)
         }
         Event::CreateComputePipeline { layout, iface } => {
-            group_rules::create_compute_pipeline(state, *layout, iface, made)
+            group_rules::create_compute_pipeline(alloc, state, *layout, iface, made)?
         }
         Event::CreateRenderPipeline { layout, desc } => {
-            group_rules::create_render_pipeline(state, *layout, desc, made)
+            group_rules::create_render_pipeline(alloc, state, *layout, desc, made)?
+        }
+        Event::GetBindGroupLayout { pipeline, index } => {
+            group_rules::get_bind_group_layout(state, *pipeline, *index)
         }
         Event::CreateQuerySet { info } => create_query_set(state, info),
         Event::CreateBundleEncoder { targets } => create_bundle_encoder(state, targets.get()),

@@ -5,6 +5,8 @@
 #[cfg(test)]
 mod access;
 #[cfg(test)]
+mod automatic;
+#[cfg(test)]
 mod bundles;
 #[cfg(test)]
 mod calls;
