@@ -3,7 +3,7 @@ use Rattle.std.specs.Prelude.{slice_index_or}
 use Rattle.std.specs.List.{list_all, flat_map}
 use Rattle.std.specs.Option.{option_map_or}
 use Rattle.std.proofs.Common.{◌≡◌, ℕ, zero, suc, ◌+◌, ◌≤◌, ◌==◌, List, [], ◌∷◌, ◌++◌, map, Bool, true, false, Option, Some, None, refl, arith, if◌then◌else◌}
-use Rattle.std.proofs.lemmas.Bool.{and_parts, leb-true}
+use Rattle.std.proofs.lemmas.Bool.{and_parts, and_from, leb-true}
 use Rattle.wg_types.specs.Handles.{HandleValue}
 use Rattle.wg_types.specs.Bindings.{entry_of}
 use Rattle.wg_types.specs.Commands.{Command}
@@ -58,11 +58,7 @@ all_parts [] ys e = (refl, e)
 all_parts (x ∷ xs) ys e =
     let first = and_parts (place_fits x) (list_all place_fits (xs ++ ys)) e in
     let rest = all_parts xs ys first.1 in
-    (both (place_fits x) first.0 rest.0, rest.1)
-  where
-    both : (b : Bool) → b ≡ true → list_all place_fits xs ≡ true → (if b then list_all place_fits xs else false) ≡ true
-    both true e h = h
-    both false e h = e
+    (and_from (place_fits x) (list_all place_fits xs) first.0 rest.0, rest.1)
 
 places_small : (layout : List LayoutEntry) (offsets : List ℕ) (entries : List BoundEntry) → AreSmallEntries entries → list_all place_fits (flat_map (entry_places layout offsets) entries) ≡ true
     → AreSmallPlaces (flat_map (entry_places layout offsets) entries)

@@ -26,7 +26,7 @@ use Rattle.wg_small.proofs.Ranges.{ranges, ranges_closed}
 use Rattle.wg_small.proofs.Stepped.{ranges_told}
 use Rattle.wg_ranged.proofs.Known.{AreSmallTouched}
 use Rattle.wg_ranged.proofs.Bound.{AreSmallTouches}
-use Rattle.wg_ranged.proofs.Met.{IsSmallCommand, AreSmallCommands}
+use Rattle.wg_ranged.proofs.Meeting.{IsSmallCommand, AreSmallCommands}
 use Rattle.wg_ranged.proofs.Copies.{IsSmallDoing}
 use Rattle.wg_ranged.proofs.Passes.{bundle_over_small}
 

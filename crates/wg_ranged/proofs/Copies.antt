@@ -20,7 +20,7 @@ use Rattle.wg_model.specs.Touches.{Touch, Doing, unless, copy_src_usage, copy_ds
 use Rattle.wg_model.specs.Walk.{encoder_gives}
 use Rattle.wg_ranged.proofs.Known.{IsSmallTexture, IsSmallHandle, buffer_small, texture_small, queries_small}
 use Rattle.wg_ranged.proofs.Bound.{AreSmallTouches, mapped_small, both_touched}
-use Rattle.wg_ranged.proofs.Met.{none_met, IsSmallCommand}
+use Rattle.wg_ranged.proofs.Meeting.{none_met, IsSmallCommand}
 
 -- a step of small ranges
 abbrev pub IsSmallDoing : Doing → Type 0

@@ -51,7 +51,7 @@ use Rattle.wg_small.specs.Limits.{RecordsSmallRanges}
 use Rattle.wg_small.proofs.Limited.{made_known}
 use Rattle.wg_ranged.specs.Ranged.{RecordingsAreSmall}
 use Rattle.wg_ranged.proofs.Known.{IsSmallTexture, AreSmallEntries, IsSmallInfo, IsSmallHandle, small_texture, no_texture_small}
-use Rattle.wg_ranged.proofs.Met.{AreSmallNamed, IsSmallCommand}
+use Rattle.wg_ranged.proofs.Meeting.{AreSmallNamed, IsSmallCommand}
 use Rattle.wg_ranged.proofs.Copies.{IsSmallDoing, encoder_small}
 use Rattle.wg_ranged.proofs.Passes.{pass_does_small}
 use Rattle.wg_ranged.proofs.Bundled.{none_is, step_small, bundle_of_small}

@@ -1,6 +1,6 @@
 pub mod Known
 pub mod Bound
-pub mod Met
+pub mod Meeting
 pub mod Copies
 pub mod Passes
 pub mod Bundled

@@ -46,7 +46,7 @@ use Rattle.wg_small.specs.Small.{HaveSmallRange}
 use Rattle.wg_ranged.proofs.Known.{AreSmall, AreSmallTouched, IsSmallTexture, IsSmallInfo, IsSmallHandle, queries_small, attached_small, attachment_small}
 use Rattle.wg_ranged.proofs.Bound.{IsSmallTouch, AreSmallTouches, mapped_small, both_touched, IsGivenSmall, AreSetSmall, given_small, more_set, bound_small, touched_places}
 use Rattle.wg_shaped.proofs.Walked.{or_none}
-use Rattle.wg_ranged.proofs.Met.{none_met, met_front, met_behind, AreSmallNamed, IsSmallCommand, AreSmallCommands, AreValid, all_valid, command_valid}
+use Rattle.wg_ranged.proofs.Meeting.{none_met, met_front, met_behind, AreSmallNamed, IsSmallCommand, AreSmallCommands, AreValid, all_valid, command_valid}
 use Rattle.wg_ranged.proofs.Copies.{IsSmallDoing, IsDoneSmall, range_small}
 
 -- what is set in a compute pass

@@ -1,8 +1,10 @@
 -- A report has no fewer bytes than the history has entries, and than the trace has steps.
-use Rattle.std.proofs.Common.{◌≡◌, ℕ, ◌+◌, ◌≤◌, List, [], ◌∷◌, ◌++◌, map, length, codes, decimal, sym, ◌∙◌, arith}
+use Rattle.std.proofs.Common.{◌≡◌, ℕ, ◌+◌, ◌≤◌, List, [], ◌∷◌, ◌++◌, map, length, codes, decimal, sym, arith}
 use Rattle.std.specs.List.{flat_map}
 use Rattle.std.proofs.lemmas.List.{length-append, length-map}
 use Rattle.wg_types.specs.Words.{step_name_text}
+use Rattle.wg_types.specs.declared.replies.Reply.{Reply}
+use Rattle.wg_types.specs.declared.replies.Verb.{Verb}
 use Rattle.wg_types.specs.declared.steps.Item.{Item}
 use Rattle.wg_types.specs.declared.steps.Item.TheVariants.{Bar, Step as StepItem, Free}
 use Rattle.wg_print.specs.Entries.{verb_text, answer_text, fault_text, settled_text, entry_text}
@@ -28,13 +30,20 @@ first_length xs ys = let both = length-append xs ys in omega (arith, both)
 last_length : (xs ys : List ℕ) → length ys ≤ length (xs ++ ys)
 last_length xs ys = let both = length-append xs ys in omega (arith, both)
 
-entry_has : (n : ℕ) (entry : Told) → 1 ≤ length (told_line n entry)
+line_has : (n who : ℕ) (verb : Verb) (reply : Reply) → 1 ≤ length (entry_text n who verb reply)
 unfolding entry_text
-entry_has n (who, verb, reply) =
-    let rest : List ℕ = decimal who ++ codes " " ++ verb_text verb ++ codes " " ++ answer_text reply.answer ++ fault_text reply.fault ++ settled_text reply.settled ++ codes "\n" in
-    let both = length-append (decimal n) (codes " " ++ rest) in
-    let more : length (codes " " ++ rest) ≡ length rest + 1 = omega arith in
-    omega (arith, both, more)
+line_has n who verb reply =
+    let front : List ℕ = decimal n ++ codes " " ++ decimal who ++ codes " " ++ verb_text verb ++ codes " " ++ answer_text reply.answer ++ fault_text reply.fault ++ settled_text reply.settled in
+    last_length front (codes "\n")
+
+entry_has : (n : ℕ) (entry : Told) → 1 ≤ length (told_line n entry)
+entry_has n entry = line_has n entry.0 entry.1 entry.2
+
+chain : {a b c : ℕ} → a ≤ b → b ≤ c → a ≤ c
+chain first second = omega (arith, first, second)
+
+chained : {a b c d : ℕ} → a ≡ b → b ≤ c → c ≤ d → a ≤ d
+chained same first second = omega (arith, same, first, second)
 
 entries_length : (n : ℕ) (entries : List Told) → length entries ≤ length (numbered told_after told_line n entries)
 entries_length n [] = omega arith
@@ -64,19 +73,22 @@ items_length n (Free object sort ∷ items) =
 
 history_length : (history : List Entry) (trace : List Item) → length history ≤ length (report_text history trace)
 history_length history trace =
-    let entries = entries_length 0 (map told history) in
-    let same = length-map history told in
-    let before = last_length (line_text (codes "history")) (entries_text (map told history)) in
-    let behind = first_length (history_text (map told history)) (line_text (codes "trace") ++ items_text trace ++ line_text (codes "end")) in
-    omega (arith, entries, same, before, behind)
+    let text : List ℕ = history_text (map told history) in
+    let entries : length (map told history) ≤ length (entries_text (map told history)) = entries_length 0 (map told history) in
+    let same : length (map told history) ≡ length history = length-map history told in
+    let before : length (entries_text (map told history)) ≤ length text = last_length (line_text (codes "history")) (entries_text (map told history)) in
+    let line : length text ≤ length (text ++ line_text (codes "trace")) = first_length text (line_text (codes "trace")) in
+    let items : length (text ++ line_text (codes "trace")) ≤ length (text ++ line_text (codes "trace") ++ items_text trace) = first_length (text ++ line_text (codes "trace")) (items_text trace) in
+    let end : length (text ++ line_text (codes "trace") ++ items_text trace) ≤ length (report_text history trace) = first_length (text ++ line_text (codes "trace") ++ items_text trace) (line_text (codes "end")) in
+    chained (sym same) entries (chain before (chain line (chain items end)))
 
 trace_length : (history : List Entry) (trace : List Item) → step_count trace ≤ length (report_text history trace)
 trace_length history trace =
-    let items = items_length 0 trace in
-    let end = first_length (items_text trace) (line_text (codes "end")) in
-    let line = last_length (line_text (codes "trace")) (items_text trace ++ line_text (codes "end")) in
-    let before = last_length (history_text (map told history)) (line_text (codes "trace") ++ items_text trace ++ line_text (codes "end")) in
-    omega (arith, items, end, line, before)
+    let text : List ℕ = history_text (map told history) in
+    let items : step_count trace ≤ length (items_text trace) = items_length 0 trace in
+    let before : length (items_text trace) ≤ length (text ++ line_text (codes "trace") ++ items_text trace) = last_length (text ++ line_text (codes "trace")) (items_text trace) in
+    let end : length (text ++ line_text (codes "trace") ++ items_text trace) ≤ length (report_text history trace) = first_length (text ++ line_text (codes "trace") ++ items_text trace) (line_text (codes "end")) in
+    chain items (chain before end)
 
 pub steps_are_small : StepsAreSmall
 steps_are_small setup history run best fixed = ranges_of_recordings setup history run best (recordings_are_small setup history run best fixed)

@@ -21,7 +21,7 @@ use Rattle.wg_model.specs.Subresources.{first_layer, end_layer, texture_cells, c
 use Rattle.wg_model.specs.TexelCopies.{lies_in, spans, spot_fits}
 use Rattle.wg_readtrace.specs.Forms.{most_32}
 use Rattle.wg_small.specs.Small.{IsSmallRange, HaveSmallRange}
-use Rattle.wg_small.specs.Limits.{AreNoBetter}
+use Rattle.wg_limits.specs.Limits.{AreNoBetter}
 
 -- A number is below its power of two.
 below_power : (n : ℕ) → n < 2 ^ n

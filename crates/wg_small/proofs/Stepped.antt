@@ -52,7 +52,8 @@ use Rattle.wg_history.proofs.Runs.{newest, others}
 use Rattle.wg_history.proofs.Tests.{met_before}
 use Rattle.wg_shaped.proofs.Groups.{If, Each, group_each, both_each, listed_each}
 use Rattle.wg_small.specs.Small.{IsSmallRange, HasSmallRanges}
-use Rattle.wg_small.specs.Limits.{IsMappedWithin, AreNoBetter, RecordsSmallRanges, RangesOfRecordings, ReadsBackByRecordings}
+use Rattle.wg_limits.specs.Limits.{AreNoBetter}
+use Rattle.wg_small.specs.Limits.{IsMappedWithin, RecordsSmallRanges, RangesOfRecordings, ReadsBackByRecordings}
 use Rattle.wg_small.proofs.Doings.{OfParts, IsTold, TouchHas, doing_has}
 use Rattle.wg_small.proofs.Objects.{line_same}
 use Rattle.wg_small.proofs.Ranges.{ranges, ranges_closed}
