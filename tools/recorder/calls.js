@@ -23,7 +23,7 @@ function setting(recording, on, slot, make) {
 function drawing(recording, on, call) {
   const { marks, name } = of(recording, on);
   for (const outside of marks.values()) throw outside;
-  return { call: slim({ ...call, on: name }) };
+  return { call: { do: call.do, on: name, ...call } };
 }
 // A null unsets what is set. A script cannot say so, and leaves it out.
 function unsetting(recording, on, slot, word) {
