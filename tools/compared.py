@@ -34,14 +34,30 @@ class Verdict:
 
     def __init__(self, number, call, at, how, core, browser, why=None):
         self.number, self.call, self.at, self.how, self.core, self.browser, self.why = number, call, at, how, core, browser, why
+        self.word = call.word if call is not None else None
+
+    def place(self):
+        return f"at call {self.number}"
 
     def text(self):
-        where = f"call {self.number}" + (f", {self.at}" if self.at else "")
+        where = self.place() + (f", {self.at}" if self.at else "")
         why = f" ({self.why})" if self.why else ""
-        return f"{self.how} at {where}: {self.call.word}: core {self.core}; browser {self.browser}{why}"
+        return f"{self.how} {where}: {self.word}: core {self.core}; browser {self.browser}{why}"
 
     def json(self):
-        return {"call": self.number, "do": self.call.word, "at": self.at, "verdict": self.how, "core": self.core, "browser": self.browser, "why": self.why}
+        return {"call": self.number, "do": self.word, "at": self.at, "verdict": self.how, "core": self.core, "browser": self.browser, "why": self.why}
+
+
+class Passed(Verdict):
+    """What is told of a call that the script does not have, and that the browser refused."""
+
+    def __init__(self, passed):
+        why = f"no script has it: {listed([passed['outside']])}" + (f", {passed['detail']}" if passed.get("detail") else "")
+        super().__init__(passed["before"], None, passed.get("at"), OUTSIDE, "has it not", browser_of(passed), why)
+        self.word = passed["do"]
+
+    def place(self):
+        return f"before call {self.number}"
 
 
 class Compared:
@@ -58,6 +74,9 @@ class Compared:
         except (NotJson, DoNotMatch, reports.NotReport) as error:
             self.refused = f"the report is not of the script: {error}"
             return
+        for passed in self.answers.passed:
+            if "error" in passed or "throws" in passed:
+                self.verdicts.append(Passed(passed))
         self.settled = {promise: how for entry in self.beside.report.entries for promise, how in entry.settled}
         for number, call in enumerate(self.beside.script.calls):
             self.compare(number, call)
@@ -82,18 +101,19 @@ class Compared:
         told = re.sub(r" \d+$", "", core) if core is not None else None
         if told == browser or self.is_count_off and call.word != "popErrorScope":
             return
-        how, why = DIFFERS, None
+        how, why = self.reason(call, None, {}, (told, browser))
         if call.word == "popErrorScope" and self.is_scope_off:
             how, why = FOLLOWS, "an earlier difference was caught by this scope, or was not"
+        self.tainted |= self.names(call)
         words = f"settles {core}" if core is not None else "does not settle it"
         self.verdicts.append(Verdict(number, call, self.pages.at(call), how, words, f"settles {browser}", why))
 
-    def reason(self, call, fault, answer):
-        """Why two answers differ, as far as that is known: the verdict and its words."""
+    def reason(self, call, fault, answer, settled=None):
+        """Why two answers differ, in `settled` how they settle a promise, as far as that is known: the verdict and its words."""
         if self.names(call) & self.tainted:
             return FOLLOWS, "it names what came of an earlier difference"
         for row in TABLE["known"]:
-            if is_of(row, call, fault, answer):
+            if is_of(row, call, fault, answer, settled):
                 return KNOWN, f"docs/coverage.md, \"{row['row']}\""
         left = [word for word in answer.get("left", []) if not recorder.OUTSIDE.get(word, {}).get("harmless")]
         if fault is None and left:
@@ -145,7 +165,8 @@ class Compared:
         lines = [verdict.text() for verdict in agreed[:1]] + ([f"and at {count(len(agreed) - 1, 'further call')}"] if len(agreed) > 1 else [])
         others = [verdict for verdict in self.verdicts if verdict.how not in (AGREES, FOLLOWS)]
         lines += [verdict.text() for verdict in others[:LONGEST]] + ([f"and at {count(len(others) - LONGEST, 'further call')}"] if len(others) > LONGEST else [])
-        lines += [f"{count(len(self.of(FOLLOWS)), 'call')} that follow from these"] if self.of(FOLLOWS) else []
+        follow = len(self.of(FOLLOWS))
+        lines += [f"{count(follow, 'call')} that {'follows' if follow == 1 else 'follow'} from an earlier one"] if follow else []
         lines += [noted(note) for note in self.answers.notes]
         return lines + ([f"left out, since no script says it: {'; '.join(self.left())}"] if self.left() else [])
 
@@ -156,7 +177,9 @@ class Compared:
 def same_error(fault, answer):
     """Whether the browser's error is that of the program: thrown where the standard throws, and else of its kind and in its scope."""
     kind, number, caught = fault
-    return number in THROWS if "throws" in answer else (kind, caught) == (answer["error"], answer["caught"])
+    if "throws" in answer:
+        return number in THROWS
+    return (kind, caught) == (answer["error"], answer["caught"])
 
 
 def core_of(fault):
@@ -175,13 +198,17 @@ def browser_of(answer):
     return f"refuses it ({answer['error']}, {answer['caught']}): {lines[0] if lines else 'it says nothing'}"
 
 
-def is_of(row, call, fault, answer):
-    """Whether a difference is one that is known: the rule of the program, the words of the browser, and the call, as far as the row has them."""
-    if "rules" in row and (fault is None or fault[1] not in row["rules"]) or "rules" not in row and fault is not None:
-        return False
-    if "says" in row and not re.search(row["says"], answer.get("message", "")):
-        return False
-    return "calls" not in row or call.word in row["calls"]
+def is_of(row, call, fault, answer, settled):
+    """Whether a difference is one that is known: by the rule of the program, the words of the browser, and the call, as far as the row has them."""
+    holds = [
+        fault is None if "rules" not in row else fault is not None and fault[1] in row["rules"],
+        settled is None if "settled" not in row else settled == tuple(row["settled"]),
+        "says" not in row or re.search(row["says"], answer.get("message", "")) is not None,
+        "error" not in row or answer.get("error") == row["error"],
+        "settles" not in row or answer.get("settle") == row["settles"],
+        "calls" not in row or call.word in row["calls"],
+    ]
+    return all(holds)
 
 
 def listed(words):

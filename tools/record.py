@@ -17,7 +17,7 @@ import browser
 import ends
 import recorder
 
-FRAMES, SECONDS, IDLE = 3, 10, 700
+FRAMES, SECONDS, IDLE = 3, 30, 1000
 # What a browser takes to start and to hand over what was recorded, in seconds.
 BESIDE = 45
 HAND = "wgsimRecordHand"
@@ -117,6 +117,8 @@ def recorded(page, named, frames=FRAMES, seconds=SECONDS):
         raise ends.End(ends.UNREAD, f"{page}: the browser cannot open it: {visit.failed}")
     if found is None:
         raise ends.End(ends.NO_ANSWER, f"{page}: the browser told nothing within {seconds + BESIDE} seconds" + "".join(f"\n    {line}" for line in visit.said[:3]))
+    if address != page:
+        found["page"] = os.path.basename(page)
     found["elsewhere"], found["said"] = list(dict.fromkeys(visit.elsewhere)), visit.said[:10]
     return found
 

@@ -2,6 +2,7 @@
 
 const contexts = new WeakMap();        // of a context: its recording, its name, how it is configured, and its texture
 const current = new Set();             // those that have a texture; `frame` is the update in which it was asked for, or null outside of one
+const expected = new Set();            // what the page wants to be called for in the next update
 let frame = -1, isInFrame = false;
 
 function present(canvas) {
@@ -18,7 +19,7 @@ function made(canvas, width, height, place) {
 function configure(context, was, args) {
   const described = args[0], recording = recordingOf(described && described.device), act = () => was.apply(context, args);
   if (!recording || recording.ended) return act();
-  const answer = {}, result = recording.watch(answer, act), place = placeHere(), { width, height } = context.canvas;
+  const answer = {}, result = recording.watch(answer, act), place = here, { width, height } = context.canvas;
   let canvas = contexts.get(context);
   if (canvas && canvas.texture) present(canvas);
   if (!canvas || canvas.recording !== recording) contexts.set(context, canvas = { recording, name: null });
@@ -39,7 +40,7 @@ function configured(canvas, width, height, place, answer) {
 function currentTexture(context, was, args) {
   const canvas = contexts.get(context), act = () => was.apply(context, args);
   if (!canvas || canvas.recording.ended) return act();
-  const { recording } = canvas, answer = {}, texture = recording.watch(answer, act), place = placeHere();
+  const { recording } = canvas, answer = {}, texture = recording.watch(answer, act), place = here;
   if (texture === canvas.texture) return texture;
   if (canvas.texture) present(canvas);
   if (canvas.isOutside) { known.set(texture, { recording, outside: new Outside('canvas format') }); return texture; }
@@ -71,19 +72,29 @@ function expire(now) {
   for (const canvas of current) if (canvas.texture && canvas.frame !== null && canvas.frame !== now) present(canvas);
 }
 
-function wrapCanvases() {
-  globalThis.requestAnimationFrame = act => nextFrame(time => {
-    if (time !== frame) {              // the task at the end of an update may come after the next one has begun, so that this looks too
-      expire(time);
-      frame = time;
-      isInFrame = true;
-      later(() => {
-        if (frame === time) isInFrame = false;
-        expire(isInFrame ? frame : -1);
-      });
-    }
-    return act(time);
+// An update has begun. The task at its end may come after the next one has begun, so that this looks too.
+function update(time) {
+  expire(time);
+  frame = time;
+  isInFrame = true;
+  later(() => {
+    if (frame === time) isInFrame = false;
+    expire(isInFrame ? frame : -1);
   });
+}
+
+function wrapCanvases() {
+  globalThis.requestAnimationFrame = act => {
+    const number = nextFrame(time => {
+      expected.delete(number);
+      if (time !== frame) update(time);
+      return act(time);
+    });
+    expected.add(number);
+    return number;
+  };
+  const cancel = globalThis.cancelAnimationFrame && globalThis.cancelAnimationFrame.bind(globalThis);
+  if (cancel) globalThis.cancelAnimationFrame = number => { expected.delete(number); cancel(number); };
   wrap('GPUCanvasContext', 'configure', function (was, args) { return configure(this, was, args); });
   wrap('GPUCanvasContext', 'getCurrentTexture', function (was, args) { return currentTexture(this, was, args); });
   wrap('GPUCanvasContext', 'unconfigure', function (was, args) {

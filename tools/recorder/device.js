@@ -16,13 +16,22 @@ class Outside extends Error {
 
 const kindOf = error => error instanceof GPUValidationError ? 'validation' : error instanceof GPUOutOfMemoryError ? 'out-of-memory' : 'internal';
 
-// An error of which only the stack is wanted, which is put into words at the end.
-function placeHere() {
-  const deepest = Error.stackTraceLimit;
-  Error.stackTraceLimit = 12;
-  const place = new Error();
-  Error.stackTraceLimit = deepest;
-  return place;
+// The place in the page of the call that is being noted: an error, of which the stack alone is wanted, and that is put into words at the end.
+// Taking a stack is most of what the recorder costs, so that it is taken in the function that the page calls, and holds few places.
+const DEEPEST = 3;
+let here = null;
+
+// How many bytes a call takes in a script at most; a list that is too long for one takes too many.
+function bytesOf(call) {
+  let bytes = 4;
+  for (const key in call) {
+    const value = call[key];
+    bytes += key.length + 6;
+    if (typeof value === 'number') bytes += 17;
+    else if (typeof value === 'string') bytes += value.length + 2;
+    else bytes += Array.isArray(value) && value.length > MAX_ITEMS ? MAX_BYTES : JSON.stringify(value).length * 2;
+  }
+  return bytes;
 }
 
 class Recording {
@@ -58,7 +67,7 @@ class Recording {
     this.counts[letter] = (this.counts[letter] || 0) + 1;
     return letter + (this.counts[letter] - 1);
   }
-  note(note) { this.notes.push({ before: this.calls.length, ...note }); }
+  note(note) { if (!this.ended) this.notes.push({ before: this.calls.length, ...note }); }
   end(why) { if (!this.ended) this.ended = { call: this.calls.length, why }; }
 
   // Something of the call that the script does not say.
@@ -68,12 +77,13 @@ class Recording {
   }
 
   // Adds a call to the script, and returns what will hold the browser's answer to it.
-  write(call, place = placeHere(), answer = {}) {
+  write(call, place = here, answer = {}) {
     answer.do = call.do;
     this.last = performance.now();
+    if (this.ended) return answer;
+    this.bytes += bytesOf(call);
     if (this.calls.length >= MAX_CALLS) this.end('a script has at most 65,536 calls');
-    else if (!this.ended && Object.values(call).some(value => Array.isArray(value) && value.length > MAX_ITEMS)) this.end('a list of a script has at most 1,024 items');
-    else if ((this.bytes += JSON.stringify(call).length + 4) > MAX_BYTES) this.end('a script has at most 4,194,304 bytes');
+    else if (this.bytes > MAX_BYTES) this.end('a script has at most 4,194,304 bytes, and a list of it 1,024 items');
     if (this.ended) return answer;
     this.calls.push(call);
     this.answers.push(answer);

@@ -1,7 +1,6 @@
 // The end of a recording: what was noted is put into one text, which the tool takes over, or which is saved as a file.
 
 const LONGEST = 3000;                  // how long promises of the page are waited for at the end, in milliseconds
-const DEEPEST = 4;                     // how many places of a call are kept: its own, and those that called that
 const OWN = /wgsim-record\.js$/;
 const IN_WORDS = [/^\s*at (?:async )?(?:(.*?) \()?((?:\w+:|<).*?):(\d+):(\d+)\)?$/, /^(.*?)@(.+?):(\d+):(\d+)$/];
 
@@ -57,15 +56,17 @@ async function save() {
 }
 
 function noteFaultsOfThePage() {
-  const note = (what, error) => { for (const recording of recordings) if (!recording.ended) recording.note({ page: String(what), place: error instanceof Error ? error : undefined }); };
+  const note = (what, error) => { for (const recording of recordings) recording.note({ page: String(what), place: error instanceof Error ? error : undefined }); };
   globalThis.addEventListener('error', event => note(event.message, event.error));
   globalThis.addEventListener('unhandledrejection', event => note(event.reason, event.reason));
 }
 
 // Where the tool opened the page: hands the recording over when nothing more comes, or when its time is up.
 function handOver(hand) {
+  const isIdle = ({ ended, last, promises, errors }) => ended || performance.now() - last > asked.idle && !promises.size && !errors.size;
   const begun = performance.now(), timer = setInterval(() => {
-    const now = performance.now(), isQuiet = recordings.length && recordings.every(recording => recording.ended || now - recording.last > asked.idle);
+    const now = performance.now(), isOver = recordings.length && recordings.every(recording => recording.ended);
+    const isQuiet = isOver || recordings.length && !asking.size && (!expected.size || recordings.some(({ ended }) => ended)) && recordings.every(isIdle);
     if (!isQuiet && now - begun <= asked.seconds * 1000) return;
     clearInterval(timer);
     told(isQuiet ? 'the page asked for nothing more' : `${asked.seconds} seconds were over`).then(hand);

@@ -4,7 +4,15 @@ function wrap(cls, method, make) {
   const proto = globalThis[cls] && globalThis[cls].prototype;
   if (!proto || !Object.prototype.hasOwnProperty.call(proto, method)) return;
   const was = NATIVE[`${cls}.${method}`] = proto[method];
-  const now = { [method](...args) { return make.call(this, was, args); } }[method];
+  const now = { [method](...args) {
+    if (recordings.some(recording => !recording.ended)) {
+      const deepest = Error.stackTraceLimit;
+      Error.stackTraceLimit = DEEPEST + 1;
+      here = new Error();
+      Error.stackTraceLimit = deepest;
+    }
+    return make.call(this, was, args);
+  } }[method];
   Object.defineProperty(now, 'length', { value: was.length });
   proto[method] = now;
 }
@@ -25,7 +33,7 @@ function perform(recording, on, method, act, args, make) {
 // A call that the script does not have: after the end, or since a script cannot say it. What it makes is outside too.
 function passedOver(recording, on, method, act, outside) {
   const it = known.get(on), told = {}, isCommand = it && (it.marks || it.parent || it.isEncoder);
-  const place = outside && !TABLES.harmless.includes(outside.word) ? placeHere() : null;
+  const place = outside && !TABLES.harmless.includes(outside.word) ? here : null;
   if (outside) {
     recording.leave(outside.word);
     if (isCommand) leaveAt(rootOf(it), recording.leftNow);
@@ -33,10 +41,10 @@ function passedOver(recording, on, method, act, outside) {
   }
   let result;
   try { result = isCommand || recording.ended && !recording.scopes.length ? act() : recording.watch(told, act); } catch (error) {
-    if (outside) recording.note({ thrown: `${error.name}: ${error.message}`, do: method, place: placeHere() });
+    if (outside) recording.note({ thrown: `${error.name}: ${error.message}`, do: method, place: here });
     throw error;
   }
-  if (outside && result instanceof Promise) result.then(made => remember(made, recording, outside, on), () => {});
+  if (outside && result && typeof result.then === 'function') result.then(made => remember(made, recording, outside, on), () => {});
   else if (outside) remember(result, recording, outside, on);
   return result;
 }
@@ -49,7 +57,7 @@ function recorded(recording, on, act, plan) {
   if (as) call.as = recording.fresh(as);
   slim(call);
   // A command is watched only where it comes late. All other calls make events.
-  const isCommand = root && !/^finish/.test(call.do), isLate = isCommand && (it.hasEnded || root.hasEnded), place = placeHere();
+  const isCommand = root && !/^finish/.test(call.do), isLate = isCommand && (it.hasEnded || root.hasEnded), place = here;
   if (root) leaveAt(root, recording.leftNow);
   // The fault of a pipeline that comes by a promise reaches no scope of the page, so that it has one of its own.
   if (isAsync) recording.write({ do: 'pushErrorScope', filter: 'validation' }, place).implied = true;
@@ -74,9 +82,9 @@ function recorded(recording, on, act, plan) {
 // What was refused before it was a call of the device has no place in the script.
 function thrown(recording, answer, error, n) {
   answer.throws = `${error.name}: ${error.message}`;
-  if (!(error instanceof TypeError) || recording.calls.length !== n + 1) return;
+  if (error.name !== 'TypeError' || recording.calls.length !== n + 1) return;
   recording.takeBack(n);
-  recording.note({ thrown: answer.throws, do: answer.do, place: placeHere() });
+  recording.note({ thrown: answer.throws, do: answer.do, place: here });
 }
 function kept(list, promise) {
   const off = () => list.delete(promise);
@@ -114,9 +122,13 @@ function wrapCalls() {
   }
 }
 
+// What the page waits for before it has a device.
+const asking = new Set();
+
 function wrapDevices() {
+  wrap('GPU', 'requestAdapter', function (was, args) { return kept(asking, was.apply(this, args)); });
   wrap('GPUAdapter', 'requestDevice', function (was, args) {
-    return was.apply(this, args).then(device => {
+    return kept(asking, was.apply(this, args)).then(device => {
       const recording = new Recording(device, args[0]);
       known.set(device, { recording, name: 'device' });
       known.set(device.queue, { recording, name: 'queue' });
@@ -126,7 +138,7 @@ function wrapDevices() {
   wrap('GPUDevice', 'createShaderModule', function (was, args) {
     const recording = recordingOf(this);
     if (!recording) return was.apply(this, args);
-    const told = {}, place = placeHere(), module = recording.watch(told, () => was.apply(this, args));
+    const told = {}, place = here, module = recording.watch(told, () => was.apply(this, args));
     known.set(module, { recording, name: 'module', code: String(args[0].code), told });
     const before = recording.calls.length;
     Promise.all([...recording.errors]).then(() => { if (told.error) recording.notes.push({ before, shader: told.error, message: told.message, place }); });
