@@ -138,6 +138,7 @@ class Explained:
         self.say(f"    breaks rule {number} ({kind} error, {uncaught})")
         told = self.causes.of(entry)
         self.say(*[f"    {line}" for line in ([told.cause.text()] if told.cause else [told.why_none] if told.why_none else [])])
+        self.say(*[f"    {line}" for line in self.pages.made(told.cause.text(), self.beside.script)] if told.cause and self.pages.calls else [])
         self.say(*[f"    {line}" for line in self.scopes.of_fault(entry)])
         found = None
         if call is not None and calls.ends_encoder(call.word):

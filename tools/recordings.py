@@ -2,6 +2,7 @@
 
 import json
 import pathlib
+import re
 
 import ends
 
@@ -50,6 +51,11 @@ class Pages:
         found = self.of(call)
         by = f", called from {', '.join(found[1:])}" if len(found) > 1 else ""
         return [f"in the page: {found[0]}{by}"] if found else []
+
+    def made(self, words, script):
+        """Where in the page the objects come from that some words name with their places in the script, in lines."""
+        makers = [(name, script.maker_of(name)) for name in dict.fromkeys(re.findall(r'"(\w+)" \(\d+:\d+\)', words))]
+        return [f'in the page "{name}" comes from {self.at(call)}' for name, call in makers if call is not None and self.at(call)]
 
 
 class Answers:
