@@ -19,7 +19,7 @@ from scopes import Scopes
 
 ANSWERS = {"plain": "done", "bad": "bad: what is complete already, or was never queued, was said to be complete", "promise": "a promise"}
 # The rules that set a call beside the entries of layouts; and what is a layout or has one.
-OF_LAYOUTS = {141, 142, *range(150, 158), 160, 326}
+OF_LAYOUTS = {141, 142, 143, *range(150, 158), 160, 169, 326}
 LAYOUTS = ("bind group layout", "pipeline layout")
 WITH_LAYOUT = ("bind group", "compute pipeline", "render pipeline")
 # The rules of a dispatch or a draw on what is set where it comes, and that of a command while a pass is open.

@@ -89,7 +89,7 @@ whole_small (LayerParts object aspect mip lo hi) full h =
     (and_from (nat_le lo (hi - 1)) (nat_lt (hi - 1) hi) (le-leb lo (hi - 1) (omega (arith, full))) (lt-ltb (hi - 1) hi (omega (arith, full))))) in
     (last.0, let end = last.1 in omega (arith, full, end))
 
-ranges_told : IsTold IsSmallRange
+pub ranges_told : IsTold IsSmallRange
 ranges_told = record { each = part_small; whole = whole_small }
 
 -- the steps of writes and of host accesses
