@@ -1,15 +1,10 @@
 -- What a genuine handle of a bind group tells of the pipeline that the group serves.
-use Rattle.std.proofs.Common.{◌≡◌, ℕ, List, reverse, Bool, true, false, Option, Some, None, refl, ap, ◌∙◌, if◌then◌else◌}
+use Rattle.std.proofs.Common.{◌≡◌, reverse, Bool, true, false, Option, Some, None, refl, ap, ◌∙◌, if◌then◌else◌}
 use Rattle.std.specs.Prelude.{◌↔◌}
-use Rattle.wg_types.specs.Handles.{HandleValue}
 use Rattle.wg_types.specs.declared.handles.Info.{Info}
 use Rattle.wg_types.specs.declared.handles.Info.TheVariants.{Group}
 use Rattle.wg_types.specs.declared.groups.GroupInfo.{GroupInfo}
 use Rattle.wg_model.specs.Bound.{group_in}
-use Rattle.wg_history.specs.declared.events.Setup.{Setup}
-use Rattle.wg_history.specs.Entries.{Entry}
-use Rattle.wg_history.specs.Rules.{is_genuine}
-use Rattle.wg_history.specs.Answers.{Run}
 use Rattle.wg_history.specs.Exclusive.{IsGroupOf}
 use Rattle.wg_history.proofs.Exclusive.{groups_are_exclusive}
 use Rattle.wg_history.proofs.Reached.{genuine_knows}

@@ -1,4 +1,4 @@
-use Rattle.std.proofs.Common.{◌≡◌, ℕ, List, ◌++◌, ◌∙◌, ap, map, rules}
+use Rattle.std.proofs.Common.{◌≡◌, ℕ, List, ◌++◌, ◌∙◌, ap, map, rules, arith}
 use Rattle.wg_orders.specs.Trace.{free}
 use Rattle.wg_types.specs.declared.steps.Sort.{Sort}
 use Rattle.wg_life.specs.Lives.{releases}

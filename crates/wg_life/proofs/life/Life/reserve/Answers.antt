@@ -7,5 +7,5 @@ pub overflow_sub-more : goal.overflow_sub-more
 overflow_sub-more c =
     let le = listed_le _ _ _ c.self.invariant.tidy in
     let e : c.in-Some.more ≡ live_count c.self.inside.rows.items + 1 = search rules in
-    let f : c.len-then-self-eq0.result ≡ length c.self.inside.waiting.listed.items = search rules in
+    let f : c.len.result ≡ length c.self.inside.waiting.listed.items = search rules in
     omega (arith, le, e, f)
