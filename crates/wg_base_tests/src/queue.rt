@@ -32,6 +32,18 @@ fn promises_wait_for_operations(rt: HostRuntime) {
     assert!(rt; of_queue(rt.alloc()) == (asked, [true; 4]));
 }
 
+/// What a queue that issued one operation answers to completions of the numbers 0, 1 and 2.
+fn completions(alloc: Global) -> [bool; 3] {
+    let mut queue = Queue::new(alloc);
+    queue.issue();
+    [queue.complete(0), queue.complete(1), queue.complete(2)]
+}
+
+#[test]
+fn only_what_was_issued_is_completed(rt: HostRuntime) {
+    assert!(rt; completions(rt.alloc()) == [false, true, false]);
+}
+
 #[test]
 fn room_is_made(rt: HostRuntime) {
     assert!(rt; Queue::new(rt.alloc()).reserve(2) == Ok(()));

@@ -12,7 +12,7 @@ use wg_top::run;
 use wg_types::NoMemory;
 
 /// The words of a command line.
-fn words(alloc: Global, line: &str) -> Result<Vec<String>, NoMemory> {
+pub(crate) fn words(alloc: Global, line: &str) -> Result<Vec<String>, NoMemory> {
     let mut words = Vec::new(alloc);
     for word in line.split_whitespace() {
         words.push(String::from_str(alloc, word)?)?;
@@ -21,7 +21,7 @@ fn words(alloc: Global, line: &str) -> Result<Vec<String>, NoMemory> {
 }
 
 /// A source of these bytes in pieces of this size, of whose reads these fail.
-fn source_of(alloc: Global, script: &str, most: usize, fails: &[u64]) -> Result<MemSource, NoMemory>
+pub(crate) fn source_of(alloc: Global, script: &str, most: usize, fails: &[u64]) -> Result<MemSource, NoMemory>
     requires { 0 < most }
 {
     let fails = Vec::from_slice(alloc, fails)?;

@@ -15,6 +15,8 @@ mod compute;
 #[cfg(test)]
 mod counter;
 #[cfg(test)]
+mod devices;
+#[cfg(test)]
 mod events;
 #[cfg(test)]
 mod groups;
