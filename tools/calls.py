@@ -13,10 +13,12 @@ PIPELINES = TABLE["passes"]["pipelines"]
 ENCODERS = {call["ends"] for call in CALLS.values() if "ends" in call}
 OBJECTS = TABLE["objects"]
 FORMS = TABLE["forms"]
+AUTO = "auto"
 
 
 class Key:
-    """What the value of a key has to be: `sort` with its `detail`, whether the key may be left out, and whether an item of its list may be null."""
+    """What the value of a key has to be: `sort` with its `detail`, whether the key may be left out, whether an item of its list may be null, and whether
+    the word `auto` may stand in place of a name."""
 
     def __init__(self, text):
         words = text.split()
@@ -24,8 +26,14 @@ class Key:
         words = words[:-1] if self.may_be_left_out else words
         self.may_have_null = words[-2:] == ["or", "null"]
         words = words[:-2] if self.may_have_null else words
+        self.may_be_auto = words[-2:] == ["or", "auto"]
+        words = words[:-2] if self.may_be_auto else words
         self.sort = words[0]
         self.detail = " ".join(words[1:])
+
+    def is_name(self, value):
+        """Whether a value under this key is a name that is used, as far as its form tells: an object of the name `auto` is not reached where that word may stand."""
+        return self.sort == "name" and value.kind == "string" and not (self.may_be_auto and value.what == AUTO)
 
     def kinds(self):
         """The kinds of object that a name under this key may stand for."""
@@ -42,7 +50,7 @@ class Key:
         if self.sort == "word":
             return "one of " + quoted(WORDS[self.detail])
         if self.sort == "name":
-            return f"the name of {either(self.kinds())}"
+            return f"the name of {either(self.kinds())}" + (f', or the word "{AUTO}"' if self.may_be_auto else "")
         if self.sort == "names":
             return f"a list of at most 1024 names, each of {either(self.kinds())}"
         if self.sort == "numbers":
@@ -104,9 +112,10 @@ def keys_of_object(sort, item):
     return {name: Key(text) for name, text in {**OBJECTS[sort]["keys"], **further}.items()}
 
 
-def unbuilt(word):
-    """The strings that a call is not built for yet, by their keys."""
-    return CALLS.get(word, {}).get("unbuilt", {})
+def may_be_auto(word, key):
+    """Whether the word `auto` may stand under a key of a call in place of a name."""
+    found = (keys_of(word) or {}).get(key)
+    return found is not None and found.may_be_auto
 
 
 def makes(word):

@@ -8,6 +8,7 @@ import causes
 import culprit
 import frames
 import refusal
+import recordings
 import rules
 import script as scripts
 from beside import Beside, DoNotMatch
@@ -18,7 +19,7 @@ from scopes import Scopes
 
 ANSWERS = {"plain": "done", "bad": "bad: what is complete already, or was never queued, was said to be complete", "promise": "a promise"}
 # The rules that set a call beside the entries of layouts; and what is a layout or has one.
-OF_LAYOUTS = {141, 142, *range(150, 158), 160, 326}
+OF_LAYOUTS = {141, 142, 143, *range(150, 158), 160, 169, 326}
 LAYOUTS = ("bind group layout", "pipeline layout")
 WITH_LAYOUT = ("bind group", "compute pipeline", "render pipeline")
 # The rules of a dispatch or a draw on what is set where it comes, and that of a command while a pass is open.
@@ -48,6 +49,7 @@ class Explained:
             self.lines += refusal.explained(text, said)
             return
         self.beside = set_beside(text, said, self.say)
+        self.pages = recordings.Pages(text.name)
         self.scopes = Scopes(self.beside)
         self.causes = causes.of_report(data, self.beside)
         self.say(self.head())
@@ -77,7 +79,8 @@ class Explained:
                 continue
             self.say("", f"FAULT at entry {entry.number}: " + (self.beside.script.where(call) if call else entry.word))
             if call is not None:
-                self.say(f"    {self.beside.script.said(call)}", *[f"    {line}" for line in bits.of_call(call) + frames.of_fault(self.beside.script, call)])
+                more = bits.of_call(call) + frames.of_fault(self.beside.script, call) + self.pages.said(call)
+                self.say(f"    {self.beside.script.said(call)}", *[f"    {line}" for line in more])
             self.fault(entry, call)
         if not wrong:
             self.say("", "NO FAULT: every call was taken" if self.scopes.lost is None else "NO FAULT: every call before the loss was taken")
@@ -89,6 +92,7 @@ class Explained:
         by = f" in the {told.command.word} at {self.place(told.command).strip()}" if told.command else ""
         where = f"entry {entry.number}, {self.beside.script.where(call)}"
         self.say("", f"follows from entry {self.causes.root(entry)}: {where}: {entry.word}{by}: {told.cause.condition} (rule {entry.fault[1]})")
+        self.say(*[f"    {line}" for line in self.pages.said(call)])
         self.say(*[f"    {line}" for line in self.scopes.of_fault(entry)])
 
     def history(self):
@@ -134,6 +138,7 @@ class Explained:
         self.say(f"    breaks rule {number} ({kind} error, {uncaught})")
         told = self.causes.of(entry)
         self.say(*[f"    {line}" for line in ([told.cause.text()] if told.cause else [told.why_none] if told.why_none else [])])
+        self.say(*[f"    {line}" for line in self.pages.made(told.cause.text(), self.beside.script)] if told.cause and self.pages.calls else [])
         self.say(*[f"    {line}" for line in self.scopes.of_fault(entry)])
         found = None
         if call is not None and calls.ends_encoder(call.word):
@@ -150,7 +155,7 @@ class Explained:
     def command(self, found, number):
         script = self.beside.script
         self.say(f"    the command that {found.said} is number {found.number} of {found.total}: {script.where(found.call)}")
-        self.say(f"        {script.said(found.call)}")
+        self.say(f"        {script.said(found.call)}", *[f"        {line}" for line in self.pages.said(found.call)])
         if self.program.plays:
             self.say(f"    (found by asking the program about {count(found.asked, 'recording')} of the encoder, cut short at different commands)")
         for _, name in found.call.names():

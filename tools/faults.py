@@ -8,6 +8,7 @@ import json
 import causes
 import culprit
 import explain
+import recordings
 import refusal
 from ends import REFUSED
 from scopes import Scopes
@@ -19,11 +20,13 @@ def place(text, call):
 
 
 def of_fault(text, beside, scopes, causes_of, entry):
-    """A fault as an object."""
+    """A fault as an object; where the script was recorded with the places of its call and its command in the page."""
     kind, number, _ = entry.fault
     told, call = causes_of.of(entry), beside.call_of.get(entry.number)
     cause = told.cause
     rule = culprit.broken(number, entry.word, culprit.told(beside, number, told))[0]
+    pages = recordings.Pages(text.name)
+    in_page = {"page": pages.at(call), "commandPage": pages.at(told.command) if told.command else None} if pages.calls and call is not None else {}
     return {
         "kind": "fault",
         "entry": entry.number,
@@ -40,6 +43,7 @@ def of_fault(text, beside, scopes, causes_of, entry):
         "remedy": cause.remedy if cause else None,
         "scope": of_scope(scopes, entry),
         "follows_from": causes_of.root(entry),
+        **in_page,
     }
 
 

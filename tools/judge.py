@@ -1,7 +1,8 @@
 """`wgsim judge`: every script of a folder is run, as many at once as there are processors, and what is expected of it is compared.
 
 A script is a file NAME.json, and NAME.expected beside it has the report that is expected. Where lanes race, a run may bring another order of
-turns than the one that is expected; then both reports have to be ones that the script can have, by the second reading.
+turns than the one that is expected; then both reports have to be ones that the script can have, by the second reading. Where NAME.answers.json
+lies beside it, it was recorded in a browser, and what that answered is compared call by call.
 """
 
 import collections
@@ -15,11 +16,16 @@ import sys
 import time
 
 import building
+import compared
 import ends
+import recordings
 from program import OWN
+from places import escaped
 from report import count
 
-SAME, OTHER, DIFFERS, ALONE, FAILED = "as expected", "another order", "differs", "nothing expected", "no answer"
+SAME, OTHER, DIFFERS, ALONE, FAILED = "as expected", "another order", compared.DIFFERS, "nothing expected", "no answer"
+RECORDED = (compared.AGREES, compared.KNOWN, compared.OUTSIDE)
+HOWS = (SAME, OTHER, *RECORDED, DIFFERS, ALONE, FAILED)
 WRITTEN = {0: "a report", ends.REFUSED: "refused", ends.TOO_LARGE: "too large", ends.NO_MEMORY: "no memory", ends.UNREAD: "cannot be read", ends.UNWRITTEN: "could not be written"}
 
 
@@ -35,17 +41,20 @@ class Result:
         self.found = None
         self.entries = None
         self.faults = None
+        self.compared = None
 
     def text(self):
         said = WRITTEN.get(self.status, f"status {self.status}")
         if self.entries is not None:
             said = f"{count(self.entries, 'entry')}, {count(self.faults, 'fault')}"
         where = f" at line {self.line}: expected `{self.wanted}`, and found `{self.found}`" if self.line is not None else ""
-        return f"{self.name}: {self.how}{where} ({said})"
+        below = [f"\n    {escaped(line)}" for line in self.compared.lines()] if self.compared is not None else []
+        return f"{self.name}: {self.how}{where} ({said})" + "".join(below)
 
     def json(self):
         told = {"script": self.name, "status": self.status, "result": self.how, "entries": self.entries, "faults": self.faults}
-        return json.dumps({**told, "line": self.line, "expected": self.wanted, "found": self.found})
+        recorded = {"recorded": self.compared.json()} if self.compared is not None else {}
+        return json.dumps({**told, "line": self.line, "expected": self.wanted, "found": self.found, **recorded})
 
 
 class Judge:
@@ -69,6 +78,10 @@ class Judge:
         if ran.stdout.startswith(b"history\n"):
             history = ran.stdout[: ran.stdout.index(b"trace\n")]
             result.entries, result.faults = history.count(b"\n") - 1, history.count(b" fault ")
+        if path.with_name(path.stem + recordings.ANSWERS).exists():
+            result.compared = compared.Compared(path, path.read_bytes(), ran.stdout.decode("utf-8"))
+            result.how = result.compared.how()
+            return result
         expected = path.with_suffix(".expected")
         if expected.exists():
             self.compare(result, path, expected.read_bytes(), ran.stdout)
@@ -128,7 +141,7 @@ def scripts_of(name):
     if not folder.is_dir():
         raise ends.End(ends.UNREAD, f"{name} is no folder" if folder.exists() else f"{name}: there is no such folder")
     try:
-        found = sorted(path.name for path in folder.iterdir() if path.suffix == ".json" and path.is_file())
+        found = sorted(path.name for path in folder.iterdir() if path.suffix == ".json" and path.is_file() and not recordings.is_beside(path.name))
     except OSError as error:
         raise ends.End(ends.UNREAD, f"{name}: {error.strerror}") from None
     if not found:
@@ -157,6 +170,6 @@ def judge(name, is_json, program, write):
 def summary(counts, total, took, is_json):
     """The last line: how many scripts have which result."""
     if is_json:
-        return json.dumps({"scripts": total, "seconds": round(took, 1), "results": {how: counts[how] for how in (SAME, OTHER, DIFFERS, ALONE, FAILED)}}) + "\n"
-    told = ", ".join(f"{counts[how]} {how}" for how in (SAME, OTHER, DIFFERS, ALONE, FAILED) if counts[how])
+        return json.dumps({"scripts": total, "seconds": round(took, 1), "results": {how: counts[how] for how in HOWS if counts[how] or how not in RECORDED}}) + "\n"
+    told = ", ".join(f"{counts[how]} {how}" for how in HOWS if counts[how])
     return f"{count(total, 'script')} in {took:.1f} seconds: {told}\n"

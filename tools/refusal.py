@@ -131,7 +131,7 @@ def at_call(refusal, text, top):
         return refusal.at(call.start, kind_of(call), "a call: an object with the key do")
     if refusal.rule == 6:
         return unknown_call(refusal, text, call)
-    finders = {7: keys_of_call, 8: values_of_call, 9: given_name, 10: used_names, 11: used_names, 12: used_names, 13: not_built, 15: unset_canvas}
+    finders = {7: keys_of_call, 8: values_of_call, 9: given_name, 10: used_names, 11: used_names, 12: used_names, 15: unset_canvas}
     finder = finders.get(refusal.rule)
     return finder(refusal, text, call, top) if finder else refusal
 
@@ -144,16 +144,6 @@ def unknown_call(refusal, text, call):
         return refusal.at(do.start, f"{kind_of(do)} under do", "the word of a call, as a string")
     hint = lacking.call(do.what) or near(do.what, sorted(calls.CALLS))
     return refusal.at(do.start, f"the word {quoted(do.what)}", "the word of a call", hint)
-
-
-def not_built(refusal, text, call, top):
-    do = call.member("do")
-    for name, word in calls.unbuilt(do.what if do is not None else None).items():
-        value = call.member(name)
-        if value is not None and value.kind == "string" and value.what == word:
-            refusal.by(f"The word `{word}` as the `{name}` of a pipeline, which is not built yet")
-            return refusal.at(value.start, f"the word {quoted(word)} under {name}", f"{calls.keys_of(do.what)[name].expected()}: this word is not built yet", lacking.LACKING)
-    return refusal
 
 
 def keys_of_call(refusal, text, call, top):
@@ -313,8 +303,9 @@ def used_names(refusal, text, call, top):
         maker = script.made.get(value.what)
         is_visible = maker is not None and sees(user, maker)
         if refusal.rule == 10 and not is_visible:
-            wanted = f"the name of {calls.either(kinds)} that an earlier call gave"
-            return refusal.at(value.start, f"the name {quoted(value.what)} under {key}", wanted, unseen(script, user, value.what, maker))
+            may_be_auto = calls.may_be_auto(user.word, key)
+            wanted = f"the name of {calls.either(kinds)} that an earlier call gave" + (f', or the word "{calls.AUTO}"' if may_be_auto else "")
+            return refusal.at(value.start, f"the name {quoted(value.what)} under {key}", wanted, unseen(script, user, value.what, maker, [calls.AUTO] * may_be_auto))
         if refusal.rule == 11 and is_visible and calls.makes(maker.word) not in kinds:
             is_one = f"{value.what} is {calls.either([calls.makes(maker.word)])}, made at {script.where(maker)}: {script.said(maker)}"
             return refusal.by(why_wrong_kind(user, maker)).at(value.start, f"the name {value.what} under {key}", f"the name of {calls.either(kinds)}", is_one, undropped(user, maker))
@@ -367,15 +358,15 @@ def sees(user, maker):
     return maker.place[0] < user.place[0] or (same and maker.place[2] < user.place[2])
 
 
-def unseen(script, user, name, maker):
-    """Why a name is not visible at a call."""
+def unseen(script, user, name, maker, words):
+    """Why a name is not visible at a call, where some words may stand as well."""
     if maker is user:
         return f"{name} is the name that this very call gives"
     if maker is not None:
         is_later = maker.place[:2] == user.place[:2] or maker.place[0] > user.place[0]
         how = "only later" if is_later else "in another lane of the same phase, whose names are not visible here"
         return f"{name} is given {how}, at {script.where(maker)}: {script.said(maker)}"
-    return near(name, [call.gives for call in script.calls if call.gives and sees(user, call)])
+    return near(name, words + [call.gives for call in script.calls if call.gives and sees(user, call)])
 
 
 def near(word, words):

@@ -25,6 +25,7 @@ class Rule:
         self.own_sections = row.get("section")
         self.sections = self.own_sections or call["section"]
         self.see = row.get("see", [])
+        self.is_thrown = "throws" in row
 
 
 RULES = [Rule(call, row) for part in TABLE["parts"] if "calls" in part for call in part["calls"] for row in call["rules"]]

@@ -56,7 +56,7 @@ def names_in(value, keys):
         member = value.member(key)
         if member is None:
             continue
-        if wanted.sort == "name" and member.kind == "string":
+        if wanted.is_name(member):
             found.append((key, member, wanted.kinds()))
         if wanted.sort == "names" and member.kind == "list":
             found += [(key, item, wanted.kinds()) for item in member.what if item.kind == "string"]

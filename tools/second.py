@@ -13,6 +13,7 @@ sys.path.append(str(building.TOP / "tests"))
 from model import (  # noqa: E402, F401
     answers,
     attachments,
+    automatic,
     bound_groups,
     buffers,
     bundles,

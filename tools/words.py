@@ -22,7 +22,15 @@ usage: wgsim run [FILE]       plays a script and writes the program's report, by
                               writes what the program counts: N is from 1 to 8000, L to 64, and N times L to 8000
        wgsim script N [L]     writes that generated script
        wgsim judge [--json] FOLDER
-                              runs each script NAME.json of a folder, and compares it with NAME.expected
+                              runs each script NAME.json of a folder, and compares it with NAME.expected, or, where it
+                              was recorded, with what the browser answered: agrees, differs or outside, call by call
+       wgsim record [--out FOLDER] [--browser PATH] [--frames N] [--seconds N] PAGE
+                              opens a page, a file or an address of this machine, in Chromium, and writes what it asks of
+                              WebGPU as a script NAME.json, with NAME.answers.json and NAME.calls.json
+       wgsim record --saved [--out FOLDER] FILE
+                              writes these of a file that wgsimRecord.save() saved
+       wgsim record --one-file
+                              writes wgsim-record.js, the recorder for a page of any browser
        wgsim explain [--json] [--report REPORT] [FILE]
                               the report in words, beside the script: which call, why, and what a driver has to do;
                               with --json for a machine, with --report of a report that is there and not of a new play
@@ -60,11 +68,15 @@ exit status: 0 the report was written, the two reports are the same, the report 
 docs/tool.md has an example of each command, docs/script.md the form of scripts, docs/report.md that of reports,
 and docs/rules.md every rule. examples/README.md says what each example shows.
 """
-MOST = {"run": 1, "check": 1, "gen": 2, "explain": 1, "picture": 1, "rules": 1, "diff": 2, "verify": 2, "outcomes": 1, "judge": 1, "script": 2, "words": 1, "prove": 0}
+MOST = {"record": 1, "run": 1, "check": 1, "gen": 2, "explain": 1, "picture": 1, "rules": 1, "diff": 2, "verify": 2, "outcomes": 1, "judge": 1, "script": 2, "words": 1, "prove": 0}
 LEAST = {
     "gen": (1, "a number of iterations"), "script": (1, "a number of iterations"), "diff": (2, "two files"), "verify": (2, "a script and a report"),
     "judge": (1, "a folder"), "words": (1, "words or a number"),
 }
+
+
+# The options of `record`, each with the word that belongs to it, if one does.
+RECORDING = {"--out": "a FOLDER", "--browser": "a PATH", "--frames": "a number", "--seconds": "a number", "--saved": None, "--one-file": None}
 
 
 class Wrong(Exception):
@@ -83,6 +95,7 @@ class Words:
         self.report = None
         self.callers = None
         self.is_check = False
+        self.recording = {}
         self.wants_help = False
         self.rest = []
         words = list(words)
@@ -109,6 +122,8 @@ class Words:
             self.callers = callers_in(value_of(word, "a list of callers", after))
         elif word == "--json" and self.command in ("explain", "judge", "check"):
             self.is_json = True
+        elif word in RECORDING and self.command == "record":
+            self.recording[word] = value_of(word, RECORDING[word], after) if RECORDING[word] else True
         elif word == "--check" and self.command == "picture":
             self.is_check = True
         elif word == "--help" and self.command in MOST:
@@ -136,8 +151,23 @@ class Words:
             raise Wrong("standard input can be one file alone")
         if self.command == "picture" and (self.script if not self.is_check else self.report) is not None:
             raise Wrong("picture takes --script with --check alone, and --report without it")
+        if self.command == "record":
+            test_recording(self.recording, self.rest)
         if self.command == "rules" and self.rest and not (self.rest[0].isascii() and self.rest[0].isdigit()):
             raise Wrong(f"a rule has a number, and not {self.rest[0]}")
+
+
+def test_recording(asked, rest):
+    """Of `record` the words that go together: a page, a file that was saved, or neither."""
+    if "--one-file" in asked and (len(asked) > 1 or rest):
+        raise Wrong("record --one-file takes no further word")
+    if "--one-file" not in asked and not rest:
+        raise Wrong("record needs a page")
+    if "--saved" in asked and any(word in asked for word in ("--browser", "--frames", "--seconds")):
+        raise Wrong("record --saved opens no browser")
+    for word in ("--frames", "--seconds"):
+        if not re.fullmatch(r"[1-9][0-9]{0,4}", asked.get(word, "1")):
+            raise Wrong(f"{word} has a number from 1 to 99999, and not {asked[word]}")
 
 
 def value_of(word, what, after):
@@ -244,6 +274,25 @@ def judged(words):
     import judge
 
     return judge.judge(words.rest[0], words.is_json, lambda: Program(words.is_unproved), lambda text: write(text.encode("utf-8", "backslashreplace")))
+
+
+def record(words):
+    import record as recording
+    import recorder
+
+    asked = words.recording
+    if "--one-file" in asked:
+        write(recorder.text().encode("utf-8"))
+        return 0
+    page = words.rest[0]
+    if "--saved" in asked:
+        found = recording.saved(*read(page, "a recording"))
+    else:
+        numbers = {name[2:]: int(asked[name]) for name in ("--frames", "--seconds") if name in asked}
+        found = recording.recorded(page, asked.get("--browser"), **numbers)
+    written = recording.write(found, recording.name_of(found["page"] if page == "-" else page), asked.get("--out", "."))
+    write(recording.told(found, written).encode("utf-8", "backslashreplace"))
+    return 0 if written else ends.DIFFERENT
 
 
 def numbers_in(words):
@@ -366,10 +415,10 @@ def write(data):
 
 COMMANDS = {
     "run": run, "check": checked, "outcomes": outcomes, "verify": verified, "gen": generated, "script": script, "judge": judged, "explain": explained, "picture": picture,
-    "diff": diff, "rules": show_rules, "words": bits_of, "prove": prove, "--version": version, "--help": show_help,
+    "record": record, "diff": diff, "rules": show_rules, "words": bits_of, "prove": prove, "--version": version, "--help": show_help,
 }
 # The commands that ask no program, or not the proved one.
-UNPROVED = {"outcomes", "verify", "script", "rules", "words", "prove"}
+UNPROVED = {"record", "outcomes", "verify", "script", "rules", "words", "prove"}
 
 
 def main(given):

@@ -2,6 +2,7 @@
 touched by it.
 """
 
+from . import automatic
 from . import buffers
 from . import groups
 from . import textures
@@ -30,7 +31,7 @@ def set_rules(index, group, offsets):
 
 def layout_of(group):
     """The entries of the layout of a bind group."""
-    return group.uses["layout"].call["entries"]
+    return group.uses["layout"].entries
 
 
 def dynamic_of(group):
@@ -49,8 +50,7 @@ def bindings(group, offsets):
 
 def asked_for(settings):
     """Of each layout of the pipeline that has an entry, its entries, and the setBindGroup at its index, or None."""
-    layouts = [layout.call["entries"] for layout in settings.pipeline.uses["layout"].uses["layouts"]]
-    return [(entries, settings.groups.get(index)) for index, entries in enumerate(layouts) if entries]
+    return [(entries, settings.groups.get(index)) for index, entries in enumerate(settings.pipeline.layouts) if entries]
 
 
 def bound_rules(settings):
@@ -60,6 +60,7 @@ def bound_rules(settings):
     for entries, setting in asked:
         yield 341, "a group is set", setting is not None
         yield from equivalent_rules(entries, layout_of(setting.uses["group"]))
+        yield from automatic.owner_rules(settings.pipeline, setting.uses["group"])
     yield from overlap_rules([(place, *one) for place, (_, setting) in enumerate(asked) for one in touched(setting)])
 
 

@@ -34,7 +34,7 @@ VIEW = ("name", ("view",))
 SAMPLER = ("name", ("sampler",))
 GROUP_LAYOUT = ("name", ("bind group layout",))
 GROUP_LAYOUTS = ("names", ("bind group layout",))
-PIPELINE_LAYOUT = ("name", ("pipeline layout",))
+PIPELINE_LAYOUT_OR_AUTO = ("name or auto", ("pipeline layout",))
 GROUP = ("name", ("bind group",))
 PIPELINE = ("name", ("compute pipeline", "render pipeline"))
 QUERIES = ("name", ("query set",))
@@ -147,7 +147,8 @@ DEPTH_STATE = ("object", depth_state_keys)
 COLORS = ("objects or nulls", color_keys)
 DEPTH = ("object", depth_keys)
 WITH_KIND = (layout_entry_keys, iface_entry_keys, render_iface_entry_keys)
-WITH_NAMES = ("name", "names", "object", "objects", "objects or nulls")
+WITH_NAMES = ("name", "name or auto", "names", "object", "objects", "objects or nulls")
+ONE_NAME = ("name", "name or auto")
 
 CALLS = {
     "createBuffer": [("size", WHOLE, NEEDED), ("usage", WORD32, NEEDED), ("mapped", FLAG, False), AS],
@@ -163,11 +164,12 @@ CALLS = {
     "createBindGroupLayout": [("entries", LAYOUT_ENTRIES, NEEDED), AS],
     "createPipelineLayout": [("layouts", GROUP_LAYOUTS, NEEDED), AS],
     "createBindGroup": [("layout", GROUP_LAYOUT, NEEDED), ("entries", GROUP_ENTRIES, NEEDED), AS],
-    "createComputePipeline": [("layout", PIPELINE_LAYOUT, NEEDED), ("iface", IFACE_ENTRIES, ()), AS],
+    "createComputePipeline": [("layout", PIPELINE_LAYOUT_OR_AUTO, NEEDED), ("iface", IFACE_ENTRIES, ()), AS],
     "createRenderPipeline": [
-        ("layout", PIPELINE_LAYOUT, NEEDED), ("iface", RENDER_IFACE_ENTRIES, ()), ("buffers", VERTEX_BUFFERS, ()), ("targets", FORMATS_OR_NULLS, ()),
-        ("depth", DEPTH_STATE, None), ("samples", WORD32, 1), AS,
+        ("layout", PIPELINE_LAYOUT_OR_AUTO, NEEDED), ("iface", RENDER_IFACE_ENTRIES, ()), ("buffers", VERTEX_BUFFERS, ()),
+        ("targets", FORMATS_OR_NULLS, ()), ("depth", DEPTH_STATE, None), ("samples", WORD32, 1), AS,
     ],
+    "getBindGroupLayout": [("pipeline", PIPELINE, NEEDED), ("index", WORD32, NEEDED), AS],
     "createQuerySet": [("count", WORD32, NEEDED), AS],
     "createEncoder": [AS],
     "createBundleEncoder": [
@@ -259,8 +261,8 @@ WAITING = {"mapAsync", "workDone"}
 MADE = {
     "createBuffer": "buffer", "createTexture": "texture", "createView": "view", "createSampler": "sampler",
     "createBindGroupLayout": "bind group layout", "createPipelineLayout": "pipeline layout", "createBindGroup": "bind group",
-    "createComputePipeline": "compute pipeline", "createRenderPipeline": "render pipeline", "createQuerySet": "query set",
-    "createEncoder": "encoder", "createBundleEncoder": "bundle encoder", "finish": "command buffer", "finishBundle": "bundle",
+    "createComputePipeline": "compute pipeline", "createRenderPipeline": "render pipeline", "getBindGroupLayout": "bind group layout",
+    "createQuerySet": "query set", "createEncoder": "encoder", "createBundleEncoder": "bundle encoder", "finish": "command buffer", "finishBundle": "bundle",
 }
 
 # The calls whose objects take memory: they are destroyed and released.
@@ -268,6 +270,11 @@ RESOURCES = {"createBuffer", "createTexture", "createQuerySet"}
 
 # What the name stands for that a call gives. A pass is no object, nor is a canvas; and what a currentTexture gave may not be dropped.
 GIVEN = {**MADE, "beginComputePass": "compute pass", "beginRenderPass": "render pass", "createCanvas": "canvas", "currentTexture": "canvas texture"}
+
+
+def is_auto(sort, value):
+    """A value that may be a name or the word `auto` is that word. An object of that name is not reached so."""
+    return sort[0] == "name or auto" and value == "auto"
 
 
 def name_keys(do):
@@ -279,8 +286,8 @@ def names_in(sort, value):
     """The names that a value uses, in order, each with what it may stand for. What is left out, or is null, uses none."""
     if sort[0] not in WITH_NAMES or value is None:
         return []
-    if sort[0] == "name":
-        return [(value, sort[1])]
+    if sort[0] in ONE_NAME:
+        return [] if is_auto(sort, value) else [(value, sort[1])]
     if sort[0] == "names":
         return [(name, sort[1]) for name in value]
     if sort[0] == "object":

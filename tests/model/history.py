@@ -7,10 +7,11 @@ asked for again and again is kept beside them, and brought up to date by each ca
 import collections
 import functools
 
+from . import automatic
 from . import maps
 from . import passes
 from . import scopes
-from .calls import ENCODERS, FINISHES, RESOURCES, WAITING, name_keys, names_in
+from .calls import ENCODERS, FINISHES, ONE_NAME, RESOURCES, WAITING, name_keys, names_in
 from .lives import Lives
 
 
@@ -66,6 +67,21 @@ class Played:
             if key != "on":
                 found += [(key, thing) for thing in (value if type(value) is list else [value])]
         return found
+
+    @functools.cached_property
+    def layouts(self):
+        """The entries of each bind group layout that a valid pipeline has, by group."""
+        return automatic.layouts_of(self)
+
+    @functools.cached_property
+    def entries(self):
+        """The entries of a valid bind group layout."""
+        return automatic.entries_of(self)
+
+    @functools.cached_property
+    def owner(self):
+        """The pipeline that a bind group layout is exclusive to, or None."""
+        return automatic.owner_of(self)
 
     @functools.cached_property
     def names(self):
@@ -179,7 +195,7 @@ class History:
         uses = {}
         for key, sort in name_keys(call["do"]):
             found = [self.names[name] for name, _ in names_in(sort, call[key])]
-            if sort[0] != "name":
+            if sort[0] not in ONE_NAME:
                 uses[key] = found
             elif found:
                 uses[key] = found[0]

@@ -11,7 +11,10 @@ from . import memory
 from .calls import ENCODERS, FINISHES, RESOURCES
 
 # The calls that make an object which refers to all that they name.
-REFERRING = {"createView", "createPipelineLayout", "createBindGroup", "createComputePipeline", "createRenderPipeline"}
+REFERRING = {"createView", "createPipelineLayout", "createBindGroup", "createComputePipeline", "createRenderPipeline", "getBindGroupLayout"}
+
+# Those that hold nothing that takes memory: layouts and pipelines hold each other alone.
+REACHING_NONE = {"createBindGroupLayout", "createPipelineLayout", "createComputePipeline", "createRenderPipeline", "getBindGroupLayout"}
 
 
 class Lives:
@@ -44,7 +47,8 @@ class Lives:
 
     def held_by(self, thing):
         """What an object holds while it is valid and itself held: a view its texture, a pipeline layout its bind group layouts, a bind group
-        its layout and what it binds, a pipeline its layout; and a command buffer or a bundle what its commands name."""
+        its layout and what it binds, a pipeline the layout that it names, a bind group layout the pipeline that it was got of; and a command
+        buffer or a bundle what its commands name."""
         if thing.do in FINISHES:
             return thing.names
         return thing.referred() if thing.do in REFERRING else []
@@ -76,6 +80,8 @@ class Lives:
         """The buffers, textures and query sets that an object is, or holds, itself or through others."""
         if thing.do in RESOURCES:
             return [thing]
+        if thing.do in REACHING_NONE:
+            return []
         return [found for held in dict.fromkeys(self.held_by(thing)) for found in self.reached(held)]
 
     def is_held(self, thing):

@@ -22,10 +22,16 @@ def used_rules(layouts, used, stage):
     found = [entry for entry in layouts[used["group"]] if entry["binding"] == used["binding"]]
     yield 160, "binding", found != []
     yield 160, "visible", found[0]["visibility"] & stage != 0
-    yield 160, "kind", found[0]["kind"] == used["kind"]
+    yield from kind_rules(160, found[0], used)
+
+
+def kind_rules(number, entry, used, where=""):
+    """Two entries have the same kind, be they of a layout or of an interface. Whether a buffer is dynamic and its least size are not of the
+    kind."""
+    yield number, f"kind{where}", entry["kind"] == used["kind"]
     for key in ("type", "sample", "dim", "multi", "access", "format"):
         if key in used:
-            yield 160, f"{key} of {used['kind']}", found[0][key] == used[key]
+            yield number, f"{key} of {used['kind']}{where}", entry[key] == used[key]
 
 
 def render_rules(layouts, call, limits):

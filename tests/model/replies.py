@@ -2,6 +2,7 @@
 
 import collections
 
+from . import automatic
 from . import buffers
 from . import bundles
 from . import canvases
@@ -116,14 +117,13 @@ def rules_of(history, played):
     if played.do == "createBindGroupLayout":
         return groups.layout_rules(call["entries"], history.limits)
     if played.do == "createPipelineLayout":
-        layouts = [layout.call["entries"] for layout in uses["layouts"]]
-        return of_objects(history, [("layout", layout) for layout in uses["layouts"]], groups.pipeline_layout_rules(layouts, history.limits))
+        return of_objects(history, [("layout", layout) for layout in uses["layouts"]], pipeline_layout_rules(history, uses["layouts"]))
     if played.do == "createBindGroup":
         return bind_group_rules(history, call, uses)
-    if played.do == "createComputePipeline":
-        return of_object(history, "layout", uses["layout"], pipelines.compute_rules(layouts_of(uses["layout"]), call["iface"]))
-    if played.do == "createRenderPipeline":
-        return of_object(history, "layout", uses["layout"], pipelines.render_rules(layouts_of(uses["layout"]), call, history.limits))
+    if played.do in ("createComputePipeline", "createRenderPipeline"):
+        return pipeline_rules(history, played)
+    if played.do == "getBindGroupLayout":
+        return of_object(history, "pipeline", uses["pipeline"], automatic.got_rules(uses["pipeline"], call["index"]))
     if played.do == "writeBuffer":
         return of_object(history, "target", uses["buffer"], write_buffer_rules(history, call, uses["buffer"]))
     if played.do == "writeTexture":
@@ -142,9 +142,22 @@ def rules_of(history, played):
     return iter([])
 
 
-def layouts_of(pipeline_layout):
-    """The entries of each bind group layout of a pipeline layout."""
-    return [layout.call["entries"] for layout in pipeline_layout.uses["layouts"]]
+def pipeline_layout_rules(history, layouts):
+    """The own rules of createPipelineLayout, on valid layouts."""
+    yield from groups.pipeline_layout_rules([layout.entries for layout in layouts], history.limits)
+    yield from automatic.exclusive_rules(layouts)
+
+
+def pipeline_rules(history, played):
+    """The rules of a pipeline: on the layout that it names, or on those that it derives, and then its own by these."""
+    if automatic.is_automatic(played):
+        yield from automatic.derived_rules(played.call["iface"], history.limits)
+    else:
+        yield from of_object(history, "layout", played.uses["layout"], [])
+    if played.do == "createComputePipeline":
+        yield from pipelines.compute_rules(played.layouts, played.call["iface"])
+    else:
+        yield from pipelines.render_rules(played.layouts, played.call, history.limits)
 
 
 def making_rules(history, call, own_rules):
@@ -178,7 +191,8 @@ def bind_group_rules(history, call, uses):
     destroyed or mapped breaks none."""
     bound = list(zip(call["entries"], uses["entries"]))
     named = [("layout", uses["layout"])] + [(bound_by(entry), thing) for entry, thing in bound]
-    return of_objects(history, named, groups.group_rules(uses["layout"].call["entries"], bound, history.limits))
+    yield from of_objects(history, named, [])
+    yield from groups.group_rules(uses["layout"].entries, bound, history.limits)
 
 
 def write_buffer_rules(history, call, buffer):

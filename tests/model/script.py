@@ -1,12 +1,12 @@
-"""The first reading of a script: rules 1 to 8, 13 and 14.
+"""The first reading of a script: rules 1 to 8 and 14.
 
 The first refusal that is found is the answer. At the top the rules are tested in the order 1, 2, 14, 3; then the script
-is gone through in order, of each phase and of each lane 4 is tested when it is come to, and of each call 5, 6, 13, 7 and 8.
+is gone through in order, of each phase and of each lane 4 is tested when it is come to, and of each call 5, 6, 7 and 8.
 """
 
 from . import json_text
 from . import limits
-from .calls import CALLS, FLAG, KIND, NAME, NEEDED, THREE, WHOLE, WITH_KIND, WORD32, WORDS32
+from .calls import CALLS, FLAG, KIND, NAME, NEEDED, ONE_NAME, THREE, WHOLE, WITH_KIND, WORD32, WORDS32
 from .rules import note
 
 MOST_BYTES = 4_194_304
@@ -95,8 +95,6 @@ def read_call(place, call):
     ask(6, "object", type(call) is dict, place)
     do = call.get("do")
     ask(6, "word", type(do) is str and do in CALLS, place)
-    if do in ("createComputePipeline", "createRenderPipeline"):
-        ask(13, "auto", call.get("layout") != "auto", place)
     keys = CALLS[do]
     ask(7, "unknown key", set(call) <= {"do"} | {key for key, _, _ in keys}, place)
     ask(7, "missing key", all(key in call for key, _, default in keys if default is NEEDED), place)
@@ -123,7 +121,7 @@ def read_value(place, where, sort, value):
     elif sort == WORDS32:
         ask_list(place, "numbers", value)
         ask(8, "numbers of 32 bits", all(is_whole(item, GREATEST_WORD32) for item in value), place)
-    elif sort == NAME or sort[0] == "name":
+    elif sort == NAME or sort[0] in ONE_NAME:
         ask(8, f"name{where}", type(value) is str, place)
     elif sort[0] == "word":
         ask(8, f"word{where}", type(value) is str and value in sort[1], place)

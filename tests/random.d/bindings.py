@@ -45,6 +45,15 @@ def told(random, entry):
     return {key: value for key, value in entry.items() if key not in USUAL or USUAL[key] != value or random.random() < 0.3}
 
 
+def used_by(random, group, entry):
+    """An entry of an interface that a layout offers; what is dynamic and the least size make no difference."""
+    used = {"group": group} | {key: value for key, value in entry.items() if key != "visibility"}
+    if "dynamic" in used and random.random() < 0.5:
+        used["dynamic"] = random.random() < 0.5
+        used["minSize"] = random.choice([0, 4, 2**53 - 1])
+    return used
+
+
 def some_kind(random, word=None):
     """A good kind of a binding, with all of its keys."""
     word = word or random.choice(KINDS)

@@ -4,9 +4,10 @@ A layout has what it asks in `entries`. A group has what it binds in `bound`, pa
 are touched: `("b", name, low, high)` of a buffer, and `("t", name, aspect, mip, layer)` of a texture.
 """
 
-from bindings import ACCESSES, COMPUTE, READ_WRITE_FORMATS, SAMPLERS, VERTEX, is_written, other_value, told, with_binding
+from bindings import ACCESSES, COMPUTE, READ_WRITE_FORMATS, SAMPLERS, VERTEX, is_written, other_value, told, used_by, with_binding
 from bound import SAMPLED, STORAGE_BINDING, TEXTURE_BINDING, bind_sampler
-from grouping import group_of, layout_of, pipeline_layout_of, usable, used_by
+from deriving import alike, compute_of, got, got_of_all, is_derived, naming
+from grouping import group_of, layout_of, pipeline_layout_of, usable
 
 INDIRECT = 256
 # COPY_SRC, COPY_DST, INDEX, VERTEX, UNIFORM, STORAGE and INDIRECT.
@@ -339,16 +340,42 @@ def meet(one, other):
 
 
 def new_pipeline(world, layouts):
-    """A pipeline whose interface is some of what its layouts have."""
+    """A pipeline whose interface is some of what its layouts have; at times one that derives its layouts of what these have."""
     random = world.random
+    if random.random() < 0.3 or any(map(is_derived, layouts)):
+        named = naming(random, [one.entries for one in layouts], False)
+        return with_groups(world, compute_of(world, named[:random.choice([len(named), len(named), 3])]))
     layout = pipeline_layout_of(world, layouts, True)
     seen = [(group, entry) for group, one in enumerate(layouts) for entry in one.entries if entry["visibility"] & COMPUTE]
     iface = [told(random, used_by(random, *place)) for place in random.sample(seen, random.randint(0, min(len(seen), 3)))]
     call = {"do": "createComputePipeline", "layout": layout.name} | ({"iface": iface} if iface or random.random() < 0.3 else {})
     thing = world.make("p", call, True)
-    thing.layouts = layouts
+    thing.layouts, thing.lists, thing.derives = layouts, [one.entries for one in layouts], False
     world.pipelines.append(thing)
-    return thing
+    return at_times_got(world, thing)
+
+
+def with_groups(world, pipeline):
+    """A pipeline that derives its layouts, with these, and a few groups for each."""
+    pipeline.layouts = got_of_all(world, pipeline)
+    for layout in pipeline.layouts if pipeline.good else []:
+        for _ in range(world.random.choice([1, 1, 2]) if layout.entries else world.random.choice([0, 0, 1])):
+            new_group(world, layout)
+    return pipeline
+
+
+def at_times_got(world, pipeline):
+    """At times a layout is got of a pipeline that names its layouts, with a group, which will do where those of the layout itself do."""
+    if pipeline.good and pipeline.lists and world.random.random() < 0.15:
+        new_group(world, got(world, pipeline, world.random.randrange(len(pipeline.lists))))
+    return pipeline
+
+
+def rival(world, layout):
+    """A layout with the same entries as another one that is exclusive to another pipeline, or to none where that one is to some."""
+    if is_derived(layout) and world.random.random() < 0.4:
+        return new_layout(world, [dict(entry) for entry in layout.entries])
+    return alike(world, layout)
 
 
 def kit(world):

@@ -4,10 +4,11 @@ A render pipeline has its layouts in `layouts`, its vertex buffers in `vertex`, 
 it writes in `writes`. What is set at a slot is a triple of the name of a buffer, the offset and the size of the range.
 """
 
-from bindings import is_written, told
+from bindings import is_written, told, used_by
 from bound import TEXTURE_BINDING
-from dispatching import INDIRECT, buffers_in, kit_layouts, moved, new_layout, offsets_for, pick, set_call, size_of, view_of
-from grouping import pipeline_layout_of, usable, used_by
+from deriving import is_derived, naming, render_of
+from dispatching import INDIRECT, at_times_got, buffers_in, kit_layouts, moved, new_layout, offsets_for, pick, set_call, size_of, view_of, with_groups
+from grouping import pipeline_layout_of, usable
 from limiting import of as limit
 from targets import ASPECTS_OF, signature
 
@@ -88,25 +89,32 @@ def some_layouts(world):
 def new_render_pipeline(world, layouts, formats, depth, samples, read_only):
     """A good pipeline that draws to some formats; nulls at the end of them are not always the same."""
     random = world.random
-    layout = pipeline_layout_of(world, layouts, True)
+    derives = random.random() < 0.3 or any(map(is_derived, layouts))
+    layout = None if derives else pipeline_layout_of(world, layouts, True)
     targets = list(signature(formats, depth, samples)[0])
     targets += [None] * random.choice([0, 0, 0, len(formats) - len(targets), 8 - len(targets)])
-    buffers = some_vertex_buffers(random)
-    call = {"do": "createRenderPipeline", "layout": layout.name, "iface": some_iface(random, layouts), "buffers": buffers, "targets": targets}
-    call["samples"] = samples
-    writes = set()
+    buffers, writes = some_vertex_buffers(random), set()
+    call = {"targets": targets, "samples": samples}
     if depth is not None:
         writes = {aspect for aspect in ASPECTS_OF[depth] if aspect not in read_only and random.random() < 0.6}
         call["depth"] = without_usual(random, {"format": depth, "depthWrite": "depth" in writes, "stencilWrite": "stencil" in writes})
-    thing = add_render_pipeline(world, call, True)
-    thing.layouts, thing.vertex, thing.signature, thing.writes = layouts, buffers, signature(formats, depth, samples), writes
+    if derives:
+        thing = with_groups(world, render_of(world, naming(random, [one.entries for one in layouts], True), buffers=told_buffers(random, buffers), **call))
+    else:
+        thing = add_render_pipeline(world, {"do": "createRenderPipeline", "layout": layout.name, "iface": some_iface(random, layouts), "buffers": buffers} | call, True)
+        thing.layouts, thing.lists, thing.derives = layouts, [one.entries for one in layouts], False
+        at_times_got(world, thing)
+    thing.vertex, thing.signature, thing.writes = buffers, signature(formats, depth, samples), writes
     return thing
+
+
+def told_buffers(random, buffers):
+    return [without_usual(random, one) for one in buffers]
 
 
 def add_render_pipeline(world, call, good):
     """A pipeline of a call that has all its keys, some of which are left out."""
-    buffers = [without_usual(world.random, one) for one in call["buffers"]]
-    thing = world.make("x", without_usual(world.random, call | {"buffers": buffers}), good)
+    thing = world.make("x", without_usual(world.random, call | {"buffers": told_buffers(world.random, call["buffers"])}), good)
     thing.layouts = None
     world.render_pipelines.append(thing)
     return thing

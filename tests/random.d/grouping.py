@@ -1,12 +1,13 @@
-"""Scripts on what is bound: samplers, layouts, bind groups and compute pipelines, with the buffers, textures and views that they
-need; with drops, destroys, writes, submits, error scopes and loss among them."""
+"""Scripts on what is bound: samplers, layouts, bind groups and compute pipelines, pipelines that derive their layouts, and layouts that are got of
+pipelines, with the buffers, textures and views that they need; with drops, destroys, writes, submits, error scopes and loss among them."""
 
 from bindings import (
     COMPUTE, COUNTED, GREATEST_32, KINDS, SAMPLERS, border_of_dynamic, border_of_stage, counted, dynamic_entries, of_sort, other_value, parts_of,
-    seen_entries, some_entries, some_kind, spoil_entries, told, with_binding,
+    seen_entries, some_entries, some_kind, spoil_entries, told, used_by, with_binding,
 )
 from bound import bound_entries, faults_for, sampler
 from commands import clear_buffer, copy_buffer, write_buffer
+from deriving import any_layout, any_pipeline
 from limiting import of as limit
 from world import World
 from worlds import complete, last_before_loss, maps, scope
@@ -115,6 +116,11 @@ def layouts_for(world, good):
     random, more = world.random, 0 if good else 1
     if not good and random.random() < 0.12:
         return past_several(world)
+    own = usable(world, world.derived_layouts)
+    if not good and own and random.random() < 0.3:
+        layouts = [some_layout(world, 5) for _ in range(random.choice([0, 0, 1, 2, 3, 4]))]
+        layouts.insert(random.randint(0, len(layouts)), random.choice(own[-5:]))
+        return layouts + [bad_layout(world)] * (random.random() < 0.15)
     kind = random.randrange(6)
     if kind <= 1:
         return [layout_of(world, part, True) for part in shared_limit(random, more)]
@@ -148,10 +154,22 @@ def pipeline_layout_of(world, layouts, good):
     return thing
 
 
+def exclusive(world):
+    """A pipeline layout of layouts of which one is exclusive to a pipeline."""
+    random, own = world.random, usable(world, world.derived_layouts)
+    if own:
+        layouts = [some_layout(world, 3) for _ in range(random.choice([0, 0, 1, 2, 3, 4]))]
+        layouts.insert(random.randint(0, len(layouts)), random.choice(own))
+        pipeline_layout_of(world, layouts, False)
+
+
 def bind_group(world):
     """A bind group of a layout of a few entries, or at times of many."""
     random, good = world.random, not world.has_fault()
     layout = some_layout(world, 20 if random.random() < 0.1 else 3)
+    own = usable(world, world.derived_layouts, 6)
+    if own and random.random() < 0.15:
+        layout = random.choice(own[-5:])
     if not layout.entries and random.random() < 0.7:
         layout = layout_of(world, with_binding(random, [some_kind(random) for _ in range(random.choice([1, 1, 2]))]), True)
     faults = {} if good else faults_for(random, layout.entries)
@@ -182,6 +200,7 @@ def compute_pipeline(world):
     if not iface and random.random() < 0.7:
         del call["iface"]
     thing = world.make("p", call, good and layout.good and not layout.dropped)
+    thing.lists, thing.derives = [one.entries for one in layout.layouts], False
     world.pipelines.append(thing)
     return thing
 
@@ -197,15 +216,6 @@ def some_pipeline_layout(world, is_bad):
     if random.random() < 0.5:
         layouts.insert(0, layout_of(world, with_binding(random, [some_kind(random) for _ in range(3)]), True))
     return pipeline_layout_of(world, layouts[:4], True)
-
-
-def used_by(random, group, entry):
-    """An entry of an interface that a layout offers; what is dynamic and the least size make no difference."""
-    used = {"group": group} | {key: value for key, value in entry.items() if key != "visibility"}
-    if "dynamic" in used and random.random() < 0.5:
-        used["dynamic"] = random.random() < 0.5
-        used["minSize"] = random.choice([0, 4, 2**53 - 1])
-    return used
 
 
 def not_offered(random, layout, places, seen):
@@ -297,5 +307,5 @@ def work(world):
             world.submit([command_buffer])
 
 
-ACTS = [group_layout, pipeline_layout, bind_group, compute_pipeline, any_sampler, chain, drop, destroy, write, work, complete, maps, scope]
-WEIGHTS = [9, 6, 36, 9, 1, 2, 7, 1, 1, 2, 2, 1, 3]
+ACTS = [group_layout, pipeline_layout, bind_group, compute_pipeline, any_pipeline, any_layout, exclusive, any_sampler, chain, drop, destroy, write, work, complete, maps, scope]
+WEIGHTS = [9, 6, 36, 9, 9, 4, 1, 1, 2, 7, 1, 1, 2, 2, 1, 3]

@@ -16,7 +16,7 @@ from targets import target_pool
 from world import World
 
 LISTS = [
-    "buffers", "textures", "views", "samplers", "group_layouts", "pipeline_layouts", "groups", "pipelines", "render_pipelines", "query_sets",
+    "buffers", "textures", "views", "samplers", "group_layouts", "derived_layouts", "pipeline_layouts", "groups", "pipelines", "render_pipelines", "query_sets",
     "command_buffers", "bundles",
 ]
 ACTS = {
@@ -229,7 +229,7 @@ def of_form(random, phases):
     at = random.randrange(len(phases))
     if random.random() < 0.3:
         if lists_in(phases):
-            random.choice(lists_in(phases)).append(random.choice([7, {"do": "other"}, {"do": "complete"}, {"do": "complete", "op": -1}, {"do": "createComputePipeline", "layout": "auto"}]))
+            random.choice(lists_in(phases)).append(random.choice([7, {"do": "other"}, {"do": "complete"}, {"do": "complete", "op": -1}, {"do": "getBindGroupLayout", "pipeline": "k", "index": -1, "as": "l"}]))
     kind = random.randrange(4)
     if kind == 0:
         phases.insert(at, random.choice([7, None, {}, "x", True]))

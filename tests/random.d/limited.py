@@ -20,7 +20,19 @@ def layouts(name, items):
     """A bind group layout of some entries, and one of all but the last, which stands in a pipeline layout beside one of the last."""
     first, last = items[:-1], items[-1:]
     calls = [{"do": "createBindGroupLayout", "as": f"{name}{part}", "entries": some} for part, some in (("all", items), ("first", first), ("last", last))]
-    return calls + [{"do": "createPipelineLayout", "as": f"{name}p", "layouts": [f"{name}first", f"{name}last"]}]
+    calls.append({"do": "createPipelineLayout", "as": f"{name}p", "layouts": [f"{name}first", f"{name}last"]})
+    return calls + deriving(f"{name}one", [items]) + deriving(f"{name}two", [last, first])
+
+
+def deriving(name, lists):
+    """For each stage that sees entries, which are given by group, a pipeline that derives its layouts of them."""
+    calls = []
+    for bit, stage in ((1, "vertex"), (2, "fragment"), (COMPUTE, None)):
+        used = [{"group": group} | entry for group, some in enumerate(lists) for entry in some if entry["visibility"] & bit]
+        iface = [{key: value for key, value in entry.items() if key != "visibility"} | ({} if stage is None else {"stage": stage}) for entry in used]
+        call = {"do": "createComputePipeline"} if stage is None else {"do": "createRenderPipeline", "targets": ["r8unorm"]}
+        calls += [call | {"as": f"{name}{bit}", "layout": "auto", "iface": iface}] if iface else []
+    return calls
 
 
 def seen(entry):
@@ -28,7 +40,8 @@ def seen(entry):
 
 
 def binding(count, name):
-    return [{"do": "createBindGroupLayout", "as": name, "entries": [{"binding": count - 1, "visibility": 7, "kind": "sampler"}]}]
+    entries = [{"binding": count - 1, "visibility": 7, "kind": "sampler"}]
+    return [{"do": "createBindGroupLayout", "as": name, "entries": entries}, *deriving(f"{name}auto", [entries])]
 
 
 def bound(kind, usage):
@@ -61,7 +74,8 @@ def stride(count, name):
 
 
 def groups(count, name):
-    return [{"do": "createBindGroupLayout", "as": f"{name}l", "entries": []}, {"do": "createPipelineLayout", "as": name, "layouts": [f"{name}l"] * count}]
+    calls = [{"do": "createBindGroupLayout", "as": f"{name}l", "entries": []}, {"do": "createPipelineLayout", "as": name, "layouts": [f"{name}l"] * count}]
+    return calls + deriving(f"{name}auto", [[{"binding": 0, "visibility": 7, "kind": "sampler"}]] * count)
 
 
 def vertex_buffers(count, name):

@@ -8,7 +8,7 @@ import worlds
 from json_forms import Pairs, Raw, text_of
 
 WORD_LIMIT, WHOLE_LIMIT = 2**32 - 1, 2**53 - 1
-UNKNOWN = ["", "createbuffer", "CreateBuffer", "createBuffer ", "getBindGroupLayout", "setViewport", "copy", "createBuffer\0", "é", "Lose", "onSubmittedWorkDone"]
+UNKNOWN = ["", "createbuffer", "CreateBuffer", "createBuffer ", "getBindGroupLayouts", "setViewport", "copy", "createBuffer\0", "é", "Lose", "onSubmittedWorkDone"]
 UNKNOWN += ["getCurrentTexture", "configure", "Present", "unconfigureCanvas"]
 NAME_KEYS = {"canvas", "buffer", "texture", "source", "target", "on", "object", "layout", "view", "resolve", "sampler", "pipeline", "group", "queries"}
 QUERY_WORDS = ["createQuerySet", "resolveQuerySet", "beginOcclusionQuery", "endOcclusionQuery"]
@@ -272,10 +272,13 @@ def mapped(random, call):
 
 
 def automatic(random, call):
-    """A layout of the name `auto`, which only a pipeline may not use, with something else wrong or not."""
+    """A layout that is the word `auto`, which is a name where it is not that of a pipeline, or a getBindGroupLayout, with something else wrong or not."""
     made = {"do": random.choice(["createComputePipeline", "createRenderPipeline", "createBindGroup"]), "layout": "auto", "as": "m"}
     made |= random.choice([{"iface": []}, {"entries": []}])
-    return made | random.choice([{}, {}, {"x": 1}, {"as": None}, {"layout": ["auto"]}, {"layout": "Auto"}])
+    if random.random() < 0.5:
+        made = {"do": "getBindGroupLayout", "pipeline": random.choice(["k", "auto", call.get("as", "k")]), "index": random.choice([0, 1, WORD_LIMIT, WORD_LIMIT + 1, Raw(random.choice(NUMBERS))]), "as": "m"}
+        made.pop(random.choice(["do", "pipeline", "index", "as", *["none"] * 8]), None)
+    return made | random.choice([{}, {}, {}, {"x": 1}, {"as": None}, {"layout": ["auto"]}, {"layout": "Auto"}, {"pipeline": 7}, {"as": "auto"}])
 
 
 def sliced(random, call):

@@ -1,7 +1,7 @@
 """Ways to leave one rule of a compute pass unmet, and those of passes of either kind. A fault changes the list of the calls of a pass,
 from its begin to its end, on an encoder of some name; what it needs is made before."""
 
-from dispatching import INDIRECT, STEP, buffers_in, dynamic_of, named, near_group, new_layout, pick, size_of
+from dispatching import INDIRECT, STEP, buffers_in, dynamic_of, named, near_group, new_group, new_layout, pick, rival, size_of
 from grouping import usable
 from querying import some_set
 from targets import begin
@@ -48,7 +48,8 @@ def invalid_pipeline(world, call):
 def bad_pipeline(world):
     layout = pick(world, world.pipeline_layouts)
     iface = [{"group": 4, "binding": 0, "kind": "sampler"}]
-    thing = world.make("p", {"do": "createComputePipeline", "layout": layout.name, "iface": iface}, False)
+    name = "auto" if layout is None or world.random.random() < 0.3 else layout.name
+    thing = world.make("p", {"do": "createComputePipeline", "layout": name, "iface": iface}, False)
     thing.layouts = None
     world.pipelines.append(thing)
     return thing
@@ -141,6 +142,17 @@ def other_layout(world, call):
         made = near_group(world, layouts[0])
         entries = named(world.group_layouts, made.call["layout"]).entries
         call.update(group=made.name, offsets=[0] * sum(entry.get("dynamic", False) for entry in entries))
+
+
+@change_call("setBindGroup")
+def other_owner(world, call):
+    """A group of a layout with the same entries that another pipeline has derived, or none has."""
+    group = named(world.groups, call["group"])
+    layout = group and named(usable(world, world.group_layouts + world.derived_layouts), group.call["layout"])
+    other = rival(world, layout) if layout and layout.entries and hasattr(layout, "shape") else None
+    made = new_group(world, other) if other is not None and other.good else None
+    if made is not None:
+        call.update(group=made.name, offsets=[0] * sum(entry.get("dynamic", False) for entry in other.entries))
 
 
 @change_call("dispatch")
@@ -243,12 +255,12 @@ def shuffled(world, encoder, on, calls):
 # In the order in which several of them can be made.
 SETTING_FAULTS = [offset_past, offset_unaligned, offset_more, offset_missing, index_past, invalid_group]
 DISPATCH_FAULTS = [
-    no_pipeline, no_pipeline, no_group, no_group, other_index, other_layout, count_past, count_past, indirect_invalid, indirect_invalid,
+    no_pipeline, no_pipeline, no_group, no_group, other_index, other_layout, other_owner, count_past, count_past, indirect_invalid, indirect_invalid,
     indirect_usage, indirect_offset, indirect_past, indirect_past,
 ]
 ORDER_FAULTS = [invalid_pipeline, pop_too_many, push_too_many, dead_pass, dead_pass, on_encoder, on_encoder, on_encoder, shuffled]
 OFFSET_FAULTS = [offset_past, offset_past, offset_unaligned, offsets_turned]
-FAULTS = SETTING_FAULTS * 2 + OFFSET_FAULTS + DISPATCH_FAULTS + ORDER_FAULTS + [other_layout] * 10
+FAULTS = SETTING_FAULTS * 2 + OFFSET_FAULTS + DISPATCH_FAULTS + ORDER_FAULTS + [other_layout] * 10 + [other_owner] * 12
 
 
 def spoil(world, encoder, on, calls):

@@ -1,11 +1,11 @@
 """Render pipelines at the borders of their rules: good ones that come just up to a limit, and ways to leave one rule unmet."""
 
-from bindings import GREATEST_32, told
+from bindings import GREATEST_32, told, used_by
 from drawing import (
     ATTRIBUTE_BYTES, MOST_BUFFERS, STAGES, add_render_pipeline, some_attribute, some_iface, some_vertex_buffers,
     without_usual,
 )
-from grouping import layout_of, not_offered, pipeline_layout_of, some_pipeline_layout, used_by
+from grouping import layout_of, not_offered, pipeline_layout_of, some_pipeline_layout
 from limiting import of as limit
 from resources import COLOR_FORMATS, DEPTH_FORMATS
 from targets import ASPECTS_OF, FOUR_COLORS, MOST_COLORS

@@ -10,7 +10,7 @@ from drawing import INDEX, INDIRECT_BYTES, VERTEX, add_render_pipeline, new_rend
 from grouping import pipeline_layout_of
 from pass_faults import (
     GREATEST_32, GREATEST_53, OFFSET_FAULTS, SETTING_FAULTS, WORK, change_call, dead_pass, first_or_any, no_group, no_pipeline, on_encoder,
-    other_index, other_layout, places, pop_too_many, push_too_many, shuffled, some_call,
+    other_index, other_layout, other_owner, places, pop_too_many, push_too_many, shuffled, some_call,
 )
 from query_faults import QUERY_FAULTS
 from resources import COLOR_FORMATS, DEPTH_FORMATS
@@ -583,7 +583,7 @@ BEGIN_FAULTS = [
 VERTEX_FAULTS = range_faults("setVertexBuffer", VERTEX, 4)
 INDEX_FAULTS = range_faults("setIndexBuffer", INDEX, 4)
 DRAW_FAULTS = [
-    no_pipeline, no_group, other_index, other_layout, gone("setVertexBuffer"), gone("setVertexBuffer"), gone("setIndexBuffer"),
+    no_pipeline, no_group, other_index, other_layout, other_owner, other_owner, gone("setVertexBuffer"), gone("setVertexBuffer"), gone("setIndexBuffer"),
     all_gone("setVertexBuffer"), all_gone("setIndexBuffer"), all_gone("setIndexBuffer"), other_slot, less_set, less_set, other_format, huge_numbers, first_more, first_more,
     indirect_invalid, indirect_usage, indirect_offset, indirect_past, indirect_past, indirect_instead, other_kind, other_kind,
 ]
@@ -592,7 +592,7 @@ ORDER_FAULTS = [pop_too_many, push_too_many, dead_pass, dead_pass, dead_pass, de
 FAULTS = (
     BEGIN_FAULTS * 3 + [wrong_color, wrong_depth, wrong_loads, wrong_size, attached_twice, attached_twice, wrong_resolve, wrong_resolve, wrong_slice, slice_twice] * 2
     + SETTING_FAULTS + OFFSET_FAULTS + VERTEX_FAULTS * 3 + INDEX_FAULTS * 3 + DRAW_FAULTS * 2 + PIPELINE_FAULTS * 2 + ORDER_FAULTS * 2
-    + QUERY_FAULTS
+    + QUERY_FAULTS + [other_owner] * 6
 )
 
 

@@ -45,6 +45,7 @@ class World:
         self.views = []
         self.samplers = []
         self.group_layouts = []
+        self.derived_layouts = []  # Those that are exclusive to a pipeline.
         self.pipeline_layouts = []
         self.groups = []
         self.pipelines = []
@@ -189,7 +190,7 @@ class World:
         thing.dropped_at = thing.dropped_at or len(self.calls)
 
     def everything(self):
-        bound = self.samplers + self.group_layouts + self.pipeline_layouts + self.groups + self.pipelines + self.render_pipelines
+        bound = self.samplers + self.group_layouts + self.derived_layouts + self.pipeline_layouts + self.groups + self.pipelines + self.render_pipelines
         return self.resources() + self.views + bound + self.encoders + self.command_buffers + self.bundle_encoders + self.bundles
 
     def resources(self):

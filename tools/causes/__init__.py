@@ -5,6 +5,6 @@ report; where it finds the same rule, the function of that rule (`making.RULES`)
 proved, and where the two readings differ no cause is told.
 """
 
-from . import attachments, brackets, buffers, bundles, copies, draws, groups, layouts, maps, pipelines, queries, queue, scopes, settings, textures, views  # noqa: F401
+from . import attachments, brackets, buffers, bundles, copies, derived, draws, groups, layouts, maps, pipelines, queries, queue, scopes, settings, textures, views  # noqa: F401
 from .cases import Causes, of_report  # noqa: F401
 from .making import RULES  # noqa: F401

@@ -25,7 +25,7 @@ class Bound:
 
 def bound(case, *kinds):
     """The entries of a bind group whose layout asks for some kinds, or all."""
-    asked = {entry["binding"]: entry for entry in case.uses["layout"].call["entries"]}
+    asked = {entry["binding"]: entry for entry in case.uses["layout"].entries}
     pairs = zip(case.call["entries"], case.uses["entries"])
     found = [Bound(number, asked[entry["binding"]], entry, thing) for number, (entry, thing) in enumerate(pairs)]
     return [each for each in found if not kinds or each.asked["kind"] in kinds]
@@ -41,7 +41,7 @@ def with_values(cause, one):
 @rule(150)
 def bindings(case):
     layout = case.uses["layout"]
-    asked, given = [entry["binding"] for entry in layout.call["entries"]], [entry["binding"] for entry in case.call["entries"]]
+    asked, given = [entry["binding"] for entry in layout.entries], [entry["binding"] for entry in case.call["entries"]]
     missing = [binding for binding in asked if binding not in given]
     if missing:
         many = f"the binding {missing[0]}" if len(missing) == 1 else f"the bindings {listed(missing)}"

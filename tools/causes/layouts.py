@@ -4,8 +4,30 @@ import bits
 from .making import Cause, limited, listed, plural, rule
 
 
+class Derived:
+    """A layout that a pipeline derives, in place of a case of createBindGroupLayout: its entries, and of each binding the numbers of the entries of
+    the interface that name it."""
+
+    def __init__(self, case, group, items, naming):
+        self.second = case.second
+        self.history = case.history
+        self.group = group
+        self.call = {"entries": items}
+        self.naming = naming
+
+    def entries(self):
+        """The entries with the words and numbers that a cause tells of them: those of the entry of the interface that names each first."""
+        return [(self.said(entry["binding"]), self.naming[self.group, entry["binding"]][0], entry) for entry in self.call["entries"]]
+
+    def said(self, binding):
+        numbers = self.naming[self.group, binding]
+        return f"binding {binding} of group {self.group} ({'entry' if len(numbers) == 1 else 'entries'} {listed(numbers)} of iface)"
+
+
 def entries(case):
     """The entries of a bind group layout, each with words for it."""
+    if isinstance(case, Derived):
+        return case.entries()
     return [(f"entry {number} (binding {entry['binding']})", number, entry) for number, entry in enumerate(case.call["entries"])]
 
 
@@ -38,11 +60,15 @@ def binding_limit(case):
     for _, number, entry in entries(case):
         if entry["binding"] > most:
             cause = Cause(
-                f"entry {number} has the binding {entry['binding']}, and the greatest is {most}",
+                f"entry {number}{of_iface(case)} has the binding {entry['binding']}, and the greatest is {most}",
                 {"entry": number, "binding": entry["binding"], "most": most},
             )
             return limited("maxBindingsPerBindGroup", entry["binding"] + 1, cause)
     return None
+
+
+def of_iface(case):
+    return " of iface" if isinstance(case, Derived) else ""
 
 
 @rule(132)
@@ -74,7 +100,7 @@ def vertex_writes(case):
             return Cause(
                 f"{said} has the {what} and the visibility {bits.said(entry['visibility'], bits.STAGES)}, and VERTEX (1) may not see what is written",
                 values,
-                f"Take VERTEX away, or make it {other}.",
+                f"{'Let no entry of the vertex stage name it' if isinstance(case, Derived) else 'Take VERTEX away'}, or make it {other}.",
             )
     return None
 
@@ -164,7 +190,7 @@ def dynamic_of_one(case):
 
 
 def layouts_of(case):
-    return [(case.named(layout), layout.call["entries"]) for layout in case.uses["layouts"]]
+    return [(case.named(layout), layout.entries) for layout in case.uses["layouts"]]
 
 
 @rule(140)
@@ -181,3 +207,15 @@ def seen_of_all(case):
 @rule(142)
 def dynamic_of_all(case):
     return dynamic(case, layouts_of(case))
+
+
+@rule(143)
+def exclusive(case):
+    for place, layout in enumerate(case.uses["layouts"]):
+        if layout.owner is not None:
+            return Cause(
+                f"{case.named(layout)}, which is item {place} of layouts, was got of {case.named(layout.owner)}, which derived it for itself",
+                {"item": place, "layout": layout.call["as"], "pipeline": layout.owner.call["as"]},
+                "Make a layout of the same entries by createBindGroupLayout.",
+            )
+    return None

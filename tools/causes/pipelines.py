@@ -31,7 +31,7 @@ def unused(case, layout, used):
     if used["group"] >= len(layouts):
         return f"{case.named(layout)} has {plural(len(layouts), 'layout')}, and none at {used['group']}", {"layout": layout.call["as"], "layouts": len(layouts)}
     group = layouts[used["group"]]
-    has = {entry["binding"]: entry for entry in group.call["entries"]}
+    has = {entry["binding"]: entry for entry in group.entries}
     found, stage = has.get(used["binding"]), used.get("stage", "compute")
     if found is None:
         return f"{case.named(group)} has no binding {used['binding']}" + (f"; it has {listed(has)}" if has else ""), {

@@ -13,7 +13,7 @@ def index(case):
 def offsets(case):
     group = case.uses["group"]
     layout, given = group.uses["layout"], len(case.call["offsets"])
-    bindings = sorted(entry["binding"] for entry in layout.call["entries"] if entry.get("dynamic"))
+    bindings = sorted(entry["binding"] for entry in layout.entries if entry.get("dynamic"))
     if given == len(bindings):
         return None
     has = f"{plural(len(bindings), 'dynamic binding')}" + (f" ({listed(bindings)})" if bindings else "")
@@ -82,33 +82,61 @@ def unset_before(case, word, **keys):
     return (f": the executeBundles at {case.place(by)} unset it", "again") if by else ("", "before")
 
 
+class Asked:
+    """A layout that a pipeline asks a group for: its index and entries, words for it, its name or None where it is derived, and the setBindGroup
+    there, or None."""
+
+    def __init__(self, case, at, entries):
+        pipeline = case.settings.pipeline
+        self.at = at
+        self.entries = entries
+        self.owner = case.second.automatic.owner_in_use(pipeline)
+        self.setting = case.settings.groups.get(at)
+        layout = None if self.owner else pipeline.uses["layout"].uses["layouts"][at]
+        self.name = layout.call["as"] if layout else None
+        self.words = f"{case.named(pipeline)} asks there for " + (case.named(layout) if layout else "the layout that it derives")
+
+
 def asked_groups(case):
-    """Of each index that the pipeline asks for a group, the index, the layout there, and the setBindGroup, or None."""
-    layouts = case.settings.pipeline.uses["layout"].uses["layouts"]
-    return [(at, layout, case.settings.groups.get(at)) for at, layout in enumerate(layouts) if layout.call["entries"]]
+    """Of each index at which the pipeline asks for a group what it asks."""
+    return [Asked(case, at, entries) for at, entries in enumerate(case.settings.pipeline.layouts) if entries]
 
 
 @rule(341)
 def groups_set(case):
     pipeline = case.settings.pipeline
-    for at, layout, setting in asked_groups(case):
-        asks = f"{case.named(pipeline)} asks there for {case.named(layout)}"
-        values = {"index": at, "pipeline": pipeline.call["as"], "layout": layout.call["as"]}
-        if setting is None:
-            unset, again = unset_before(case, "setBindGroup", index=at)
-            return Cause(f"no bind group is set at index {at}, and {asks}{unset}", values, f"Set one {again}.")
-        group = setting.uses["group"]
+    for asked in asked_groups(case):
+        values = {"index": asked.at, "pipeline": pipeline.call["as"], "layout": asked.name}
+        if asked.setting is None:
+            unset, again = unset_before(case, "setBindGroup", index=asked.at)
+            return Cause(f"no bind group is set at index {asked.at}, and {asked.words}{unset}", values, f"Set one {again}.")
+        group = asked.setting.uses["group"]
         other = group.uses["layout"]
-        why = difference(layout, other)
+        set_there = f"{case.named(group)} is set at index {asked.at}, with {case.named(other)}, and {asked.words}: "
+        values.update(group=group.call["as"], groupLayout=other.call["as"])
+        cause = of_another(case, asked, other, set_there, values)
+        if cause:
+            return cause
+        why = difference(asked.entries, other.entries)
         if why:
-            said = f"{case.named(group)} is set at index {at}, with {case.named(other)}, and {asks}: {why}"
-            return Cause(said, {**values, "group": group.call["as"], "groupLayout": other.call["as"], "difference": why})
+            return Cause(set_there + why, {**values, "difference": why})
     return None
 
 
+def of_another(case, asked, other, set_there, values):
+    """A group's layout is one that another pipeline derived, or that none did where the one in use derives its own; or None."""
+    if other.owner is asked.owner:
+        return None
+    pipeline = case.settings.pipeline
+    why = f"{case.named(other)} was got of {case.named(other.owner)}, which derived it for itself" if other.owner else "it takes no other's"
+    owner = other.owner.call["as"] if other.owner else None
+    remedy = f"Make the group of a layout that getBindGroupLayout gives of {case.name(pipeline)}." if asked.owner else f'Make the group of "{asked.name}", or of a layout with the same entries that no pipeline derived.'
+    return Cause(set_there + why, {**values, "groupPipeline": owner, "difference": why}, remedy)
+
+
 def difference(asked, given):
-    """In what two layouts are not equivalent, or None."""
-    asked, given = asked.call["entries"], {entry["binding"]: entry for entry in given.call["entries"]}
+    """In what the entries of two layouts differ, or None."""
+    given = {entry["binding"]: entry for entry in given}
     if len(asked) != len(given):
         return f"{plural(len(asked), 'entry') if len(asked) == 1 else f'{len(asked)} entries'} there, and {len(given)} here"
     for entry in asked:
@@ -133,10 +161,10 @@ def told(key, value):
 def overlaps(case):
     """Two bindings overlap that one stage sees and of which one is written."""
     bound = []
-    for at, _, setting in asked_groups(case):
-        group = setting.uses["group"]
-        for asked, entry, thing, move in case.second.bound_groups.bindings(group, setting.call["offsets"]):
-            bound.append((at, group, asked, case.second.bound_groups.touches_of(asked, entry, thing, move)))
+    for place in asked_groups(case):
+        group = place.setting.uses["group"]
+        for asked, entry, thing, move in case.second.bound_groups.bindings(group, place.setting.call["offsets"]):
+            bound.append((place.at, group, asked, case.second.bound_groups.touches_of(asked, entry, thing, move)))
     for number, one in enumerate(bound):
         for other in bound[number + 1 :]:
             cause = overlap(case, one, other)

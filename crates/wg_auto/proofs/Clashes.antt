@@ -11,7 +11,8 @@ use Rattle.wg_model.specs.Pipelines.{same_use}
 use Rattle.wg_model.specs.Equality.{same_bool, same_sample, same_view_dim, same_access, sample_number, access_number, buffer_binding_number, sampler_number}
 use Rattle.wg_types.specs.Formats.{same_format, format_number}
 use Rattle.wg_types.specs.Textures.{view_dim_number}
-use Rattle.wg_auto.specs.Automatic.{place_before, is_use_of, uses_of, differ, clash_at, kinds_agree, IsLeastClash}
+use Rattle.wg_model.specs.Automatic.{is_use_of, uses_of, differ, clash_at, kinds_agree}
+use Rattle.wg_auto.specs.Automatic.{place_before, IsLeastClash}
 use Rattle.wg_auto.specs.Walks.{in_order, use_before, is_clash, first_clash, SameUses}
 
 -- kinds that are equal to a third are equal

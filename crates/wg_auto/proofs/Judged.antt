@@ -3,7 +3,8 @@ use Rattle.std.proofs.Common.{◌≡◌, ◌≤◌, List, [], ◌∷◌, None, t
 use Rattle.std.proofs.lemmas.Bool.Decides.{nat_tests}
 use Rattle.wg_types.specs.declared.bindings.IfaceEntry.{IfaceEntry}
 use Rattle.wg_types.specs.declared.groups.GroupLayoutInfo.{GroupLayoutInfo}
-use Rattle.wg_auto.specs.Automatic.{kinds_agree, groups_fit, group_count, layouts_below, AreLeast}
+use Rattle.wg_model.specs.Automatic.{kinds_agree, groups_fit, group_count, layouts_below}
+use Rattle.wg_auto.specs.Automatic.{AreLeast}
 use Rattle.wg_auto.specs.Walks.{in_order, first_clash, SameUses}
 use Rattle.wg_auto.specs.Merged.{IsLayouts, IsTooMany}
 use Rattle.wg_auto.proofs.Clashes.{none_clash, agree_all}

@@ -6,3 +6,4 @@ pub mod Below
 pub mod Least
 pub mod Serving
 pub mod Judged
+pub mod Ruled

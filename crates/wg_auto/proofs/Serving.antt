@@ -19,7 +19,8 @@ use Rattle.wg_model.specs.Pipelines.{stage_bit, same_use, serves, offers}
 use Rattle.wg_model.specs.Buffers.{has_usage}
 use Rattle.wg_model.specs.Layouts.{is_seen_by}
 use Rattle.wg_model.specs.Equality.{of_binding}
-use Rattle.wg_auto.specs.Automatic.{uses_of, is_use_of, kinds_agree, plain, differ, stages_of, entries_for, entries_at, AreLeast, IsCovered, AreCovered}
+use Rattle.wg_model.specs.Automatic.{uses_of, is_use_of, kinds_agree, plain, differ, entries_at}
+use Rattle.wg_auto.specs.Automatic.{stages_of, entries_for, AreLeast, IsCovered, AreCovered}
 use Rattle.wg_auto.proofs.Walked.{first_of, second_of}
 use Rattle.wg_auto.proofs.Clashes.{agree_none}
 

@@ -6,7 +6,8 @@ use Rattle.wg_types.specs.declared.groups.GroupLayoutInfo.{GroupLayoutInfo}
 use Rattle.wg_model.specs.Pipelines.{offers}
 use Rattle.wg_auto.specs.declared.merging.Merged.{Merged}
 use Rattle.wg_auto.specs.declared.merging.Merged.TheVariants.{Clash, TooMany, Layouts}
-use Rattle.wg_auto.specs.Automatic.{kinds_agree, groups_fit, automatic_layouts, IsLeastClash, AreLeast, AreCovered}
+use Rattle.wg_model.specs.Automatic.{kinds_agree, groups_fit, automatic_layouts}
+use Rattle.wg_auto.specs.Automatic.{IsLeastClash, AreLeast, AreCovered}
 
 -- Kinds agree and groups fit, and the layouts are the least: they have all that shaders use, and any others that have it have each of
 -- their entries, seen by at least as many stages.

@@ -2,8 +2,10 @@
 use Rattle.std.specs.Prelude.{◌≡◌, ℕ, ◌==◌, Bool, true, false, not, ◌&&◌, List, [], ◌∷◌, Option, Some, None, if◌then◌else◌}
 use Rattle.wg_types.specs.declared.bindings.LayoutEntry.{LayoutEntry}
 use Rattle.wg_types.specs.declared.bindings.IfaceEntry.{IfaceEntry}
+use Rattle.wg_types.specs.declared.groups.GroupLayoutInfo.{GroupLayoutInfo}
 use Rattle.wg_model.specs.Pipelines.{same_use}
-use Rattle.wg_auto.specs.Automatic.{place_before, entry_used, entry_shared, uses_of}
+use Rattle.wg_model.specs.Automatic.{entry_used, entry_shared, uses_of}
+use Rattle.wg_auto.specs.Automatic.{place_before}
 
 -- whether a use comes before another
 abbrev pub use_before : IfaceEntry → IfaceEntry → Bool
@@ -39,6 +41,10 @@ entries_from group (Some entry) (used ∷ uses) =
     then (if entry.binding == used.binding then entries_from group (Some (entry_shared entry used)) uses
     else entry ∷ entries_from group (Some (entry_used used)) uses)
     else entries_from group (Some entry) uses
+
+-- the layout of a group with these
+abbrev pub layout_from : ℕ → List IfaceEntry → GroupLayoutInfo
+layout_from group uses = record { entries = entries_from group None uses; exclusive = None; pipeline = None }
 
 -- The same uses of each place.
 abbrev pub SameUses : List IfaceEntry → List IfaceEntry → Type 0

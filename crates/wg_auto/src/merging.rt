@@ -1,8 +1,8 @@
 //! The layouts of all groups.
 ghost use Rattle.std.specs.Prelude.{◌≡◌, ◌≤◌, IfOk, true, List};
 ghost use Rattle.wg_types.specs.declared.bindings.IfaceEntry.{IfaceEntry};
-ghost use Rattle.wg_auto.specs.Automatic.{groups_fit, layouts_below};
-ghost use Rattle.wg_auto.specs.Walks.{in_order, SameUses};
+ghost use Rattle.wg_model.specs.Automatic.{groups_fit, layouts_below, automatic_layouts};
+ghost use Rattle.wg_auto.specs.Walks.{in_order, layout_from, SameUses};
 ghost use Rattle.wg_auto.specs.Merged.{IsMerged};
 
 use crate::entries::{group_count, group_entries};
@@ -35,6 +35,23 @@ fn groups_fit(iface: &[IfaceEntry]) -> bool
     iface.iter().all(|used| used.group < MOST_GROUPS)
 }
 
+/// The layout of a group, of uses in the order of their places.
+fn group_layout(
+    alloc: Global,
+    uses: &[IfaceEntry],
+    group: u32,
+) -> Result<Shared<GroupLayoutInfo>, NoMemory>
+    ensures { IfOk result (λ layout. layout ≡ layout_from group uses.now) }
+{
+    let entries = Shared::new(alloc, group_entries(alloc, uses, group)?)?;
+    let layout = GroupLayoutInfo {
+        entries,
+        exclusive: None,
+        pipeline: None,
+    };
+    Shared::new(alloc, layout)
+}
+
 /// The layouts of the first groups.
 fn layouts_below(
     alloc: Global,
@@ -47,8 +64,7 @@ fn layouts_below(
 {
     let mut layouts = Items::new(alloc);
     for group in 0..count {
-        let entries = group_entries(alloc, uses, group as u32)?;
-        layouts.push(Shared::new(alloc, GroupLayoutInfo { entries })?)?;
+        layouts.push(group_layout(alloc, uses, group as u32)?)?;
     }
     Ok(layouts)
 }
@@ -68,4 +84,18 @@ pub fn merge(alloc: Global, iface: &[IfaceEntry]) -> Result<Merged, NoMemory>
     }
     let layouts = layouts_below(alloc, &uses, group_count(iface))?;
     Ok(Merged::Layouts(layouts))
+}
+
+/// The layouts that a pipeline derives from what its shaders use, also where it cannot be made: there are
+/// none where they use a binding as different kinds, and none where they name a group that cannot be set.
+pub fn automatic_layouts(
+    alloc: Global,
+    iface: &[IfaceEntry],
+) -> Result<Items<Shared<GroupLayoutInfo>>, NoMemory>
+    ensures { IfOk result (λ layouts. layouts ≡ automatic_layouts iface.now) }
+{
+    match merge(alloc, iface)? {
+        Merged::Layouts(layouts) => Ok(layouts),
+        Merged::Clash { .. } | Merged::TooMany => Ok(Items::new(alloc)),
+    }
 }

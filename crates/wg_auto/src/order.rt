@@ -1,13 +1,12 @@
 //! Uses in the order of their places.
 ghost use Rattle.std.specs.Prelude.{◌≡◌, IfOk, not, true, if◌then◌else◌};
-ghost use Rattle.wg_model.specs.Pipelines.{same_use};
 ghost use Rattle.wg_auto.specs.Walks.{use_before, is_clash, clashes_with_next, first_clash, in_order, SameUses};
 
 use std::alloc::Global;
 use std::cmp::Ordering;
-use wg_formats::same_binding_kind;
+use wg_formats::same_use;
 use wg_types::NoMemory;
-use wg_types::bindings::{BindingKind, IfaceEntry};
+use wg_types::bindings::IfaceEntry;
 
 /// The order of two uses, by the group and then by the binding.
 fn by_place(a: &IfaceEntry, b: &IfaceEntry) -> Ordering
@@ -24,16 +23,6 @@ pub fn arranged(alloc: Global, iface: &[IfaceEntry]) -> Result<Vec<IfaceEntry>, 
     let mut uses = Vec::from_slice(alloc, iface)?;
     uses.sort_by(|a, b| by_place(a, b))?;
     Ok(uses)
-}
-
-/// Whether two uses are of one kind: of a buffer neither dynamic offsets nor the least size count.
-fn same_use(a: BindingKind, b: BindingKind) -> bool
-    ensures { result ≡ same_use a b }
-{
-    match (a, b) {
-        (BindingKind::Buffer { binding: a, .. }, BindingKind::Buffer { binding: b, .. }) => a == b,
-        _ => same_binding_kind(a, b),
-    }
 }
 
 /// Whether a use is of the same place as the next and of another kind.

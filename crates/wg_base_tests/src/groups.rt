@@ -4,15 +4,16 @@ ghost use Rattle.std.specs.Prelude.{◌≡◌, slice_get};
 use std::alloc::Global;
 use wg_groups::check_group;
 use wg_groups::making::{
-    Known, compute_made, group_made, pipeline_layout_made, render_made, view_made,
+    Known, compute_made, group_layout_got, group_layout_made, group_made, pipeline_layout_made,
+    render_made, view_made,
 };
 use wg_types::NoMemory;
 use wg_types::bindings::{
-    BindingKind, BoundEntry, BoundResource, BufferBinding, GroupEntryOf, LayoutEntry, ResourceOf,
-    SamplerKind, StorageAccess,
+    BindingKind, BoundEntry, BoundResource, BufferBinding, GroupEntryOf, IfaceEntry, LayoutEntry,
+    ResourceOf, SamplerKind, Stage, StorageAccess,
 };
 use wg_types::formats::{Format, SampleType};
-use wg_types::groups::{GroupInfo, GroupLayoutInfo, Interface, PipelineLayoutInfo};
+use wg_types::groups::{ComputeInfo, GroupInfo, GroupLayoutInfo, Interface, PipelineLayoutInfo};
 use wg_types::handles::{BufferInfo, Info, ObjRef};
 use wg_types::items::Items;
 use wg_types::limits::Limits;
@@ -57,7 +58,7 @@ fn layout_of(alloc: Global, binding: u32, kind: BindingKind) -> Result<GroupLayo
         visibility: 4,
         kind,
     })?;
-    Ok(GroupLayoutInfo { entries })
+    Ok(group_layout_made(Shared::new(alloc, entries)?))
 }
 
 /// A binding of a buffer.
@@ -121,7 +122,7 @@ const ENTRIES: [GroupEntryOf<u32>; 2] = [
 fn binds(group: &GroupInfo, entries: &[BoundEntry]) -> [bool; 3] {
     [
         group.layout == reference(0),
-        group.layout_info.get().entries.as_slice().len() == 1,
+        count(&group.layout_info) == 1,
         group.entries.as_slice() == entries,
     ]
 }
@@ -161,7 +162,7 @@ fn a_group_binds_what_it_names(rt: HostRuntime) {
 
 /// How many entries a group's layout has.
 fn count(info: &Shared<GroupLayoutInfo>) -> usize {
-    info.get().entries.as_slice().len()
+    info.get().entries.get().as_slice().len()
 }
 
 /// Whether a layout has three groups of these numbers, and how many entries each has.
@@ -222,12 +223,12 @@ fn known_pipeline_layout(alloc: Global) -> Result<Info, NoMemory> {
 }
 
 /// The layout of a compute pipeline of no bindings, and how many groups and bindings it has.
-fn made_compute(alloc: Global) -> Result<(ObjRef, usize, usize), NoMemory> {
+fn made_compute(alloc: Global) -> Result<(Option<ObjRef>, usize, usize), NoMemory> {
     let entries = Items::new(alloc);
     let iface = Shared::new(alloc, Interface { entries })?;
     let infos = [known_pipeline_layout(alloc)?];
     let objects = Objects { infos: &infos };
-    let made = compute_made(alloc, &objects, &objects, &0, &iface)?;
+    let made = compute_made(alloc, &objects, &objects, &Some(0), &iface)?;
     let groups = made.layout_info.get().layouts.as_slice().len();
     Ok((
         made.layout,
@@ -237,7 +238,7 @@ fn made_compute(alloc: Global) -> Result<(ObjRef, usize, usize), NoMemory> {
 }
 
 /// The layout of a render pipeline that only has four samples, how many groups it has, and its samples.
-fn made_render(alloc: Global) -> Result<(ObjRef, usize, u32), NoMemory> {
+fn made_render(alloc: Global) -> Result<(Option<ObjRef>, usize, u32), NoMemory> {
     let desc = RenderDesc {
         iface: Items::new(alloc),
         buffers: Items::new(alloc),
@@ -248,15 +249,88 @@ fn made_render(alloc: Global) -> Result<(ObjRef, usize, u32), NoMemory> {
     let desc = Shared::new(alloc, desc)?;
     let infos = [known_pipeline_layout(alloc)?];
     let objects = Objects { infos: &infos };
-    let made = render_made(alloc, &objects, &objects, &0, &desc)?;
+    let made = render_made(alloc, &objects, &objects, &Some(0), &desc)?;
     let groups = made.layout_info.get().layouts.as_slice().len();
     Ok((made.layout, groups, made.desc.get().samples))
 }
 
 #[test]
 fn a_pipeline_shares_its_layout(rt: HostRuntime) {
-    assert!(rt; made_compute(rt.alloc()) == Ok((reference(0), 1, 0)));
-    assert!(rt; made_render(rt.alloc()) == Ok((reference(0), 1, 4)));
+    assert!(rt; made_compute(rt.alloc()) == Ok((Some(reference(0)), 1, 0)));
+    assert!(rt; made_render(rt.alloc()) == Ok((Some(reference(0)), 1, 4)));
+}
+
+/// What is known of a compute pipeline that derives its layout, of a shader that uses binding 5 of group 1
+/// as a uniform buffer.
+fn automatic(alloc: Global) -> Result<ComputeInfo, NoMemory> {
+    let mut entries = Items::new(alloc);
+    entries.push(IfaceEntry {
+        group: 1,
+        binding: 5,
+        stage: Stage::Compute,
+        kind: buffer(BufferBinding::Uniform),
+    })?;
+    let iface = Shared::new(alloc, Interface { entries })?;
+    let objects = Objects { infos: &[] };
+    compute_made(alloc, &objects, &objects, &None, &iface)
+}
+
+/// Whether it is automatic and has no layout, and how many groups and references it has.
+fn derived(alloc: Global) -> Result<(bool, bool, usize, usize), NoMemory> {
+    let made = automatic(alloc)?;
+    let known = made.layout_info.get();
+    Ok((
+        made.auto,
+        made.layout.is_none(),
+        known.layouts_info.as_slice().len(),
+        known.layouts.as_slice().len(),
+    ))
+}
+
+#[test]
+fn a_pipeline_derives_its_layout(rt: HostRuntime) {
+    assert!(rt; derived(rt.alloc()) == Ok((true, true, 2, 0)));
+}
+
+/// How many entries a layout has that is got of a pipeline, to which it is exclusive and to which it refers.
+fn got_of(
+    alloc: Global,
+    info: Info,
+    index: u32,
+) -> Result<(usize, Option<u64>, Option<ObjRef>), NoMemory> {
+    let infos = [info];
+    let objects = Objects { infos: &infos };
+    let got = group_layout_got(alloc, &objects, &objects, &0, index)?;
+    Ok((
+        got.entries.get().as_slice().len(),
+        got.exclusive,
+        got.pipeline,
+    ))
+}
+
+/// What is got of the pipeline that derives its layout, of this group.
+fn got(alloc: Global, index: u32) -> Result<(usize, Option<u64>, Option<ObjRef>), NoMemory> {
+    let info = Info::Compute(automatic(alloc)?);
+    got_of(alloc, info, index)
+}
+
+/// What is got of the first group of a pipeline that is made with a layout.
+fn got_of_named(alloc: Global) -> Result<(usize, Option<u64>, Option<ObjRef>), NoMemory> {
+    let entries = Items::new(alloc);
+    let iface = Shared::new(alloc, Interface { entries })?;
+    let infos = [known_pipeline_layout(alloc)?];
+    let objects = Objects { infos: &infos };
+    let made = compute_made(alloc, &objects, &objects, &Some(0), &iface)?;
+    got_of(alloc, Info::Compute(made), 0)
+}
+
+#[test]
+fn a_layout_is_got_of_its_pipeline(rt: HostRuntime) {
+    let own = Some(reference(0));
+    assert!(rt; got(rt.alloc(), 0) == Ok((0, Some(0), own)));
+    assert!(rt; got(rt.alloc(), 1) == Ok((1, Some(0), own)));
+    assert!(rt; got(rt.alloc(), 2) == Ok((0, Some(0), own)));
+    assert!(rt; got_of_named(rt.alloc()) == Ok((1, None, own)));
 }
 
 /// The limits of a device, of which those of buffers count here.
@@ -366,7 +440,7 @@ fn of_three(alloc: Global) -> Result<[Option<u16>; 6], NoMemory> {
             kind: buffer(BufferBinding::Uniform),
         })?;
     }
-    Ok(in_orders(&GroupLayoutInfo { entries }))
+    Ok(in_orders(&group_layout_made(Shared::new(alloc, entries)?)))
 }
 
 #[test]

@@ -1,10 +1,11 @@
 //! Examples by the words of the standard.
 use std::alloc::Global;
-use wg_layouts::{check_group_layout, check_pipeline_layout, equivalent};
+use wg_layouts::{check_get_layout, check_group_layout, check_pipeline_layout, equivalent};
 use wg_types::NoMemory;
 use wg_types::bindings::{BindingKind, BufferBinding, LayoutEntry, StorageAccess};
 use wg_types::formats::{Format, SampleType};
-use wg_types::groups::GroupLayoutInfo;
+use wg_types::groups::{ComputeInfo, GroupLayoutInfo, Interface, PipelineLayoutInfo};
+use wg_types::handles::Info;
 use wg_types::items::Items;
 use wg_types::limits::Limits;
 use wg_types::shared::Shared;
@@ -137,19 +138,36 @@ fn bindings_of_a_group_layout_are_counted(rt: HostRuntime) {
     assert!(rt; rules == [None, Some(136), None, Some(137)]);
 }
 
-fn layout(alloc: Global, entries: &[LayoutEntry]) -> Result<GroupLayoutInfo, NoMemory> {
+/// A layout that is exclusive to this pipeline, or to none.
+fn owned(
+    alloc: Global,
+    entries: &[LayoutEntry],
+    exclusive: Option<u64>,
+) -> Result<GroupLayoutInfo, NoMemory> {
     let mut found = Items::new(alloc);
     for entry in entries {
         found.push(*entry)?;
     }
-    Ok(GroupLayoutInfo { entries: found })
+    Ok(GroupLayoutInfo {
+        entries: Shared::new(alloc, found)?,
+        exclusive,
+        pipeline: None,
+    })
 }
 
 /// Whether the layout of two entries is equivalent to that of two others.
 fn alike(alloc: Global, pair: [LayoutEntry; 2], other: [LayoutEntry; 2]) -> Result<bool, NoMemory> {
-    let pair = layout(alloc, &pair)?;
-    let other = layout(alloc, &other)?;
+    let pair = owned(alloc, &pair, None)?;
+    let other = owned(alloc, &other, None)?;
     Ok(equivalent(&pair, &other))
+}
+
+/// Whether two layouts of the same entry are equivalent that are exclusive to these, or to none.
+fn alike_for(alloc: Global, pair: [Option<u64>; 2]) -> Result<bool, NoMemory> {
+    let entries = [entry(0, 4, READ_ONLY)];
+    let first = owned(alloc, &entries, pair[0])?;
+    let second = owned(alloc, &entries, pair[1])?;
+    Ok(equivalent(&first, &second))
 }
 
 #[test]
@@ -159,13 +177,16 @@ fn layouts_are_compared(rt: HostRuntime) {
     let compared = [
         alike(rt.alloc(), [first, second], [second, first]),
         alike(rt.alloc(), [first, second], [first, other]),
+        alike_for(rt.alloc(), [Some(3), Some(3)]),
+        alike_for(rt.alloc(), [Some(3), Some(4)]),
+        alike_for(rt.alloc(), [None, Some(3)]),
     ];
-    assert!(rt; compared == [Ok(true), Ok(false)]);
+    assert!(rt; compared == [Ok(true), Ok(false), Ok(true), Ok(false), Ok(false)]);
 }
 
 /// A layout that is shared.
 fn shared(alloc: Global, entries: &[LayoutEntry]) -> Result<Shared<GroupLayoutInfo>, NoMemory> {
-    Shared::new(alloc, layout(alloc, entries)?)
+    Shared::new(alloc, owned(alloc, entries, None)?)
 }
 
 /// The rule of a pipeline layout of two groups, which are dropped here.
@@ -189,4 +210,49 @@ fn layouts_are_counted_together(rt: HostRuntime) {
         both(rt.alloc(), &pair, &moved),
     ];
     assert!(rt; rules == [Ok(None), Ok(Some(141)), Ok(Some(142))]);
+}
+
+/// The rule of a pipeline layout of a group that is exclusive to this pipeline, or to none.
+fn alone_for(alloc: Global, exclusive: Option<u64>) -> Result<Option<u16>, NoMemory> {
+    let layouts = [Shared::new(alloc, owned(alloc, &[], exclusive)?)?];
+    Ok(check_pipeline_layout(&layouts, &DEFAULT))
+}
+
+#[test]
+fn pipeline_layouts_are_for_all(rt: HostRuntime) {
+    let rules = [alone_for(rt.alloc(), None), alone_for(rt.alloc(), Some(0))];
+    assert!(rt; rules == [Ok(None), Ok(Some(143))]);
+}
+
+/// What is known of a pipeline with the layout of one group, which uses nothing.
+fn pipeline(alloc: Global) -> Result<Info, NoMemory> {
+    let mut layouts_info = Items::new(alloc);
+    layouts_info.push(shared(alloc, &[])?)?;
+    let layouts = Items::new(alloc);
+    let known = PipelineLayoutInfo {
+        layouts,
+        layouts_info,
+    };
+    let entries = Items::new(alloc);
+    Ok(Info::Compute(ComputeInfo {
+        layout: None,
+        layout_info: Shared::new(alloc, known)?,
+        auto: true,
+        iface: Shared::new(alloc, Interface { entries })?,
+    }))
+}
+
+/// The rules of getting its layout of the first group and of the second.
+fn got(alloc: Global) -> Result<[Option<u16>; 2], NoMemory> {
+    let pipeline = pipeline(alloc)?;
+    Ok([
+        check_get_layout(Some(&pipeline), 0),
+        check_get_layout(Some(&pipeline), 1),
+    ])
+}
+
+#[test]
+fn layouts_are_got_of_groups_that_there_are(rt: HostRuntime) {
+    assert!(rt; got(rt.alloc()) == Ok([None, Some(169)]));
+    assert!(rt; check_get_layout(None, 0) == Some(169));
 }

@@ -20,7 +20,12 @@ fn layout(
         kind,
     })?;
     let mut layouts_info = Items::new(alloc);
-    layouts_info.push(Shared::new(alloc, GroupLayoutInfo { entries })?)?;
+    let layout = GroupLayoutInfo {
+        entries: Shared::new(alloc, entries)?,
+        exclusive: None,
+        pipeline: None,
+    };
+    layouts_info.push(Shared::new(alloc, layout)?)?;
     Ok(PipelineLayoutInfo {
         layouts: Items::new(alloc),
         layouts_info,

@@ -1,6 +1,6 @@
 -- The handle that a call gives of what it made is genuine once the call is made, if those that it names are, and stays so.
 use Rattle.std.proofs.Common.{◌≡◌, ℕ, ◌<◌, List, [], ◌∷◌, ◌++◌, map, reverse, Bool, true, false, not, ◌&&◌, ◌||◌, ◌==◌, Option, Some, None, is_some, is_none, option_and_then, refl, ap, ap₂, sym, ◌∙◌, subst, if◌then◌else◌, true≢false}
-use Rattle.std.specs.Prelude.{All, slice_index_or}
+use Rattle.std.specs.Prelude.{All, option_map, slice_index_or}
 use Rattle.std.specs.Option.{option_map_or}
 use Rattle.std.proofs.lemmas.Bool.{and_parts, and_from, eq-eqb}
 use Rattle.std.proofs.lemmas.List.{reverse-append}
@@ -8,7 +8,7 @@ use Rattle.std.proofs.lemmas.List.Elements.{All-nil, All-cons}
 use Rattle.wg_types.specs.Handles.{HandleValue}
 use Rattle.wg_types.specs.Kinds.{kind_of}
 use Rattle.wg_types.specs.Wanted.{admits}
-use Rattle.wg_types.specs.Refs.{all_wanted}
+use Rattle.wg_types.specs.Refs.{all_wanted, maybe_wanted}
 use Rattle.wg_types.specs.Bindings.{resource_named, map_resource, map_entry, entries_named}
 use Rattle.wg_types.specs.Requests.{named, kind_made}
 use Rattle.wg_types.specs.declared.wanted.Wanted.{Wanted}
@@ -19,15 +19,18 @@ use Rattle.wg_types.specs.declared.bindings.ResourceOf.{ResourceOf}
 use Rattle.wg_types.specs.declared.bindings.ResourceOf.TheVariants.{Buffer, View, Sampler}
 use Rattle.wg_types.specs.declared.bindings.GroupEntryOf.{GroupEntryOf}
 use Rattle.wg_types.specs.declared.groups.GroupInfo.{GroupInfo}
+use Rattle.wg_types.specs.declared.groups.ComputeInfo.{ComputeInfo}
+use Rattle.wg_types.specs.declared.groups.RenderInfo.{RenderInfo}
 use Rattle.wg_types.specs.declared.render.TargetInfo.{TargetInfo}
 use Rattle.wg_types.specs.declared.replies.Answer.{Answer}
 use Rattle.wg_types.specs.declared.replies.Answer.TheVariants.{Made}
 use Rattle.wg_types.specs.declared.replies.Reply.{Reply}
 use Rattle.wg_types.specs.declared.requests.RequestOf.{RequestOf}
-use Rattle.wg_types.specs.declared.requests.RequestOf.TheVariants.{CreateBuffer, CreateTexture, CreateView, CreateSampler, CreateBindGroupLayout, CreatePipelineLayout, CreateBindGroup, CreateComputePipeline, CreateRenderPipeline, CreateQuerySet, CreateEncoder, CreateBundleEncoder, Finish, FinishBundle, Submit, WriteBuffer, WriteTexture, Destroy, Drop, Complete, PushErrorScope, PopErrorScope, Lose, WorkDone, MapAsync, Unmap}
+use Rattle.wg_types.specs.declared.requests.RequestOf.TheVariants.{CreateBuffer, CreateTexture, CreateView, CreateSampler, CreateBindGroupLayout, CreatePipelineLayout, CreateBindGroup, CreateComputePipeline, CreateRenderPipeline, GetBindGroupLayout, CreateQuerySet, CreateEncoder, CreateBundleEncoder, Finish, FinishBundle, Submit, WriteBuffer, WriteTexture, Destroy, Drop, Complete, PushErrorScope, PopErrorScope, Lose, WorkDone, MapAsync, Unmap}
 use Rattle.wg_model.specs.Rules.{Rule, AreMet, first_unmet}
 use Rattle.wg_model.specs.Equality.{same_bool}
 use Rattle.wg_model.specs.Layouts.{pipeline_layout_rules}
+use Rattle.wg_model.specs.Automatic.{derived_rules, get_layout_rules}
 use Rattle.wg_model.specs.Groups.{group_rules}
 use Rattle.wg_model.specs.Pipelines.{compute_rules}
 use Rattle.wg_model.specs.RenderPipelines.{render_pipeline_rules}
@@ -43,7 +46,7 @@ use Rattle.wg_history.specs.Objects.{is_making, is_making_form, count, maker, in
 use Rattle.wg_history.specs.Infos.{same_kind, same_info}
 use Rattle.wg_history.specs.Loss.{is_lost}
 use Rattle.wg_history.specs.Rules.{is_genuine, create_view_list, create_view_rule}
-use Rattle.wg_history.specs.GroupRules.{named_rules, group_named, create_pipeline_layout_rule, create_bind_group_rule, create_compute_pipeline_rule, create_render_pipeline_rule}
+use Rattle.wg_history.specs.GroupRules.{named_rules, group_named, create_pipeline_layout_rule, create_bind_group_rule, create_compute_pipeline_rule, create_render_pipeline_rule, get_bind_group_layout_rule}
 use Rattle.wg_history.specs.FirstRules.{first_rule}
 use Rattle.wg_history.specs.Answers.{answer_by, reply_to}
 use Rattle.wg_history.proofs.BindingLaws.{infos_tell}
@@ -180,6 +183,10 @@ wanted_refer : (asked : Wanted) (handles : List HandleValue) → all_wanted aske
 wanted_refer asked [] = refl
 wanted_refer asked (handle ∷ handles) = ap (λ rest. (handle.reference, asked) ∷ rest) (wanted_refer asked handles)
 
+maybe_refers : (asked : Wanted) (handle : Option HandleValue) → maybe_wanted asked (option_map reference_of handle) ≡ map referred (maybe_wanted asked handle)
+maybe_refers asked None = refl
+maybe_refers asked (Some handle) = refl
+
 resource_refers : (resource : ResourceOf HandleValue) → resource_named (map_resource reference_of resource) ≡ referred (resource_named resource)
 resource_refers (Buffer buffer offset size) = refl
 resource_refers (View view) = refl
@@ -204,7 +211,7 @@ first_stand setup past objects useds more same ruled =
 -- A call that meets its rules makes that of which so much is known as the handles say of it.
 known_same : (setup : Setup) (entry : Entry) (past : Past) (request : RequestOf HandleValue) → All (λ (used : HandleValue × Wanted). IsGenuineIfOwn setup (entry ∷ past) used.0) (named request)
     → is_none (first_rule setup past (event_asked request)) ≡ true → info_asked request ≡ made_info past (event_asked request)
-unfolding create_view_rule create_pipeline_layout_rule create_bind_group_rule create_compute_pipeline_rule create_render_pipeline_rule
+unfolding create_view_rule create_pipeline_layout_rule create_bind_group_rule create_compute_pipeline_rule create_render_pipeline_rule get_bind_group_layout_rule
 known_same setup entry past (CreateBuffer made) if_own ruled = refl
 known_same setup entry past (CreateTexture made) if_own ruled = refl
 known_same setup entry past (CreateView texture asked) if_own ruled =
@@ -227,15 +234,24 @@ known_same setup entry past (CreateBindGroup layout entries) if_own ruled =
     (first_stand setup past (group_named layout.reference (map (map_entry reference_of) entries)) useds (group_rules setup.limits made.layout_info.entries made.entries)
     (ap (λ rest. (layout.reference, wanted.GroupLayout) ∷ rest) (entries_refer entries)) ruled))
 known_same setup entry past (CreateComputePipeline layout iface) if_own ruled =
-    let useds : List (HandleValue × Wanted) = (layout, wanted.PipelineLayout) ∷ [] in
+    let useds : List (HandleValue × Wanted) = maybe_wanted wanted.PipelineLayout layout in
+    let made : ComputeInfo = compute_made (λ r. r) (known_in past) (option_map reference_of layout) iface in
     info_is_made (known_in past) (CreateComputePipeline layout iface)
-    (all_told setup entry past useds if_own (first_stand setup past ((layout.reference, wanted.PipelineLayout) ∷ []) useds
-    (compute_rules (compute_made (λ r. r) (known_in past) layout.reference iface).layout_info.layouts_info iface.entries) refl ruled))
+    (all_told setup entry past useds if_own (first_stand setup past (maybe_wanted wanted.PipelineLayout (option_map reference_of layout)) useds
+    (derived_rules setup.limits (option_map reference_of layout) iface.entries ++ compute_rules made.layout_info.layouts_info iface.entries)
+    (maybe_refers wanted.PipelineLayout layout) ruled))
 known_same setup entry past (CreateRenderPipeline layout desc) if_own ruled =
-    let useds : List (HandleValue × Wanted) = (layout, wanted.PipelineLayout) ∷ [] in
+    let useds : List (HandleValue × Wanted) = maybe_wanted wanted.PipelineLayout layout in
+    let made : RenderInfo = render_made (λ r. r) (known_in past) (option_map reference_of layout) desc in
     info_is_made (known_in past) (CreateRenderPipeline layout desc)
-    (all_told setup entry past useds if_own (first_stand setup past ((layout.reference, wanted.PipelineLayout) ∷ []) useds
-    (render_pipeline_rules setup.limits (render_made (λ r. r) (known_in past) layout.reference desc).layout_info.layouts_info desc) refl ruled))
+    (all_told setup entry past useds if_own (first_stand setup past (maybe_wanted wanted.PipelineLayout (option_map reference_of layout)) useds
+    (derived_rules setup.limits (option_map reference_of layout) desc.iface ++ render_pipeline_rules setup.limits made.layout_info.layouts_info desc)
+    (maybe_refers wanted.PipelineLayout layout) ruled))
+known_same setup entry past (GetBindGroupLayout pipeline index) if_own ruled =
+    let useds : List (HandleValue × Wanted) = (pipeline, wanted.Pipeline) ∷ [] in
+    info_is_made (known_in past) (GetBindGroupLayout pipeline index)
+    (all_told setup entry past useds if_own (first_stand setup past ((pipeline.reference, wanted.Pipeline) ∷ []) useds
+    (get_layout_rules (known_in past pipeline.reference) index) refl ruled))
 known_same setup entry past (CreateQuerySet made) if_own ruled = refl
 known_same setup entry past CreateEncoder if_own ruled = refl
 known_same setup entry past (CreateBundleEncoder targets) if_own ruled = refl
@@ -275,6 +291,7 @@ kin known (CreatePipelineLayout layouts) = record { making = refl; makes = refl;
 kin known (CreateBindGroup layout entries) = record { making = refl; makes = refl; kind = refl }
 kin known (CreateComputePipeline layout iface) = record { making = refl; makes = refl; kind = refl }
 kin known (CreateRenderPipeline layout desc) = record { making = refl; makes = refl; kind = refl }
+kin known (GetBindGroupLayout pipeline index) = record { making = refl; makes = refl; kind = refl }
 kin known (CreateQuerySet made) = record { making = refl; makes = refl; kind = refl }
 kin known CreateEncoder = record { making = refl; makes = refl; kind = refl }
 kin known (CreateBundleEncoder targets) = record { making = refl; makes = refl; kind = refl }

@@ -1,5 +1,5 @@
 -- So much is known of the object that a call makes as of that which its event makes.
-use Rattle.std.proofs.Common.{◌≡◌, Option, Some, List, [], ◌∷◌, map, refl, sym, ap, ap₂}
+use Rattle.std.proofs.Common.{◌≡◌, Option, Some, None, List, [], ◌∷◌, map, refl, sym, ap, ap₂}
 use Rattle.std.specs.Prelude.{All}
 use Rattle.std.proofs.lemmas.List.Elements.{All-head, All-tail}
 use Rattle.wg_types.specs.Handles.{HandleValue}
@@ -13,7 +13,7 @@ use Rattle.wg_types.specs.declared.bindings.ResourceOf.TheVariants.{Buffer, View
 use Rattle.wg_types.specs.declared.bindings.GroupEntryOf.{GroupEntryOf}
 use Rattle.wg_types.specs.Refs.{all_wanted}
 use Rattle.wg_types.specs.Bindings.{resource_named, map_resource, map_entry, entries_named}
-use Rattle.wg_types.specs.declared.requests.RequestOf.TheVariants.{CreateBuffer, CreateTexture, CreateView, CreateSampler, CreateBindGroupLayout, CreatePipelineLayout, CreateBindGroup, CreateComputePipeline, CreateRenderPipeline, CreateQuerySet, CreateEncoder, CreateBundleEncoder, Finish, FinishBundle, Submit, WriteBuffer, WriteTexture, Destroy, Drop, Complete, PushErrorScope, PopErrorScope, Lose, WorkDone, MapAsync, Unmap}
+use Rattle.wg_types.specs.declared.requests.RequestOf.TheVariants.{CreateBuffer, CreateTexture, CreateView, CreateSampler, CreateBindGroupLayout, CreatePipelineLayout, CreateBindGroup, CreateComputePipeline, CreateRenderPipeline, GetBindGroupLayout, CreateQuerySet, CreateEncoder, CreateBundleEncoder, Finish, FinishBundle, Submit, WriteBuffer, WriteTexture, Destroy, Drop, Complete, PushErrorScope, PopErrorScope, Lose, WorkDone, MapAsync, Unmap}
 use Rattle.wg_model.specs.Making.{known_group_layout, bound_resource, bound_entry}
 use Rattle.wg_calls.specs.Calls.{reference_of, known_by}
 use Rattle.wg_calls.specs.Infos.{InfoIsMade}
@@ -62,11 +62,16 @@ info_is_made known (CreateBindGroup layout entries) all =
     let e : known (reference_of layout) ≡ known_by layout = All-head (Knows known) (layout, wanted.GroupLayout) (entries_named entries) all in
     ap₂ (λ found bound. Some (info.Group (record { layout = reference_of layout; layout_info = known_group_layout found; entries = bound }))) (sym e)
     (bounds known entries (All-tail (Knows known) (layout, wanted.GroupLayout) (entries_named entries) all))
-info_is_made known (CreateComputePipeline layout iface) all =
+info_is_made known (CreateComputePipeline None iface) all = refl
+info_is_made known (CreateComputePipeline (Some layout) iface) all =
     let e : known (reference_of layout) ≡ known_by layout = All-head (Knows known) (layout, wanted.PipelineLayout) [] all in
     rw e refl
-info_is_made known (CreateRenderPipeline layout desc) all =
+info_is_made known (CreateRenderPipeline None desc) all = refl
+info_is_made known (CreateRenderPipeline (Some layout) desc) all =
     let e : known (reference_of layout) ≡ known_by layout = All-head (Knows known) (layout, wanted.PipelineLayout) [] all in
+    rw e refl
+info_is_made known (GetBindGroupLayout pipeline index) all =
+    let e : known (reference_of pipeline) ≡ known_by pipeline = All-head (Knows known) (pipeline, wanted.Pipeline) [] all in
     rw e refl
 info_is_made known (CreateQuerySet made) all = refl
 info_is_made known CreateEncoder all = refl

@@ -1,2 +1,3 @@
 pub mod Infos
 pub mod Genuine
+pub mod Owners

@@ -1,5 +1,5 @@
 -- The calls of a device over handles: which event each is, what is known of the object that it makes, and the handle of that.
-use Rattle.std.specs.Prelude.{ℕ, [], map, Option, Some, None, option_and_then, if◌then◌else◌}
+use Rattle.std.specs.Prelude.{ℕ, [], map, Option, Some, None, option_map, option_and_then, if◌then◌else◌}
 use Rattle.wg_types.specs.Handles.{HandleValue}
 use Rattle.wg_types.specs.declared.handles.ObjRef.{ObjRef}
 use Rattle.wg_types.specs.declared.handles.Info.{Info}
@@ -12,9 +12,9 @@ use Rattle.wg_types.specs.Bindings.{map_entry}
 use Rattle.wg_types.specs.declared.replies.Answer.{Answer}
 use Rattle.wg_types.specs.declared.replies.Answer.TheVariants.{Made, Queued, Promised, Plain, BadCompletion}
 use Rattle.wg_types.specs.declared.requests.RequestOf.{RequestOf}
-use Rattle.wg_types.specs.declared.requests.RequestOf.TheVariants.{CreateBuffer, CreateTexture, CreateView, CreateSampler, CreateBindGroupLayout, CreatePipelineLayout, CreateBindGroup, CreateComputePipeline, CreateRenderPipeline, CreateQuerySet, CreateEncoder, CreateBundleEncoder, Finish, FinishBundle, Submit, WriteBuffer, WriteTexture, Destroy, Drop, Complete, PushErrorScope, PopErrorScope, Lose, WorkDone, MapAsync, Unmap}
+use Rattle.wg_types.specs.declared.requests.RequestOf.TheVariants.{CreateBuffer, CreateTexture, CreateView, CreateSampler, CreateBindGroupLayout, CreatePipelineLayout, CreateBindGroup, CreateComputePipeline, CreateRenderPipeline, GetBindGroupLayout, CreateQuerySet, CreateEncoder, CreateBundleEncoder, Finish, FinishBundle, Submit, WriteBuffer, WriteTexture, Destroy, Drop, Complete, PushErrorScope, PopErrorScope, Lose, WorkDone, MapAsync, Unmap}
 use Rattle.wg_model.specs.Commands.{texture_of, no_texture, size_or_rest}
-use Rattle.wg_model.specs.Making.{view_made, pipeline_layout_made, group_made, compute_made, render_made}
+use Rattle.wg_model.specs.Making.{view_made, pipeline_layout_made, group_made, compute_made, render_made, group_layout_made, group_layout_got}
 use Rattle.wg_model.specs.Views.{completed_view}
 use Rattle.wg_model.specs.Walk.{no_targets, bundle_of}
 use Rattle.wg_encoder.specs.Recorders.{RecorderValue, RecordingValue, after_take, targets_left}
@@ -44,11 +44,12 @@ event_asked (CreateBuffer known) = event.CreateBuffer known
 event_asked (CreateTexture known) = event.CreateTexture known
 event_asked (CreateView texture asked) = event.CreateView texture.reference (view_asked texture asked)
 event_asked (CreateSampler known) = event.CreateSampler known
-event_asked (CreateBindGroupLayout known) = event.CreateBindGroupLayout known
+event_asked (CreateBindGroupLayout entries) = event.CreateBindGroupLayout entries
 event_asked (CreatePipelineLayout layouts) = event.CreatePipelineLayout (map reference_of layouts)
 event_asked (CreateBindGroup layout entries) = event.CreateBindGroup layout.reference (map (map_entry reference_of) entries)
-event_asked (CreateComputePipeline layout iface) = event.CreateComputePipeline layout.reference iface
-event_asked (CreateRenderPipeline layout desc) = event.CreateRenderPipeline layout.reference desc
+event_asked (CreateComputePipeline layout iface) = event.CreateComputePipeline (option_map reference_of layout) iface
+event_asked (CreateRenderPipeline layout desc) = event.CreateRenderPipeline (option_map reference_of layout) desc
+event_asked (GetBindGroupLayout pipeline index) = event.GetBindGroupLayout pipeline.reference index
 event_asked (CreateQuerySet known) = event.CreateQuerySet known
 event_asked CreateEncoder = event.CreateEncoder
 event_asked (CreateBundleEncoder targets) = event.CreateBundleEncoder targets
@@ -74,11 +75,12 @@ info_asked (CreateBuffer known) = Some (info.Buffer known)
 info_asked (CreateTexture known) = Some (info.Texture known)
 info_asked (CreateView texture asked) = Some (info.View (view_made reference_of known_by texture (view_asked texture asked)))
 info_asked (CreateSampler known) = Some (info.Sampler known)
-info_asked (CreateBindGroupLayout known) = Some (info.GroupLayout known)
+info_asked (CreateBindGroupLayout entries) = Some (info.GroupLayout (group_layout_made entries))
 info_asked (CreatePipelineLayout layouts) = Some (info.PipelineLayout (pipeline_layout_made reference_of known_by layouts))
 info_asked (CreateBindGroup layout entries) = Some (info.Group (group_made reference_of known_by layout entries))
 info_asked (CreateComputePipeline layout iface) = Some (info.Compute (compute_made reference_of known_by layout iface))
 info_asked (CreateRenderPipeline layout desc) = Some (info.Render (render_made reference_of known_by layout desc))
+info_asked (GetBindGroupLayout pipeline index) = Some (info.GroupLayout (group_layout_got reference_of known_by pipeline index))
 info_asked (CreateQuerySet known) = Some (info.Queries known)
 info_asked CreateEncoder = Some info.Encoder
 info_asked (CreateBundleEncoder targets) = Some (info.BundleEncoder targets)

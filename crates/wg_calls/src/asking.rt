@@ -80,8 +80,8 @@ fn making_asked(alloc: Global, request: &RequestOf<Handle>) -> Result<Event, NoM
             desc: view_asked(texture, *asked),
         }),
         RequestOf::CreateSampler { kind } => Ok(Event::CreateSampler { kind: *kind }),
-        RequestOf::CreateBindGroupLayout { info } => Ok(Event::CreateBindGroupLayout {
-            info: info.share()?,
+        RequestOf::CreateBindGroupLayout { entries } => Ok(Event::CreateBindGroupLayout {
+            entries: entries.share()?,
         }),
         RequestOf::CreatePipelineLayout { layouts } => Ok(Event::CreatePipelineLayout {
             layouts: refs::map_items(alloc, &References, layouts.as_slice())?,
@@ -91,12 +91,16 @@ fn making_asked(alloc: Global, request: &RequestOf<Handle>) -> Result<Event, NoM
             entries: map_entries(alloc, &References, entries.as_slice())?,
         }),
         RequestOf::CreateComputePipeline { layout, iface } => Ok(Event::CreateComputePipeline {
-            layout: layout.reference(),
+            layout: refs::map_maybe(&References, layout)?,
             iface: iface.share()?,
         }),
         RequestOf::CreateRenderPipeline { layout, desc } => Ok(Event::CreateRenderPipeline {
-            layout: layout.reference(),
+            layout: refs::map_maybe(&References, layout)?,
             desc: desc.share()?,
+        }),
+        RequestOf::GetBindGroupLayout { pipeline, index } => Ok(Event::GetBindGroupLayout {
+            pipeline: pipeline.reference(),
+            index: *index,
         }),
         RequestOf::CreateQuerySet { info } => Ok(Event::CreateQuerySet { info: *info }),
         RequestOf::CreateEncoder => Ok(Event::CreateEncoder),
@@ -171,6 +175,7 @@ pub fn event_asked(alloc: Global, request: &RequestOf<Handle>) -> Result<Event, 
         | RequestOf::CreateBindGroup { .. }
         | RequestOf::CreateComputePipeline { .. }
         | RequestOf::CreateRenderPipeline { .. }
+        | RequestOf::GetBindGroupLayout { .. }
         | RequestOf::CreateQuerySet { .. }
         | RequestOf::CreateEncoder
         | RequestOf::CreateBundleEncoder { .. }

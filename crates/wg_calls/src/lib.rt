@@ -7,7 +7,7 @@ mod laws;
 mod making;
 
 pub use asking::event_asked;
-pub use laws::{made_infos, stays_genuine};
+pub use laws::{groups_tell_owners, made_infos, stays_genuine};
 pub use making::{
     bundle_recorder_for, finish_event, finished_info, handle_of, info_asked, recorder_for,
 };

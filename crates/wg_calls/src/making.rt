@@ -9,7 +9,8 @@ use std::sync::Arc;
 use wg_encoder::{Recorder, Recording};
 use wg_entry::NoMemory;
 use wg_groups::making::{
-    Known, compute_made, group_made, pipeline_layout_made, render_made, view_made,
+    Known, compute_made, group_layout_got, group_layout_made, group_made, pipeline_layout_made,
+    render_made, view_made,
 };
 use wg_history::events::Event;
 use wg_types::handles::{Handle, Info, ObjRef};
@@ -32,7 +33,8 @@ impl Known<Handle> for Infos {
 
 /// What is known of the object that a call of the device makes, if it makes one, by what the handles of
 /// those that it names know. It takes memory for the lists of what a pipeline layout or a bind group is
-/// made of, and for what is known of a bundle.
+/// made of, for the layouts that a pipeline derives, and for what is known of a bind group layout or a
+/// bundle.
 pub fn info_asked(alloc: Global, request: &RequestOf<Handle>) -> Result<Option<Info>, NoMemory>
     ensures { IfOk result (λ info. info ≡ info_asked request.now) }
 {
@@ -45,7 +47,10 @@ pub fn info_asked(alloc: Global, request: &RequestOf<Handle>) -> Result<Option<I
             Ok(Some(Info::View(info)))
         }
         RequestOf::CreateSampler { kind } => Ok(Some(Info::Sampler(*kind))),
-        RequestOf::CreateBindGroupLayout { info } => Ok(Some(Info::GroupLayout(info.share()?))),
+        RequestOf::CreateBindGroupLayout { entries } => {
+            let info = group_layout_made(entries.share()?);
+            Ok(Some(Info::GroupLayout(Shared::new(alloc, info)?)))
+        }
         RequestOf::CreatePipelineLayout { layouts } => {
             let info = pipeline_layout_made(alloc, &References, &Infos, layouts.as_slice())?;
             Ok(Some(Info::PipelineLayout(Shared::new(alloc, info)?)))
@@ -62,6 +67,10 @@ pub fn info_asked(alloc: Global, request: &RequestOf<Handle>) -> Result<Option<I
         RequestOf::CreateRenderPipeline { layout, desc } => {
             let info = render_made(alloc, &References, &Infos, layout, desc)?;
             Ok(Some(Info::Render(info)))
+        }
+        RequestOf::GetBindGroupLayout { pipeline, index } => {
+            let info = group_layout_got(alloc, &References, &Infos, pipeline, *index)?;
+            Ok(Some(Info::GroupLayout(Shared::new(alloc, info)?)))
         }
         RequestOf::CreateQuerySet { info } => Ok(Some(Info::Queries(*info))),
         RequestOf::CreateEncoder => Ok(Some(Info::Encoder)),

@@ -2,13 +2,13 @@
 //! printed one in some order that keeps them.
 #![tactic(auto)]
 
-pub mod clashes;
-pub mod digests;
-pub mod ends;
-pub mod events;
-pub mod keys;
-pub mod segments;
-pub mod stories;
+mod clashes;
+mod digests;
+mod ends;
+mod events;
+mod keys;
+mod segments;
+mod stories;
 
 pub use clashes::{Clash, verdict};
 pub use wg_entry::NoMemory;

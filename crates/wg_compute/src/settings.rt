@@ -2,13 +2,13 @@
 ghost use Rattle.std.specs.Prelude.{◌≡◌, None, true, option_copied, IfOk, OnOk, OnErr};
 ghost use Rattle.std.specs.Option.{option_or};
 ghost use Rattle.wg_model.specs.Rules.{first_unmet};
-ghost use Rattle.wg_model.specs.Settings.{layouts_set, ready_rules};
+ghost use Rattle.wg_model.specs.Settings.{layouts_set, owner_set, ready_rules};
 ghost use Rattle.wg_compute.specs.After.{slots_after, emptied, settings_after};
 
 use crate::brackets::depth_after;
 use crate::given::{GroupGiven, group_given, pipeline_given, unsets};
 use std::marker::Model;
-use wg_layouts::{check_bound, layouts_in};
+use wg_layouts::{check_bound, layouts_in, owner_of};
 use wg_types::NoMemory;
 use wg_types::commands::{BoundGroup, Command};
 use wg_types::groups::GroupLayoutInfo;
@@ -81,6 +81,17 @@ impl Settings {
         }
     }
 
+    /// The pipeline to which these count as exclusive, by its number, where the one that is set derived
+    /// them itself.
+    pub fn owner(&self) -> Option<u64>
+        ensures { result ≡ owner_set self.now }
+    {
+        match &self.pipeline {
+            Some(pipeline) => owner_of(pipeline),
+            None => None,
+        }
+    }
+
     /// The first unmet rule of what dispatches or draws: a pipeline is set, and so are its groups.
     pub fn ready_rule(&self) -> Option<u16>
         ensures { result ≡ first_unmet (ready_rules self.now) }
@@ -88,7 +99,7 @@ impl Settings {
         if self.pipeline.is_none() {
             return Some(340);
         }
-        check_bound(self.layouts(), &self.groups)
+        check_bound(self.layouts(), &self.groups, self.owner())
     }
 
     fn set_pipeline(&mut self, given: Option<Handle>)

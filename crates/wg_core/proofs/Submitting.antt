@@ -1,5 +1,5 @@
 -- The first unmet rule of a submit, over the list of what its command buffers use.
-use Rattle.std.proofs.Common.{◌≡◌, ℕ, Bool, true, false, not, ◌||◌, List, [], ◌∷◌, Option, None, sym, ap, ap₂, ◌∙◌}
+use Rattle.std.proofs.Common.{◌≡◌, ℕ, Bool, true, false, not, ◌||◌, List, [], ◌∷◌, Option, None, Some, refl, sym, ap, ap₂, ◌∙◌, if◌then◌else◌}
 use Rattle.std.specs.List.{list_any}
 use Rattle.std.specs.Option.{option_or}
 use Rattle.wg_types.specs.declared.handles.ObjRef.{ObjRef}
@@ -8,10 +8,12 @@ use Rattle.wg_model.specs.Recorded.{buffers_of, textures_of, query_sets_of}
 use Rattle.wg_model.proofs.Unmet.{first_unmet_joined}
 use Rattle.wg_history.specs.declared.events.Setup.{Setup}
 use Rattle.wg_history.specs.Entries.{Past}
-use Rattle.wg_history.specs.Rules.{is_destroyed, is_consumed, are_distinct, listed_rules, together_rules, any_used, is_busy, submit_rule}
+use Rattle.wg_history.specs.Objects.{is_own, is_command_buffer, is_valid}
+use Rattle.wg_history.specs.Rules.{is_destroyed, is_dropped, is_consumed, are_distinct, listed_rules, together_rules, any_used, is_busy, submit_rule}
 use Rattle.wg_state.specs.declared.uses.Used.{Used}
 use Rattle.wg_state.specs.Uses.{uses_of}
 use Rattle.wg_state.proofs.UsesLemmas.{used_buffers, used_textures, used_query_sets}
+use Rattle.wg_state.specs.Recordings.{any_spent}
 use Rattle.wg_core.specs.Plans.{use_rules}
 
 -- whether a texture or a query set is used that is destroyed
@@ -30,3 +32,21 @@ submit_found setup past buffers uses rule listed consumed distinct uses_is rule_
     first_unmet_joined (listed_rules setup past buffers) (together_rules setup past buffers)
     ∙ (ap (λ o. option_or o (first_unmet (together_rules setup past buffers))) (sym listed)
     ∙ ap₂ (λ a b. first_unmet ((190, not a) ∷ ((191, b) ∷ ((192, not (any_used buffers_of (is_busy setup past) past buffers)) ∷ ((193, not (any_gone setup past buffers)) ∷ []))))) consumed distinct))))
+
+-- where the rules on each command buffer are met and none was consumed, none is spent
+listed_parts : (own dropped valid : Bool) (rest : Option ℕ) → None ≡ (if own then (if not dropped then (if valid then rest else Some 12) else Some 11) else Some 10) → (dropped ≡ false) × (None ≡ rest)
+listed_parts true false true rest e = (refl, e)
+listed_parts true false false rest e = absurd (cc)
+listed_parts true true valid rest e = absurd (cc)
+listed_parts false dropped valid rest e = absurd (cc)
+
+none_either : (a b : Bool) → (a || b) ≡ false → (a ≡ false) × (b ≡ false)
+none_either false b e = (refl, e)
+none_either true b e = absurd (cc)
+
+pub unspent : (setup : Setup) (past : Past) (buffers : List ObjRef) → None ≡ first_unmet (listed_rules setup past buffers) → list_any (λ buffer. is_consumed setup past buffer.number) buffers ≡ false → any_spent setup past buffers ≡ false
+unspent setup past [] listed consumed = refl
+unspent setup past (buffer ∷ buffers) listed consumed =
+    let parts = listed_parts (is_own setup past is_command_buffer buffer) (is_dropped setup past buffer.number) (is_valid past buffer.number) (first_unmet (listed_rules setup past buffers)) listed in
+    let none = none_either (is_consumed setup past buffer.number) (list_any (λ buffer. is_consumed setup past buffer.number) buffers) consumed in
+    ap₂ ◌||◌ (ap₂ ◌||◌ none.0 parts.0) (unspent setup past buffers parts.1 none.1)

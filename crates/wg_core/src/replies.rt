@@ -87,7 +87,7 @@ fn map_settled(
 ) -> Result<Settlements, NoMemory>
     ensures { (mode offset size : _) → IfOk result (λ settled. settled ≡ own_settled (reverse state.now.history) (is_lost (reverse state.now.history)) met (Promise.Map buffer mode offset size)) }
 {
-    let number = state.history().len() as u64;
+    let number = state.len();
     if state.is_lost() {
         return at_once(alloc, number, How::Aborted);
     }
@@ -109,7 +109,7 @@ fn own_settled(
 ) -> Result<Settlements, NoMemory>
     ensures { IfOk result (λ settled. settled ≡ own_settled (reverse state.now.history) (is_lost (reverse state.now.history)) met promise) }
 {
-    let number = state.history().len() as u64;
+    let number = state.len();
     match promise {
         Promise::WorkDone => {
             if state.is_idle() {

@@ -1,5 +1,6 @@
 //! The first unmet rule of each event.
-ghost use Rattle.std.specs.Prelude.{◌≡◌, ◌==◌, ◌&&◌, ◌+◌, ◌*◌, ◌^◌, ◌<◌, reverse, [], Some, IsNone, IfOk, IfSome};
+ghost use Rattle.std.specs.Prelude.{◌≡◌, ◌==◌, ◌&&◌, ◌+◌, ◌*◌, ◌^◌, ◌<◌, reverse, [], Some, IsNone, IfOk, IfSome, false};
+ghost use Rattle.wg_state.specs.Recordings.{any_spent};
 ghost use Rattle.std.specs.List.{list_any};
 ghost use Rattle.wg_model.specs.Rules.{first_unmet};
 ghost use Rattle.wg_core.specs.Plans.{use_rules, ending_rules, IsMapInRange};
@@ -423,10 +424,11 @@ fn check_uses(state: &State, uses: &[Used]) -> Option<u16>
 }
 
 /// The first unmet rule of a submit (WebGPU, "submit"), with what its command buffers use.
-#[tactic(auto, unfolding(wg_history::specs::Rules::submit_rule), using(wg_model::proofs::Unmet::first_unmet_joined, crate::proofs::Submitting::submit_found))]
+#[tactic(auto, unfolding(wg_history::specs::Rules::submit_rule), using(wg_model::proofs::Unmet::first_unmet_joined, crate::proofs::Submitting::submit_found, crate::proofs::Submitting::unspent))]
 fn submit(alloc: Global, state: &State, buffers: &[ObjRef]) -> Result<Ruled, NoMemory>
     ensures rule { IfOk result (λ ruled. ruled.rule ≡ submit_rule state.now.setup (reverse state.now.history) buffers.now) }
     ensures uses { IfOk result (λ ruled. IsNone ruled.rule → ruled.uses.items ≡ uses_of (reverse state.now.history) buffers.now) }
+    ensures unspent { IfOk result (λ ruled. IsNone ruled.rule → any_spent state.now.setup (reverse state.now.history) buffers.now ≡ false) }
 {
     if let Some(rule) = check_listed(state, buffers) {
         return Ok(without_uses(alloc, Some(rule)));
@@ -437,7 +439,7 @@ fn submit(alloc: Global, state: &State, buffers: &[ObjRef]) -> Result<Ruled, NoM
     if !are_distinct(alloc, buffers)? {
         return Ok(without_uses(alloc, Some(191)));
     }
-    let uses = wg_state::uses_of(alloc, state.book(), buffers)?;
+    let uses = state.uses_of(alloc, buffers)?;
     let rule = check_uses(state, uses.as_slice());
     Ok(Ruled { rule, uses })
 }
@@ -453,6 +455,7 @@ pub fn first_rule(
     requires made { made.now ≡ made_info (reverse state.now.history) event.now }
     ensures rule { IfOk result (λ ruled. ruled.rule ≡ first_rule state.now.setup (reverse state.now.history) event.now) }
     ensures uses { IfOk result (λ ruled. IsNone ruled.rule → ruled.uses.items ≡ uses_of (reverse state.now.history) (submitted event.now)) }
+    ensures unspent { IfOk result (λ ruled. IsNone ruled.rule → any_spent state.now.setup (reverse state.now.history) (submitted event.now) ≡ false) }
     ensures range { IfOk result (λ ruled. IsNone ruled.rule → IfSome (written (λ _. no_texture) event.now) IsInRange) }
     ensures bytes { IfOk result (λ ruled. IsNone ruled.rule → bytes_made event.now < 2 ^ 64) }
     ensures map_range { IfOk result (λ ruled. IsNone ruled.rule → IsMapInRange (effects_of event.now).form) }
@@ -461,7 +464,9 @@ pub fn first_rule(
         Event::CreateBuffer { info } => create_buffer(state, info),
         Event::CreateTexture { info } => create_texture(state, info),
         Event::CreateView { texture, desc } => create_view(state, *texture, desc),
-        Event::CreateBindGroupLayout { info } => group_rules::create_bind_group_layout(state, info),
+        Event::CreateBindGroupLayout { entries } => {
+            group_rules::create_bind_group_layout(state, entries.get().as_slice())
+        }
         Event::CreatePipelineLayout { layouts } => {
             group_rules::create_pipeline_layout(state, layouts.as_slice(), made)
         }
@@ -469,10 +474,13 @@ pub fn first_rule(
             group_rules::create_bind_group(state, *layout, entries.as_slice(), made)
         }
         Event::CreateComputePipeline { layout, iface } => {
-            group_rules::create_compute_pipeline(state, *layout, iface, made)
+            group_rules::create_compute_pipeline(alloc, state, *layout, iface, made)?
         }
         Event::CreateRenderPipeline { layout, desc } => {
-            group_rules::create_render_pipeline(state, *layout, desc, made)
+            group_rules::create_render_pipeline(alloc, state, *layout, desc, made)?
+        }
+        Event::GetBindGroupLayout { pipeline, index } => {
+            group_rules::get_bind_group_layout(state, *pipeline, *index)
         }
         Event::CreateQuerySet { info } => create_query_set(state, info),
         Event::CreateBundleEncoder { targets } => create_bundle_encoder(state, targets.get()),

@@ -4,7 +4,7 @@ use Rattle.std.specs.Prelude.{All, IfSome, IfOk}
 use Rattle.std.proofs.lemmas.List.{reverse-append}
 use Rattle.std.proofs.lemmas.List.Elements.{All-nil, All-cons, All-head, All-tail}
 use Rattle.wg_types.specs.Handles.{HandleValue}
-use Rattle.wg_types.specs.Refs.{all_wanted}
+use Rattle.wg_types.specs.Refs.{all_wanted, maybe_wanted}
 use Rattle.wg_types.specs.Bindings.{entries_named}
 use Rattle.wg_types.specs.declared.bindings.GroupEntryOf.{GroupEntryOf}
 use Rattle.wg_types.specs.Requests.{named, kind_made}
@@ -96,13 +96,24 @@ all_named setup front asked (handle ∷ handles) all =
     more_named setup front handle asked (all_wanted asked handles) (All-head (λ (h : HandleValue). IsGenuine setup front h) handle handles all)
     (all_named setup front asked handles (All-tail (λ (h : HandleValue). IsGenuine setup front h) handle handles all))
 
--- The same of calls that name a handle, the handles of a list, or a layout and what is bound.
+pub maybe_named : (setup : Setup) (front : List Entry) (asked : Wanted) (handle : Option HandleValue) → IfSome handle (λ h. IsGenuine setup front h) → AreGenuine setup front (maybe_wanted asked handle)
+maybe_named setup front asked None genuine = none_named setup front
+maybe_named setup front asked (Some handle) genuine = one_named setup front handle asked genuine
+
+-- The same of calls that name a handle, one that may be left out, the handles of a list, or a layout and what is bound.
 
 pub after_one : {E : Type 0} (result : Result (HandleValue × Reply) E) (setup : Setup) (front : List Entry) (shared handle : HandleValue) (asked : Wanted) → shared ≡ handle
     → IfOk result (λ t. AreGenuine setup front ((shared, asked) ∷ []) → IsGenuine setup front t.0)
     → IfOk result (λ t. IsGenuine setup front handle → IsGenuine setup front t.0)
 after_one (Ok made) setup front shared handle asked same after = λ genuine. after (one_named setup front shared asked (subst (λ (h : HandleValue). IsGenuine setup front h) (sym same) genuine))
 after_one (Err e) setup front shared handle asked same after = tt
+
+pub after_maybe : {E : Type 0} (result : Result (HandleValue × Reply) E) (setup : Setup) (front : List Entry) (shared handle : Option HandleValue) (asked : Wanted) → shared ≡ handle
+    → IfOk result (λ t. AreGenuine setup front (maybe_wanted asked shared) → IsGenuine setup front t.0)
+    → IfOk result (λ t. IfSome handle (λ h. IsGenuine setup front h) → IsGenuine setup front t.0)
+after_maybe (Ok made) setup front shared handle asked same after =
+    λ genuine. after (maybe_named setup front asked shared (subst (λ (held : Option HandleValue). IfSome held (λ (h : HandleValue). IsGenuine setup front h)) (sym same) genuine))
+after_maybe (Err e) setup front shared handle asked same after = tt
 
 pub after_all : {E : Type 0} (result : Result (HandleValue × Reply) E) (setup : Setup) (front : List Entry) (held handles : List HandleValue) (asked : Wanted) → held ≡ handles
     → IfOk result (λ t. AreGenuine setup front (all_wanted asked held) → IsGenuine setup front t.0)

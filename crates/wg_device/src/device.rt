@@ -15,7 +15,7 @@ ghost use Rattle.wg_device.specs.Takes.{HasTaken, given_back, IsAsBefore};
 use std::alloc::Global;
 use std::sync::{Arc, Wait};
 use wg_calls::{event_asked, finish_event, finished_info, handle_of, info_asked};
-use wg_core::{Core, Event};
+use wg_core::{Event, LoggedCore};
 use wg_encoder::{Recorder, Recording};
 use wg_entry::NoMemory;
 use wg_turn::{Closed, Pass, TurnLock};
@@ -25,15 +25,15 @@ use wg_types::replies::{Answer, Reply};
 use wg_types::requests::RequestOf;
 
 /// The right to call a device under one number.
-pub type DevicePass = Pass<Core>;
+pub type DevicePass = Pass<LoggedCore>;
 
 /// What a device leaves at its close.
-pub type Ended = Closed<Core>;
+pub type Ended = Closed<LoggedCore>;
 
 /// A device with its turn lock.
 #[derive(Drop)]
 pub struct Device {
-    lock: TurnLock<Core>,
+    lock: TurnLock<LoggedCore>,
     serial: u64,
     pub(crate) alloc: Global,
     ghost same: { serial ≡ (opened_with lock).setup.serial },
@@ -102,7 +102,7 @@ impl Device {
     {
         let (lock, passes) = TurnLock::open(
             alloc,
-            Core::new(alloc, budget, serial, limits),
+            LoggedCore::new(alloc, budget, serial, limits),
             callers,
         )?;
         Ok((

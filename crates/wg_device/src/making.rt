@@ -1,5 +1,5 @@
 //! The calls of a device that make objects.
-ghost use Rattle.std.specs.Prelude.{◌≡◌, All, map, IfOk, IfErr};
+ghost use Rattle.std.specs.Prelude.{◌≡◌, All, map, option_map, option_copied, IfOk, IfErr, IfSome};
 ghost use Rattle.wg_types.specs.Bindings.{entries_named, map_entry};
 ghost use Rattle.wg_types.specs.declared.requests.RequestOf.TheVariants as request;
 ghost use Rattle.wg_calls.specs.Calls.{reference_of, opened_for, opened_with};
@@ -13,7 +13,7 @@ use wg_core::Event;
 use wg_encoder::Recorder;
 use wg_entry::NoMemory;
 use wg_types::bindings::{GroupEntryOf, IfaceEntry, LayoutEntry, SamplerKind};
-use wg_types::groups::{GroupLayoutInfo, Interface};
+use wg_types::groups::Interface;
 use wg_types::handles::{BufferInfo, Handle, QueriesInfo};
 use wg_types::items::Items;
 use wg_types::render::{RenderDesc, TargetInfo};
@@ -21,6 +21,19 @@ use wg_types::replies::Reply;
 use wg_types::requests::RequestOf;
 use wg_types::shared::Shared;
 use wg_types::textures::{TextureInfo, ViewAsked, ViewDesc};
+
+/// Another handle of the same object, if there is one.
+fn shared(handle: Option<&Handle>) -> Result<Option<Handle>, NoMemory>
+    ensures { IfOk result (λ shared. shared ≡ option_copied handle.entry) }
+{
+    match handle {
+        Some(handle) => {
+            let shared = handle.share()?;
+            return Ok(Some(shared));
+        }
+        None => return Ok(None),
+    }
+}
 
 impl Device {
     /// Makes a buffer (WebGPU, "createBuffer").
@@ -114,16 +127,13 @@ impl Device {
     ) -> Result<(Handle, Reply), NoMemory>
         requires { CanCall self.now.lock pass.old }
         ensures called { HasCalled self.now.lock pass.old pass.new }
-        ensures done { IfOk result (λ t. IsAct self.now.lock pass.old pass.new (Event.CreateBindGroupLayout (record { entries = entries.items })) t.1) }
-        ensures handle { IfOk result (λ t. IsHandleOf self.now.lock (request.CreateBindGroupLayout (record { entries = entries.items })) t.1 t.0) }
+        ensures done { IfOk result (λ t. IsAct self.now.lock pass.old pass.new (Event.CreateBindGroupLayout entries.items) t.1) }
+        ensures handle { IfOk result (λ t. IsHandleOf self.now.lock (request.CreateBindGroupLayout entries.items) t.1 t.0) }
         ensures genuine { IfOk result (λ t. IsGenuineIn self.now.lock pass.new t.0) }
         ensures refused { IfErr result (λ _. HasNotMade self.now.lock pass.old pass.new) }
     {
-        let info = GroupLayoutInfo {
-            entries: Items::from_vec(entries),
-        };
-        let info = Shared::new(self.alloc, info)?;
-        self.make_of(rt, pass, RequestOf::CreateBindGroupLayout { info })
+        let entries = Shared::new(self.alloc, Items::from_vec(entries))?;
+        self.make_of(rt, pass, RequestOf::CreateBindGroupLayout { entries })
     }
 
     /// Makes a pipeline layout (WebGPU, "createPipelineLayout").
@@ -167,23 +177,26 @@ impl Device {
         self.make_of(rt, pass, RequestOf::CreateBindGroup { layout, entries })
     }
 
-    /// Makes a compute pipeline (WebGPU, "createComputePipeline"), whose shader uses these bindings.
+    /// Makes a compute pipeline (WebGPU, "createComputePipeline"), whose shader uses these bindings. With no
+    /// layout it derives one from them. Where they clash (rule 167), or what is derived is no layout that may be
+    /// made (rule 168), that is a validation error.
     pub fn create_compute_pipeline(
         &self,
         rt: &impl Wait,
         pass: &mut DevicePass,
-        layout: &Handle,
+        layout: Option<&Handle>,
         iface: Vec<IfaceEntry>,
     ) -> Result<(Handle, Reply), NoMemory>
         requires { CanCall self.now.lock pass.old }
         ensures called { HasCalled self.now.lock pass.old pass.new }
         ensures done { IfOk result (λ t. IsAct self.now.lock pass.old pass.new
-            (Event.CreateComputePipeline layout.now.reference (record { entries = iface.items })) t.1) }
-        ensures handle { IfOk result (λ t. IsHandleOf self.now.lock (request.CreateComputePipeline layout.now (record { entries = iface.items })) t.1 t.0) }
-        ensures genuine { IfOk result (λ t. IsGenuineIn self.now.lock pass.new layout.now → IsGenuineIn self.now.lock pass.new t.0) }
+            (Event.CreateComputePipeline (option_map reference_of (option_copied layout.entry)) (record { entries = iface.items })) t.1) }
+        ensures handle { IfOk result (λ t. IsHandleOf self.now.lock (request.CreateComputePipeline (option_copied layout.entry) (record { entries = iface.items })) t.1 t.0) }
+        ensures genuine { IfOk result (λ t. IfSome (option_copied layout.entry) (λ layout. IsGenuineIn self.now.lock pass.new layout)
+            → IsGenuineIn self.now.lock pass.new t.0) }
         ensures refused { IfErr result (λ _. HasNotMade self.now.lock pass.old pass.new) }
     {
-        let layout = layout.share()?;
+        let layout = shared(layout)?;
         let iface = Interface {
             entries: Items::from_vec(iface),
         };
@@ -191,24 +204,48 @@ impl Device {
         self.make_of(rt, pass, RequestOf::CreateComputePipeline { layout, iface })
     }
 
-    /// Makes a render pipeline (WebGPU, "createRenderPipeline").
+    /// Makes a render pipeline (WebGPU, "createRenderPipeline"). With no layout it derives one from what its
+    /// shaders use, and rules 167 and 168 are asked as of a compute pipeline.
     pub fn create_render_pipeline(
         &self,
         rt: &impl Wait,
         pass: &mut DevicePass,
-        layout: &Handle,
+        layout: Option<&Handle>,
         desc: RenderDesc,
     ) -> Result<(Handle, Reply), NoMemory>
         requires { CanCall self.now.lock pass.old }
         ensures called { HasCalled self.now.lock pass.old pass.new }
-        ensures done { IfOk result (λ t. IsAct self.now.lock pass.old pass.new (Event.CreateRenderPipeline layout.now.reference desc) t.1) }
-        ensures handle { IfOk result (λ t. IsHandleOf self.now.lock (request.CreateRenderPipeline layout.now desc) t.1 t.0) }
-        ensures genuine { IfOk result (λ t. IsGenuineIn self.now.lock pass.new layout.now → IsGenuineIn self.now.lock pass.new t.0) }
+        ensures done { IfOk result (λ t. IsAct self.now.lock pass.old pass.new
+            (Event.CreateRenderPipeline (option_map reference_of (option_copied layout.entry)) desc) t.1) }
+        ensures handle { IfOk result (λ t. IsHandleOf self.now.lock (request.CreateRenderPipeline (option_copied layout.entry) desc) t.1 t.0) }
+        ensures genuine { IfOk result (λ t. IfSome (option_copied layout.entry) (λ layout. IsGenuineIn self.now.lock pass.new layout)
+            → IsGenuineIn self.now.lock pass.new t.0) }
         ensures refused { IfErr result (λ _. HasNotMade self.now.lock pass.old pass.new) }
     {
-        let layout = layout.share()?;
+        let layout = shared(layout)?;
         let desc = Shared::new(self.alloc, desc)?;
         self.make_of(rt, pass, RequestOf::CreateRenderPipeline { layout, desc })
+    }
+
+    /// Makes the bind group layout of a group of a pipeline of either kind (WebGPU, "getBindGroupLayout"). It
+    /// holds the pipeline, and where that derived its layout itself the groups that are made of it serve that
+    /// pipeline alone. A group that the pipeline's layout has not is a validation error, rule 169.
+    pub fn get_bind_group_layout(
+        &self,
+        rt: &impl Wait,
+        pass: &mut DevicePass,
+        pipeline: &Handle,
+        index: u32,
+    ) -> Result<(Handle, Reply), NoMemory>
+        requires { CanCall self.now.lock pass.old }
+        ensures called { HasCalled self.now.lock pass.old pass.new }
+        ensures done { IfOk result (λ t. IsAct self.now.lock pass.old pass.new (Event.GetBindGroupLayout pipeline.now.reference index) t.1) }
+        ensures handle { IfOk result (λ t. IsHandleOf self.now.lock (request.GetBindGroupLayout pipeline.now index) t.1 t.0) }
+        ensures genuine { IfOk result (λ t. IsGenuineIn self.now.lock pass.new pipeline.now → IsGenuineIn self.now.lock pass.new t.0) }
+        ensures refused { IfErr result (λ _. HasNotMade self.now.lock pass.old pass.new) }
+    {
+        let pipeline = pipeline.share()?;
+        self.make_of(rt, pass, RequestOf::GetBindGroupLayout { pipeline, index })
     }
 
     /// Makes a query set of so many occlusion queries (WebGPU, "QuerySet Creation"). More than the limit are

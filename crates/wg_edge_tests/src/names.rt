@@ -75,3 +75,65 @@ fn most(alloc: Global) -> Option<(u32, u64)> {
 fn limits_are_asked_for(rt: HostRuntime) {
     assert!(rt; most(rt.alloc()) == Some((512, 268435456)));
 }
+
+/// A pipeline layout of the name auto, one of another name, three pipelines and the layout that one gives.
+const AUTOMATIC: &str =
+    "{\"budget\":5,\"phases\":[[[{\"do\":\"createPipelineLayout\",\"layouts\":[],\"as\":\"auto\"},{\"do\":\"createPipelineLayout\",\"layouts\":[],\"as\":\"q\"},{\"do\":\"createComputePipeline\",\"layout\":\"q\",\"as\":\"j\"},{\"do\":\"createComputePipeline\",\"layout\":\"auto\",\"as\":\"k\"},{\"do\":\"createRenderPipeline\",\"layout\":\"auto\",\"as\":\"r\"},{\"do\":\"getBindGroupLayout\",\"pipeline\":\"r\",\"index\":2,\"as\":\"l\"}]]]}";
+
+/// The layout of a pipeline.
+fn layout_of(call: &BoundCall) -> Option<Option<u32>> {
+    match call {
+        BoundCall::Ask {
+            request: RequestOf::CreateComputePipeline { layout, .. },
+            ..
+        }
+        | BoundCall::Ask {
+            request: RequestOf::CreateRenderPipeline { layout, .. },
+            ..
+        } => Some(*layout),
+        _ => None,
+    }
+}
+
+/// The pipeline of which a layout is asked, and the index.
+fn asked_of(call: &BoundCall) -> Option<(u32, u32)> {
+    match call {
+        BoundCall::Ask {
+            request: RequestOf::GetBindGroupLayout { pipeline, index },
+            ..
+        } => Some((*pipeline, *index)),
+        _ => None,
+    }
+}
+
+/// What pipelines have as their layouts, and the pipeline of which a layout is asked.
+type Asked = ([Option<Option<u32>>; 3], Option<(u32, u32)>);
+
+/// That of the calls of a lane after its first two.
+fn asked_by(calls: &[BoundCall]) -> Option<Asked> {
+    match calls {
+        [_, _, named, compute, render, got] => Some((
+            [layout_of(named), layout_of(compute), layout_of(render)],
+            asked_of(got),
+        )),
+        _ => None,
+    }
+}
+
+/// That of the script's lane.
+fn asked(alloc: Global) -> Option<Asked> {
+    let script = read_script(alloc, AUTOMATIC.as_bytes()).ok()?;
+    match script.phases.as_slice() {
+        [lanes] => match lanes.as_slice() {
+            [calls] => asked_by(calls.as_slice()),
+            _ => None,
+        },
+        _ => None,
+    }
+}
+
+#[test]
+fn the_word_auto_is_no_name(rt: HostRuntime) {
+    let wanted = ([Some(Some(1)), Some(None), Some(None)], Some((4, 2)));
+    assert!(rt; asked(rt.alloc()) == Some(wanted));
+}

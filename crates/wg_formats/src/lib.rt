@@ -1,6 +1,6 @@
 //! Texture formats, extents of mip levels, the layout of texels in bytes, what handles know of buffers, textures,
-//! query sets and bundles, what is known of a view, when bindings are of one kind, and what resources take of a budget of
-//! bytes.
+//! query sets and bundles, what is known of a view, when bindings are of one kind, the bits of stages, and what resources
+//! take of a budget of bytes.
 #![tactic(auto)]
 
 mod aspects;
@@ -14,7 +14,7 @@ pub use aspects::{
     aspects_meet, copy_compatible, has_depth, has_named, has_stencil, is_color, named_aspects,
     texel_from, texel_to,
 };
-pub use bindings::same_binding_kind;
+pub use bindings::{same_binding_kind, same_use, stage_bit};
 pub use extents::{
     covers_all, end_layer, extent, first_layer, has_no_texel, layer_count, spot_fits,
 };

@@ -143,5 +143,5 @@ fn check_entries(layout: &[LayoutEntry], entries: &[BoundEntry], limits: &Limits
 pub fn check_group(layout: &GroupLayoutInfo, entries: &[BoundEntry], limits: &Limits) -> Option<u16>
     ensures { result ≡ first_unmet (group_rules limits.now layout.now.entries entries.now) }
 {
-    check_entries(layout.entries.as_slice(), entries, limits)
+    check_entries(layout.entries.get().as_slice(), entries, limits)
 }

@@ -1,18 +1,25 @@
 //! What is known of the objects that calls make of others.
-ghost use Rattle.std.specs.Prelude.{◌≡◌, Option, IfOk, map, option_copied};
+ghost use Rattle.std.specs.Prelude.{◌≡◌, [], false, Option, IfOk, map, option_copied};
 ghost use Rattle.wg_types.specs.declared.handles.Info.{Info as InfoOf};
-ghost use Rattle.wg_model.specs.Making.{known_buffer, known_texture, known_view, known_sampler, known_group_layout, known_pipeline_layout, bound_resource, bound_entry, view_made, pipeline_layout_made, group_made, compute_made, render_made};
+ghost use Rattle.wg_model.specs.Making.{known_buffer, known_texture, known_view, known_sampler, known_group_layout, known_pipeline_layout, bound_resource, bound_entry, view_made, pipeline_layout_made, group_made, layout_made, compute_made, render_made, group_layout_made, group_layout_got};
+ghost use Rattle.std.specs.Option.{option_map_or};
+ghost use Rattle.wg_model.specs.Automatic.{automatic_layouts, entries_at};
+ghost use Rattle.wg_model.specs.Bound.{is_automatic};
 
 use std::alloc::Global;
+use wg_auto::automatic_layouts;
 use wg_formats::{no_buffer, no_texture, no_view, view_info};
+use wg_layouts::{is_automatic, known_layouts};
 use wg_types::NoMemory;
-use wg_types::bindings::{BoundEntry, BoundResource, GroupEntryOf, ResourceOf, SamplerKind};
+use wg_types::bindings::{
+    BoundEntry, BoundResource, GroupEntryOf, IfaceEntry, LayoutEntry, ResourceOf, SamplerKind,
+};
 use wg_types::groups::{
     ComputeInfo, GroupInfo, GroupLayoutInfo, Interface, PipelineLayoutInfo, RenderInfo,
 };
 use wg_types::handles::{BufferInfo, Info, ObjRef};
 use wg_types::items::Items;
-use wg_types::refs::{Find, map_items};
+use wg_types::refs::{Find, map_items, map_maybe};
 use wg_types::render::RenderDesc;
 use wg_types::shared::Shared;
 use wg_types::textures::{TextureInfo, ViewDesc, ViewInfo};
@@ -66,6 +73,25 @@ fn known_sampler(known: Option<&Info>) -> SamplerKind
     }
 }
 
+/// What is known of a new bind group layout with these entries, which any pipeline may use (WebGPU, "Bind
+/// Group Layout Creation").
+pub fn group_layout_made(entries: Shared<Items<LayoutEntry>>) -> GroupLayoutInfo
+    ensures { result ≡ group_layout_made entries }
+{
+    GroupLayoutInfo {
+        entries,
+        exclusive: None,
+        pipeline: None,
+    }
+}
+
+/// A list of no entries.
+fn no_entries(alloc: Global) -> Result<Shared<Items<LayoutEntry>>, NoMemory>
+    ensures { IfOk result (λ entries. entries ≡ []) }
+{
+    Shared::new(alloc, Items::new(alloc))
+}
+
 /// What is known of a bind group layout, which is shared; one with no entry where an object is none.
 fn known_group_layout(
     alloc: Global,
@@ -75,12 +101,7 @@ fn known_group_layout(
 {
     match known {
         Some(Info::GroupLayout(info)) => info.share(),
-        _ => Shared::new(
-            alloc,
-            GroupLayoutInfo {
-                entries: Items::new(alloc),
-            },
-        ),
+        _ => Shared::new(alloc, group_layout_made(no_entries(alloc)?)),
     }
 }
 
@@ -219,38 +240,120 @@ pub fn group_made<R, F: Find<R, ObjRef>, K: Known<R>>(
     })
 }
 
+/// The layout that a pipeline derives from what its shaders use (WebGPU, "Default pipeline layout").
+fn derived_layout(
+    alloc: Global,
+    iface: &[IfaceEntry],
+) -> Result<Shared<PipelineLayoutInfo>, NoMemory>
+    ensures { IfOk result (λ info. info ≡ record { layouts = []; layouts_info = automatic_layouts iface.now }) }
+{
+    let layout = PipelineLayoutInfo {
+        layouts: Items::new(alloc),
+        layouts_info: automatic_layouts(alloc, iface)?,
+    };
+    Shared::new(alloc, layout)
+}
+
+/// The layout of a pipeline: the one that it is made with, or what it derives.
+fn layout_made<R, K: Known<R>>(
+    alloc: Global,
+    known: &K,
+    layout: &Option<R>,
+    iface: &[IfaceEntry],
+) -> Result<Shared<PipelineLayoutInfo>, NoMemory>
+    ensures { IfOk result (λ info. info ≡ layout_made (K.knows known.now) layout.now iface.now) }
+{
+    match layout {
+        Some(layout) => known_pipeline_layout(alloc, known.info(layout)),
+        None => derived_layout(alloc, iface),
+    }
+}
+
 /// What is known of a new compute pipeline (WebGPU, "GPUComputePipeline"). What is known of its layout
-/// and of what its shader uses is shared.
+/// and of what its shader uses is shared. With no layout it derives one, which takes memory and time that
+/// grows with n log n in what its shader uses.
 pub fn compute_made<R, F: Find<R, ObjRef>, K: Known<R>>(
     alloc: Global,
     find: &F,
     known: &K,
-    layout: &R,
+    layout: &Option<R>,
     iface: &Shared<Interface>,
 ) -> Result<ComputeInfo, NoMemory>
     ensures { IfOk result (λ info. info ≡ compute_made (F.finds find.now) (K.knows known.now) layout.now iface.now) }
 {
     Ok(ComputeInfo {
-        layout: find.find(layout)?,
-        layout_info: known_pipeline_layout(alloc, known.info(layout))?,
+        layout: map_maybe(find, layout)?,
+        layout_info: layout_made(alloc, known, layout, iface.get().entries.as_slice())?,
+        auto: layout.is_none(),
         iface: iface.share()?,
     })
 }
 
 /// What is known of a new render pipeline (WebGPU, "GPURenderPipeline"). What is known of its layout and
-/// what it is asked for with are shared.
+/// what it is asked for with are shared. With no layout it derives one, as a compute pipeline does.
 pub fn render_made<R, F: Find<R, ObjRef>, K: Known<R>>(
     alloc: Global,
     find: &F,
     known: &K,
-    layout: &R,
+    layout: &Option<R>,
     desc: &Shared<RenderDesc>,
 ) -> Result<RenderInfo, NoMemory>
     ensures { IfOk result (λ info. info ≡ render_made (F.finds find.now) (K.knows known.now) layout.now desc.now) }
 {
     Ok(RenderInfo {
-        layout: find.find(layout)?,
-        layout_info: known_pipeline_layout(alloc, known.info(layout))?,
+        layout: map_maybe(find, layout)?,
+        layout_info: layout_made(alloc, known, layout, desc.get().iface.as_slice())?,
+        auto: layout.is_none(),
         desc: desc.share()?,
+    })
+}
+
+/// The entries of the layout of a group, which are shared; none where there is no such group.
+fn entries_at(
+    alloc: Global,
+    layouts: &[Shared<GroupLayoutInfo>],
+    index: u32,
+) -> Result<Shared<Items<LayoutEntry>>, NoMemory>
+    ensures { IfOk result (λ entries. entries ≡ entries_at layouts.now index) }
+{
+    match layouts.get(index as usize) {
+        Some(layout) => layout.get().entries.share(),
+        None => no_entries(alloc),
+    }
+}
+
+/// Whether an object is a pipeline that derived its layouts itself.
+fn derives(known: Option<&Info>) -> bool
+    ensures { result ≡ option_map_or is_automatic (option_copied known.entry) false }
+{
+    match known {
+        Some(info) => is_automatic(info),
+        None => false,
+    }
+}
+
+/// What is known of the layout of a group that is got of a pipeline (WebGPU, "getBindGroupLayout"). Its
+/// entries are shared with the pipeline's; it has none where the pipeline has no such group. It is
+/// exclusive to the pipeline where that derived its layouts itself.
+pub fn group_layout_got<R, F: Find<R, ObjRef>, K: Known<R>>(
+    alloc: Global,
+    find: &F,
+    known: &K,
+    pipeline: &R,
+    index: u32,
+) -> Result<GroupLayoutInfo, NoMemory>
+    ensures { IfOk result (λ info. info ≡ group_layout_got (F.finds find.now) (K.knows known.now) pipeline.now index) }
+{
+    let reference = find.find(pipeline)?;
+    let known = known.info(pipeline);
+    let exclusive = if derives(known) {
+        Some(reference.number)
+    } else {
+        None
+    };
+    Ok(GroupLayoutInfo {
+        entries: entries_at(alloc, known_layouts(known), index)?,
+        exclusive,
+        pipeline: Some(reference),
     })
 }

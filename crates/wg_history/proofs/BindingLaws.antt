@@ -47,7 +47,7 @@ use Rattle.wg_types.specs.declared.vertex.VertexStep.TheVariants as vertex_step
 use Rattle.wg_types.specs.declared.vertex.VertexAttribute.{VertexAttribute}
 use Rattle.wg_types.specs.declared.vertex.VertexBuffer.{VertexBuffer}
 use Rattle.wg_types.specs.declared.handles.Info.TheVariants.{Buffer, Texture, View, Sampler, GroupLayout, PipelineLayout, Group, Compute, Render, Queries, Encoder, BundleEncoder, CommandBuffer, Bundle}
-use Rattle.wg_model.specs.Equality.{same_bool, same_list, same_reference, same_buffer, sample_number, buffer_binding_number, sampler_number, access_number, stage_number, same_view_dim, same_sample, same_buffer_binding, same_sampler, same_access, same_stage, same_binding_kind, same_layout_entry, same_iface_entry, same_bound_resource, same_bound_entry, same_group_layout, same_pipeline_layout, same_group, same_compute, vertex_format_number, vertex_step_number, same_attribute, same_vertex_buffer, same_option, same_depth_state, same_render_desc, same_render}
+use Rattle.wg_model.specs.Equality.{same_bool, same_list, same_owner, same_reference, same_buffer, sample_number, buffer_binding_number, sampler_number, access_number, stage_number, same_view_dim, same_sample, same_buffer_binding, same_sampler, same_access, same_stage, same_binding_kind, same_layout_entry, same_iface_entry, same_bound_resource, same_bound_entry, same_group_layout, same_pipeline_layout, same_group, same_compute, vertex_format_number, vertex_step_number, same_attribute, same_vertex_buffer, same_option, same_depth_state, same_render_desc, same_render}
 use Rattle.wg_history.specs.Infos.{same_target_info, same_cells, bundle_use_number, same_touch, same_bundle, SameInfoIs}
 use Rattle.wg_history.proofs.InfoLaws.{numbers_tell, words_tell, formats_tell, view_dims_tell, bools_tell, buffers_tell, queries_tell, textures_tell, references_tell, views_tell}
 
@@ -60,6 +60,13 @@ lists_tell same tell (x ∷ xs) (y ∷ ys) =
     let first = tell x y in
     let rest = lists_tell same tell xs ys in
     (λ e. ap₂ ◌∷◌ (first.0 (and_parts (same x y) (same_list same xs ys) e).0) (rest.0 (and_parts (same x y) (same_list same xs ys) e).1), λ e. and_from (same x y) (same_list same xs ys) (first.1 (cc)) (rest.1 (cc)))
+
+-- Values that may be left out, likewise.
+options_tell : {X : Type 0} (same : X → X → Bool) → ((x y : X) → Decides (same x y) (x ≡ y)) → (a b : Option X) → Decides (same_option same a b) (a ≡ b)
+options_tell same tell None None = (λ e. refl, λ e. refl)
+options_tell same tell None (Some b) = (λ e. absurd (cc), λ e. absurd (cc))
+options_tell same tell (Some a) None = (λ e. absurd (cc), λ e. absurd (cc))
+options_tell {X} same tell (Some a) (Some b) = let d = tell a b in (λ e. ap (λ (x : X). Some x) (d.0 e), λ e. d.1 (cc))
 
 -- Words.
 abbrev sample_at : ℕ → SampleType
@@ -191,11 +198,19 @@ bound_entries_tell a b =
     (Decides-and (a.binding == b.binding) (same_bound_resource a.resource b.resource) (numbers_tell a.binding b.binding) (resources_tell a.resource b.resource))
 
 -- Layouts, groups and pipelines.
-abbrev group_layout_made : List LayoutEntry → GroupLayoutInfo
-group_layout_made entries = record { entries = entries }
+owners_tell : (a b : Option ℕ) → Decides (same_owner a b) (a ≡ b)
+owners_tell a b = options_tell (λ (m n : ℕ). m == n) numbers_tell a b
+
+abbrev group_layout_made : List LayoutEntry → Option ℕ → Option ObjRef → GroupLayoutInfo
+group_layout_made entries exclusive pipeline = record { entries = entries; exclusive = exclusive; pipeline = pipeline }
 
 group_layouts_tell : (a b : GroupLayoutInfo) → Decides (same_group_layout a b) (a ≡ b)
-group_layouts_tell a b = let d = lists_tell same_layout_entry layout_entries_tell a.entries b.entries in (λ e. ap group_layout_made (d.0 e), λ e. d.1 (ap (λ (x : GroupLayoutInfo). x.entries) e))
+group_layouts_tell a b =
+    Decides-like _ (like_three group_layout_made a.entries b.entries a.exclusive b.exclusive a.pipeline b.pipeline)
+    (λ e. ((ap (λ (x : GroupLayoutInfo). x.entries) e, ap (λ (x : GroupLayoutInfo). x.exclusive) e), ap (λ (x : GroupLayoutInfo). x.pipeline) e))
+    (Decides-and _ (same_option same_reference a.pipeline b.pipeline)
+    (Decides-and (same_list same_layout_entry a.entries b.entries) (same_owner a.exclusive b.exclusive) (lists_tell same_layout_entry layout_entries_tell a.entries b.entries) (owners_tell a.exclusive b.exclusive))
+    (options_tell same_reference references_tell a.pipeline b.pipeline))
 
 abbrev pipeline_layout_made : List ObjRef → List GroupLayoutInfo → PipelineLayoutInfo
 pipeline_layout_made layouts layouts_info = record { layouts = layouts; layouts_info = layouts_info }
@@ -215,14 +230,17 @@ groups_tell a b =
     (Decides-and (same_reference a.layout b.layout) (same_group_layout a.layout_info b.layout_info) (references_tell a.layout b.layout) (group_layouts_tell a.layout_info b.layout_info))
     (lists_tell same_bound_entry bound_entries_tell a.entries b.entries))
 
-abbrev compute_made : ObjRef → PipelineLayoutInfo → List IfaceEntry → ComputeInfo
-compute_made layout layout_info entries = record { layout = layout; layout_info = layout_info; iface = record { entries = entries } }
+abbrev compute_made : Option ObjRef → PipelineLayoutInfo → Bool → List IfaceEntry → ComputeInfo
+compute_made layout layout_info auto entries = record { layout = layout; layout_info = layout_info; auto = auto; iface = record { entries = entries } }
 
 computes_tell : (a b : ComputeInfo) → Decides (same_compute a b) (a ≡ b)
 computes_tell a b =
-    Decides-like _ (like_three compute_made a.layout b.layout a.layout_info b.layout_info a.iface.entries b.iface.entries) (λ e. ((ap (λ (x : ComputeInfo). x.layout) e, ap (λ (x : ComputeInfo). x.layout_info) e), ap (λ (x : ComputeInfo). x.iface.entries) e))
+    Decides-like _ (like_four compute_made a.layout b.layout a.layout_info b.layout_info a.auto b.auto a.iface.entries b.iface.entries)
+    (λ e. (((ap (λ (x : ComputeInfo). x.layout) e, ap (λ (x : ComputeInfo). x.layout_info) e), ap (λ (x : ComputeInfo). x.auto) e), ap (λ (x : ComputeInfo). x.iface.entries) e))
     (Decides-and _ (same_list same_iface_entry a.iface.entries b.iface.entries)
-    (Decides-and (same_reference a.layout b.layout) (same_pipeline_layout a.layout_info b.layout_info) (references_tell a.layout b.layout) (pipeline_layouts_tell a.layout_info b.layout_info))
+    (Decides-and _ (same_bool a.auto b.auto)
+    (Decides-and (same_option same_reference a.layout b.layout) (same_pipeline_layout a.layout_info b.layout_info) (options_tell same_reference references_tell a.layout b.layout) (pipeline_layouts_tell a.layout_info b.layout_info))
+    (bools_tell a.auto b.auto))
     (lists_tell same_iface_entry iface_entries_tell a.iface.entries b.iface.entries))
 
 -- Vertex buffers and render pipelines.
@@ -270,12 +288,6 @@ vertex_buffers_tell a b =
     (Decides-and (a.stride == b.stride) (vertex_step_number a.step == vertex_step_number b.step) (numbers_tell a.stride b.stride) (words_tell vertex_step_number vertex_step_at vertex_step_back a.step b.step))
     (lists_tell same_attribute attributes_tell a.attributes b.attributes))
 
-options_tell : {X : Type 0} (same : X → X → Bool) → ((x y : X) → Decides (same x y) (x ≡ y)) → (a b : Option X) → Decides (same_option same a b) (a ≡ b)
-options_tell same tell None None = (λ e. refl, λ e. refl)
-options_tell same tell None (Some b) = (λ e. absurd (cc), λ e. absurd (cc))
-options_tell same tell (Some a) None = (λ e. absurd (cc), λ e. absurd (cc))
-options_tell {X} same tell (Some a) (Some b) = let d = tell a b in (λ e. ap (λ (x : X). Some x) (d.0 e), λ e. d.1 (cc))
-
 abbrev depth_state_made : Format → Bool → Bool → DepthState
 depth_state_made format depth_write stencil_write = record { format = format; depth_write = depth_write; stencil_write = stencil_write }
 
@@ -301,14 +313,17 @@ descs_tell a b =
     (options_tell same_depth_state depth_states_tell a.depth b.depth))
     (numbers_tell a.samples b.samples))
 
-abbrev render_made : ObjRef → PipelineLayoutInfo → RenderDesc → RenderInfo
-render_made layout layout_info desc = record { layout = layout; layout_info = layout_info; desc = desc }
+abbrev render_made : Option ObjRef → PipelineLayoutInfo → Bool → RenderDesc → RenderInfo
+render_made layout layout_info auto desc = record { layout = layout; layout_info = layout_info; auto = auto; desc = desc }
 
 renders_tell : (a b : RenderInfo) → Decides (same_render a b) (a ≡ b)
 renders_tell a b =
-    Decides-like _ (like_three render_made a.layout b.layout a.layout_info b.layout_info a.desc b.desc) (λ e. ((ap (λ (x : RenderInfo). x.layout) e, ap (λ (x : RenderInfo). x.layout_info) e), ap (λ (x : RenderInfo). x.desc) e))
+    Decides-like _ (like_four render_made a.layout b.layout a.layout_info b.layout_info a.auto b.auto a.desc b.desc)
+    (λ e. (((ap (λ (x : RenderInfo). x.layout) e, ap (λ (x : RenderInfo). x.layout_info) e), ap (λ (x : RenderInfo). x.auto) e), ap (λ (x : RenderInfo). x.desc) e))
     (Decides-and _ (same_render_desc a.desc b.desc)
-    (Decides-and (same_reference a.layout b.layout) (same_pipeline_layout a.layout_info b.layout_info) (references_tell a.layout b.layout) (pipeline_layouts_tell a.layout_info b.layout_info))
+    (Decides-and _ (same_bool a.auto b.auto)
+    (Decides-and (same_option same_reference a.layout b.layout) (same_pipeline_layout a.layout_info b.layout_info) (options_tell same_reference references_tell a.layout b.layout) (pipeline_layouts_tell a.layout_info b.layout_info))
+    (bools_tell a.auto b.auto))
     (descs_tell a.desc b.desc))
 
 -- Targets and bundles.

@@ -85,7 +85,7 @@ consumed_new setup (entry ∷ older) n le =
     either_fails (consumes setup older entry.event n) (is_consumed setup older n) (consumes_below setup older entry.event n before) (consumed_new setup older n before)
 
 -- A valid command buffer uses objects that were made before it.
-valid_unused : (setup : Setup) (past : Past) (k n : ℕ) → IsRun setup past → count past ≤ n → is_valid past k ≡ true → uses_resource (commands_at past k) n ≡ false
+pub valid_unused : (setup : Setup) (past : Past) (k n : ℕ) → IsRun setup past → count past ≤ n → is_valid past k ≡ true → uses_resource (commands_at past k) n ≡ false
 valid_unused setup past k n run le valid = fails (uses_resource (commands_at past k) n) (count past) n le (λ used.
     let made = maker_below past k (valid_made (maker past k) valid) in
     reached_below setup past (names_within (commands_at past k)) n run (λ m among. let lt = names_back setup past k m run valid among in omega (arith, lt, made)) (used_reached setup past k n run valid used))

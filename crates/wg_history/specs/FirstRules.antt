@@ -11,9 +11,9 @@ use Rattle.wg_model.specs.Textures.{create_texture_rules}
 use Rattle.wg_model.specs.Queries.{create_queries_rules}
 use Rattle.wg_model.specs.Bundles.{bundle_target_rules}
 use Rattle.wg_model.specs.Memory.{texture_bytes, bytes_of}
-use Rattle.wg_history.specs.Entries.{Setup, Event, CreateBuffer, CreateTexture, CreateView, CreateSampler, CreateBindGroupLayout, CreatePipelineLayout, CreateBindGroup, CreateComputePipeline, CreateRenderPipeline, CreateQuerySet, CreateEncoder, CreateBundleEncoder, Finish, FinishBundle, Late, Submit, WriteBuffer, WriteTexture, Destroy, Drop, Complete, PushErrorScope, PopErrorScope, Lose, WorkDone, MapAsync, Unmap, Past}
+use Rattle.wg_history.specs.Entries.{Setup, Event, CreateBuffer, CreateTexture, CreateView, CreateSampler, CreateBindGroupLayout, CreatePipelineLayout, CreateBindGroup, CreateComputePipeline, CreateRenderPipeline, GetBindGroupLayout, CreateQuerySet, CreateEncoder, CreateBundleEncoder, Finish, FinishBundle, Late, Submit, WriteBuffer, WriteTexture, Destroy, Drop, Complete, PushErrorScope, PopErrorScope, Lose, WorkDone, MapAsync, Unmap, Past}
 use Rattle.wg_history.specs.Rules.{create_view_rule, destroy_rule, drop_rule, unmap_rule, map_async_rule, write_buffer_rule, write_texture_rule, finish_rule, finish_bundle_rule, submit_rule}
-use Rattle.wg_history.specs.GroupRules.{create_bind_group_layout_rule, create_pipeline_layout_rule, create_bind_group_rule, create_compute_pipeline_rule, create_render_pipeline_rule}
+use Rattle.wg_history.specs.GroupRules.{create_bind_group_layout_rule, create_pipeline_layout_rule, create_bind_group_rule, create_compute_pipeline_rule, create_render_pipeline_rule, get_bind_group_layout_rule}
 use Rattle.wg_history.specs.Budget.{live_bytes}
 
 -- 13 what is live before the event and the new bytes are within the budget
@@ -43,11 +43,12 @@ first_rule setup past (CreateBuffer info) = create_buffer_rule setup past info
 first_rule setup past (CreateTexture info) = create_texture_rule setup past info
 first_rule setup past (CreateView texture desc) = create_view_rule setup past texture desc
 first_rule setup past (CreateSampler kind) = None
-first_rule setup past (CreateBindGroupLayout info) = create_bind_group_layout_rule setup info
+first_rule setup past (CreateBindGroupLayout entries) = create_bind_group_layout_rule setup entries
 first_rule setup past (CreatePipelineLayout layouts) = create_pipeline_layout_rule setup past layouts
 first_rule setup past (CreateBindGroup layout entries) = create_bind_group_rule setup past layout entries
 first_rule setup past (CreateComputePipeline layout iface) = create_compute_pipeline_rule setup past layout iface
 first_rule setup past (CreateRenderPipeline layout desc) = create_render_pipeline_rule setup past layout desc
+first_rule setup past (GetBindGroupLayout pipeline index) = get_bind_group_layout_rule setup past pipeline index
 first_rule setup past (CreateQuerySet info) = create_query_set_rule setup past info
 first_rule setup past CreateEncoder = None
 first_rule setup past (CreateBundleEncoder targets) = create_bundle_encoder_rule setup targets

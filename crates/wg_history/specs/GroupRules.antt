@@ -2,15 +2,16 @@
 use Rattle.std.specs.Prelude.{ℕ, not, List, [], ◌∷◌, ◌++◌, Option}
 use Rattle.wg_types.specs.Wanted.{admits}
 use Rattle.wg_types.specs.Kinds.{kind_of}
-use Rattle.wg_types.specs.Refs.{all_wanted}
+use Rattle.wg_types.specs.Refs.{all_wanted, maybe_wanted}
 use Rattle.wg_types.specs.Bindings.{entries_named}
 use Rattle.wg_types.specs.declared.wanted.Wanted.{Wanted}
 use Rattle.wg_types.specs.declared.wanted.Wanted.TheVariants as wanted
 use Rattle.wg_types.specs.declared.bindings.GroupEntryOf.{GroupEntryOf}
-use Rattle.wg_types.specs.declared.groups.GroupLayoutInfo.{GroupLayoutInfo}
+use Rattle.wg_types.specs.declared.bindings.LayoutEntry.{LayoutEntry}
 use Rattle.wg_types.specs.declared.groups.Interface.{Interface}
 use Rattle.wg_model.specs.Rules.{Rule, first_unmet}
 use Rattle.wg_model.specs.Layouts.{group_layout_rules, pipeline_layout_rules}
+use Rattle.wg_model.specs.Automatic.{derived_rules, get_layout_rules}
 use Rattle.wg_model.specs.Groups.{group_rules}
 use Rattle.wg_model.specs.Pipelines.{compute_rules}
 use Rattle.wg_model.specs.RenderPipelines.{render_pipeline_rules}
@@ -31,8 +32,8 @@ named_rules setup past (object ∷ objects) =
     ∷ named_rules setup past objects))
 
 -- createBindGroupLayout names no object.
-unfoldable pub create_bind_group_layout_rule : Setup → GroupLayoutInfo → Option ℕ
-create_bind_group_layout_rule setup info = first_unmet (group_layout_rules setup.limits info.entries)
+unfoldable pub create_bind_group_layout_rule : Setup → List LayoutEntry → Option ℕ
+create_bind_group_layout_rule setup entries = first_unmet (group_layout_rules setup.limits entries)
 
 -- createPipelineLayout: the layouts that it names, then the rules by what is known of them
 unfoldable pub create_pipeline_layout_rule : Setup → Past → List ObjRef → Option ℕ
@@ -49,14 +50,22 @@ create_bind_group_rule setup past layout entries =
     first_unmet (named_rules setup past (group_named layout entries)
     ++ group_rules setup.limits (group_made (λ r. r) (known_in past) layout entries).layout_info.entries (group_made (λ r. r) (known_in past) layout entries).entries)
 
--- createComputePipeline: the layout, then the rules by what is known of it
-unfoldable pub create_compute_pipeline_rule : Setup → Past → ObjRef → Interface → Option ℕ
+-- createComputePipeline: the layout, or where there is none the rules of what is derived, then the rules by what is known of the
+-- layout or was derived
+unfoldable pub create_compute_pipeline_rule : Setup → Past → Option ObjRef → Interface → Option ℕ
 create_compute_pipeline_rule setup past layout iface =
-    first_unmet (named_rules setup past ((layout, wanted.PipelineLayout) ∷ [])
-    ++ compute_rules (compute_made (λ r. r) (known_in past) layout iface).layout_info.layouts_info iface.entries)
+    first_unmet (named_rules setup past (maybe_wanted wanted.PipelineLayout layout)
+    ++ (derived_rules setup.limits layout iface.entries
+    ++ compute_rules (compute_made (λ r. r) (known_in past) layout iface).layout_info.layouts_info iface.entries))
 
 -- createRenderPipeline: likewise
-unfoldable pub create_render_pipeline_rule : Setup → Past → ObjRef → RenderDesc → Option ℕ
+unfoldable pub create_render_pipeline_rule : Setup → Past → Option ObjRef → RenderDesc → Option ℕ
 create_render_pipeline_rule setup past layout desc =
-    first_unmet (named_rules setup past ((layout, wanted.PipelineLayout) ∷ [])
-    ++ render_pipeline_rules setup.limits (render_made (λ r. r) (known_in past) layout desc).layout_info.layouts_info desc)
+    first_unmet (named_rules setup past (maybe_wanted wanted.PipelineLayout layout)
+    ++ (derived_rules setup.limits layout desc.iface
+    ++ render_pipeline_rules setup.limits (render_made (λ r. r) (known_in past) layout desc).layout_info.layouts_info desc))
+
+-- getBindGroupLayout: the pipeline, then the rule by what is known of it
+unfoldable pub get_bind_group_layout_rule : Setup → Past → ObjRef → ℕ → Option ℕ
+get_bind_group_layout_rule setup past pipeline index =
+    first_unmet (named_rules setup past ((pipeline, wanted.Pipeline) ∷ []) ++ get_layout_rules (known_in past pipeline) index)

@@ -1,5 +1,5 @@
 -- Which objects are held (WebGPU, "Internal Objects"): the least relation, and the same as a test.
-use Rattle.std.specs.Prelude.{◌≡◌, ℕ, ◌<◌, Bool, true, false, not, ◌&&◌, List, [], ◌∷◌, map, Some, if◌then◌else◌}
+use Rattle.std.specs.Prelude.{◌≡◌, ℕ, ◌<◌, Bool, true, false, not, ◌&&◌, List, [], ◌∷◌, map, Option, Some, option_map, option_to_list, if◌then◌else◌}
 use Rattle.std.specs.Option.{option_map_or}
 use Rattle.wg_model.specs.Holding.{Holds, is_among, is_held_in}
 use Rattle.wg_model.specs.Recorded.{names_within}
@@ -19,18 +19,23 @@ resource_number (BoundBuffer buffer info offset size) = buffer.number
 resource_number (BoundView view info) = view.number
 resource_number (BoundSampler sampler info) = sampler.number
 
--- The objects to which one of this info refers, if it is valid: a view to its texture; a pipeline layout to the layouts of its
--- groups; a bind group to its layout and to what it binds; a pipeline to its layout; a bundle to what its commands name.
+-- one object, or none
+abbrev pub number_of : Option ObjRef → List ℕ
+number_of object = option_to_list (option_map (λ (r : ObjRef). r.number) object)
+
+-- The objects to which one of this info refers, if it is valid: a view to its texture; a bind group layout to the pipeline that it
+-- was got of, if it was got of one; a pipeline layout to the layouts of its groups; a bind group to its layout and to what it
+-- binds; a pipeline to the layout that it was made with, if it was made with one; a bundle to what its commands name.
 abbrev pub refers_of : Info → List ℕ
 refers_of (View info) = info.texture.number ∷ []
 refers_of (Buffer info) = []
 refers_of (Texture info) = []
 refers_of (Sampler known) = []
-refers_of (GroupLayout info) = []
+refers_of (GroupLayout info) = number_of info.pipeline
 refers_of (PipelineLayout info) = map (λ (layout : ObjRef). layout.number) info.layouts
 refers_of (Group info) = info.layout.number ∷ map (λ (entry : BoundEntry). resource_number entry.resource) info.entries
-refers_of (Compute info) = info.layout.number ∷ []
-refers_of (Render info) = info.layout.number ∷ []
+refers_of (Compute info) = number_of info.layout
+refers_of (Render info) = number_of info.layout
 refers_of (Queries info) = []
 refers_of Encoder = []
 refers_of (BundleEncoder targets) = []

@@ -91,7 +91,7 @@ fn all_fit(layouts: &[Shared<GroupLayoutInfo>], which: Counted, sort: Sort, most
 {
     let mut left = u64::from(most);
     for layout in layouts {
-        let found = count(layout.get().entries.as_slice(), which, sort) as u64;
+        let found = count(layout.get().entries.get().as_slice(), which, sort) as u64;
         if found > left {
             return false;
         }

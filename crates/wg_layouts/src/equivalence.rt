@@ -2,7 +2,7 @@
 ghost use Rattle.std.specs.Prelude.{◌≡◌, ◌∷◌, [], MatchOption};
 ghost use Rattle.std.specs.List.{list_all};
 ghost use Rattle.wg_types.specs.declared.bindings.LayoutEntry.{LayoutEntry};
-ghost use Rattle.wg_model.specs.Equality.{same_list, same_layout_entry, of_binding, equivalent};
+ghost use Rattle.wg_model.specs.Equality.{same_list, same_layout_entry, of_binding, equivalent, same_owner, equivalent_for, equivalent_layouts};
 
 use wg_formats::same_binding_kind;
 use wg_types::bindings::LayoutEntry;
@@ -74,13 +74,43 @@ fn same_entries(a: &[LayoutEntry], b: &[LayoutEntry]) -> bool
     rest.is_empty()
 }
 
-/// Whether two layouts have the same entries, in whatever order their bindings are (WebGPU,
-/// "group-equivalent"). It takes time linear in the entries where they are in the same order.
+/// Whether two lists have the same entries, in whatever order their bindings are. It takes time linear in
+/// the entries where they are in the same order.
 #[tactic(auto, using(crate::proofs::InOrder::equivalent_in_order))]
-pub fn equivalent(a: &GroupLayoutInfo, b: &GroupLayoutInfo) -> bool
-    ensures { result ≡ equivalent a.now.entries b.now.entries }
+fn have_same(a: &[LayoutEntry], b: &[LayoutEntry]) -> bool
+    ensures { result ≡ equivalent a.now b.now }
 {
-    let a = a.entries.as_slice();
-    let b = b.entries.as_slice();
     same_entries(a, b) || a.len() == b.len() && same_of_each(a, b)
+}
+
+/// Whether two are exclusive to the same pipeline, by its number, or neither is.
+fn same_owner(a: Option<u64>, b: Option<u64>) -> bool
+    ensures { result ≡ same_owner a b }
+{
+    match (a, b) {
+        (None, None) => true,
+        (Some(a), Some(b)) => a == b,
+        _ => false,
+    }
+}
+
+/// Whether a layout that counts as exclusive to this pipeline, by its number, or to none, is equivalent to
+/// one that is set.
+pub fn equivalent_for(owner: Option<u64>, layout: &GroupLayoutInfo, set: &GroupLayoutInfo) -> bool
+    ensures { result ≡ equivalent_for owner layout.now set.now }
+{
+    same_owner(owner, set.exclusive)
+        && have_same(
+            layout.entries.get().as_slice(),
+            set.entries.get().as_slice(),
+        )
+}
+
+/// Whether two layouts are exclusive to the same pipeline, or to none, and have the same entries, in
+/// whatever order their bindings are (WebGPU, "group-equivalent"). It takes time linear in the entries
+/// where they are in the same order.
+pub fn equivalent(a: &GroupLayoutInfo, b: &GroupLayoutInfo) -> bool
+    ensures { result ≡ equivalent_layouts a.now b.now }
+{
+    equivalent_for(a.exclusive, a, b)
 }

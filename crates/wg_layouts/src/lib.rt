@@ -1,5 +1,6 @@
-//! The rules of bind group layouts and of pipeline layouts, when two bind group layouts are equivalent,
-//! and the bind groups that are set: their rules, and what they touch.
+//! The rules of bind group layouts, of pipeline layouts and of the layouts that are got of pipelines, when
+//! two bind group layouts are equivalent, and the bind groups that are set: their rules, and what they
+//! touch.
 #![tactic(auto)]
 
 mod bindings;
@@ -15,7 +16,9 @@ mod setting;
 mod touching;
 
 pub use bound::check_bound;
-pub use checks::{check_group_layout, check_pipeline_layout};
+pub use checks::{check_get_layout, check_group_layout, check_pipeline_layout, check_together};
 pub use equivalence::equivalent;
-pub use setting::{check_set, group_in, known_group, layouts_in};
+pub use setting::{
+    check_set, group_in, is_automatic, known_group, known_layouts, layouts_in, owner_of,
+};
 pub use touching::bound_touches;

@@ -51,7 +51,7 @@ fn entries_set(bound: &BoundGroup) -> Option<SetGroup>
 {
     match known_group(&bound.group) {
         Some(info) => Some(SetGroup {
-            layout: Bindings::new(info.layout_info.get().entries.as_slice()),
+            layout: Bindings::new(info.layout_info.get().entries.get().as_slice()),
             offsets: bound.offsets.get().as_slice(),
             entries: info.entries.as_slice(),
         }),
@@ -100,5 +100,5 @@ pub fn group_at(groups: &[Option<BoundGroup>], index: usize) -> Option<&BoundGro
 pub fn has_entries(layout: &GroupLayoutInfo) -> bool
     ensures { result ≡ has_entries layout.now }
 {
-    !layout.entries.as_slice().is_empty()
+    !layout.entries.get().as_slice().is_empty()
 }

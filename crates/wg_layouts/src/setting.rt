@@ -3,7 +3,8 @@
 ghost use Rattle.std.specs.Prelude.{◌≡◌, ◌%◌, ◌==◌, Some, option_copied};
 ghost use Rattle.std.specs.List.{list_all};
 ghost use Rattle.wg_model.specs.Rules.{first_unmet};
-ghost use Rattle.wg_model.specs.Bound.{group_in, known_group, layouts_in, dynamics, dynamics_before, moved_by, entry_places, moved_range_fits, place_fits, places_in, offset_rules, set_rules};
+ghost use Rattle.wg_model.specs.Automatic.{known_layouts};
+ghost use Rattle.wg_model.specs.Bound.{group_in, known_group, layouts_in, is_automatic, owner_of, dynamics, dynamics_before, moved_by, entry_places, moved_range_fits, place_fits, places_in, offset_rules, set_rules};
 ghost use Rattle.wg_layouts.specs.Places.{entries_places};
 
 use crate::bindings::Bindings;
@@ -43,6 +44,38 @@ pub fn layouts_in(info: &Info) -> &[Shared<GroupLayoutInfo>]
         Info::Render(pipeline) => pipeline.layout_info.get().layouts_info.as_slice(),
         _ => &[],
     }
+}
+
+/// The same of what is known of an object; none where nothing is.
+pub fn known_layouts(known: Option<&Info>) -> &[Shared<GroupLayoutInfo>]
+    ensures { result.now ≡ known_layouts (option_copied known.entry) }
+{
+    match known {
+        Some(info) => layouts_in(info),
+        None => &[],
+    }
+}
+
+/// Whether a pipeline derived its layouts itself; what is no pipeline did not.
+pub fn is_automatic(info: &Info) -> bool
+    ensures { result ≡ is_automatic info.now }
+{
+    match info {
+        Info::Compute(pipeline) => pipeline.auto,
+        Info::Render(pipeline) => pipeline.auto,
+        _ => false,
+    }
+}
+
+/// The pipeline, by its number, to which the layouts of a pipeline count as exclusive: itself, where it
+/// derived them.
+pub fn owner_of(handle: &Handle) -> Option<u64>
+    ensures { result ≡ owner_of handle.now }
+{
+    if is_automatic(handle.info()) {
+        return Some(handle.reference().number);
+    }
+    None
 }
 
 /// How many bindings take a dynamic offset.
@@ -130,7 +163,7 @@ fn are_aligned(offsets: &[u32]) -> bool
 fn check_offsets(group: &GroupInfo, offsets: &[u32]) -> Option<u16>
     ensures { result ≡ first_unmet (offset_rules (Some group.now) offsets.now) }
 {
-    let layout = group.layout_info.get().entries.as_slice();
+    let layout = group.layout_info.get().entries.get().as_slice();
     if offsets.len() != dynamics(layout) {
         return Some(326);
     }

@@ -52,7 +52,7 @@ total_one f (row ∷ rows) (row' ∷ new) (suc k) len made same =
 bytes_push : (rows : List Row) (row : Row) → live_bytes (rows ++ row ∷ []) ≡ live_bytes rows + live_of row
 bytes_push rows row = let e = bytes_total (rows ++ row ∷ []) in let f = bytes_total rows in let h = total_push live_of rows row in omega (arith, e, f, h)
 
-count_push : (rows : List Row) (row : Row) → live_count (rows ++ row ∷ []) ≡ live_count rows + one_of row
+pub count_push : (rows : List Row) (row : Row) → live_count (rows ++ row ∷ []) ≡ live_count rows + one_of row
 count_push rows row = let e = count_total (rows ++ row ∷ []) in let f = count_total rows in let h = total_push one_of rows row in omega (arith, e, f, h)
 
 -- its key
@@ -104,9 +104,13 @@ bytes_fit rows (Some resource) budget within fits = let e = bytes_push rows (new
 
 -- a note that leaves what is live
 
+pub live_by : (rows new : List Row) → length new ≡ length rows → ((n : ℕ) → n < length rows → ((row_at new n).resource ≡ (row_at rows n).resource) × ((row_at new n).released ≡ (row_at rows n).released)) → live_count new ≡ live_count rows
+live_by rows new len same =
+    count_total new ∙ (total_same one_of rows new len (λ n lt. ap₂ (λ (o : Option Resource) (b : Bool). if is_some o && not b then 1 else 0) (same n lt).0 (same n lt).1) ∙ sym (count_total rows))
+
 kept_by : (rows new : List Row) (live : Live) → length new ≡ length rows → ((n : ℕ) → n < length rows → ((row_at new n).resource ≡ (row_at rows n).resource) × ((row_at new n).released ≡ (row_at rows n).released)) → IsKept rows live → IsKept new live
 kept_by rows new live len same kept = record {
-  count = kept.count ∙ (count_total rows ∙ sym (count_total new ∙ total_same one_of rows new len (λ n lt. ap (λ b. if b then 1 else 0) (same_live n lt))));
+  count = kept.count ∙ sym (live_by rows new len same);
   bytes = kept.bytes ∙ sym (bytes_total new ∙ (total_same live_of rows new len (λ n lt. ap₂ (λ (o : Option Resource) (b : Bool). if b then 0 else option_map_or (λ (resource : Resource). resource.bytes) o 0) (same n lt).0 (same n lt).1) ∙ sym (bytes_total rows)));
   len = kept.len ∙ sym len;
   under_key = λ n lt is. let less : n < length rows = subst (λ m. n < m) len lt in kept.under_key n less (sym (same_live n less) ∙ is);
@@ -217,10 +221,11 @@ kept_released rows new k resource live live' is live_k notes updates count bytes
 -- less and less
 
 pub less_same : (live : Live) → IsLess live live
-less_same live = record { bytes = omega arith; places = λ more has. has }
+less_same live = record { bytes = omega arith; count = omega arith; places = λ more has. has }
 
 pub less_then : (old mid new : Live) → IsLess old mid → IsLess mid new → IsLess old new
 less_then old mid new first second = record {
   bytes = let e = first.bytes in let f = second.bytes in omega (arith, e, f);
+  count = let e = first.count in let f = second.count in omega (arith, e, f);
   places = λ more has. second.places more (first.places more has);
 }

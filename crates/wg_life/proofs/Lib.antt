@@ -4,3 +4,4 @@ pub mod Kept
 pub mod Gone
 pub mod Tidy
 pub mod Releasing
+pub mod Bound

@@ -14,7 +14,7 @@ use Rattle.wg_life.specs.declared.rows.Row.{Row}
 use Rattle.wg_life.specs.declared.waiting.Wait.{Wait}
 use Rattle.wg_life.specs.Lives.{no_row, row_at, sort_of, with_release, Notes}
 use Rattle.wg_life.specs.Waits.{gone_at, waits, is_waiting, is_due_where, with_due, freed_row, freed, picked, with_number, is_early, early, starts_late, stands_for, IsInserted, IsTidy, is_taken_out, IsReleasing, sort_at}
-use Rattle.wg_life.proofs.Picked.{picked_nothing, picked_with, picked_rises, flat_picked, length_picked, length_with, length_picked_lt, times_with, times_permuted, rising_same}
+use Rattle.wg_life.proofs.Picked.{picked_nothing, picked_with, picked_rises, flat_picked, length_with, times_with, times_permuted, rising_same}
 use Rattle.wg_life.proofs.Tidy.{or_left, or_right, stands_on}
 
 -- one more in its place
@@ -53,7 +53,7 @@ inserted_at wait listed i le rises point = record {
 }
 
 -- what waits was made
-waits_made : (rows : List Row) (gone : List Bool) (n : ℕ) → is_waiting rows gone n ≡ true → n < length rows
+pub waits_made : (rows : List Row) (gone : List Bool) (n : ℕ) → is_waiting rows gone n ≡ true → n < length rows
 waits_made rows gone n e = elim (cases_lt n (length rows)) [
   | inl less ↦ less
   | inr past ↦ absurd (true≢false (sym e ∙ ap (λ (row : Row). waits row (gone_at gone n)) (get_or_past rows n no_row past)))
@@ -102,7 +102,7 @@ now_released done g row w c = by_cases (is_some row.resource) g row.released (na
     by_cases true true l true w e = refl
     by_cases true true l false w e = absurd (true≢false (sym e))
 
-not_released : (row : Row) (g : Bool) → waits row g ≡ true → row.released ≡ false
+pub not_released : (row : Row) (g : Bool) → waits row g ≡ true → row.released ≡ false
 not_released row g w = by_cases (is_some row.resource) g row.released w
   where
     by_cases : (r g l : Bool) → (r && g && not l) ≡ true → l ≡ false
@@ -213,21 +213,6 @@ releasing_none done rows gone listed due none tidy = record {
 
     start : due ≡ picked (is_taken_out rows rows gone) (length rows)
     start = none ∙ sym (picked_nothing (is_taken_out rows rows gone) (length rows) (λ n lt. never (is_waiting rows gone n)))
-
--- room
-
-pub due_le : (done : ℕ) (first rows : List Row) (gone : List Bool) (listed : List Wait) (due : List ℕ) → IsReleasing done first rows gone listed due → length due ≤ length first
-due_le done first rows gone listed due now = let e = now.due_len in let le = length_picked (is_taken_out first rows gone) (length first) in omega (arith, e, le)
-
-pub due_lt : (done : ℕ) (first rows : List Row) (gone : List Bool) (listed : List Wait) (due : List ℕ) (n : ℕ) → IsReleasing done first rows gone listed due → is_waiting rows gone n ≡ true → length due < length first
-due_lt done first rows gone listed due n now waiting =
-    let e = now.due_len in
-    let lt = length_picked_lt (is_taken_out first rows gone) (length first) n (subst (λ m. n < m) now.notes.len (waits_made rows gone n waiting)) (ap (λ b. is_waiting first gone n && not b) waiting ∙ and_no (is_waiting first gone n)) in
-    omega (arith, e, lt)
-  where
-    and_no : (b : Bool) → (b && false) ≡ false
-    and_no true = refl
-    and_no false = refl
 
 -- the end
 

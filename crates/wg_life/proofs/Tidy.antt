@@ -10,7 +10,7 @@ use Rattle.wg_life.specs.declared.rows.Row.{Row}
 use Rattle.wg_life.specs.declared.waiting.Wait.{Wait}
 use Rattle.wg_life.specs.Lives.{new_row, no_row, row_at, with_destroyed, with_use, Notes}
 use Rattle.wg_life.specs.Waits.{gone_at, waits, is_waiting, will_wait, picked, stands_for, Losses, IsInserted, IsTidy}
-use Rattle.wg_life.proofs.Picked.{picked_same, picked_none, picked_with, length_picked, length_with, length_picked_lt}
+use Rattle.wg_life.proofs.Picked.{picked_same, picked_none, picked_with, length_with}
 
 pub any_more : {X : Type 0} (p q : X → Bool) (xs : List X) → ((x : X) → p x ≡ true → q x ≡ true) → list_any p xs ≡ true → list_any q xs ≡ true
 any_more p q [] more is = absurd (true≢false (sym is))
@@ -61,9 +61,6 @@ tidy_used op number rows new gone listed notes tidy = tidy_by rows new gone gone
 
 pub tidy_none : IsTidy [] [] []
 tidy_none = record { both = refl; in_order = IsNonDecreasingBy-short (λ (wait : Wait). wait.last) [] (omega arith); are_listed = λ n lt is. absurd (omega (arith, lt)); fits = omega arith }
-
-pub listed_le : (rows : List Row) (gone : List Bool) (listed : List Wait) → IsTidy rows gone listed → length listed ≤ length rows
-listed_le rows gone listed tidy = let fits = tidy.fits in let le = length_picked (is_waiting rows gone) (length rows) in omega (arith, fits, le)
 
 -- one object more
 
@@ -118,13 +115,13 @@ tidy_lost number rows gone gone' listed out losses tidy = tidy_by rows rows gone
     ]
 
 -- what will wait was made, and doesn't wait yet
-will_made : (rows : List Row) (gone : List Bool) (n : ℕ) → will_wait (row_at rows n) (gone_at gone n) ≡ true → n < length rows
+pub will_made : (rows : List Row) (gone : List Bool) (n : ℕ) → will_wait (row_at rows n) (gone_at gone n) ≡ true → n < length rows
 will_made rows gone n e = elim (cases_lt n (length rows)) [
   | inl less ↦ less
   | inr past ↦ absurd (true≢false (sym e ∙ ap (λ (row : Row). will_wait row (gone_at gone n)) (get_or_past rows n no_row past)))
 ]
 
-will_now : (row : Row) (g : Bool) → will_wait row g ≡ true → (waits row true ≡ true) × (waits row g ≡ false)
+pub will_now : (row : Row) (g : Bool) → will_wait row g ≡ true → (waits row true ≡ true) × (waits row g ≡ false)
 will_now row g e = by_cases (is_some row.resource) g row.released e
   where
     by_cases : (r g l : Bool) → (r && not g && not l) ≡ true → ((r && true && not l) ≡ true) × ((r && g && not l) ≡ false)
@@ -132,10 +129,6 @@ will_now row g e = by_cases (is_some row.resource) g row.released e
     by_cases true false true e = absurd (true≢false (sym e))
     by_cases true true l e = absurd (true≢false (sym e))
     by_cases false g l e = absurd (true≢false (sym e))
-
--- There is room for what will wait.
-pub listed_lt : (rows : List Row) (gone : List Bool) (listed : List Wait) (k : ℕ) → will_wait (row_at rows k) (gone_at gone k) ≡ true → IsTidy rows gone listed → length listed < length rows
-listed_lt rows gone listed k will tidy = let fits = tidy.fits in let lt = length_picked_lt (is_waiting rows gone) (length rows) k (will_made rows gone k will) (will_now (row_at rows k) (gone_at gone k) will).1 in omega (arith, fits, lt)
 
 pub tidy_listed : (k : ℕ) (rows : List Row) (gone gone' : List Bool) (listed listed' : List Wait) → will_wait (row_at rows k) (gone_at gone k) ≡ true → Losses (λ n. k == n) gone gone' → IsInserted (record { last = (row_at rows k).last; number = k }) listed listed' → IsTidy rows gone listed → IsTidy rows gone' listed'
 tidy_listed k rows gone gone' listed listed' will losses inserted tidy = record {

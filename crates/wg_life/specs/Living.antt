@@ -20,4 +20,5 @@ pub record HasPlacesFor (live : Live) (more : ℕ) : Type 0 where
 -- A release takes nothing more, and no room away.
 pub record IsLess (old new : Live) : Type 0 where
   pub bytes : new.bytes ≤ old.bytes
+  pub count : slab_len new.slab ≤ slab_len old.slab
   pub places : (more : ℕ) → HasPlacesFor old more → HasPlacesFor new more

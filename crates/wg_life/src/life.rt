@@ -35,7 +35,7 @@ pub struct Life {
 impl Model for Life {
     ghost use Rattle.std.specs.Prelude.{◌≡◌, ◌+◌, ◌≤◌, [], vec_len, vec_capacity};
     ghost use Rattle.std.specs.VecDeque.{deque_capacity};
-    ghost use Rattle.wg_life.specs.Lives.{LifeValue, live_bytes};
+    ghost use Rattle.wg_life.specs.Lives.{LifeValue, live_bytes, live_count};
     ghost use Rattle.wg_life.specs.Living.{HasPlacesFor, IsKept};
     ghost use Rattle.wg_life.specs.Waits.{IsGone, IsTidy};
 
@@ -52,8 +52,8 @@ impl Model for Life {
       none_due : l.waiting.due.items ≡ [];
       rows_fit : vec_len l.rows + l.spare ≤ vec_capacity l.rows;
       gone_fit : vec_len l.rows + l.spare ≤ vec_capacity l.gone;
-      listed_fit : vec_len l.rows + l.spare ≤ deque_capacity l.waiting.listed;
-      due_fit : vec_len l.rows + l.spare ≤ vec_capacity l.waiting.due;
+      listed_fit : live_count l.rows.items + l.spare ≤ deque_capacity l.waiting.listed;
+      due_fit : live_count l.rows.items + l.spare ≤ vec_capacity l.waiting.due;
       live_fit : HasPlacesFor l.live l.spare;
       holders_fit : l.spare ≤ l.holders.spare;
     } };
@@ -68,7 +68,7 @@ fn note_fallen(
     holders: &mut Holders,
 )
     requires tidy { IsTidy rows.now gone.old.items listed.old.items }
-    requires room { length rows.now ≤ deque_capacity listed.old }
+    requires room { live_count rows.now ≤ deque_capacity listed.old }
     ensures marks { (before : HoldersValue) → before.fallen ≡ [] → Falls before holders.old → length holders.old.holdings.marks ≡ length before.holdings.marks → IsGone rows.now before.holdings gone.old.items → IsGone rows.now holders.new.holdings gone.new.items }
     ensures tidy { IsTidy rows.now gone.new.items listed.new.items }
     ensures gone_room { vec_capacity gone.new ≡ vec_capacity gone.old }
@@ -119,7 +119,7 @@ impl Life {
             self.rows.reserve(1)?;
             self.gone.reserve(1)?;
             self.live.reserve()?;
-            let Some(more) = self.rows.len().checked_add(1) else {
+            let Some(more) = (self.live.count() as usize).checked_add(1) else {
                 return Err(NoMemory);
             };
             self.waiting
@@ -256,7 +256,7 @@ impl Life {
     /// Releases what is due where all operations up to this one are complete, and was not released
     /// before, and adds that to a trace in room that there is.
     pub fn release(&mut self, completed: u64, trace: &mut Vec<Item>)
-        requires { vec_len trace.old + length self.old.rows ≤ vec_capacity trace.old }
+        requires { vec_len trace.old + live_count self.old.rows ≤ vec_capacity trace.old }
         ensures items { trace.new.items ≡ trace.old.items ++ map free (releases self.old completed) }
         ensures capacity { vec_capacity trace.new ≡ vec_capacity trace.old }
         ensures rows { Notes (λ n. with_release (is_due self.old completed n)) self.old.rows self.new.rows }

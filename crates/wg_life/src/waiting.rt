@@ -5,7 +5,7 @@ ghost use Rattle.std.specs.List.{flat_map};
 ghost use Rattle.std.specs.List.Sorted.{IsNonDecreasingBy};
 ghost use Rattle.wg_model.specs.Holding.{is_among};
 ghost use Rattle.wg_orders.specs.Trace.{free};
-ghost use Rattle.wg_life.specs.Lives.{Notes};
+ghost use Rattle.wg_life.specs.Lives.{Notes, live_count};
 ghost use Rattle.wg_life.specs.Living.{IsKept, IsLess};
 ghost use Rattle.wg_life.specs.Waits.{gone_at, waits, is_waiting, will_wait, with_due, freed, is_early, early, starts_late, Losses, IsInserted, IsTidy, IsReleasing, sort_at};
 
@@ -73,10 +73,10 @@ fn will_wait(row: Row, gone: bool) -> bool
 }
 
 /// Notes that an object is gone.
-#[tactic(auto, using(crate::proofs::Tidy::tidy_lost, crate::proofs::Tidy::tidy_listed, crate::proofs::Tidy::listed_lt))]
+#[tactic(auto, using(crate::proofs::Tidy::tidy_lost, crate::proofs::Tidy::tidy_listed, crate::proofs::Bound::listed_lt))]
 pub fn lose(rows: &[Row], gone: &mut Vec<bool>, listed: &mut VecDeque<Wait>, number: u64)
     requires tidy { IsTidy rows.now gone.old.items listed.old.items }
-    requires room { length rows.now ≤ deque_capacity listed.old }
+    requires room { live_count rows.now ≤ deque_capacity listed.old }
     ensures losses { Losses (λ n. number == n) gone.old.items gone.new.items }
     ensures tidy { IsTidy rows.now gone.new.items listed.new.items }
     ensures gone_room { vec_capacity gone.new ≡ vec_capacity gone.old }
@@ -100,7 +100,7 @@ pub fn lose(rows: &[Row], gone: &mut Vec<bool>, listed: &mut VecDeque<Wait>, num
 #[tactic(auto, using(crate::proofs::Gone::losses_none, crate::proofs::Gone::losses_more))]
 pub fn lose_all(rows: &[Row], gone: &mut Vec<bool>, listed: &mut VecDeque<Wait>, numbers: &[u64])
     requires tidy { IsTidy rows.now gone.old.items listed.old.items }
-    requires room { length rows.now ≤ deque_capacity listed.old }
+    requires room { live_count rows.now ≤ deque_capacity listed.old }
     ensures losses { Losses (is_among numbers.now) gone.old.items gone.new.items }
     ensures tidy { IsTidy rows.now gone.new.items listed.new.items }
     ensures gone_room { vec_capacity gone.new ≡ vec_capacity gone.old }
@@ -123,7 +123,7 @@ fn settle(
 )
     requires tidy { IsTidy rows.old.items gone.now (wait ∷ waiting.old.listed.items) }
     requires kept { IsKept rows.old.items live.old }
-    requires room { vec_len rows.old ≤ deque_capacity waiting.old.listed }
+    requires room { live_count rows.old.items ≤ deque_capacity waiting.old.listed }
     requires due_room { is_waiting rows.old.items gone.now wait.number ≡ true → vec_len waiting.old.due < vec_capacity waiting.old.due }
     ensures releasing { (first : List Row) → IsReleasing done first rows.old.items gone.now (wait ∷ waiting.old.listed.items) waiting.old.due.items → IsReleasing done first rows.new.items gone.now waiting.new.listed.items waiting.new.due.items }
     ensures kept { IsKept rows.new.items live.new }
@@ -158,8 +158,8 @@ fn take_due(rows: &mut Vec<Row>, gone: &[bool], live: &mut Live, waiting: &mut W
     requires tidy { IsTidy rows.old.items gone.now waiting.old.listed.items }
     requires kept { IsKept rows.old.items live.old }
     requires none { waiting.old.due.items ≡ [] }
-    requires room { vec_len rows.old ≤ deque_capacity waiting.old.listed }
-    requires due_room { vec_len rows.old ≤ vec_capacity waiting.old.due }
+    requires room { live_count rows.old.items ≤ deque_capacity waiting.old.listed }
+    requires due_room { live_count rows.old.items ≤ vec_capacity waiting.old.due }
     ensures releasing { IsReleasing done rows.old.items rows.new.items gone.now waiting.new.listed.items waiting.new.due.items }
     ensures kept { IsKept rows.new.items live.new }
     ensures less { IsLess live.old live.new }
@@ -201,7 +201,7 @@ fn push_all(rows: &[Row], due: &[u64], trace: &mut Vec<Item>)
 }
 
 /// Releases what is due, and adds it to a trace, least numbers first.
-#[tactic(auto, using(crate::proofs::Releasing::pushed_due, crate::proofs::Releasing::marked_due, crate::proofs::Releasing::due_le))]
+#[tactic(auto, using(crate::proofs::Releasing::pushed_due, crate::proofs::Releasing::marked_due, crate::proofs::Bound::due_le))]
 pub fn release(
     rows: &mut Vec<Row>,
     gone: &[bool],
@@ -213,9 +213,9 @@ pub fn release(
     requires tidy { IsTidy rows.old.items gone.now waiting.old.listed.items }
     requires kept { IsKept rows.old.items live.old }
     requires none { waiting.old.due.items ≡ [] }
-    requires room { vec_len rows.old ≤ deque_capacity waiting.old.listed }
-    requires due_room { vec_len rows.old ≤ vec_capacity waiting.old.due }
-    requires trace_room { vec_len trace.old + vec_len rows.old ≤ vec_capacity trace.old }
+    requires room { live_count rows.old.items ≤ deque_capacity waiting.old.listed }
+    requires due_room { live_count rows.old.items ≤ vec_capacity waiting.old.due }
+    requires trace_room { vec_len trace.old + live_count rows.old.items ≤ vec_capacity trace.old }
     ensures items { trace.new.items ≡ trace.old.items ++ map free (freed rows.old.items gone.now done) }
     ensures notes { Notes (λ n. with_due done (gone_at gone.now n) true) rows.old.items rows.new.items }
     ensures tidy { IsTidy rows.new.items gone.now waiting.new.listed.items }

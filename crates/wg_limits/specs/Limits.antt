@@ -146,9 +146,17 @@ limits_for values = record {
 abbrev pub limits_asked : List (LimitName × ℕ) → Option Limits
 limits_asked values = if list_all can_ask values then Some (limits_for values) else None
 
--- a value is no worse than the default and no better than the best
+-- a value is no better than the best
+abbrev pub IsNoBetter : LimitName → ℕ → Type 0
+IsNoBetter name value = IsTrue (no_better name value (limit_of name best_limits))
+
+-- and no worse than the default
 abbrev pub IsBetween : LimitName → ℕ → Type 0
-IsBetween name value = IsTrue (no_better name (limit_of name default_limits) value) × IsTrue (no_better name value (limit_of name best_limits))
+IsBetween name value = IsTrue (no_better name (limit_of name default_limits) value) × IsNoBetter name value
+
+-- No limit is better than the best that a device can have.
+abbrev pub AreNoBetter : Limits → Type 0
+AreNoBetter limits = (name : LimitName) → IsNoBetter name (limit_of name limits)
 
 -- What no device has otherwise than by default, since that is the best: recorders and the rules of their commands take these
 -- numbers as they are.

@@ -92,7 +92,7 @@ entries_mapped f [] = refl
 entries_mapped f (x ∷ xs) = ap₂ (λ a b. a ∷ b) (resource_mapped f x.resource) (entries_mapped f xs)
 
 request_named : {R S : Type 0} (f : R → S) (request : RequestOf R) → asked_of (map_asked f request) ≡ map (other f) (asked_of request)
-request_named f request = grind (arith, all_named, entries_mapped)
+request_named f request = grind (arith, all_named, maybe_mapped, entries_mapped)
 
 request_kind : {R S : Type 0} (f : R → S) (request : RequestOf R) → kind_made (map_asked f request) ≡ kind_made request
 request_kind f request = grind arith

@@ -2,34 +2,12 @@
 ghost use Rattle.std.specs.Prelude.{◌≡◌};
 ghost use Rattle.std.specs.List.{list_all};
 ghost use Rattle.wg_model.specs.Layouts.{is_seen_by};
-ghost use Rattle.wg_model.specs.Pipelines.{stage_bit, same_use, serves, offers};
+ghost use Rattle.wg_model.specs.Pipelines.{serves, offers};
 
-use wg_formats::same_binding_kind;
-use wg_types::bindings::{BindingKind, IfaceEntry, LayoutEntry, Stage, entry_of};
+use wg_formats::{same_use, stage_bit};
+use wg_types::bindings::{IfaceEntry, LayoutEntry, entry_of};
 use wg_types::groups::GroupLayoutInfo;
 use wg_types::shared::Shared;
-
-/// The bit of a stage in a visibility (WebGPU, "GPUShaderStage").
-fn stage_bit(stage: Stage) -> u32
-    ensures { result ≡ stage_bit stage }
-{
-    match stage {
-        Stage::Vertex => 1,
-        Stage::Fragment => 2,
-        Stage::Compute => 4,
-    }
-}
-
-/// Whether a shader may use a binding as it does: of a buffer neither dynamic offsets nor the least size
-/// count.
-fn same_use(asked: BindingKind, used: BindingKind) -> bool
-    ensures { result ≡ same_use asked used }
-{
-    match (asked, used) {
-        (BindingKind::Buffer { binding: a, .. }, BindingKind::Buffer { binding: b, .. }) => a == b,
-        _ => same_binding_kind(asked, used),
-    }
-}
 
 /// Whether an entry of a layout is what a shader uses.
 fn serves(used: &IfaceEntry, entry: LayoutEntry) -> bool
@@ -45,7 +23,7 @@ fn offers(layouts: &[Shared<GroupLayoutInfo>], used: &IfaceEntry) -> bool
     let Some(layout) = layouts.get(used.group as usize) else {
         return false;
     };
-    let Some(entry) = entry_of(layout.get().entries.as_slice(), used.binding) else {
+    let Some(entry) = entry_of(layout.get().entries.get().as_slice(), used.binding) else {
         return false;
     };
     serves(used, entry)

@@ -1,7 +1,7 @@
 -- A call that ends an encoder is a finish or a finishBundle of it.
 use Rattle.std.proofs.Common.{◌≡◌, ◌⊎◌, inl, inr, ℕ, Some, ap}
 use Rattle.wg_types.specs.declared.requests.RequestOf.{RequestOf}
-use Rattle.wg_types.specs.declared.requests.RequestOf.TheVariants.{CreateBuffer, CreateTexture, CreateView, CreateSampler, CreateBindGroupLayout, CreatePipelineLayout, CreateBindGroup, CreateComputePipeline, CreateRenderPipeline, CreateQuerySet, CreateEncoder, CreateBundleEncoder, Finish, FinishBundle, Submit, WriteBuffer, WriteTexture, Destroy, Drop, Complete, PushErrorScope, PopErrorScope, Lose, WorkDone, MapAsync, Unmap}
+use Rattle.wg_types.specs.declared.requests.RequestOf.TheVariants.{CreateBuffer, CreateTexture, CreateView, CreateSampler, CreateBindGroupLayout, CreatePipelineLayout, CreateBindGroup, CreateComputePipeline, CreateRenderPipeline, GetBindGroupLayout, CreateQuerySet, CreateEncoder, CreateBundleEncoder, Finish, FinishBundle, Submit, WriteBuffer, WriteTexture, Destroy, Drop, Complete, PushErrorScope, PopErrorScope, Lose, WorkDone, MapAsync, Unmap}
 use Rattle.wg_play.specs.Objects.{ended_by}
 
 abbrev pub IsFinish : RequestOf ℕ → ℕ → Type 0
@@ -14,11 +14,12 @@ is_finish (CreateBuffer known) encoder e = absurd (cc)
 is_finish (CreateTexture known) encoder e = absurd (cc)
 is_finish (CreateView texture asked) encoder e = absurd (cc)
 is_finish (CreateSampler known) encoder e = absurd (cc)
-is_finish (CreateBindGroupLayout known) encoder e = absurd (cc)
+is_finish (CreateBindGroupLayout entries) encoder e = absurd (cc)
 is_finish (CreatePipelineLayout layouts) encoder e = absurd (cc)
 is_finish (CreateBindGroup layout entries) encoder e = absurd (cc)
 is_finish (CreateComputePipeline layout iface) encoder e = absurd (cc)
 is_finish (CreateRenderPipeline layout desc) encoder e = absurd (cc)
+is_finish (GetBindGroupLayout pipeline index) encoder e = absurd (cc)
 is_finish (CreateQuerySet known) encoder e = absurd (cc)
 is_finish CreateEncoder encoder e = absurd (cc)
 is_finish (CreateBundleEncoder targets) encoder e = absurd (cc)

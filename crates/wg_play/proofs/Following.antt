@@ -13,7 +13,7 @@ use Rattle.wg_types.specs.declared.handles.Info.{Info}
 use Rattle.wg_types.specs.declared.replies.Answer.{Answer}
 use Rattle.wg_types.specs.declared.replies.Answer.TheVariants.{Made, Queued, Promised, Plain, BadCompletion}
 use Rattle.wg_types.specs.declared.requests.RequestOf.{RequestOf}
-use Rattle.wg_types.specs.declared.requests.RequestOf.TheVariants.{CreateBuffer, CreateTexture, CreateView, CreateSampler, CreateBindGroupLayout, CreatePipelineLayout, CreateBindGroup, CreateComputePipeline, CreateRenderPipeline, CreateQuerySet, CreateEncoder, CreateBundleEncoder, Finish, FinishBundle, Submit, WriteBuffer, WriteTexture, Destroy, Drop, Complete, PushErrorScope, PopErrorScope, Lose, WorkDone, MapAsync, Unmap}
+use Rattle.wg_types.specs.declared.requests.RequestOf.TheVariants.{CreateBuffer, CreateTexture, CreateView, CreateSampler, CreateBindGroupLayout, CreatePipelineLayout, CreateBindGroup, CreateComputePipeline, CreateRenderPipeline, GetBindGroupLayout, CreateQuerySet, CreateEncoder, CreateBundleEncoder, Finish, FinishBundle, Submit, WriteBuffer, WriteTexture, Destroy, Drop, Complete, PushErrorScope, PopErrorScope, Lose, WorkDone, MapAsync, Unmap}
 use Rattle.wg_types.specs.declared.wanted.Kind.{Kind}
 use Rattle.wg_types.specs.declared.handles.ObjRef.{ObjRef}
 use Rattle.wg_encoder.specs.Recorders.{RecorderValue}
@@ -92,11 +92,12 @@ info_kind f (CreateBuffer known) = refl
 info_kind f (CreateTexture known) = refl
 info_kind f (CreateView texture asked) = refl
 info_kind f (CreateSampler known) = refl
-info_kind f (CreateBindGroupLayout known) = refl
+info_kind f (CreateBindGroupLayout entries) = refl
 info_kind f (CreatePipelineLayout layouts) = refl
 info_kind f (CreateBindGroup layout entries) = refl
 info_kind f (CreateComputePipeline layout iface) = refl
 info_kind f (CreateRenderPipeline layout desc) = refl
+info_kind f (GetBindGroupLayout pipeline index) = refl
 info_kind f (CreateQuerySet known) = refl
 info_kind f CreateEncoder = refl
 info_kind f (CreateBundleEncoder targets) = refl

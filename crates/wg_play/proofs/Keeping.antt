@@ -5,7 +5,7 @@ use Rattle.std.specs.Option.{option_map_or}
 use Rattle.std.proofs.lemmas.Bool.{eqb-true}
 use Rattle.std.proofs.lemmas.List.Elements.{All-nil, All-cons, All-head, All-tail, All-append, All-weaker}
 use Rattle.wg_types.specs.Handles.{HandleValue}
-use Rattle.wg_types.specs.Refs.{all_wanted}
+use Rattle.wg_types.specs.Refs.{all_wanted, maybe_wanted}
 use Rattle.wg_types.specs.Bindings.{resource_named, entries_named, map_resource, map_entry}
 use Rattle.wg_types.specs.Commands.{Command}
 use Rattle.wg_types.specs.Requests.{named, map_refs as map_asked}
@@ -22,7 +22,7 @@ use Rattle.wg_types.specs.declared.handles.Info.{Info}
 use Rattle.wg_types.specs.declared.handles.ObjRef.{ObjRef}
 use Rattle.wg_types.specs.declared.render.TargetInfo.{TargetInfo}
 use Rattle.wg_types.specs.declared.requests.RequestOf.{RequestOf}
-use Rattle.wg_types.specs.declared.requests.RequestOf.TheVariants.{CreateBuffer, CreateTexture, CreateView, CreateSampler, CreateBindGroupLayout, CreatePipelineLayout, CreateBindGroup, CreateComputePipeline, CreateRenderPipeline, CreateQuerySet, CreateEncoder, CreateBundleEncoder, Finish, FinishBundle, Submit, WriteBuffer, WriteTexture, Destroy, Drop, Complete, PushErrorScope, PopErrorScope, Lose, WorkDone, MapAsync, Unmap}
+use Rattle.wg_types.specs.declared.requests.RequestOf.TheVariants.{CreateBuffer, CreateTexture, CreateView, CreateSampler, CreateBindGroupLayout, CreatePipelineLayout, CreateBindGroup, CreateComputePipeline, CreateRenderPipeline, GetBindGroupLayout, CreateQuerySet, CreateEncoder, CreateBundleEncoder, Finish, FinishBundle, Submit, WriteBuffer, WriteTexture, Destroy, Drop, Complete, PushErrorScope, PopErrorScope, Lose, WorkDone, MapAsync, Unmap}
 use Rattle.wg_types.specs.declared.wanted.Wanted.{Wanted}
 use Rattle.wg_types.specs.declared.wanted.Wanted.TheVariants as wanted
 use Rattle.wg_canvas.specs.Canvases.{CanvasValue, texture_of, asked_at as stage_asked, act_asked, info_of}
@@ -139,6 +139,10 @@ module _ (setup : Setup) (past : Past) where
     one_if_own : (slot : ℕ) (want : Wanted) → All UsedIfOwn ((f slot, want) ∷ [])
     one_if_own slot want = All-cons UsedIfOwn (f slot, want) [] (each slot) (All-nil UsedIfOwn)
 
+    maybe_if_own : (slot : Option ℕ) (want : Wanted) → All UsedIfOwn (maybe_wanted want (option_map f slot))
+    maybe_if_own None want = All-nil UsedIfOwn
+    maybe_if_own (Some slot) want = one_if_own slot want
+
     wanted_if_own : (want : Wanted) (slots : List ℕ) → All UsedIfOwn (all_wanted want (map f slots))
     wanted_if_own want [] = All-nil UsedIfOwn
     wanted_if_own want (slot ∷ slots) = All-cons UsedIfOwn (f slot, want) (all_wanted want (map f slots)) (each slot) (wanted_if_own want slots)
@@ -158,11 +162,12 @@ module _ (setup : Setup) (past : Past) where
     named_if_own (CreateTexture known) = All-nil UsedIfOwn
     named_if_own (CreateView texture asked) = one_if_own texture wanted.Texture
     named_if_own (CreateSampler known) = All-nil UsedIfOwn
-    named_if_own (CreateBindGroupLayout known) = All-nil UsedIfOwn
+    named_if_own (CreateBindGroupLayout entries) = All-nil UsedIfOwn
     named_if_own (CreatePipelineLayout layouts) = wanted_if_own wanted.GroupLayout layouts
     named_if_own (CreateBindGroup layout entries) = All-cons UsedIfOwn (f layout, wanted.GroupLayout) (entries_named (map (map_entry f) entries)) (each layout) (entries_if_own entries)
-    named_if_own (CreateComputePipeline layout iface) = one_if_own layout wanted.PipelineLayout
-    named_if_own (CreateRenderPipeline layout desc) = one_if_own layout wanted.PipelineLayout
+    named_if_own (CreateComputePipeline layout iface) = maybe_if_own layout wanted.PipelineLayout
+    named_if_own (CreateRenderPipeline layout desc) = maybe_if_own layout wanted.PipelineLayout
+    named_if_own (GetBindGroupLayout pipeline index) = one_if_own pipeline wanted.Pipeline
     named_if_own (CreateQuerySet known) = All-nil UsedIfOwn
     named_if_own CreateEncoder = All-nil UsedIfOwn
     named_if_own (CreateBundleEncoder targets) = All-nil UsedIfOwn

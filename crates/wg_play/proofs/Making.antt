@@ -24,7 +24,7 @@ use Rattle.wg_types.specs.declared.commands.CommandOf.{CommandOf}
 use Rattle.wg_types.specs.Commands.{Command, map_refs, bracket, kind_begun_by, kind_begun, is_begin}
 use Rattle.wg_types.specs.Requests.{kind_made}
 use Rattle.wg_types.specs.declared.requests.RequestOf.{RequestOf}
-use Rattle.wg_types.specs.declared.requests.RequestOf.TheVariants.{CreateBuffer, CreateTexture, CreateView, CreateSampler, CreateBindGroupLayout, CreatePipelineLayout, CreateBindGroup, CreateComputePipeline, CreateRenderPipeline, CreateQuerySet, CreateEncoder, CreateBundleEncoder, Finish, FinishBundle, Submit, WriteBuffer, WriteTexture, Destroy, Drop, Complete, PushErrorScope, PopErrorScope, Lose, WorkDone, MapAsync, Unmap}
+use Rattle.wg_types.specs.declared.requests.RequestOf.TheVariants.{CreateBuffer, CreateTexture, CreateView, CreateSampler, CreateBindGroupLayout, CreatePipelineLayout, CreateBindGroup, CreateComputePipeline, CreateRenderPipeline, GetBindGroupLayout, CreateQuerySet, CreateEncoder, CreateBundleEncoder, Finish, FinishBundle, Submit, WriteBuffer, WriteTexture, Destroy, Drop, Complete, PushErrorScope, PopErrorScope, Lose, WorkDone, MapAsync, Unmap}
 use Rattle.wg_canvas.specs.Canvases.{acted, texture_of}
 use Rattle.wg_encoder.specs.Recorders.{RecorderValue, has_taken}
 use Rattle.wg_calls.specs.Calls.{opened_for, opened_with}
@@ -189,11 +189,12 @@ no_pass_made (CreateBuffer known) = refl
 no_pass_made (CreateTexture known) = refl
 no_pass_made (CreateView texture asked) = refl
 no_pass_made (CreateSampler known) = refl
-no_pass_made (CreateBindGroupLayout known) = refl
+no_pass_made (CreateBindGroupLayout entries) = refl
 no_pass_made (CreatePipelineLayout layouts) = refl
 no_pass_made (CreateBindGroup layout entries) = refl
 no_pass_made (CreateComputePipeline layout iface) = refl
 no_pass_made (CreateRenderPipeline layout desc) = refl
+no_pass_made (GetBindGroupLayout pipeline index) = refl
 no_pass_made (CreateQuerySet known) = refl
 no_pass_made CreateEncoder = refl
 no_pass_made (CreateBundleEncoder targets) = refl

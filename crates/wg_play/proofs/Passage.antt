@@ -12,7 +12,7 @@ use Rattle.wg_types.specs.declared.handles.ObjRef.{ObjRef}
 use Rattle.wg_types.specs.declared.replies.Answer.{Answer}
 use Rattle.wg_types.specs.declared.replies.Reply.{Reply}
 use Rattle.wg_types.specs.declared.requests.RequestOf.{RequestOf}
-use Rattle.wg_types.specs.declared.requests.RequestOf.TheVariants.{CreateBuffer, CreateTexture, CreateView, CreateSampler, CreateBindGroupLayout, CreatePipelineLayout, CreateBindGroup, CreateComputePipeline, CreateRenderPipeline, CreateQuerySet, CreateEncoder, CreateBundleEncoder, Finish, FinishBundle, Submit, WriteBuffer, WriteTexture, Destroy, Drop, Complete, PushErrorScope, PopErrorScope, Lose, WorkDone, MapAsync, Unmap}
+use Rattle.wg_types.specs.declared.requests.RequestOf.TheVariants.{CreateBuffer, CreateTexture, CreateView, CreateSampler, CreateBindGroupLayout, CreatePipelineLayout, CreateBindGroup, CreateComputePipeline, CreateRenderPipeline, GetBindGroupLayout, CreateQuerySet, CreateEncoder, CreateBundleEncoder, Finish, FinishBundle, Submit, WriteBuffer, WriteTexture, Destroy, Drop, Complete, PushErrorScope, PopErrorScope, Lose, WorkDone, MapAsync, Unmap}
 use Rattle.wg_types.specs.declared.wanted.Kind.{Kind}
 use Rattle.wg_types.specs.declared.render.TargetInfo.{TargetInfo}
 use Rattle.wg_canvas.specs.Canvases.{CanvasValue, asked_at as stage_asked, act_asked}
@@ -66,11 +66,12 @@ sent_makes sight (CreateBuffer known) k e = refl
 sent_makes sight (CreateTexture known) k e = refl
 sent_makes sight (CreateView texture asked) k e = refl
 sent_makes sight (CreateSampler known) k e = refl
-sent_makes sight (CreateBindGroupLayout known) k e = refl
+sent_makes sight (CreateBindGroupLayout entries) k e = refl
 sent_makes sight (CreatePipelineLayout layouts) k e = refl
 sent_makes sight (CreateBindGroup layout entries) k e = refl
 sent_makes sight (CreateComputePipeline layout iface) k e = refl
 sent_makes sight (CreateRenderPipeline layout desc) k e = refl
+sent_makes sight (GetBindGroupLayout pipeline index) k e = refl
 sent_makes sight (CreateQuerySet known) k e = refl
 sent_makes sight CreateEncoder k e = refl
 sent_makes sight (CreateBundleEncoder targets) k e = refl

@@ -10,7 +10,7 @@ use Rattle.wg_types.specs.declared.commands.On.{On}
 use Rattle.wg_types.specs.declared.commands.On.TheVariants.{Encoder, Pass}
 use Rattle.wg_types.specs.Commands.{Command, kind_begun}
 use Rattle.wg_types.specs.declared.requests.RequestOf.{RequestOf}
-use Rattle.wg_types.specs.declared.requests.RequestOf.TheVariants.{CreateBuffer, CreateTexture, CreateView, CreateSampler, CreateBindGroupLayout, CreatePipelineLayout, CreateBindGroup, CreateComputePipeline, CreateRenderPipeline, CreateQuerySet, CreateEncoder, CreateBundleEncoder, Finish, FinishBundle, Submit, WriteBuffer, WriteTexture, Destroy, Drop, Complete, PushErrorScope, PopErrorScope, Lose, WorkDone, MapAsync, Unmap}
+use Rattle.wg_types.specs.declared.requests.RequestOf.TheVariants.{CreateBuffer, CreateTexture, CreateView, CreateSampler, CreateBindGroupLayout, CreatePipelineLayout, CreateBindGroup, CreateComputePipeline, CreateRenderPipeline, GetBindGroupLayout, CreateQuerySet, CreateEncoder, CreateBundleEncoder, Finish, FinishBundle, Submit, WriteBuffer, WriteTexture, Destroy, Drop, Complete, PushErrorScope, PopErrorScope, Lose, WorkDone, MapAsync, Unmap}
 use Rattle.wg_encoder.specs.Recorders.{RecorderValue, is_late, recorded}
 use Rattle.wg_calls.specs.Calls.{opened_for, opened_with, taken_out}
 use Rattle.wg_play.specs.declared.objects.Object.{Object}
@@ -104,11 +104,12 @@ ended_by (CreateBuffer known) = None
 ended_by (CreateTexture known) = None
 ended_by (CreateView texture asked) = None
 ended_by (CreateSampler known) = None
-ended_by (CreateBindGroupLayout known) = None
+ended_by (CreateBindGroupLayout entries) = None
 ended_by (CreatePipelineLayout layouts) = None
 ended_by (CreateBindGroup layout entries) = None
 ended_by (CreateComputePipeline layout iface) = None
 ended_by (CreateRenderPipeline layout desc) = None
+ended_by (GetBindGroupLayout pipeline index) = None
 ended_by (CreateQuerySet known) = None
 ended_by CreateEncoder = None
 ended_by (CreateBundleEncoder targets) = None

@@ -56,12 +56,14 @@ pub record GivenAt (plays : List PlayedPhase) (front : List Entry) (entry : Entr
   pub own : made_by (length lanes_before) first ≡ entries_in before
   pub front_is : front ≡ flat_map (λ (p : PlayedPhase). p.entries) earlier ++ first
 
--- Where a script was played through, as each is whose names are bound, however its calls were played: where a call of a canvas became
--- the destroy of its texture, as a present does exactly where its canvas has one, and so does a configureCanvas, that texture has expired
--- after it.
+-- In a history that calls gave which were played so: where a call of a canvas became the destroy of its texture, as a present does
+-- exactly where its canvas has one, and so does a configureCanvas, that texture has expired after it.
+abbrev pub EachExpires : Setup → List Entry → List PlayedPhase → Type 0
+EachExpires setup history plays = (front back : List Entry) (entry : Entry) (call : CanvasOf ℕ) (made : Option ℕ) (texture : ObjRef)
+    → history ≡ front ++ entry ∷ back → GivenAt plays front entry (Canvas call made) → entry.event ≡ Destroy texture
+    → HasExpired setup (front ++ entry ∷ []) back texture
+
+-- So it is where a script was played through, as each is whose names are bound, however its calls were played.
 abbrev pub PresentsExpire : Type 0
 PresentsExpire = (setup : Setup) (phases : List (List (List BoundCall))) (history : List Entry) → Run setup history
-    → (through : IsPlayedThrough setup phases history)
-    → (front back : List Entry) (entry : Entry) (call : CanvasOf ℕ) (made : Option ℕ) (texture : ObjRef)
-    → history ≡ front ++ entry ∷ back → GivenAt through.plays front entry (Canvas call made) → entry.event ≡ Destroy texture
-    → HasExpired setup (front ++ entry ∷ []) back texture
+    → (through : IsPlayedThrough setup phases history) → EachExpires setup history through.plays

@@ -1,7 +1,7 @@
 //! The operations of a queue, by their numbers, and the promises that wait for them.
 #![tactic(auto)]
 
-ghost use Rattle.std.specs.Prelude.{◌≡◌, ◌+◌, ◌-◌, ◌<◌, ◌≤◌, ◌^◌, ◌∷◌, ◌++◌, [], not, true, false, drop, length, IsOk, OnOk, OnErr, IfOk, if◌then◌else◌};
+ghost use Rattle.std.specs.Prelude.{◌≡◌, ◌+◌, ◌-◌, ◌<◌, ◌≤◌, ◌^◌, ◌∷◌, ◌++◌, [], not, true, false, drop, length, vec_len, vec_capacity, IsOk, OnOk, OnErr, IfOk, if◌then◌else◌};
 ghost use Rattle.std.specs.List.Sorted.{IsNonDecreasingBy};
 ghost use Rattle.wg_model.specs.Promises.{promises, due_promises, still_waiting};
 ghost use Rattle.wg_types.specs.declared.replies.Waiting.{Waiting};
@@ -16,8 +16,8 @@ use wg_types::replies::Waiting;
 /// for them. Contracts see how many were issued, up to which all are complete, and the promises that
 /// are not settled, in the order in which they were made.
 ///
-/// A promise stays in the list once it is settled: those that are stand at its front, since none waits
-/// for an earlier operation than one before it.
+/// A promise stays in the list once it is settled, until those that are make up half of it: they stand at
+/// its front, since none waits for an earlier operation than one before it.
 #[derive(Drop)]
 pub struct Queue {
     lost: bool,
@@ -46,6 +46,17 @@ fn count_due(waiting: &[Waiting], n: u64) -> usize
     ensures later { drop result waiting.now ≡ still_waiting n waiting.now }
 {
     waiting.partition_point(|w| w.last <= n)
+}
+
+/// Takes the first promises out.
+fn cut(waiting: &mut Vec<Waiting>, settled: usize)
+    requires { settled ≤ vec_len waiting.old }
+    ensures items { waiting.new.items ≡ drop settled waiting.old.items }
+    ensures capacity { vec_capacity waiting.new ≡ vec_capacity waiting.old }
+{
+    let left = waiting.len() - settled;
+    waiting.rotate_left(settled);
+    waiting.truncate(left);
 }
 
 impl Queue {
@@ -92,6 +103,7 @@ impl Queue {
 
     /// Notes that all operations up to a number are complete, and answers false for a bad one. The
     /// promises that waited for no later one wait no more.
+    #[tactic(auto, using(crate::proofs::Due::cut_in_order))]
     pub fn complete(&mut self, n: u64) -> bool
         ensures answer { result ≡ not (is_bad self.old n) }
         ensures bad { result ≡ false → self.new ≡ self.old }
@@ -103,6 +115,10 @@ impl Queue {
         }
         self.completed = n;
         self.settled += count_due(&self.waiting[self.settled..], n);
+        if self.settled > self.waiting.len() / 2 {
+            cut(&mut self.waiting, self.settled);
+            self.settled = 0;
+        }
         true
     }
 

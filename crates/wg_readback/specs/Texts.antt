@@ -36,5 +36,8 @@ abbrev pub told_line : ℕ → Told → List ℕ
 told_line n entry = entry_text n entry.0 entry.1 entry.2
 
 -- the entries of a history are numbered from 0
+abbrev pub entries_text : List Told → List ℕ
+entries_text entries = numbered told_after told_line 0 entries
+
 abbrev pub history_text : List Told → List ℕ
-history_text entries = line_text (codes "history") ++ numbered told_after told_line 0 entries
+history_text entries = line_text (codes "history") ++ entries_text entries

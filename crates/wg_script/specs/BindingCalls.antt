@@ -1,12 +1,11 @@
--- The calls on samplers, layouts, bind groups and compute pipelines: for each its keys, and what each
--- holds, in the order in which they are read.
-use Rattle.std.specs.Prelude.{ℕ, List, Bool, false, bytes_eq, codes, if◌then◌else◌, Option, Some, None, option_and_then, Result, Ok, Err, ⊤}
+-- The calls on samplers, layouts, bind groups and compute pipelines, and the layout that a pipeline gives: for each its
+-- keys, and what each holds, in the order in which they are read.
+use Rattle.std.specs.Prelude.{ℕ, List, bytes_eq, codes, if◌then◌else◌, Option, Some, None, option_and_then, Result, Ok, Err}
 use Rattle.serde_json.specs.Data.{Data}
-use Rattle.serde_json.specs.Find.{get, as_str}
+use Rattle.serde_json.specs.Find.{as_str}
 use Rattle.wg_types.specs.declared.bindings.SamplerKind.TheVariants.{Filtering}
-use Rattle.wg_types.specs.declared.requests.RequestOf.TheVariants.{CreateSampler, CreateBindGroupLayout, CreatePipelineLayout, CreateBindGroup, CreateComputePipeline}
-use Rattle.wg_script.specs.Giving.{◌>>=◌}
-use Rattle.wg_script.specs.Values.{name_at}
+use Rattle.wg_types.specs.declared.requests.RequestOf.TheVariants.{CreateSampler, CreateBindGroupLayout, CreatePipelineLayout, CreateBindGroup, CreateComputePipeline, GetBindGroupLayout}
+use Rattle.wg_script.specs.Values.{whole_at, most_short, name_at}
 use Rattle.wg_script.specs.Lists.{list_at, list_or_empty, names_at}
 use Rattle.wg_script.specs.Words.{word_or}
 use Rattle.wg_script.specs.BindingWords.{sampler_words}
@@ -26,7 +25,7 @@ create_sampler_of d = read_by create_sampler_keys d
 
 -- createBindGroupLayout
 abbrev pub create_group_layout_keys : Reader Call
-create_group_layout_keys = gives (λ entries made. making (CreateBindGroupLayout (record { entries = entries })) made)
+create_group_layout_keys = gives (λ entries made. making (CreateBindGroupLayout entries) made)
     ▹ need (codes "entries") (list_at layout_entry_of)
     ▹ need (codes "as") name_at
 
@@ -54,20 +53,30 @@ create_group_of d = read_by create_group_keys d
 
 -- ---- pipelines
 
-abbrev pub is_auto : Option (List ℕ) → Bool
-is_auto None = false
-is_auto (Some s) = bytes_eq s (codes "auto")
+abbrev pub layout_of : Option (List ℕ) → Result (Option (List ℕ)) ℕ
+layout_of None = Err 8
+layout_of (Some s) = if bytes_eq s (codes "auto") then Ok None else Ok (Some s)
 
--- script rule 13: the pipeline is to derive its layout, which is not built yet
-abbrev pub check_layout_built : Data → Result ⊤ ℕ
-check_layout_built d = if is_auto (option_and_then as_str (get (codes "layout") d)) then Err 13 else Ok tt
+-- the name of a pipeline layout, or none for the word `auto`: the pipeline is to derive its layout itself
+abbrev pub layout_at : Option Data → Result (Option (List ℕ)) ℕ
+layout_at found = layout_of (option_and_then as_str found)
 
 -- createComputePipeline
 abbrev pub create_compute_keys : Reader Call
 create_compute_keys = gives (λ layout entries made. making (CreateComputePipeline layout (record { entries = entries })) made)
-    ▹ need (codes "layout") name_at
+    ▹ need (codes "layout") layout_at
     ▹ may (codes "iface") (list_or_empty iface_entry_of)
     ▹ need (codes "as") name_at
 
 unfoldable pub create_compute_of : Data → Result Call ℕ
-create_compute_of d = check_layout_built d >>= λ fine. read_by create_compute_keys d
+create_compute_of d = read_by create_compute_keys d
+
+-- getBindGroupLayout
+abbrev pub get_group_layout_keys : Reader Call
+get_group_layout_keys = gives (λ pipeline index made. making (GetBindGroupLayout pipeline index) made)
+    ▹ need (codes "pipeline") name_at
+    ▹ need (codes "index") (whole_at most_short)
+    ▹ need (codes "as") name_at
+
+unfoldable pub get_group_layout_of : Data → Result Call ℕ
+get_group_layout_of d = read_by get_group_layout_keys d

@@ -9,7 +9,7 @@ use Rattle.wg_script.specs.Lists.{names_at}
 use Rattle.wg_script.specs.Words.{word_at}
 use Rattle.wg_script.specs.Readers.{Reader, gives, need, may, ◌▹◌, read_by}
 use Rattle.wg_script.specs.TextureCalls.{create_texture_of, create_view_of, write_texture_of, copy_buffer_to_texture_of, copy_texture_to_buffer_of, copy_texture_to_texture_of}
-use Rattle.wg_script.specs.BindingCalls.{create_sampler_of, create_group_layout_of, create_pipeline_layout_of, create_group_of, create_compute_of}
+use Rattle.wg_script.specs.BindingCalls.{create_sampler_of, create_group_layout_of, create_pipeline_layout_of, create_group_of, create_compute_of, get_group_layout_of}
 use Rattle.wg_script.specs.PassCalls.{bare_of, begin_compute_pass_of, end_of, set_pipeline_of, set_bind_group_of, dispatch_of, dispatch_indirect_of}
 use Rattle.wg_script.specs.RenderCalls.{create_render_of, begin_render_pass_of, set_vertex_buffer_of, set_index_buffer_of, draw_of, draw_indexed_of, draw_indirect_of, draw_indexed_indirect_of}
 use Rattle.wg_script.specs.QueryCalls.{create_queries_of, resolve_queries_of, begin_occlusion_of, end_occlusion_of}
@@ -165,6 +165,7 @@ call_as word.CreatePipelineLayout d = create_pipeline_layout_of d
 call_as word.CreateBindGroup d = create_group_of d
 call_as word.CreateComputePipeline d = create_compute_of d
 call_as word.CreateRenderPipeline d = create_render_of d
+call_as word.GetBindGroupLayout d = get_group_layout_of d
 call_as word.CreateQuerySet d = create_queries_of d
 call_as word.CreateEncoder d = create_encoder_of d
 call_as word.CreateBundleEncoder d = create_bundle_encoder_of d

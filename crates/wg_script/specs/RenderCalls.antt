@@ -10,7 +10,7 @@ use Rattle.wg_script.specs.Lists.{list_at, list_or_empty, null_or, item_if, name
 use Rattle.wg_script.specs.Words.{word_at}
 use Rattle.wg_script.specs.RenderWords.{index_format_words}
 use Rattle.wg_script.specs.BindingEntries.{staged_entry_of}
-use Rattle.wg_script.specs.BindingCalls.{check_layout_built}
+use Rattle.wg_script.specs.BindingCalls.{layout_at}
 use Rattle.wg_script.specs.PassCalls.{indirect_of}
 use Rattle.wg_script.specs.RenderEntries.{vertex_buffer_of, format_item, depth_state_of, color_target_of, depth_target_of}
 use Rattle.wg_script.specs.CallOf.{Call}
@@ -22,7 +22,7 @@ use Rattle.wg_script.specs.Readers.{Reader, gives, need, may, ◌▹◌, read_by
 -- createRenderPipeline: a target that is null is left out
 abbrev pub create_render_keys : Reader Call
 create_render_keys = gives (λ layout iface buffers targets depth samples made. making (CreateRenderPipeline layout (record { iface = iface; buffers = buffers; targets = targets; depth = depth; samples = samples })) made)
-    ▹ need (codes "layout") name_at
+    ▹ need (codes "layout") layout_at
     ▹ may (codes "iface") (list_or_empty staged_entry_of)
     ▹ may (codes "buffers") (list_or_empty vertex_buffer_of)
     ▹ may (codes "targets") (list_or_empty (null_or format_item))
@@ -31,7 +31,7 @@ create_render_keys = gives (λ layout iface buffers targets depth samples made. 
     ▹ need (codes "as") name_at
 
 unfoldable pub create_render_of : Data → Result Call ℕ
-create_render_of d = check_layout_built d >>= λ fine. read_by create_render_keys d
+create_render_of d = read_by create_render_keys d
 
 -- ---- render passes
 

@@ -1,20 +1,21 @@
-//! Reads the calls on samplers, layouts, bind groups and compute pipelines: a function for each, with its
-//! keys.
-ghost use Rattle.std.specs.Prelude.{◌≡◌};
+//! Reads the calls on samplers, layouts, bind groups and compute pipelines, and the one that gets a layout of
+//! a pipeline: a function for each, with its keys.
+ghost use Rattle.serde_json.specs.Find.{get};
 ghost use Rattle.serde_json.specs.View.{view};
 ghost use Rattle.wg_script.specs.Giving.{Gives};
-ghost use Rattle.wg_script.specs.BindingCalls.{create_sampler_of, create_group_layout_of, create_pipeline_layout_of, create_group_of, check_layout_built, create_compute_of};
+ghost use Rattle.wg_script.specs.BindingCalls.{create_sampler_of, create_group_layout_of, create_pipeline_layout_of, create_group_of, layout_at, create_compute_of, get_group_layout_of};
 
 use crate::binding_words::SAMPLERS;
 use crate::calling::making;
 use crate::calls::Call;
 use crate::lists::{list_at, list_or_empty};
-use crate::values::{Refusal, check_keys, name_at, reading};
+use crate::name::Name;
+use crate::values::{Refusal, check_keys, name_at, reading, short_at};
 use crate::words::word_or;
 use serde_json::Value;
 use std::alloc::Global;
 use wg_types::bindings::SamplerKind;
-use wg_types::groups::{GroupLayoutInfo, Interface};
+use wg_types::groups::Interface;
 use wg_types::requests::RequestOf;
 use wg_types::shared::Shared;
 
@@ -37,7 +38,7 @@ pub fn create_bind_group_layout(alloc: Global, call: &Value) -> Result<Call, Ref
     reading!(call:
         need entries = list_at(alloc, "entries");
         need made = name_at(alloc, "as");
-        => making(RequestOf::CreateBindGroupLayout { info: Shared::new(alloc, GroupLayoutInfo { entries })? }, made))
+        => making(RequestOf::CreateBindGroupLayout { entries: Shared::new(alloc, entries)? }, made))
 }
 
 /// Reads `createPipelineLayout`.
@@ -63,13 +64,15 @@ pub fn create_bind_group(alloc: Global, call: &Value) -> Result<Call, Refusal>
         => making(RequestOf::CreateBindGroup { layout, entries }, made))
 }
 
-/// Script rule 13: refuses a pipeline that is to derive its layout, which is not built yet.
-pub fn check_layout_built(call: &Value) -> Result<(), u8>
-    ensures { result ≡ check_layout_built (view call.now) }
+/// The name of a pipeline layout, under a key that is needed, or none where that holds the word `auto`: the
+/// pipeline is to derive its layout itself. Script rule 8 where the value is no text.
+pub fn layout_at(alloc: Global, object: &Value, key: &str) -> Result<Option<Name>, Refusal>
+    ensures { Gives result (layout_at (get key.now (view object.now))) }
 {
-    match call.get("layout").and_then(Value::as_str) {
-        Some("auto") => Err(13),
-        _ => Ok(()),
+    match object.get(key).and_then(Value::as_str) {
+        Some("auto") => Ok(None),
+        Some(text) => Ok(Some(Name::new(alloc, text)?)),
+        None => Err(Refusal::Rule(8)),
     }
 }
 
@@ -78,10 +81,21 @@ pub fn check_layout_built(call: &Value) -> Result<(), u8>
 pub fn create_compute_pipeline(alloc: Global, call: &Value) -> Result<Call, Refusal>
     ensures { Gives result (create_compute_of (view call.now)) }
 {
-    check_layout_built(call)?;
     reading!(call:
-        need layout = name_at(alloc, "layout");
+        need layout = layout_at(alloc, "layout");
         may entries = list_or_empty(alloc, "iface");
         need made = name_at(alloc, "as");
         => making(RequestOf::CreateComputePipeline { layout, iface: Shared::new(alloc, Interface { entries })? }, made))
+}
+
+/// Reads `getBindGroupLayout`.
+#[tactic(auto, unfolding(crate::specs::BindingCalls::get_group_layout_of))]
+pub fn get_bind_group_layout(alloc: Global, call: &Value) -> Result<Call, Refusal>
+    ensures { Gives result (get_group_layout_of (view call.now)) }
+{
+    reading!(call:
+        need pipeline = name_at(alloc, "pipeline");
+        need index = short_at("index");
+        need made = name_at(alloc, "as");
+        => making(RequestOf::GetBindGroupLayout { pipeline, index }, made))
 }

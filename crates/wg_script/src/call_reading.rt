@@ -7,7 +7,7 @@ ghost use Rattle.wg_script.specs.Calls.{call_of, call_as, create_buffer_of, crea
 
 use crate::binding_calls::{
     create_bind_group, create_bind_group_layout, create_compute_pipeline, create_pipeline_layout,
-    create_sampler,
+    create_sampler, get_bind_group_layout,
 };
 use crate::bundle_calls::{create_bundle_encoder, execute_bundles, finish_bundle};
 use crate::calling::{asking, making, recording};
@@ -239,6 +239,7 @@ fn call_as(alloc: Global, word: Word, call: &Value) -> Result<Call, Refusal>
         Word::CreateBindGroup => create_bind_group(alloc, call),
         Word::CreateComputePipeline => create_compute_pipeline(alloc, call),
         Word::CreateRenderPipeline => create_render_pipeline(alloc, call),
+        Word::GetBindGroupLayout => get_bind_group_layout(alloc, call),
         Word::CreateQuerySet => create_query_set(alloc, call),
         Word::CreateEncoder => create_encoder(alloc, call),
         Word::CreateBundleEncoder => create_bundle_encoder(alloc, call),

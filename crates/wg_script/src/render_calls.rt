@@ -3,7 +3,7 @@ ghost use Rattle.serde_json.specs.View.{view};
 ghost use Rattle.wg_script.specs.Giving.{Gives};
 ghost use Rattle.wg_script.specs.RenderCalls.{create_render_of, begin_render_pass_of, set_vertex_buffer_of, set_index_buffer_of, draw_of, draw_indexed_of, draw_indirect_of, draw_indexed_indirect_of};
 
-use crate::binding_calls::check_layout_built;
+use crate::binding_calls::layout_at;
 use crate::binding_entries::staged_or_empty;
 use crate::calling::{beginning, making, recording};
 use crate::calls::Call;
@@ -26,9 +26,8 @@ use wg_types::shared::Shared;
 pub fn create_render_pipeline(alloc: Global, call: &Value) -> Result<Call, Refusal>
     ensures { Gives result (create_render_of (view call.now)) }
 {
-    check_layout_built(call)?;
     reading!(call:
-        need layout = name_at(alloc, "layout");
+        need layout = layout_at(alloc, "layout");
         may iface = staged_or_empty(alloc, "iface");
         may buffers = list_or_empty(alloc, "buffers");
         may targets = list_or_empty(alloc, "targets");

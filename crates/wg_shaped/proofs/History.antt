@@ -20,7 +20,8 @@ use Rattle.wg_history.proofs.Every.{trace_works, steps_works}
 use Rattle.wg_readback.specs.Shapes.{IsFilledStep, IsOnceStep, IsShapedStep, IsShaped}
 use Rattle.wg_readback.proofs.Shaping.{trace_is_shaped}
 use Rattle.wg_readback.proofs.Reports.{report_reads_back}
-use Rattle.wg_shaped.specs.Shaped.{StepsAreFilled, HistoryIsShaped, HistoryReadsBack, told}
+use Rattle.wg_shaped.specs.Reports.{told}
+use Rattle.wg_shaped.specs.Shaped.{StepsAreFilled, HistoryIsShaped, HistoryReadsBack}
 use Rattle.wg_shaped.proofs.Running.{history_is_once}
 use Rattle.wg_shaped.proofs.Groups.{Each, both_each, writes_each, hosts_each, listed_each}
 use Rattle.wg_shaped.proofs.Touched.{write_filled, host_filled, recorded_filled}

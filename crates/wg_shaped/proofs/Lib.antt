@@ -6,6 +6,7 @@ pub mod Copying
 pub mod Scoping
 pub mod Telling
 pub mod Attaching
+pub mod Walked
 pub mod Recorded
 pub mod Groups
 pub mod Running

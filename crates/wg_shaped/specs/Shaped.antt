@@ -1,17 +1,16 @@
 -- The shape of the traces of histories.
-use Rattle.std.specs.Prelude.{ℕ, ◌+◌, ◌≤◌, List, map, Ok, ◌≡◌}
-use Rattle.wg_types.specs.declared.steps.Item.{Item}
+use Rattle.std.specs.Prelude.{◌+◌, ◌≤◌, List, Ok, ◌≡◌}
 use Rattle.wg_rows.specs.Rows.{EachRow}
 use Rattle.wg_history.specs.declared.events.Setup.{Setup}
-use Rattle.wg_history.specs.Entries.{Entry, verb_of}
+use Rattle.wg_history.specs.Entries.{Entry}
 use Rattle.wg_history.specs.Answers.{Run}
 use Rattle.wg_history.specs.Steps.{Steps}
 use Rattle.wg_history.specs.Traces.{Trace}
 use Rattle.wg_readtrace.specs.Forms.{most_53}
 use Rattle.wg_readtrace.specs.Reading.{trace_in}
-use Rattle.wg_readback.specs.Texts.{Told, trace_behind, history_text}
 use Rattle.wg_readback.specs.Printable.{IsSmallItem, step_count}
 use Rattle.wg_readback.specs.Shapes.{IsFilledStep, IsShaped}
+use Rattle.wg_shaped.specs.Reports.{report_of}
 
 -- No step of a history has an empty row or an empty set.
 abbrev pub StepsAreFilled : Type 0
@@ -21,14 +20,6 @@ StepsAreFilled = (setup : Setup) (history : List Entry) → EachRow IsFilledStep
 abbrev pub HistoryIsShaped : Type 0
 HistoryIsShaped = (setup : Setup) (history : List Entry) → Run setup history → IsShaped (Trace setup history)
 
--- an entry, as it is printed
-abbrev pub told : Entry → Told
-told entry = (entry.who, verb_of entry.event, entry.reply)
-
--- The report of a history: the trace is printed behind the entries.
-abbrev pub report_of : List Entry → List Item → List ℕ
-report_of history trace = trace_behind (history_text (map told history)) trace
-
 -- What is printed of a history and its trace is read as that trace, if its replies are the right ones, and its numbers are ones
 -- that the reader takes.
 abbrev pub HistoryReadsBack : Type 0
@@ -37,4 +28,4 @@ HistoryReadsBack =
     → Run setup history
     → EachRow IsSmallItem (Trace setup history)
     → step_count (Trace setup history) ≤ most_53 + 1
-    → trace_in (report_of history (Trace setup history)) ≡ Ok (Trace setup history)
+    → trace_in (report_of setup history) ≡ Ok (Trace setup history)

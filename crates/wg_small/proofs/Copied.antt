@@ -21,7 +21,7 @@ use Rattle.wg_model.specs.Subresources.{first_layer, end_layer, texture_cells, c
 use Rattle.wg_model.specs.TexelCopies.{lies_in, spans, spot_fits}
 use Rattle.wg_readtrace.specs.Forms.{most_32}
 use Rattle.wg_small.specs.Small.{IsSmallRange, HaveSmallRange}
-use Rattle.wg_small.specs.Limits.{AreNoBetter}
+use Rattle.wg_limits.specs.Limits.{AreNoBetter}
 
 -- A number is below its power of two.
 below_power : (n : ℕ) → n < 2 ^ n
@@ -31,7 +31,7 @@ below_power (suc n) =
     let before : n < 2 ^ n = below_power n in
     subst (λ (k : ℕ). suc n < 2 ^ k) (let same : n + 1 ≡ suc n = omega arith in same) (omega (arith, more, before))
 
-depth_small : (limits : Limits) (dim : TextureDim) (size : List ℕ) (mip : ℕ) → AreNoBetter limits → within_limits limits dim size ≡ true → depth (extent_at dim size mip) ≤ 16384
+pub depth_small : (limits : Limits) (dim : TextureDim) (size : List ℕ) (mip : ℕ) → AreNoBetter limits → within_limits limits dim size ≡ true → depth (extent_at dim size mip) ≤ 16384
 depth_small limits texture_dim.One size mip best e = let one : depth size ≡ 1 = eqb-true (depth size) 1 (and_parts (nat_le (width size) limits.max_texture_dimension_1d && height size == 1) (depth size == 1) e).1 in omega (arith, one)
 depth_small limits texture_dim.Two size mip best e =
     let few : depth size ≤ limits.max_texture_array_layers = leb-true (depth size) limits.max_texture_array_layers (and_parts (nat_le (width size) limits.max_texture_dimension_2d && nat_le (height size) limits.max_texture_dimension_2d) (nat_le (depth size) limits.max_texture_array_layers) e).1 in
@@ -43,7 +43,7 @@ depth_small limits texture_dim.Three size mip best e =
     let less : depth size / 2 ^ mip ≤ depth size = div-le_self (depth size) (2 ^ mip) in
     omega (arith, few, most, less)
 
-mips_small : (limits : Limits) (dim : TextureDim) (size : List ℕ) (mips : ℕ) → AreNoBetter limits → within_limits limits dim size ≡ true → mips_fit dim size mips ≡ true → mips ≤ 16385
+pub mips_small : (limits : Limits) (dim : TextureDim) (size : List ℕ) (mips : ℕ) → AreNoBetter limits → within_limits limits dim size ≡ true → mips_fit dim size mips ≡ true → mips ≤ 16385
 mips_small limits texture_dim.One size mips best e f = let one : mips ≡ 1 = eqb-true mips 1 f in omega (arith, one)
 mips_small limits texture_dim.Two size mips best e f =
     let wide : width size ≤ limits.max_texture_dimension_2d = leb-true (width size) limits.max_texture_dimension_2d (and_parts (nat_le (width size) limits.max_texture_dimension_2d) (nat_le (height size) limits.max_texture_dimension_2d) (and_parts (nat_le (width size) limits.max_texture_dimension_2d && nat_le (height size) limits.max_texture_dimension_2d) (nat_le (depth size) limits.max_texture_array_layers) e).0).0 in
@@ -65,7 +65,7 @@ mips_small limits texture_dim.Three size mips best e f =
 abbrev pub CellsAreSmall : Cells → Type 0
 CellsAreSmall run = IsSmallRange (run_part run) × HaveSmallRange run
 
-one_small : (dim : TextureDim) (object : ℕ) (aspect : Aspect) (mip lo hi from to : ℕ) → mip ≤ most_32 → hi ≤ most_32 → to ≤ most_32 → CellsAreSmall (texture_cells dim object aspect mip lo hi from to)
+pub one_small : (dim : TextureDim) (object : ℕ) (aspect : Aspect) (mip lo hi from to : ℕ) → mip ≤ most_32 → hi ≤ most_32 → to ≤ most_32 → CellsAreSmall (texture_cells dim object aspect mip lo hi from to)
 one_small texture_dim.Three object Color mip lo hi from to a b c = ((a, omega arith), (a, c))
 one_small texture_dim.Three object Depth mip lo hi from to a b c = ((a, b), (a, b))
 one_small texture_dim.Three object Stencil mip lo hi from to a b c = ((a, b), (a, b))

@@ -16,7 +16,7 @@ counted : {A : Type 0} (P : A → Type 0) (f : ℕ → A) (lo n : ℕ) → ((k :
 counted P f lo zero h = tt
 counted P f lo (suc n) h = (h lo (omega arith), counted P f (suc lo) n (λ k lt. h k (omega (arith, lt))))
 
-ranged : {A : Type 0} (P : A → Type 0) (f : ℕ → A) (lo hi : ℕ) → ((k : ℕ) → k < hi → P (f k)) → EachRow P (map f (numbers lo hi))
+pub ranged : {A : Type 0} (P : A → Type 0) (f : ℕ → A) (lo hi : ℕ) → ((k : ℕ) → k < hi → P (f k)) → EachRow P (map f (numbers lo hi))
 ranged P f lo hi h = by_order (hi - lo) refl
   where
     by_order : (n : ℕ) → hi - lo ≡ n → EachRow P (map f (count_up lo n))

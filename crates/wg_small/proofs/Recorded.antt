@@ -1,5 +1,5 @@
 -- The steps of command buffers name objects that were made.
-use Rattle.std.proofs.Common.{◌≡◌, ℕ, suc, ◌<◌, ◌≤◌, ◌&&◌, ◌||◌, List, [], ◌∷◌, map, Bool, true, false, nat_lt, nat_le, Option, Some, None, is_some, refl, sym, ◌∙◌, subst, arith, slice_get, if◌then◌else◌, length, true≢false}
+use Rattle.std.proofs.Common.{◌≡◌, ℕ, suc, ◌<◌, ◌≤◌, ◌&&◌, ◌||◌, List, [], ◌∷◌, map, Bool, true, false, nat_lt, nat_le, Option, Some, None, refl, sym, ◌∙◌, subst, arith, slice_get, if◌then◌else◌, length, true≢false}
 use Rattle.std.specs.Option.{option_map_or}
 use Rattle.std.proofs.lemmas.Bool.{and_from, or_right, ltb-true, lt-ltb, le-leb}
 use Rattle.wg_types.specs.declared.parts.Kind.{Kind}
@@ -11,20 +11,17 @@ use Rattle.wg_rows.specs.Uses.{Usages, Read, Write, Both, Drop, ReadDrop, kind_r
 use Rattle.wg_orders.specs.Steps.{Step, reads, writes, set_of, IsDeclared}
 use Rattle.wg_orders.specs.Laws.{Unused}
 use Rattle.wg_model.specs.Touches.{placed}
-use Rattle.wg_model.specs.Recorded.{names_within, uses_resource}
+use Rattle.wg_model.specs.Recorded.{uses_resource}
 use Rattle.wg_model.specs.Walk.{DeedsOf}
 use Rattle.wg_model.proofs.Sparing.{recorded_spare}
 use Rattle.wg_model.proofs.StepLaws.{recorded_are_declared}
 use Rattle.wg_encoder.specs.Recorders.{RecordingValue}
 use Rattle.wg_history.specs.declared.events.Setup.{Setup}
 use Rattle.wg_history.specs.Entries.{Entry, Past, recording_in, recorded_by, deeds_by}
-use Rattle.wg_history.specs.Objects.{count, maker, is_valid, is_made_valid, commands_at}
+use Rattle.wg_history.specs.Objects.{maker, is_valid}
 use Rattle.wg_history.specs.Answers.{IsRun}
 use Rattle.wg_history.specs.Steps.{steps_at}
-use Rattle.wg_history.proofs.Making.{names_back}
-use Rattle.wg_history.proofs.Released.{maker_below}
-use Rattle.wg_history.proofs.Reached.{reached_below, used_reached}
-use Rattle.wg_history.proofs.Tests.{fails}
+use Rattle.wg_history.proofs.Unborn.{valid_unused}
 use Rattle.wg_readback.specs.Shapes.{HasCell, IsShapedUse, IsShapedAccess, IsFilledStep}
 use Rattle.wg_shaped.proofs.Touched.{recorded_filled}
 use Rattle.wg_small.specs.Small.{IsPlaceWithin, IsPartWithin, AreCellsWithin}
@@ -122,16 +119,6 @@ steps_within most op (deed ∷ deeds) le declared unused filled = (
   step_within most (placed (Op op) deed) le (declared 0 (placed (Op op) deed) refl) (λ p more. unused (object_of p) more 0 (placed (Op op) deed) p refl refl) filled.0,
   steps_within most op deeds le (λ k s e. declared (suc k) s e) (λ n more k s p e o. unused n more (suc k) s p e o) filled.1,
 )
-
--- A valid command buffer uses objects that were made before it.
-valid_unused : (setup : Setup) (past : Past) (b n : ℕ) → IsRun setup past → count past ≤ n → is_valid past b ≡ true → uses_resource (commands_at past b) n ≡ false
-valid_unused setup past b n run le valid = fails (uses_resource (commands_at past b) n) (count past) n le (λ used.
-    let made = maker_below past b (valid_made (maker past b) valid) in
-    reached_below setup past (names_within (commands_at past b)) n run (λ m among. let lt = names_back setup past b m run valid among in omega (arith, lt, made)) (used_reached setup past b n run valid used))
-  where
-    valid_made : (o : Option Entry) → option_map_or (λ entry. is_made_valid entry.reply.answer) o false ≡ true → is_some o ≡ true
-    valid_made None h = absurd (true≢false (sym h))
-    valid_made (Some entry) h = refl
 
 made_within : (most op : ℕ) (o : Option Entry) → op ≤ most → ((n : ℕ) → most ≤ n → uses_resource (option_map_or (λ entry. recorded_by entry.event) o []) n ≡ false)
     → EachRow (IsSaid (within most)) (map (placed (Op op)) (option_map_or (λ entry. deeds_by entry.event) o []))

@@ -52,7 +52,8 @@ use Rattle.wg_history.proofs.Runs.{newest, others}
 use Rattle.wg_history.proofs.Tests.{met_before}
 use Rattle.wg_shaped.proofs.Groups.{If, Each, group_each, both_each, listed_each}
 use Rattle.wg_small.specs.Small.{IsSmallRange, HasSmallRanges}
-use Rattle.wg_small.specs.Limits.{IsMappedWithin, AreNoBetter, RecordsSmallRanges, RangesOfRecordings, ReadsBackByRecordings}
+use Rattle.wg_limits.specs.Limits.{AreNoBetter}
+use Rattle.wg_small.specs.Limits.{IsMappedWithin, RecordsSmallRanges, RangesOfRecordings, ReadsBackByRecordings}
 use Rattle.wg_small.proofs.Doings.{OfParts, IsTold, TouchHas, doing_has}
 use Rattle.wg_small.proofs.Objects.{line_same}
 use Rattle.wg_small.proofs.Ranges.{ranges, ranges_closed}
@@ -89,7 +90,7 @@ whole_small (LayerParts object aspect mip lo hi) full h =
     (and_from (nat_le lo (hi - 1)) (nat_lt (hi - 1) hi) (le-leb lo (hi - 1) (omega (arith, full))) (lt-ltb (hi - 1) hi (omega (arith, full))))) in
     (last.0, let end = last.1 in omega (arith, full, end))
 
-ranges_told : IsTold IsSmallRange
+pub ranges_told : IsTold IsSmallRange
 ranges_told = record { each = part_small; whole = whole_small }
 
 -- the steps of writes and of host accesses

@@ -6,8 +6,7 @@ use Rattle.wg_types.specs.declared.limits.Limits.{Limits}
 use Rattle.wg_types.specs.declared.mappings.Mapping.{Mapping}
 use Rattle.wg_model.specs.Textures.{within_limits, mips_fit}
 use Rattle.wg_types.specs.declared.steps.StepPlace.TheVariants.{Op}
-use Rattle.wg_limits.specs.declared.names.LimitName.{LimitName}
-use Rattle.wg_limits.specs.Limits.{best_limits, limit_of, no_better}
+use Rattle.wg_limits.specs.Limits.{AreNoBetter}
 use Rattle.wg_rows.specs.Rows.{EachRow}
 use Rattle.wg_model.specs.Touches.{placed}
 use Rattle.wg_history.specs.declared.events.Setup.{Setup}
@@ -20,7 +19,7 @@ use Rattle.wg_history.specs.Traces.{Trace}
 use Rattle.wg_readtrace.specs.Forms.{most_53}
 use Rattle.wg_readtrace.specs.Reading.{trace_in}
 use Rattle.wg_readback.specs.Printable.{step_count}
-use Rattle.wg_shaped.specs.Shaped.{report_of}
+use Rattle.wg_shaped.specs.Reports.{report_of}
 use Rattle.wg_small.specs.Small.{HasSmallRanges}
 
 -- A buffer has no more bytes, a texture no greater extents and no more mip levels, and a query set no more queries than allowed.
@@ -46,10 +45,6 @@ IsMappedWithin limits (Some m) = m.hi ≤ limits.max_buffer_size
 abbrev pub MappingsAreWithinLimits : Type 0
 MappingsAreWithinLimits = (setup : Setup) (history : List Entry) (n : ℕ) → Run setup history → IsMappedWithin setup.limits (mapped_at setup (reverse history) n)
 
--- No limit is better than the best that a device can have.
-abbrev pub AreNoBetter : Limits → Type 0
-AreNoBetter limits = (name : LimitName) → no_better name (limit_of name limits) (limit_of name best_limits) ≡ true
-
 -- The ranges of what valid command buffers do are small.
 abbrev pub RecordsSmallRanges : Entry → Type 0
 RecordsSmallRanges entry = is_made_valid entry.reply.answer ≡ true → EachRow HasSmallRanges (map (placed (Op 0)) (deeds_by entry.event))
@@ -73,4 +68,4 @@ ReadsBackByRecordings =
     → length history ≤ most_53
     → EachRow RecordsSmallRanges history
     → step_count (Trace setup history) ≤ most_53 + 1
-    → trace_in (report_of history (Trace setup history)) ≡ Ok (Trace setup history)
+    → trace_in (report_of setup history) ≡ Ok (Trace setup history)

@@ -17,7 +17,7 @@ use Rattle.wg_history.specs.Traces.{Trace}
 use Rattle.wg_readtrace.specs.Forms.{most_32, most_53}
 use Rattle.wg_readtrace.specs.Reading.{trace_in}
 use Rattle.wg_readback.specs.Printable.{step_count}
-use Rattle.wg_shaped.specs.Shaped.{report_of}
+use Rattle.wg_shaped.specs.Reports.{report_of}
 
 -- What is said of the place of a step, of each run of its parts, and of each run of its cells.
 pub record StepHas (place : StepPlace → Type 0) (part : PartRun → Type 0) (cells : Cells → Type 0) (step : Step) : Type 0 where
@@ -92,4 +92,4 @@ ReadsBackByRanges =
     → length history ≤ most_53
     → EachRow HasSmallRanges (Steps setup history)
     → step_count (Trace setup history) ≤ most_53 + 1
-    → trace_in (report_of history (Trace setup history)) ≡ Ok (Trace setup history)
+    → trace_in (report_of setup history) ≡ Ok (Trace setup history)

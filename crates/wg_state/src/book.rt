@@ -1,11 +1,12 @@
 //! A history with its objects.
-ghost use Rattle.std.specs.Prelude.{◌≡◌, ◌+◌, ◌-◌, ◌^◌, ◌<◌, ◌≤◌, ◌∷◌, ◌++◌, [], length, reverse, slice_get, option_copied, OnOk, IfOk};
-ghost use Rattle.wg_history.specs.Objects.{count, maker, made_info, info_at, texture_at, texture_or_none_at, is_valid, is_made_valid};
+ghost use Rattle.std.specs.Prelude.{◌≡◌, ◌+◌, ◌-◌, ◌^◌, ◌<◌, ◌≤◌, ◌∷◌, ◌++◌, [], length, reverse, option_copied, OnOk, IfOk};
+ghost use Rattle.wg_history.specs.Objects.{count, made_info, info_at, texture_at, texture_or_none_at, is_valid, is_made_valid};
 
 use crate::infos::as_texture;
 use std::alloc::Global;
 use std::marker::Model;
 use wg_formats::no_texture;
+use wg_ghost::GhostList;
 use wg_groups::making::Known;
 use wg_history::NoMemory;
 use wg_history::events::{Entry, Event};
@@ -14,19 +15,19 @@ use wg_types::handles::{Info, ObjRef};
 use wg_types::replies::Answer;
 use wg_types::textures::TextureInfo;
 
-/// A history, with its objects and the places of the entries that made them. Contracts see the serial of
-/// its device, its entries, and the number of those that it has room for.
+/// The objects of a history, and how many entries that has, which are in the proofs alone. Contracts see
+/// the serial of its device, its entries, and the number of those that it has room for.
 #[derive(Drop)]
 pub struct Book {
-    entries: Vec<Entry>,
+    entries: GhostList<Entry>,
+    len: u64,
     hub: Hub,
-    places: Vec<usize>,
     spare: usize,
 }
 
 impl Model for Book {
-    ghost use Rattle.std.specs.Prelude.{◌≡◌, ◌+◌, ◌≤◌, reverse, vec_len, vec_capacity};
-    ghost use Rattle.wg_state.specs.Books.{BookValue, objects_of, places_of};
+    ghost use Rattle.std.specs.Prelude.{◌≡◌, ◌≤◌, reverse, length};
+    ghost use Rattle.wg_state.specs.Books.{BookValue, objects_of};
 
     ghost Value = { BookValue };
 
@@ -34,9 +35,7 @@ impl Model for Book {
 
     ghost invariant = { λ b. record {
       objects_are : b.hub.objects ≡ objects_of (reverse b.entries.items);
-      places_are : b.places.items ≡ places_of (reverse b.entries.items);
-      entries_fit : vec_len b.entries + b.spare ≤ vec_capacity b.entries;
-      places_fit : vec_len b.places + b.spare ≤ vec_capacity b.places;
+      len_is : b.len ≡ length b.entries.items;
       objects_fit : b.spare ≤ b.hub.spare;
     } };
 }
@@ -51,25 +50,15 @@ pub fn is_made_valid(answer: Answer) -> bool
     }
 }
 
-/// The place that an object has in a list, if it has one.
-fn place_in(places: &[usize], number: u64) -> Option<usize>
-    ensures { result ≡ slice_get places.now number }
-{
-    match places.get(number as usize) {
-        Some(place) => Some(*place),
-        None => None,
-    }
-}
-
 impl Book {
     /// No entries, of the device with this serial.
     pub fn new(alloc: Global, device: u64) -> Book
         ensures { result ≡ record { device = device; entries = []; spare = 0 } }
     {
         Book {
-            entries: Vec::new(alloc),
+            entries: GhostList::new(),
+            len: 0,
             hub: Hub::new(alloc, device),
-            places: Vec::new(alloc),
             spare: 0,
         }
     }
@@ -82,9 +71,10 @@ impl Book {
         ensures room { OnOk result (0 < self.new.spare) }
         ensures small { OnOk result (length self.new.entries + 1 < 2 ^ 64) }
     {
+        if self.len == u64::MAX {
+            return Err(NoMemory);
+        }
         if self.spare == 0 {
-            self.entries.reserve(1)?;
-            self.places.reserve(1)?;
             self.hub.reserve(1)?;
             self.spare = 1;
         }
@@ -92,25 +82,26 @@ impl Book {
     }
 
     /// Adds an entry in room that there is, with what is known of the object that it makes.
-    pub fn add(&mut self, entry: Entry, made: Option<Info>)
+    pub fn add(&mut self, entry: &Entry, made: Option<Info>)
         requires room { 0 < self.old.spare }
-        requires made { made ≡ made_info (reverse self.old.entries) entry.event }
-        ensures { self.new ≡ record { device = self.old.device; entries = self.old.entries ++ entry ∷ []; spare = self.old.spare - 1 } }
+        requires made { made ≡ made_info (reverse self.old.entries) entry.now.event }
+        requires small { length self.old.entries + 1 < 2 ^ 64 }
+        ensures { self.new ≡ record { device = self.old.device; entries = self.old.entries ++ entry.now ∷ []; spare = self.old.spare - 1 } }
     {
         if let Some(info) = made {
             let valid = is_made_valid(entry.reply.answer);
             let _ = self.hub.add(Made { info, valid });
-            self.places.push_reserved(self.entries.len());
         }
-        self.entries.push_reserved(entry);
+        self.entries = self.entries.and(entry);
+        self.len += 1;
         self.spare -= 1;
     }
 
-    /// The entries, oldest first.
-    pub fn entries(&self) -> &[Entry]
-        ensures { result.now ≡ self.now.entries }
+    /// How many entries there are.
+    pub fn len(&self) -> u64
+        ensures { result ≡ length self.now.entries }
     {
-        self.entries.as_slice()
+        self.len
     }
 
     /// How many objects were made.
@@ -161,16 +152,6 @@ impl Book {
         ensures { IfOk result (λ made. made ≡ made_info (reverse self.now.entries) event.now) }
     {
         event.info_made(alloc, self)
-    }
-
-    /// The entry that made the object of this number.
-    pub fn maker(&self, number: u64) -> Option<&Entry>
-        ensures { option_copied result ≡ maker (reverse self.now.entries) number }
-    {
-        let Some(place) = place_in(self.places.as_slice(), number) else {
-            return None;
-        };
-        Some(&self.entries[place])
     }
 }
 

@@ -8,6 +8,7 @@ mod mappings;
 mod names;
 mod notes;
 mod queues;
+mod recordings;
 mod scopes;
 mod settlements;
 mod state;
@@ -15,11 +16,11 @@ mod uses;
 
 pub use book::{Book, is_made_valid};
 pub use look::{
-    buffer_at, commands_at, deeds_at, is_genuine, is_own_bundle_encoder, is_own_command_buffer,
-    is_own_encoder, is_own_object, is_own_resource, is_own_wanted, own_buffer, own_texture,
-    texture_at, texture_or_none_at,
+    buffer_at, is_genuine, is_own_bundle_encoder, is_own_command_buffer, is_own_encoder,
+    is_own_object, is_own_resource, is_own_wanted, own_buffer, own_texture, texture_at,
+    texture_or_none_at,
 };
 pub use notes::op_of;
 pub use state::State;
-pub use uses::{Used, uses_of};
+pub use uses::Used;
 pub use wg_life::{Made, Resource};

@@ -2,7 +2,7 @@
 ghost use Rattle.std.specs.Prelude.{◌≡◌, ◌==◌, reverse, option_copied, is_some, IfSome, Some, None, false, if◌then◌else◌};
 ghost use Rattle.std.specs.Option.{option_map_or};
 ghost use Rattle.wg_history.specs.Infos.{same_kind, same_info};
-ghost use Rattle.wg_history.specs.Objects.{info_at, buffer_at, texture_at, texture_or_none_at, commands_at, deeds_at, is_own, is_any, is_buffer, is_texture_info, is_encoder, is_bundle_encoder, takes_commands, is_command_buffer, has_memory};
+ghost use Rattle.wg_history.specs.Objects.{info_at, buffer_at, texture_at, texture_or_none_at, is_own, is_any, is_buffer, is_texture_info, is_encoder, is_bundle_encoder, takes_commands, is_command_buffer, has_memory};
 ghost use Rattle.wg_history.specs.Rules.{is_genuine};
 ghost use Rattle.wg_types.specs.Wanted.{admits};
 ghost use Rattle.wg_types.specs.Kinds.{kind_of};
@@ -13,9 +13,7 @@ use crate::infos::{
     takes_commands,
 };
 use wg_history::events::Setup;
-use wg_types::commands::{Command, On};
 use wg_types::handles::{BufferInfo, Handle, Info, ObjRef};
-use wg_types::steps::Deed;
 use wg_types::textures::TextureInfo;
 use wg_types::wanted::Wanted;
 
@@ -140,26 +138,6 @@ pub fn is_own_wanted(setup: Setup, book: &Book, object: ObjRef, wanted: Wanted) 
         return false;
     };
     wanted.admits(info.kind())
-}
-
-/// The commands of the object, if it is a command buffer.
-pub fn commands_at(book: &Book, number: u64) -> &[(On, Command)]
-    ensures { result.now ≡ commands_at (reverse book.now.entries) number }
-{
-    match book.maker(number) {
-        Some(entry) => entry.event.recorded(),
-        None => &[],
-    }
-}
-
-/// What these do, a step each.
-pub fn deeds_at(book: &Book, number: u64) -> &[Deed]
-    ensures { result.now ≡ deeds_at (reverse book.now.entries) number }
-{
-    match book.maker(number) {
-        Some(entry) => entry.event.deeds(),
-        None => &[],
-    }
 }
 
 /// Whether the object is one of this device and of the kind of this info.

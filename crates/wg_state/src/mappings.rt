@@ -211,7 +211,7 @@ pub fn note_maps(
                 return;
             };
             let last = life.row(buffer.number).last;
-            let promise = book.entries().len() as u64;
+            let promise = book.len();
             let settled = entry.reply.settled.as_slice();
             map(promise, buffer.number, last, mapping, settled, maps);
         }

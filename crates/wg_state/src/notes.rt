@@ -56,7 +56,7 @@ pub fn destroyed_by(setup: Setup, book: &Book, life: &Life, event: &Event) -> Op
 
 /// The object that an event drops, if it does.
 #[tactic(auto, unfolding(wg_history::specs::Rules::drop_rule))]
-fn dropped_by(setup: Setup, book: &Book, life: &Life, event: &Event) -> Option<u64>
+pub fn dropped_by(setup: Setup, book: &Book, life: &Life, event: &Event) -> Option<u64>
     requires { AreDropsOf setup (reverse book.now.entries) life.now.holdings.marks }
     ensures { result ≡ dropped_by setup (reverse book.now.entries) event.now }
 {

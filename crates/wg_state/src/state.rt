@@ -1,5 +1,5 @@
 //! A history with all that is kept beside it.
-ghost use Rattle.std.specs.Prelude.{◌≡◌, true, ◌+◌, ◌-◌, ◌^◌, ◌<◌, ◌≤◌, ◌∷◌, ◌++◌, [], map, filter, nat_le, is_some, length, reverse, vec_len, vec_capacity, OnOk, IfOk, Some, None, ◌||◌, ◌==◌, if◌then◌else◌};
+ghost use Rattle.std.specs.Prelude.{◌≡◌, true, ◌+◌, ◌-◌, ◌^◌, ◌<◌, ◌≤◌, ◌∷◌, ◌++◌, [], map, filter, nat_le, is_some, not, length, reverse, vec_len, vec_capacity, OnOk, IfOk, Some, None, ◌||◌, ◌==◌, if◌then◌else◌, false};
 ghost use Rattle.wg_orders.specs.Trace.{free};
 ghost use Rattle.wg_history.specs.Operations.{issued, completed, last_use};
 ghost use Rattle.wg_model.specs.ErrorScopes.{deliver, pop_how};
@@ -11,17 +11,22 @@ ghost use Rattle.wg_history.specs.Answers.{Run, reply_to, settle_all, kept_how, 
 ghost use Rattle.wg_history.specs.Releases.{freed};
 ghost use Rattle.wg_maps.specs.Mappings.{due_maps};
 ghost use Rattle.wg_state.specs.Rows.{AreUsed, made_by, links_of};
+ghost use Rattle.wg_life.specs.Lives.{live_count};
 ghost use Rattle.wg_state.specs.States.{IsKept};
 ghost use Rattle.wg_state.specs.Waits.{map_waits};
+ghost use Rattle.wg_state.specs.Uses.{uses_of};
+ghost use Rattle.wg_state.specs.Recordings.{any_spent, is_spent};
+ghost use Rattle.wg_history.specs.Objects.{deeds_at};
 
 use crate::book::Book;
 use crate::mappings::{is_mapping, note_maps};
 use crate::names::{self, links_of};
 use crate::notes::{grow, note_entry};
 use crate::queues::note_queue;
+use crate::recordings::{Recordings, forget_spent, keep};
 use crate::scopes::note_errors;
 use crate::settlements;
-use crate::uses::Used;
+use crate::uses::{Used, uses_left};
 use std::alloc::Global;
 use std::marker::Model;
 use wg_errors::Errors;
@@ -30,10 +35,10 @@ use wg_history::events::{Entry, Event, Setup};
 use wg_life::{Life, Made};
 use wg_maps::Maps;
 use wg_queue::Queue;
-use wg_types::handles::Info;
+use wg_types::handles::{Info, ObjRef};
 use wg_types::mappings::{Mapping, PendingMap};
-use wg_types::replies::{Caught, FaultKind, How, Settlements};
-use wg_types::steps::Item;
+use wg_types::replies::{Caught, FaultKind, How, Reply, Settlements};
+use wg_types::steps::{Deed, Item};
 
 /// What is kept beside a history.
 #[derive(Drop)]
@@ -68,7 +73,7 @@ fn note(
     requires queue_place { 0 < kept.old.queue.spare }
     requires errors_place { 0 < kept.old.errors.spare }
     requires maps_place { 0 < kept.old.maps.spare }
-    requires room { vec_len trace.old + (length book.now.entries + 1) ≤ vec_capacity trace.old }
+    requires room { vec_len trace.old + (live_count kept.old.life.rows + 1) ≤ vec_capacity trace.old }
     ensures kept { IsKept setup (entry.now ∷ reverse book.now.entries) kept.new.life kept.new.queue kept.new.errors kept.new.maps }
     ensures trace { trace.new.items ≡ trace.old.items ++ map free (freed setup (entry.now ∷ reverse book.now.entries)) }
     ensures spare { kept.old.life.spare ≤ kept.new.life.spare + 1 }
@@ -79,19 +84,20 @@ fn note(
     note_maps(setup, book, &kept.life, entry, info, &mut kept.maps);
     grow(made, &mut kept.life);
     note_entry(setup, book, entry, uses, &mut kept.life);
-    note_queue(book.entries().len() as u64, entry, &mut kept.queue);
+    note_queue(book.len(), entry, &mut kept.queue);
     note_errors(entry, &mut kept.errors);
     kept.life.release(kept.queue.completed(), trace);
 }
 
 /// A device's history, with what it says kept beside it. Contracts see what the device was opened
-/// with, the history, which is a run, for how many entries there is room, and for how many holds of
-/// objects.
+/// with, the history, which is a run, for how many entries there is room, for how many holds of objects,
+/// and how many resources are not released. The history is in the contracts alone.
 #[derive(Drop)]
 pub struct State {
     setup: Setup,
     book: Book,
     kept: Kept,
+    recordings: Recordings,
     spare: usize,
     ghost run: { Run setup book.entries },
 }
@@ -99,10 +105,12 @@ pub struct State {
 impl Model for State {
     ghost use Rattle.std.specs.Prelude.{◌≡◌, ◌≤◌, reverse};
     ghost use Rattle.wg_state.specs.States.{StateValue, IsKept};
+    ghost use Rattle.wg_life.specs.Lives.{live_count};
+    ghost use Rattle.wg_state.specs.Recordings.{AreLeft};
 
     ghost Value = { StateValue };
 
-    ghost view = { λ s. record { setup = s.setup; history = s.book.entries; run = s.run; spare = s.spare; room = s.kept.life.room } };
+    ghost view = { λ s. record { setup = s.setup; history = s.book.entries; run = s.run; spare = s.spare; room = s.kept.life.room; live = live_count s.kept.life.rows } };
 
     ghost invariant = { λ s. record {
       device_is : s.book.device ≡ s.setup.serial;
@@ -112,6 +120,8 @@ impl Model for State {
       queue_fits : s.spare ≤ s.kept.queue.spare;
       errors_fit : s.spare ≤ s.kept.errors.spare;
       maps_fit : s.spare ≤ s.kept.maps.spare;
+      recordings_are : AreLeft s.setup (reverse s.book.entries) s.recordings.slots;
+      recordings_fit : s.spare ≤ s.recordings.spare;
     } };
 }
 
@@ -131,6 +141,7 @@ impl State {
                 errors: Errors::new(alloc),
                 maps: Maps::new(alloc),
             },
+            recordings: Recordings::new(alloc),
             spare: 0,
         }
     }
@@ -142,12 +153,29 @@ impl State {
         self.setup
     }
 
-    /// The entries, oldest first.
-    pub fn history(&self) -> &[Entry]
-        ensures entries { result.now ≡ self.now.history }
-        ensures run { Run self.now.setup result.now }
+    /// How many entries there are.
+    pub fn len(&self) -> u64
+        ensures { result ≡ length self.now.history }
     {
-        self.book.entries()
+        self.book.len()
+    }
+
+    /// The resources that the commands of command buffers name, of which each may still be submitted.
+    #[tactic(auto, using(crate::proofs::Recorded::reads_uses))]
+    pub fn uses_of(&self, alloc: Global, buffers: &[ObjRef]) -> Result<Vec<Used>, NoMemory>
+        requires { any_spent self.now.setup (reverse self.now.history) buffers.now ≡ false }
+        ensures { IfOk result (λ uses. uses.items ≡ uses_of (reverse self.now.history) buffers.now) }
+    {
+        uses_left(alloc, &self.recordings, buffers)
+    }
+
+    /// What the commands of a command buffer do, a step each, if that may still be submitted.
+    #[tactic(auto, using(crate::proofs::Recorded::reads_deeds))]
+    pub fn deeds_at(&self, number: u64) -> &[Deed]
+        requires { is_spent self.now.setup (reverse self.now.history) number ≡ false }
+        ensures { result.now ≡ deeds_at (reverse self.now.history) number }
+    {
+        self.recordings.deeds(number)
     }
 
     /// The entries, with the objects that they made.
@@ -326,10 +354,18 @@ impl State {
         names::made_by(alloc, event, info, valid)
     }
 
+    /// How many resources are not released.
+    pub fn live(&self) -> u64
+        ensures { result ≡ self.now.live }
+    {
+        self.kept.life.live()
+    }
+
     /// Makes room for one entry more, which makes this object, if it makes one.
     pub fn reserve(&mut self, made: &Option<Made>) -> Result<(), NoMemory>
         ensures setup { self.new.setup ≡ self.old.setup }
         ensures history { self.new.history ≡ self.old.history }
+        ensures live { self.new.live ≡ self.old.live }
         ensures room { OnOk result (0 < self.new.spare) }
         ensures links { OnOk result (links_of made.now < self.new.room) }
         ensures small { OnOk result (length self.new.history + 1 < 2 ^ 64) }
@@ -339,12 +375,15 @@ impl State {
         self.kept.errors.reserve(1)?;
         self.kept.maps.reserve(1)?;
         self.book.reserve()?;
+        self.recordings.reserve()?;
         self.spare = 1;
         Ok(())
     }
 
     /// Adds an entry, which makes this object, of which this is known, if it makes one, and of which the
-    /// operation uses these, and its releases to a trace, in room that there is.
+    /// operation uses these, and its releases to a trace, in room that there is for all that is live and
+    /// one more, and gives its reply.
+    #[tactic(auto, using(crate::proofs::Recorded::left_next, crate::proofs::LifeLemmas::drops_are))]
     pub fn add(
         &mut self,
         entry: Entry,
@@ -352,7 +391,7 @@ impl State {
         made: Option<Made>,
         uses: &[Used],
         trace: &mut Vec<Item>,
-    )
+    ) -> Reply
         requires answers { entry.reply ≡ reply_to self.old.setup (reverse self.old.history) entry.event }
         requires used { AreUsed (reverse self.old.history) entry.reply.answer entry.event uses.now }
         requires info { info ≡ made_info (reverse self.old.history) entry.event }
@@ -360,11 +399,19 @@ impl State {
         requires place { 0 < self.old.spare }
         requires links { links_of made < self.old.room }
         requires small { length self.old.history + 1 < 2 ^ 64 }
-        requires room { vec_len trace.old + (length self.old.history + 1) ≤ vec_capacity trace.old }
+        requires room { vec_len trace.old + (self.old.live + 1) ≤ vec_capacity trace.old }
         ensures setup { self.new.setup ≡ self.old.setup }
         ensures history { self.new.history ≡ self.old.history ++ entry ∷ [] }
+        ensures reply { result ≡ entry.reply }
         ensures trace { trace.new.items ≡ trace.old.items ++ map free (freed self.old.setup (entry ∷ reverse self.old.history)) }
     {
+        forget_spent(
+            self.setup,
+            &self.book,
+            &self.kept.life,
+            &entry.event,
+            &mut self.recordings,
+        );
         note(
             self.setup,
             &self.book,
@@ -375,7 +422,10 @@ impl State {
             &mut self.kept,
             trace,
         );
-        self.book.add(entry, info);
+        self.book.add(&entry, info);
+        let Entry { event, reply, .. } = entry;
+        keep(event, &mut self.recordings);
         self.spare -= 1;
+        reply
     }
 }

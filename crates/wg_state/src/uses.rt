@@ -1,5 +1,5 @@
 //! The resources that command buffers use.
-ghost use Rattle.std.specs.Prelude.{◌≡◌, ◌∷◌, ◌++◌, [], reverse, OnOk, IfOk};
+ghost use Rattle.std.specs.Prelude.{◌≡◌, ◌∷◌, ◌++◌, [], OnOk, IfOk};
 ghost use Rattle.wg_types.specs.Commands.{named};
 ghost use Rattle.std.specs.Prelude.{option_to_list};
 ghost use Rattle.std.specs.List.{flat_map};
@@ -8,10 +8,10 @@ ghost use Rattle.wg_types.specs.declared.bundles.BundleTouch.{BundleTouch as Bun
 ghost use Rattle.wg_model.specs.Bound.{known_group};
 ghost use Rattle.wg_model.specs.Attachments.{attached_view};
 ghost use Rattle.wg_model.specs.Bundles.{known_bundle};
-ghost use Rattle.wg_state.specs.Uses.{resource_uses, group_uses, view_uses, cells_uses, bundle_uses, uses_as, uses_in, uses_within, uses_of};
+ghost use Rattle.wg_state.specs.Uses.{resource_uses, group_uses, view_uses, cells_uses, bundle_uses, uses_as, uses_in, uses_within};
+ghost use Rattle.wg_state.specs.Recordings.{uses_left};
 
-use crate::book::Book;
-use crate::look;
+use crate::recordings::Recordings;
 use std::alloc::Global;
 use wg_formats::known_bundle;
 use wg_history::NoMemory;
@@ -203,12 +203,16 @@ fn push_recorded(uses: &mut Vec<Used>, commands: &[(On, Command)]) -> Result<(),
 }
 
 /// The resources that the commands of command buffers name.
-pub fn uses_of(alloc: Global, book: &Book, buffers: &[ObjRef]) -> Result<Vec<Used>, NoMemory>
-    ensures { IfOk result (λ uses. uses.items ≡ uses_of (reverse book.now.entries) buffers.now) }
+pub fn uses_left(
+    alloc: Global,
+    recordings: &Recordings,
+    buffers: &[ObjRef],
+) -> Result<Vec<Used>, NoMemory>
+    ensures { IfOk result (λ uses. uses.items ≡ uses_left recordings.now.slots buffers.now) }
 {
     let mut uses = Vec::new(alloc);
     for buffer in buffers {
-        push_recorded(&mut uses, look::commands_at(book, buffer.number))?;
+        push_recorded(&mut uses, recordings.commands(buffer.number))?;
     }
     Ok(uses)
 }

@@ -130,7 +130,7 @@ fn pipeline<R: Wait>(
     let desc = desc(alloc).ok()?;
     let layout = device.create_pipeline_layout(rt, pass, Vec::new(alloc));
     let (layout, _) = layout.ok()?;
-    let (pipeline, _) = device.create_render_pipeline(rt, pass, &layout, desc).ok()?;
+    let (pipeline, _) = device.create_render_pipeline(rt, pass, Some(&layout), desc).ok()?;
     Some(pipeline)
 }
 
@@ -211,7 +211,7 @@ fn execute_none(alloc: Global) -> Command {
 }
 
 /// Records a command that took memory to make.
-fn note_made(
+pub(crate) fn note_made(
     rt: &impl Abort,
     recorder: &mut Recorder,
     on: On,

@@ -141,7 +141,8 @@ fn depth_alone(alloc: Global) -> RenderDesc {
     }
 }
 
-/// Makes objects 5 to 7, a pipeline layout of the group's and pipelines of both kinds.
+/// Makes objects 5 to 7, a pipeline layout of the group's and pipelines of both kinds, and object 8, the layout of
+/// a group that is got of one.
 fn of_pipelines<R: Wait>(
     rt: &R,
     alloc: Global,
@@ -149,15 +150,17 @@ fn of_pipelines<R: Wait>(
     pass: &mut DevicePass,
 ) -> Option<(bool, bool)>
     requires { IsPassOf device.now.lock pass.old × (calls_of pass.old < 100) }
-    ensures { IsPassOf device.now.lock pass.new × (calls_of pass.new ≤ calls_of pass.old + 6) }
+    ensures { IsPassOf device.now.lock pass.new × (calls_of pass.new ≤ calls_of pass.old + 7) }
 {
     let group = of_group(rt, alloc, device, pass)?;
     let layouts = vec![in alloc; group].ok()?;
     let layout = made(device.create_pipeline_layout(rt, pass, layouts), 5)?;
-    let compute = device.create_compute_pipeline(rt, pass, &layout, Vec::new(alloc));
-    let compute = made(compute, 6).is_some();
-    let render = device.create_render_pipeline(rt, pass, &layout, depth_alone(alloc));
-    Some((compute, made(render, 7).is_some()))
+    let compute = device.create_compute_pipeline(rt, pass, Some(&layout), Vec::new(alloc));
+    let compute = made(compute, 6)?;
+    let render = device.create_render_pipeline(rt, pass, Some(&layout), depth_alone(alloc));
+    let render = made(render, 7).is_some();
+    let got = device.get_bind_group_layout(rt, pass, &compute, 0);
+    Some((render, made(got, 8).is_some()))
 }
 
 /// Submits the commands of an encoder, which are none.
@@ -171,18 +174,18 @@ fn submission<R: Wait>(rt: &R, device: &Device, pass: &mut DevicePass) -> Option
     Some(reply.answer)
 }
 
-/// A buffer that is written and then mapped, while entry 14 asks for the map and entry 15 for the end of the work,
+/// A buffer that is written and then mapped, while entry 15 asks for the map and entry 16 for the end of the work,
 /// which both wait for the write.
 fn of_map<R: Wait>(rt: &R, device: &Device, pass: &mut DevicePass, buffer: &Handle) -> [bool; 5]
     requires { IsPassOf device.now.lock pass.old × (calls_of pass.old < 100) }
     ensures { IsPassOf device.now.lock pass.new × (calls_of pass.new ≤ calls_of pass.old + 5) }
 {
     let map = Settlement {
-        promise: 14,
+        promise: 15,
         how: How::Mapped,
     };
     let work = Settlement {
-        promise: 15,
+        promise: 16,
         how: How::Done,
     };
     let written = device.write_buffer(rt, pass, buffer, 0, 16);
@@ -199,7 +202,7 @@ fn of_map<R: Wait>(rt: &R, device: &Device, pass: &mut DevicePass, buffer: &Hand
     ]
 }
 
-/// After the encoder and its command buffer, which are objects 8 and 9, makes object 10, a buffer that is read by the host, which is dropped at last.
+/// After the encoder and its command buffer, which are objects 9 and 10, makes object 11, a buffer that is read by the host, which is dropped at last.
 fn of_buffer<R: Wait>(rt: &R, device: &Device, pass: &mut DevicePass) -> Option<([bool; 5], bool)>
     requires { IsPassOf device.now.lock pass.old × (calls_of pass.old < 90) }
     ensures { IsPassOf device.now.lock pass.new × (calls_of pass.new ≤ calls_of pass.old + 7) }
@@ -209,13 +212,13 @@ fn of_buffer<R: Wait>(rt: &R, device: &Device, pass: &mut DevicePass) -> Option<
         usage: 9,
         mapped: false,
     };
-    let buffer = made(device.create_buffer(rt, pass, info), 10)?;
+    let buffer = made(device.create_buffer(rt, pass, info), 11)?;
     let mapped = of_map(rt, device, pass, &buffer);
     let dropped = device.drop_object(rt, pass, &buffer);
     Some((mapped, is(dropped, Answer::Plain, &[])))
 }
 
-/// Makes object 11, a set of three queries, and gives what its handle says: which object it is of, whether that
+/// Makes object 12, a set of three queries, and gives what its handle says: which object it is of, whether that
 /// is valid, and how many queries it has.
 fn of_queries<R: Wait>(
     rt: &R,
@@ -225,7 +228,7 @@ fn of_queries<R: Wait>(
     requires { IsPassOf device.now.lock pass.old × (calls_of pass.old < 100) }
     ensures { IsPassOf device.now.lock pass.new × (calls_of pass.new ≤ calls_of pass.old + 1) }
 {
-    let queries = made(device.create_query_set(rt, pass, 3), 11)?;
+    let queries = made(device.create_query_set(rt, pass, 3), 12)?;
     let count = match queries.info() {
         Info::Queries(QueriesInfo { count }) => Some(*count),
         _ => None,
@@ -233,12 +236,12 @@ fn of_queries<R: Wait>(
     Some((queries.reference(), queries.valid(), count))
 }
 
-/// Opens a scope and closes it at entry 21, with no fault in it, and then loses the device.
+/// Opens a scope and closes it at entry 22, with no fault in it, and then loses the device.
 fn of_scope<R: Wait>(rt: &R, device: &Device, pass: &mut DevicePass) -> [bool; 3]
     requires { IsPassOf device.now.lock pass.old × (calls_of pass.old < 100) }
 {
     let null = Settlement {
-        promise: 21,
+        promise: 22,
         how: How::Null,
     };
     let pushed = device.push_error_scope(rt, pass, Filter::Validation);
@@ -278,7 +281,7 @@ fn calls_are_answered(rt: HostRuntime) {
     let queued = (Some(Answer::Queued(2)), Some(([true; 5], true)));
     let queries = ObjRef {
         device: 7,
-        number: 11,
+        number: 12,
     };
     let last = (Some((queries, true, Some(3))), [true; 3]);
     assert!(rt; answers(&rt, rt.alloc()) == Some(((both, both), queued, last)));

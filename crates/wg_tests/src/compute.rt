@@ -44,7 +44,12 @@ fn layout(alloc: Global) -> Result<Shared<GroupLayoutInfo>, NoMemory> {
             min_size: 0,
         },
     })?;
-    Shared::new(alloc, GroupLayoutInfo { entries })
+    let layout = GroupLayoutInfo {
+        entries: Shared::new(alloc, entries)?,
+        exclusive: None,
+        pipeline: None,
+    };
+    Shared::new(alloc, layout)
 }
 
 /// A pipeline with this layout.
@@ -58,8 +63,9 @@ fn pipeline(alloc: Global) -> Result<Command, NoMemory> {
     };
     let entries = Items::new(alloc);
     let info = Info::Compute(ComputeInfo {
-        layout: reference(2),
+        layout: Some(reference(2)),
         layout_info: Shared::new(alloc, known)?,
+        auto: false,
         iface: Shared::new(alloc, Interface { entries })?,
     });
     let pipeline = handle(alloc, 3, info)?;

@@ -1,9 +1,10 @@
 //! Events that a device answers one by one.
 use std::alloc::Global;
 use std::sync::Arc;
-use wg_core::{Core, Event};
+use wg_core::{Event, LoggedCore};
 use wg_encoder::{Recorder, Recording};
 use wg_limits::default_limits;
+use wg_turn::Logged;
 use wg_types::NoMemory;
 use wg_types::commands::{Command, On};
 use wg_types::handles::{BufferInfo, Handle, Info, ObjRef};
@@ -34,8 +35,8 @@ pub(crate) fn made(number: u64, valid: bool) -> Answer {
 }
 
 /// Whether an event is answered so; no promise settles.
-pub(crate) fn ask(core: &mut Core, event: Event, answer: Answer, fault: Option<Fault>) -> bool {
-    match core.step(0, event) {
+pub(crate) fn ask(core: &mut LoggedCore, event: Event, answer: Answer, fault: Option<Fault>) -> bool {
+    match core.act(0, event) {
         Ok(reply) => {
             reply.answer == answer && reply.fault == fault && reply.settled.as_slice().is_empty()
         }
@@ -45,7 +46,7 @@ pub(crate) fn ask(core: &mut Core, event: Event, answer: Answer, fault: Option<F
 
 /// The same of an event that took memory to make.
 pub(crate) fn ask_made(
-    core: &mut Core,
+    core: &mut LoggedCore,
     event: Result<Event, NoMemory>,
     answer: Answer,
     fault: Option<Fault>,
@@ -98,7 +99,7 @@ const FOREIGN: ObjRef = ObjRef {
 };
 
 /// The calls on buffers, one after another.
-fn ask_calls(core: &mut Core) -> [bool; 11] {
+fn ask_calls(core: &mut LoggedCore) -> [bool; 11] {
     [
         ask(core, create(8), made(0, true), None),
         ask(core, write(own(0), 16), Answer::Queued(1), None),
@@ -129,11 +130,11 @@ fn is_step_and_release(trace: &[Item]) -> bool {
 
 /// Whether each is answered so, the length of the history, and whether the trace is as it should be.
 fn of_calls(alloc: Global) -> ([bool; 11], usize, bool) {
-    let mut core = Core::new(alloc, 1_000_000, 1, &default_limits());
+    let mut core = LoggedCore::new(alloc, 1_000_000, 1, &default_limits());
     let asked = ask_calls(&mut core);
     (
         asked,
-        core.history().len(),
+        core.lines().len(),
         is_step_and_release(core.trace()),
     )
 }
@@ -192,7 +193,7 @@ pub(crate) fn submit(alloc: Global, number: u64) -> Result<Event, NoMemory> {
 }
 
 /// Finishes whose references no script can have.
-fn ask_finishes(core: &mut Core, alloc: Global) -> [bool; 7] {
+fn ask_finishes(core: &mut LoggedCore, alloc: Global) -> [bool; 7] {
     let unmade = finish(own(2), empty(alloc));
     let unmade = ask(core, unmade, made(0, false), uncaptured(10));
     let buffer = ask(core, create(12), made(1, true), None);
@@ -207,7 +208,7 @@ fn ask_finishes(core: &mut Core, alloc: Global) -> [bool; 7] {
 }
 
 /// Submits of one command buffer.
-fn ask_submits(core: &mut Core, alloc: Global) -> [bool; 2] {
+fn ask_submits(core: &mut LoggedCore, alloc: Global) -> [bool; 2] {
     let first = ask_made(core, submit(alloc, 3), Answer::Queued(1), None);
     let second = ask_made(core, submit(alloc, 3), Answer::Plain, uncaptured(190));
     [first, second]
@@ -215,7 +216,7 @@ fn ask_submits(core: &mut Core, alloc: Global) -> [bool; 2] {
 
 /// Both, of one device.
 fn of_references(alloc: Global) -> ([bool; 7], [bool; 2]) {
-    let mut core = Core::new(alloc, 1_000_000, 1, &default_limits());
+    let mut core = LoggedCore::new(alloc, 1_000_000, 1, &default_limits());
     let finished = ask_finishes(&mut core, alloc);
     (finished, ask_submits(&mut core, alloc))
 }
@@ -231,7 +232,7 @@ fn of_another_device(alloc: Global) -> [bool; 3] {
         device: 2,
         number: 1,
     };
-    let mut core = Core::new(alloc, 100, 2, &default_limits());
+    let mut core = LoggedCore::new(alloc, 100, 2, &default_limits());
     [
         ask(&mut core, create(8), made(0, true), None),
         ask(&mut core, destroy(own(0)), Answer::Plain, uncaptured(10)),

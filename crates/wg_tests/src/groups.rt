@@ -59,8 +59,12 @@ fn items<T: Copy + Drop>(alloc: Global, list: &[T]) -> Result<Items<T>, NoMemory
 }
 
 fn layout(alloc: Global, list: &[LayoutEntry]) -> Result<Shared<GroupLayoutInfo>, NoMemory> {
-    let entries = items(alloc, list)?;
-    Shared::new(alloc, GroupLayoutInfo { entries })
+    let layout = GroupLayoutInfo {
+        entries: Shared::new(alloc, items(alloc, list)?)?,
+        exclusive: None,
+        pipeline: None,
+    };
+    Shared::new(alloc, layout)
 }
 
 fn group(

@@ -5,6 +5,8 @@
 #[cfg(test)]
 mod access;
 #[cfg(test)]
+mod automatic;
+#[cfg(test)]
 mod bundles;
 #[cfg(test)]
 mod calls;
@@ -26,6 +28,8 @@ mod recorders;
 mod render;
 #[cfg(test)]
 mod slices;
+#[cfg(test)]
+mod steps;
 #[cfg(test)]
 mod tests;
 #[cfg(test)]

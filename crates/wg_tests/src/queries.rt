@@ -4,7 +4,7 @@ use crate::recorders::note;
 use std::alloc::Global;
 use std::process::Abort;
 use std::sync::Arc;
-use wg_core::{Core, Event};
+use wg_core::{Event, LoggedCore};
 use wg_encoder::{Recorder, Recording};
 use wg_limits::default_limits;
 use wg_render::{ColorTarget, RenderBegin};
@@ -48,7 +48,7 @@ const BUFFER: BufferInfo = BufferInfo {
 };
 
 /// Makes a texture, its view, a query set, a buffer and an encoder, which are objects 0 to 4.
-fn make(core: &mut Core) -> [bool; 5] {
+fn make(core: &mut LoggedCore) -> [bool; 5] {
     let texture = Event::CreateTexture { info: TEXTURE };
     let view = Event::CreateView {
         texture: own(0),
@@ -146,7 +146,7 @@ fn recorded(rt: &impl Abort, alloc: Global) -> Recording {
 }
 
 /// Finishes the encoder with them, and submits the command buffer, which is object 5.
-fn run(rt: &impl Abort, core: &mut Core, alloc: Global) -> [bool; 2] {
+fn run(rt: &impl Abort, core: &mut LoggedCore, alloc: Global) -> [bool; 2] {
     let finished = finish(own(4), recorded(rt, alloc));
     let finished = ask(core, finished, made(5, true), None);
     let submitted = ask_made(core, submit(alloc, 5), Answer::Queued(1), None);
@@ -249,7 +249,7 @@ type Told = ([bool; 5], [bool; 2], [bool; 6]);
 
 /// Whether all is answered and traced so, by one device, which is dropped here.
 fn of_set(rt: &impl Abort, alloc: Global) -> Told {
-    let mut core = Core::new(alloc, 1_000_000, 1, &default_limits());
+    let mut core = LoggedCore::new(alloc, 1_000_000, 1, &default_limits());
     let made = make(&mut core);
     let ran = run(rt, &mut core, alloc);
     (made, ran, is_traced(core.trace()))

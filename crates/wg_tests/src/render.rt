@@ -116,9 +116,14 @@ fn group(alloc: Global) -> Result<Command, NoMemory> {
             size: 16,
         },
     })?;
+    let layout = GroupLayoutInfo {
+        entries: Shared::new(alloc, asked)?,
+        exclusive: None,
+        pipeline: None,
+    };
     let info = Info::Group(GroupInfo {
         layout: reference(3),
-        layout_info: Shared::new(alloc, GroupLayoutInfo { entries: asked })?,
+        layout_info: Shared::new(alloc, layout)?,
         entries,
     });
     Ok(Command::SetBindGroup {

@@ -108,7 +108,7 @@ type Told = (u64, u32, [(u32, bool); 2], [Answer; 2]);
 
 /// What the device tells that was left, where it has two entries.
 fn told_of(ended: &Ended) -> Option<Told> {
-    match ended.state().history() {
+    match ended.state().lines() {
         [a, b] => Some((
             ended.entries(),
             ended.callers(),

@@ -2,25 +2,28 @@
 ghost use Rattle.std.specs.Prelude.{◌≡◌, length, count_by};
 ghost use Rattle.wg_print.specs.Printing.{Puts, Written};
 ghost use Rattle.wg_print.specs.Seen.{seen, reference};
-ghost use Rattle.wg_gen.specs.Counts.{is_issue, is_fault, is_free, is_bar, is_clear_step, counts_of};
-ghost use Rattle.wg_top.specs.Line.{counts_text, more_text, counted_text};
+ghost use Rattle.wg_gen.specs.Counts.{is_free, is_bar, is_clear_step};
+ghost use Rattle.wg_top.specs.Line.{counts_text, more_text};
+ghost use Rattle.wg_top.specs.Logged.{issued, faulted, logged_counts, logged_counted};
 
-use wg_core::Entry;
+use wg_core::Line;
 use wg_io::{Failed, Sink};
 use wg_print::{Out, Piece, put_all};
 use wg_types::replies::Answer;
 use wg_types::steps::{Item, StepName};
 
-fn is_issue(entry: &Entry) -> bool
-    ensures { result ≡ is_issue entry.now }
+/// Whether the line is of an entry that issued an operation.
+fn issued(line: &Line) -> bool
+    ensures { result ≡ issued line.now }
 {
-    matches!(entry.reply.answer, Answer::Queued(_))
+    matches!(line.reply.answer, Answer::Queued(_))
 }
 
-fn is_fault(entry: &Entry) -> bool
-    ensures { result ≡ is_fault entry.now }
+/// Whether the line is of an entry with a fault.
+fn faulted(line: &Line) -> bool
+    ensures { result ≡ faulted line.now }
 {
-    entry.reply.fault.is_some()
+    line.reply.fault.is_some()
 }
 
 fn is_free(item: &Item) -> bool
@@ -45,16 +48,16 @@ fn is_clear_step(item: &Item) -> bool
     }
 }
 
-fn issues_in(history: &[Entry]) -> usize
-    ensures { result ≡ count_by is_issue history.now }
+fn issues_in(lines: &[Line]) -> usize
+    ensures { result ≡ count_by issued lines.now }
 {
-    history.iter().filter(|entry| is_issue(entry)).count()
+    lines.iter().filter(|line| issued(line)).count()
 }
 
-fn faults_in(history: &[Entry]) -> usize
-    ensures { result ≡ count_by is_fault history.now }
+fn faults_in(lines: &[Line]) -> usize
+    ensures { result ≡ count_by faulted lines.now }
 {
-    history.iter().filter(|entry| is_fault(entry)).count()
+    lines.iter().filter(|line| faulted(line)).count()
 }
 
 fn frees_in(trace: &[Item]) -> usize
@@ -76,19 +79,19 @@ fn clears_in(trace: &[Item]) -> usize
 }
 
 /// Puts what is counted whatever the order of turns.
-fn put_counts<W: Sink>(out: &mut Out<'_, W>, history: &[Entry], trace: &[Item])
+fn put_counts<W: Sink>(out: &mut Out<'_, W>, lines: &[Line], trace: &[Item])
     ensures same_reference { reference out.new ≡ reference out.old }
-    ensures text { Puts (seen W.taken W.faults out.old) (seen W.taken W.faults out.new) (counts_text (counts_of history.now trace.now)) }
+    ensures text { Puts (seen W.taken W.faults out.old) (seen W.taken W.faults out.new) (counts_text (logged_counts lines.now trace.now)) }
 {
     put_all(
         out,
         &[
             Piece::Word("entries "),
-            Piece::Number(history.len() as u64),
+            Piece::Number(lines.len() as u64),
             Piece::Word(" ops "),
-            Piece::Number(issues_in(history) as u64),
+            Piece::Number(issues_in(lines) as u64),
             Piece::Word(" faults "),
-            Piece::Number(faults_in(history) as u64),
+            Piece::Number(faults_in(lines) as u64),
             Piece::Word(" frees "),
             Piece::Number(frees_in(trace) as u64),
         ],
@@ -115,11 +118,11 @@ fn put_more<W: Sink>(out: &mut Out<'_, W>, lanes: Option<u32>, trace: &[Item])
 }
 
 /// Puts the line of a generated script.
-fn put_counted<W: Sink>(out: &mut Out<'_, W>, lanes: Option<u32>, history: &[Entry], trace: &[Item])
+fn put_counted<W: Sink>(out: &mut Out<'_, W>, lanes: Option<u32>, lines: &[Line], trace: &[Item])
     ensures same_reference { reference out.new ≡ reference out.old }
-    ensures text { Puts (seen W.taken W.faults out.old) (seen W.taken W.faults out.new) (counted_text lanes history.now trace.now) }
+    ensures text { Puts (seen W.taken W.faults out.old) (seen W.taken W.faults out.new) (logged_counted lanes lines.now trace.now) }
 {
-    put_counts(out, history, trace);
+    put_counts(out, lines, trace);
     put_more(out, lanes, trace);
     put_all(out, &[Piece::Word("\n")]);
 }
@@ -128,12 +131,12 @@ fn put_counted<W: Sink>(out: &mut Out<'_, W>, lanes: Option<u32>, history: &[Ent
 pub fn print_counted<W: Sink>(
     sink: &mut W,
     lanes: Option<u32>,
-    history: &[Entry],
+    lines: &[Line],
     trace: &[Item],
 ) -> Result<(), Failed>
-    ensures { Written (W.taken sink.old) (W.taken sink.new) (W.faults sink.old) (W.faults sink.new) (counted_text lanes history.now trace.now) result }
+    ensures { Written (W.taken sink.old) (W.taken sink.new) (W.faults sink.old) (W.faults sink.new) (logged_counted lanes lines.now trace.now) result }
 {
     let mut out = Out::new(sink);
-    put_counted(&mut out, lanes, history, trace);
+    put_counted(&mut out, lanes, lines, trace);
     out.close()
 }

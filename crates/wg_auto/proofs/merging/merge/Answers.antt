@@ -1,6 +1,6 @@
 use Rattle.std.proofs.Common.{rules, ◌∙◌, ap, sym, subst, arith, List}
 use Rattle.wg_types.specs.declared.bindings.IfaceEntry.{IfaceEntry}
-use Rattle.wg_auto.specs.Automatic.{layouts_below}
+use Rattle.wg_model.specs.Automatic.{layouts_below}
 use Rattle.wg_auto.specs.Walks.{SameUses}
 use Rattle.wg_auto.proofs.Clashes.{least_clash}
 use Rattle.wg_auto.proofs.Judged.{too_many, layouts_are, few_groups}

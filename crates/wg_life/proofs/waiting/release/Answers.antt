@@ -1,7 +1,8 @@
-use Rattle.std.proofs.Common.{◌≡◌, ◌++◌, ◌∙◌, ap, List, map, flat_map, length, vec_len, rules, arith}
+use Rattle.std.proofs.Common.{◌≡◌, ◌++◌, ◌∙◌, ap, List, map, flat_map, length, rules, arith}
 use Rattle.wg_orders.specs.Trace.{free}
 use Rattle.wg_life.specs.Waits.{sort_at}
-use Rattle.wg_life.proofs.Releasing.{due_le, pushed_due, marked_due}
+use Rattle.wg_life.proofs.Bound.{due_le}
+use Rattle.wg_life.proofs.Releasing.{pushed_due, marked_due}
 use Rattle.wg_life.proofs.waiting.release.Goals as goal
 
 pub push_all-requires : goal.push_all-requires
@@ -9,8 +10,7 @@ push_all-requires c =
     let le = due_le _ _ _ _ _ _ c.take_due.ensures.releasing in
     let room = c.requires.trace_room in
     let e : length c.as_slice-2.result.now ≡ length c.take_due.new.waiting.due.items = search rules in
-    let f : vec_len c.args.rows.now ≡ length c.args.rows.now.items = search rules in
-    omega (arith, le, room, e, f)
+    omega (arith, le, room, e)
 
 pub returns-clause-items : goal.returns-clause-items
 returns-clause-items c =

@@ -1,11 +1,11 @@
-use Rattle.std.proofs.Common.{◌≡◌, ◌∷◌, ◌++◌, [], length, true, false, nat_le, vec_len, rules, arith}
+use Rattle.std.proofs.Common.{◌≡◌, ◌∷◌, ◌++◌, [], length, true, false, nat_le, rules, arith}
 use Rattle.std.specs.VecDeque.{deque_len}
 use Rattle.std.proofs.lemmas.Bool.Decides.{nat_tests}
 use Rattle.std.proofs.lemmas.List.Sorted.{IsNonDecreasingBy-drop}
 use Rattle.wg_life.specs.declared.waiting.Wait.{Wait}
 use Rattle.wg_life.specs.Lives.{row_at}
 use Rattle.wg_life.specs.Waits.{is_waiting}
-use Rattle.wg_life.proofs.Tidy.{listed_le}
+use Rattle.wg_life.proofs.Bound.{listed_le}
 use Rattle.wg_life.proofs.Releasing.{step_gone, step_released}
 use Rattle.wg_life.proofs.waiting.settle.Goals as goal
 
@@ -22,8 +22,7 @@ list-requires-clause-room c =
     let le = listed_le _ _ (c.args.wait ∷ c.args.waiting.now.listed.items) c.requires.tidy in
     let room = c.requires.room in
     let e : deque_len c.args.waiting.now.listed ≡ length c.args.waiting.now.listed.items = search rules in
-    let f : vec_len c.args.rows.now ≡ length c.args.rows.now.items = search rules in
-    omega (arith, le, room, e, f)
+    omega (arith, le, room, e)
 
 pub returns-clause-releasing : goal.returns-clause-releasing
 returns-clause-releasing c = λ first before.

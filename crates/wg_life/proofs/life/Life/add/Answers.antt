@@ -5,6 +5,7 @@ use Rattle.wg_life.specs.Lives.{new_row}
 use Rattle.wg_life.specs.Living.{HasPlacesFor}
 use Rattle.wg_life.proofs.Gone.{gone_added}
 use Rattle.wg_life.proofs.Kept.{bytes_fit}
+use Rattle.wg_life.proofs.Bound.{count_added}
 use Rattle.wg_life.proofs.Tidy.{tidy_added}
 use Rattle.wg_life.proofs.life.Life.add.Goals as goal
 
@@ -25,8 +26,8 @@ invariant_of-self c =
       none_due = c.self.invariant.none_due;
       rows_fit = let fit = c.self.invariant.rows_fit in let room = c.add_row.ensures.room in omega (arith, place, count, fit, room);
       gone_fit = let fit = c.self.invariant.gone_fit in let room = c.push_reserved.ensures.capacity in omega (arith, place, count, fit, room);
-      listed_fit = let fit = c.self.invariant.listed_fit in omega (arith, place, count, fit);
-      due_fit = let fit = c.self.invariant.due_fit in omega (arith, place, count, fit);
+      listed_fit = rw rows (let fit = c.self.invariant.listed_fit in let more = count_added c.self.inside.rows.items c.args.made.resource in omega (arith, place, more, fit));
+      due_fit = rw rows (let fit = c.self.invariant.due_fit in let more = count_added c.self.inside.rows.items c.args.made.resource in omega (arith, place, more, fit));
       live_fit =
           let spare : c.self.inside.spare ≡ c.self.inside.spare - 1 + 1 = omega (arith, place) in
           c.add_row.ensures.places (c.self.inside.spare - 1) (subst (HasPlacesFor c.self.inside.live) spare c.self.invariant.live_fit);

@@ -7,6 +7,13 @@ use Rattle.wg_life.proofs.life.Life.destroyed.Goals as goal
 pub lose-requires-clause-tidy : goal.lose-requires-clause-tidy
 lose-requires-clause-tidy c = rw c.as_slice.ensures.value (tidy_destroyed c.args.number _ _ _ _ c.mark_destroyed.ensures.notes c.self.invariant.tidy)
 
+pub lose-requires-clause-room : goal.lose-requires-clause-room
+lose-requires-clause-room c =
+    let fit = c.self.invariant.listed_fit in
+    let old = c.self.invariant.kept.count in
+    let now = (kept_destroyed c.args.number _ _ _ c.mark_destroyed.ensures.notes c.self.invariant.kept).count in
+    rw c.as_slice.ensures.value (omega (arith, fit, old, now))
+
 pub invariant_of-self : goal.invariant_of-self
 invariant_of-self c = record {
   tidy = rw c.as_slice.ensures.value at c.lose.ensures.tidy;
@@ -17,8 +24,8 @@ invariant_of-self c = record {
   none_due = c.self.invariant.none_due;
   rows_fit = search rules;
   gone_fit = search rules;
-  listed_fit = search rules;
-  due_fit = search rules;
+  listed_fit = let fit = c.self.invariant.listed_fit in let room = c.lose.ensures.listed_room in let old = c.self.invariant.kept.count in let now = (kept_destroyed c.args.number _ _ _ c.mark_destroyed.ensures.notes c.self.invariant.kept).count in omega (arith, fit, room, old, now);
+  due_fit = let fit = c.self.invariant.due_fit in let old = c.self.invariant.kept.count in let now = (kept_destroyed c.args.number _ _ _ c.mark_destroyed.ensures.notes c.self.invariant.kept).count in omega (arith, fit, old, now);
   live_fit = c.self.invariant.live_fit;
   holders_fit = c.self.invariant.holders_fit;
 }

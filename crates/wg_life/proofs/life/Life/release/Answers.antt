@@ -1,4 +1,4 @@
-use Rattle.std.proofs.Common.{◌≡◌, ℕ, List, ◌++◌, ◌∙◌, ap, map, rules}
+use Rattle.std.proofs.Common.{◌≡◌, ℕ, List, ◌++◌, ◌∙◌, ap, map, rules, arith}
 use Rattle.wg_orders.specs.Trace.{free}
 use Rattle.wg_types.specs.declared.steps.Sort.{Sort}
 use Rattle.wg_life.specs.Lives.{releases}
@@ -17,8 +17,8 @@ invariant_of-self c = record {
   none_due = c.release.ensures.none;
   rows_fit = search rules;
   gone_fit = search rules;
-  listed_fit = search rules;
-  due_fit = search rules;
+  listed_fit = let fit = c.self.invariant.listed_fit in let room = c.release.ensures.listed_room in let less = c.release.ensures.less.count in let old = c.self.invariant.kept.count in let now = c.release.ensures.kept.count in omega (arith, fit, room, less, old, now);
+  due_fit = let fit = c.self.invariant.due_fit in let room = c.release.ensures.due_room in let less = c.release.ensures.less.count in let old = c.self.invariant.kept.count in let now = c.release.ensures.kept.count in omega (arith, fit, room, less, old, now);
   live_fit = c.release.ensures.less.places _ c.self.invariant.live_fit;
   holders_fit = c.self.invariant.holders_fit;
 }

@@ -14,8 +14,8 @@ invariant_of-self c = record {
   none_due = c.self.invariant.none_due;
   rows_fit = search rules;
   gone_fit = search rules;
-  listed_fit = search rules;
-  due_fit = search rules;
+  listed_fit = let fit = c.self.invariant.listed_fit in let old = c.self.invariant.kept.count in let now = (kept_used c.args.op c.args.number _ _ _ c.mark_use.ensures.notes c.self.invariant.kept).count in omega (arith, fit, old, now);
+  due_fit = let fit = c.self.invariant.due_fit in let old = c.self.invariant.kept.count in let now = (kept_used c.args.op c.args.number _ _ _ c.mark_use.ensures.notes c.self.invariant.kept).count in omega (arith, fit, old, now);
   live_fit = c.self.invariant.live_fit;
   holders_fit = c.self.invariant.holders_fit;
 }

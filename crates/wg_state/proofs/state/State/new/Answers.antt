@@ -1,6 +1,7 @@
 use Rattle.std.proofs.Common.{ap, arith}
 use Rattle.wg_state.specs.Books.{BookValue}
 use Rattle.wg_state.proofs.KeptLemmas.{kept_none}
+use Rattle.wg_state.proofs.Recorded.{left_none}
 use Rattle.wg_state.proofs.state.State.new.Goals as goal
 
 pub invariant_of-result-2 : goal.invariant_of-result-2
@@ -12,4 +13,6 @@ invariant_of-result-2 c = record {
   queue_fits = omega arith;
   errors_fit = omega arith;
   maps_fit = omega arith;
+  recordings_are = left_none c.args.setup c.new.result.entries c.new-6.result.slots (ap (λ (b : BookValue). b.entries) c.new.ensures) c.new-6.ensures;
+  recordings_fit = omega arith;
 }
