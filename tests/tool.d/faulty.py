@@ -52,7 +52,7 @@ def rule_with(script, lane, kept):
     what is recorded in them too, and drop them.
 
     What these commands leave open is closed."""
-    own, makers = recorded(lane)[0], [n for n, call in enumerate(lane) if call["do"].startswith("create") or call["do"] in ("finishBundle", "currentTexture")]
+    own, makers = recorded(lane)[0], [n for n, call in enumerate(lane) if call["do"].startswith("create") or call["do"] in ("getBindGroupLayout", "finishBundle", "currentTexture")]
     of_canvases = [n for n, call in enumerate(lane) if "canvas" in call]
     drops = [n for n, call in enumerate(lane) if call["do"] == "drop" and call["object"] in {lane[maker]["as"] for maker in makers}]
     bundle_encoders = {lane[maker]["as"] for maker in makers if lane[maker]["do"] == "createBundleEncoder"} - {lane[-1].get("on")}
