@@ -15,8 +15,8 @@ invariant_of-self-2 c =
     = ap₂ (λ (verb : Verb) (reply : Reply). record { who = c.args.who; verb = verb; reply = reply }) c.verb-verb.ensures c.in_ok-reply.ensures.same in
     record {
       lines_are =
-        c.push_reserved.ensures.items
-        ∙ (ap₂ (λ (lines : List Line) (one : Line). lines ++ one ∷ []) (c.reserve.ensures.items ∙ c.self.invariant.lines_are) line
-        ∙ (sym (map-append line_of c.self.inside.core.history (entry ∷ [])) ∙ ap (map line_of) (sym c.in_ok-reply.ensures.history)));
+          c.push_reserved.ensures.items
+          ∙ (ap₂ (λ (lines : List Line) (one : Line). lines ++ one ∷ []) (c.reserve.ensures.items ∙ c.self.invariant.lines_are) line
+          ∙ (sym (map-append line_of c.self.inside.core.history (entry ∷ [])) ∙ ap (map line_of) (sym c.in_ok-reply.ensures.history)));
       items_are = c.in_ok-reply.ensures.items [] c.self.invariant.items_are;
     }
