@@ -34,7 +34,10 @@ fn read_failing<T: Wait + Threads + Sync>(
 #[test]
 fn each_read_fails(rt: HostRuntime) {
     for fails in 1..30u64 {
-        assert!(rt; read_failing(&rt, rt.alloc(), fails) == Ok((4, 0)), "{fails}");
+        assert!(rt;
+            read_failing(&rt, rt.alloc(), fails) == Ok((4, 0)),
+            "{fails}"
+        );
     }
     assert!(rt; read_failing(&rt, rt.alloc(), 30) == Ok((0, 235)));
 }

@@ -1,5 +1,5 @@
 -- What is answered and added on a lost device, and by an event that has a fault.
-use Rattle.std.proofs.Common.{◌≡◌, ℕ, List, [], ◌∷◌, ◌++◌, map, reverse, filter, Bool, true, false, not, ◌&&◌, ◌||◌, ◌==◌, Option, Some, None, is_none, is_some, option_and_then, length, refl, ap, ap₂, sym, ◌∙◌, append-nil, if◌then◌else◌, true≢false}
+use Rattle.std.proofs.Common.{◌≡◌, ℕ, List, [], ◌∷◌, ◌++◌, map, reverse, filter, Bool, true, false, not, ◌&&◌, ◌||◌, ◌==◌, Option, Some, None, is_none, is_some, option_and_then, length, refl, ap, ap₂, sym, subst, ◌∙◌, append-nil, if◌then◌else◌, true≢false}
 use Rattle.std.specs.List.{list_any, flat_map}
 use Rattle.wg_types.specs.declared.handles.ObjRef.{ObjRef}
 use Rattle.wg_types.specs.declared.replies.Answer.{Answer}
@@ -22,13 +22,13 @@ use Rattle.wg_history.specs.Operations.{is_queued}
 use Rattle.wg_history.specs.Rules.{is_mapped_how, settles_mapped, waits_of, mapped_at}
 use Rattle.wg_history.specs.FirstRules.{first_rule}
 use Rattle.wg_history.specs.Loss.{is_lost, Awaited, mapping, work, Wait, awaiting, is_map_of}
-use Rattle.wg_history.specs.Answers.{fault_by, is_taken, answer_by, settle_all, ended_how, kept_how, is_kept, either, settled_in, settled_by, reply_to, IsRun}
+use Rattle.wg_history.specs.Answers.{fault_by, is_taken, answer_by, settle_all, ended_how, kept_how, is_kept, either, settled_in, settled_by, reply_to, IsRun, Run}
 use Rattle.wg_history.specs.Steps.{group_of, write_groups, submit_groups, groups_in, written_back, read_back, read_groups, groups_of}
 use Rattle.wg_history.specs.Releases.{freed}
 use Rattle.wg_history.specs.Traces.{Trace}
 use Rattle.wg_history.proofs.Awaiting.{awaiting_lost}
 use Rattle.wg_history.proofs.Goes.{trace_goes_on}
-use Rattle.wg_lost.specs.Lost.{host_writes, LostReplies, LostWritesBack, FaultyReleases}
+use Rattle.wg_lost.specs.Lost.{AddsGroups, AddsReleases, IsLostReply, host_writes, LostReplies, LostWritesBack, FaultyReleases}
 
 -- ---- answers
 
@@ -213,3 +213,19 @@ faulty_releases setup history entry same faulty = record {
       ∙ ap (λ (groups : List (List Step)). add_groups (Trace setup history) groups ++ map free (freed setup (entry ∷ reverse history)))
       (faulty_groups setup (reverse history) entry same faulty);
 }
+
+-- ---- the same of a state that says what it was and what it has become
+
+pub lost_reply : (setup : Setup) (past : Past) (event : Event) (reply : Reply) → reply ≡ reply_to setup past event → is_lost past ≡ true → IsLostReply past event reply
+lost_reply setup past event reply same lost = subst (IsLostReply past event) (sym same) (lost_replies setup past event lost)
+
+pub lost_grows : (setup new : Setup) (history after : List Entry) (who : ℕ) (event : Event) (reply : Reply) → Run setup history → reply ≡ reply_to setup (reverse history) event
+    → new ≡ setup → after ≡ history ++ record { who = who; event = event; reply = reply } ∷ [] → is_lost (reverse history) ≡ true → AddsGroups (host_writes setup (reverse history) event) (Trace setup history) (Trace new after)
+lost_grows setup new history after who event reply run same kept grown lost =
+    subst (AddsGroups (host_writes setup (reverse history) event) (Trace setup history)) (sym (ap₂ Trace kept grown))
+    (lost_writes_back setup history (record { who = who; event = event; reply = reply }) run same lost)
+
+pub faulty_grows : (setup new : Setup) (history after : List Entry) (who : ℕ) (event : Event) (reply : Reply) → reply ≡ reply_to setup (reverse history) event
+    → new ≡ setup → after ≡ history ++ record { who = who; event = event; reply = reply } ∷ [] → is_some reply.fault ≡ true → AddsReleases (Trace setup history) (Trace new after)
+faulty_grows setup new history after who event reply same kept grown faulty =
+    subst (AddsReleases (Trace setup history)) (sym (ap₂ Trace kept grown)) (faulty_releases setup history (record { who = who; event = event; reply = reply }) same faulty)

@@ -84,8 +84,7 @@ compute_does_small device earlier (Dispatch x y z) smalls small before e = (boun
 compute_does_small device earlier (DispatchIndirect buffer offset) smalls small before e =
     let own = or_none (first_unmet (common_rules device (named_on kind.ComputePass (DispatchIndirect buffer offset)))) (first_unmet (compute_rules (settings earlier) (DispatchIndirect buffer offset))) e in
     let common = none_met (common_rules device (named_on kind.ComputePass (DispatchIndirect buffer offset))) own.0 in
-    let met = compute_dispatches (settings earlier) (DispatchIndirect buffer offset) (none_met (compute_rules (settings earlier) (DispatchIndirect buffer offset)) own.1) in
-    (
+    let met = compute_dispatches (settings earlier) (DispatchIndirect buffer offset) (none_met (compute_rules (settings earlier) (DispatchIndirect buffer offset)) own.1) in (
       both_touched (dispatch_touches (settings earlier)) (indirect_touch buffer offset 12 ∷ []) (bound_small earlier (layouts_set (settings earlier)) (compute_set device earlier smalls before))
           (indirect_small buffer offset 12 common.1.0 small.0 (met_behind (ready_rules (settings earlier)) (indirect_rules buffer offset 12) met), tt),
       tt,
@@ -124,10 +123,10 @@ query_small (Some set) occlusion index h met = (let below : index < set.1 = ltb-
 render_given : (render : RenderSet) (command : Command) → AreMet (render_rules render command) → AreMet (given_rules (group_given command)) × AreMet (drawing_rules render command)
 render_given render command met =
     let both =
-        met_behind (pipeline_given_rules render.targets (pipeline_given command)) (given_rules (group_given command) ++ drawing_rules render command)
-        (met_behind (pass_end_rules render.occlusion.active command) (pipeline_given_rules render.targets (pipeline_given command) ++ (given_rules (group_given command) ++ drawing_rules render command))
-        (met_behind (end_rules render.set.depth command) (pass_end_rules render.occlusion.active command ++ (pipeline_given_rules render.targets (pipeline_given command) ++ (given_rules (group_given command) ++ drawing_rules render command)))
-        (met_behind (debug_rules render.set.depth command) (end_rules render.set.depth command ++ (pass_end_rules render.occlusion.active command ++ (pipeline_given_rules render.targets (pipeline_given command) ++ (given_rules (group_given command) ++ drawing_rules render command)))) met))) in
+    met_behind (pipeline_given_rules render.targets (pipeline_given command)) (given_rules (group_given command) ++ drawing_rules render command)
+    (met_behind (pass_end_rules render.occlusion.active command) (pipeline_given_rules render.targets (pipeline_given command) ++ (given_rules (group_given command) ++ drawing_rules render command))
+    (met_behind (end_rules render.set.depth command) (pass_end_rules render.occlusion.active command ++ (pipeline_given_rules render.targets (pipeline_given command) ++ (given_rules (group_given command) ++ drawing_rules render command)))
+    (met_behind (debug_rules render.set.depth command) (end_rules render.set.depth command ++ (pass_end_rules render.occlusion.active command ++ (pipeline_given_rules render.targets (pipeline_given command) ++ (given_rules (group_given command) ++ drawing_rules render command)))) met))) in
     (met_front (given_rules (group_given command)) (drawing_rules render command) both, met_behind (given_rules (group_given command)) (drawing_rules render command) both)
 
 drawn_small : (render : RenderSet) (command : Command) → AreSmallQueries render.queries → IsSmallCommand command → AreValid (named command) → AreMet (given_rules (group_given command)) → AreMet (drawing_rules render command)
@@ -217,8 +216,8 @@ set_small : (device : ℕ) (begin : RenderBegin) → IsSmallCommand (BeginRender
 set_small device begin small e =
     let views = each_parts (λ (object : HandleValue × Wanted). IsSmallHandle object.0) (targets_named begin) (maybe_wanted wanted.Queries begin.queries) small in
     let valid =
-        each_parts (λ (object : HandleValue × Wanted). object.0.valid ≡ true) (targets_named begin) (maybe_wanted wanted.Queries begin.queries)
-        (all_valid device (named (BeginRenderPass begin)) (none_met (common_rules device (named (BeginRenderPass begin))) (or_none (first_unmet (common_rules device (named (BeginRenderPass begin)))) (first_unmet (begun_rules (BeginRenderPass begin))) e).0)) in
+    each_parts (λ (object : HandleValue × Wanted). object.0.valid ≡ true) (targets_named begin) (maybe_wanted wanted.Queries begin.queries)
+    (all_valid device (named (BeginRenderPass begin)) (none_met (common_rules device (named (BeginRenderPass begin))) (or_none (first_unmet (common_rules device (named (BeginRenderPass begin)))) (first_unmet (begun_rules (BeginRenderPass begin))) e).0)) in
     by_queries begin.queries views.1 valid.1
   where
     by_queries : (o : Option HandleValue) → AreSmallNamed (maybe_wanted wanted.Queries o) → AreValid (maybe_wanted wanted.Queries o) → AreSmallQueries (set_of_pass o)

@@ -5,7 +5,7 @@ use Rattle.std.specs.Fmt.{digits as printed_digits, digits_onto, digit_glyph}
 use Rattle.std.proofs.Common.{◌≡◌, ℕ, zero, suc, ◌+◌, ◌/◌, ◌%◌, ◌<◌, ◌==◌, ◌&&◌, ◌||◌, List, [], ◌∷◌, ◌++◌, Bool, true, false, if◌then◌else◌, ap, sym, refl, ◌∙◌, arith, append-nil, append_assoc, subst}
 use Rattle.std.proofs.lemmas.Bool.{lt-ltb, ne_eqb}
 use Rattle.wg_types.specs.declared.words.Word.{Word}
-use Rattle.wg_types.specs.declared.words.Word.TheVariants.{CreateBuffer, CreateTexture, CreateView, CreateSampler, CreateBindGroupLayout, CreatePipelineLayout, CreateBindGroup, CreateComputePipeline, CreateRenderPipeline, CreateQuerySet, CreateEncoder, CreateBundleEncoder, BeginComputePass, BeginRenderPass, End, Finish, FinishBundle, PushDebugGroup, PopDebugGroup, Submit, WriteBuffer, WriteTexture, MapAsync, Unmap, WorkDone, Complete, Destroy, Drop, PushErrorScope, PopErrorScope, Lose, CopyBufferToBuffer, CopyBufferToTexture, CopyTextureToBuffer, CopyTextureToTexture, ClearBuffer, ResolveQuerySet, SetPipeline, SetBindGroup, SetVertexBuffer, SetIndexBuffer, Dispatch, DispatchIndirect, BeginOcclusionQuery, EndOcclusionQuery, ExecuteBundles, Draw, DrawIndexed, DrawIndirect, DrawIndexedIndirect, CreateCanvas, ConfigureCanvas, CurrentTexture, Present}
+use Rattle.wg_types.specs.declared.words.Word.TheVariants.{CreateBuffer, CreateTexture, CreateView, CreateSampler, CreateBindGroupLayout, CreatePipelineLayout, CreateBindGroup, CreateComputePipeline, CreateRenderPipeline, GetBindGroupLayout, CreateQuerySet, CreateEncoder, CreateBundleEncoder, BeginComputePass, BeginRenderPass, End, Finish, FinishBundle, PushDebugGroup, PopDebugGroup, Submit, WriteBuffer, WriteTexture, MapAsync, Unmap, WorkDone, Complete, Destroy, Drop, PushErrorScope, PopErrorScope, Lose, CopyBufferToBuffer, CopyBufferToTexture, CopyTextureToBuffer, CopyTextureToTexture, ClearBuffer, ResolveQuerySet, SetPipeline, SetBindGroup, SetVertexBuffer, SetIndexBuffer, Dispatch, DispatchIndirect, BeginOcclusionQuery, EndOcclusionQuery, ExecuteBundles, Draw, DrawIndexed, DrawIndirect, DrawIndexedIndirect, CreateCanvas, ConfigureCanvas, CurrentTexture, Present}
 use Rattle.wg_types.specs.Words.{word_text}
 use Rattle.wg_types.specs.declared.replies.Verb.{Verb}
 use Rattle.wg_types.specs.declared.replies.Verb.TheVariants.{Call, Late}
@@ -43,6 +43,7 @@ word_bytes CreatePipelineLayout = refl
 word_bytes CreateBindGroup = refl
 word_bytes CreateComputePipeline = refl
 word_bytes CreateRenderPipeline = refl
+word_bytes GetBindGroupLayout = refl
 word_bytes CreateQuerySet = refl
 word_bytes CreateEncoder = refl
 word_bytes CreateBundleEncoder = refl
