@@ -21,7 +21,12 @@ pub(crate) fn words(alloc: Global, line: &str) -> Result<Vec<String>, NoMemory> 
 }
 
 /// A source of these bytes in pieces of this size, of whose reads these fail.
-pub(crate) fn source_of(alloc: Global, script: &str, most: usize, fails: &[u64]) -> Result<MemSource, NoMemory>
+pub(crate) fn source_of(
+    alloc: Global,
+    script: &str,
+    most: usize,
+    fails: &[u64],
+) -> Result<MemSource, NoMemory>
     requires { 0 < most }
 {
     let fails = Vec::from_slice(alloc, fails)?;

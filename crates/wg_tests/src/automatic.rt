@@ -11,9 +11,7 @@ use wg_device::{Device, DevicePass};
 use wg_encoder::Recorder;
 use wg_entry::NoMemory;
 use wg_limits::default_limits;
-use wg_types::bindings::{
-    BindingKind, BufferBinding, GroupEntryOf, IfaceEntry, ResourceOf, Stage,
-};
+use wg_types::bindings::{BindingKind, BufferBinding, GroupEntryOf, IfaceEntry, ResourceOf, Stage};
 use wg_types::commands::{Command, On};
 use wg_types::formats::{Format, SampleType};
 use wg_types::handles::{BufferInfo, Handle, Info, ObjRef};
@@ -248,12 +246,7 @@ type Told = (Option<u64>, Option<ObjRef>, [Option<u16>; 2]);
 
 /// Makes object 0, an automatic pipeline, and gives what its layout belongs to, and which rules are broken by the
 /// layout of a group that it has not, and by a pipeline whose stages clash.
-fn of_rules<R: Wait>(
-    rt: &R,
-    alloc: Global,
-    device: &Device,
-    pass: &mut DevicePass,
-) -> Option<Told>
+fn of_rules<R: Wait>(rt: &R, alloc: Global, device: &Device, pass: &mut DevicePass) -> Option<Told>
     requires { IsPassOf device.now.lock pass.old × (calls_of pass.old ≡ 0) }
 {
     let desc = clashing(alloc).ok()?;

@@ -130,7 +130,9 @@ fn pipeline<R: Wait>(
     let desc = desc(alloc).ok()?;
     let layout = device.create_pipeline_layout(rt, pass, Vec::new(alloc));
     let (layout, _) = layout.ok()?;
-    let (pipeline, _) = device.create_render_pipeline(rt, pass, Some(&layout), desc).ok()?;
+    let (pipeline, _) = device
+        .create_render_pipeline(rt, pass, Some(&layout), desc)
+        .ok()?;
     Some(pipeline)
 }
 

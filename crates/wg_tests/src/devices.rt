@@ -1,10 +1,11 @@
 //! Two devices, of which a buffer of the first is given to the second.
-ghost use Rattle.std.specs.Prelude.{◌≡◌, ◌+◌, ◌<◌, ◌≤◌};
+ghost use Rattle.std.specs.Prelude.{◌≡◌, ◌+◌, ◌<◌, ◌≤◌, true, is_some};
 ghost use Rattle.wg_turn.specs.Passes.{IsPassOf, calls_of};
 
 use std::alloc::Global;
 use std::sync::Wait;
 use wg_device::{Device, DevicePass};
+use wg_encoder::Recorder;
 use wg_entry::NoMemory;
 use wg_limits::default_limits;
 use wg_types::commands::{Command, On};
@@ -39,16 +40,21 @@ fn buffer_of<R: Wait>(rt: &R, device: &Device, pass: &mut DevicePass) -> Option<
     Some(handle)
 }
 
-/// A copy of both buffers' bytes.
-fn copy(source: &Handle, target: &Handle) -> Result<Command, NoMemory> {
+/// Records a copy of 16 bytes from one buffer to another.
+fn record_copy(recorder: &mut Recorder, source: &Handle, target: &Handle) -> Result<(), NoMemory>
+    requires { is_some recorder.old.encoder ≡ true }
+    ensures { is_some recorder.new.encoder ≡ true }
+{
     let source = source.share()?;
-    Ok(Command::CopyBufferToBuffer {
+    let copy = Command::CopyBufferToBuffer {
         source,
         source_offset: 0,
         target: target.share()?,
         target_offset: 0,
         size: 16,
-    })
+    };
+    let _ = recorder.record(On::Encoder, copy)?;
+    Ok(())
 }
 
 /// The finish of an encoder on which a copy from one buffer to the other was recorded.
@@ -63,8 +69,7 @@ fn copied<R: Wait>(
     ensures { IsPassOf device.now.lock pass.new × (calls_of pass.new ≤ calls_of pass.old + 2) }
 {
     let (mut recorder, _, _) = device.create_encoder(rt, pass).ok()?;
-    let copy = copy(source, target).ok()?;
-    let _ = recorder.record(On::Encoder, copy).ok()?;
+    record_copy(&mut recorder, source, target).ok()?;
     let (_, reply) = device.finish(rt, pass, &mut recorder).ok()?;
     told(Ok(reply))
 }
@@ -108,10 +113,19 @@ fn of_two<R: Wait>(rt: &R, alloc: Global) -> Option<([Told; 4], Told)> {
     Some((other, written))
 }
 
+/// A command buffer of this number that is invalid by rule 10.
+fn invalid(number: u64) -> Told {
+    let answer = Answer::Made {
+        number,
+        valid: false,
+    };
+    Some((answer, 10))
+}
+
 #[test]
 fn a_buffer_of_another_device_is_refused(rt: HostRuntime) {
     let refused = Some((Answer::Plain, 10));
-    let finish = |number| Some((Answer::Made { number, valid: false }, 10));
-    let wanted = [refused, refused, finish(2), finish(4)];
-    assert!(rt; of_two(&rt, rt.alloc()) == Some((wanted, Some((Answer::Queued(1), 0)))));
+    let wanted = [refused, refused, invalid(2), invalid(4)];
+    let written = Some((Answer::Queued(1), 0));
+    assert!(rt; of_two(&rt, rt.alloc()) == Some((wanted, written)));
 }

@@ -35,7 +35,12 @@ pub(crate) fn made(number: u64, valid: bool) -> Answer {
 }
 
 /// Whether an event is answered so; no promise settles.
-pub(crate) fn ask(core: &mut LoggedCore, event: Event, answer: Answer, fault: Option<Fault>) -> bool {
+pub(crate) fn ask(
+    core: &mut LoggedCore,
+    event: Event,
+    answer: Answer,
+    fault: Option<Fault>,
+) -> bool {
     match core.act(0, event) {
         Ok(reply) => {
             reply.answer == answer && reply.fault == fault && reply.settled.as_slice().is_empty()
@@ -132,11 +137,7 @@ fn is_step_and_release(trace: &[Item]) -> bool {
 fn of_calls(alloc: Global) -> ([bool; 11], usize, bool) {
     let mut core = LoggedCore::new(alloc, 1_000_000, 1, &default_limits());
     let asked = ask_calls(&mut core);
-    (
-        asked,
-        core.lines().len(),
-        is_step_and_release(core.trace()),
-    )
+    (asked, core.lines().len(), is_step_and_release(core.trace()))
 }
 
 #[test]

@@ -1,11 +1,10 @@
 //! A device's state without a log, of which each call's items are taken out.
+use crate::events::own;
 use std::alloc::Global;
 use wg_core::{Core, Event};
 use wg_limits::default_limits;
 use wg_types::handles::BufferInfo;
 use wg_types::steps::{Item, Sort, StepName};
-
-use crate::events::own;
 
 // As in `events`, the device is made in one function and asked in another.
 
