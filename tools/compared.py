@@ -168,6 +168,8 @@ class Compared:
         follow = len(self.of(FOLLOWS))
         lines += [f"{count(follow, 'call')} that {'follows' if follow == 1 else 'follow'} from an earlier one"] if follow else []
         lines += [noted(note) for note in self.answers.notes]
+        unread = [passed for passed in self.answers.passed if passed["outside"] == "shader text" and passed["do"].startswith("create")]
+        lines += [f"at {passed.get('at')}: {passed['do']} is not in the script: {passed['detail']}" for passed in unread]
         return lines + ([f"left out, since no script says it: {'; '.join(self.left())}"] if self.left() else [])
 
     def json(self):

@@ -69,7 +69,7 @@ class Visit:
     """One visit of a page, with the recorder put before its scripts."""
 
     def __init__(self, browsing, address, asked):
-        self.browsing, self.elsewhere, self.said = browsing, [], []
+        self.browsing, self.address, self.elsewhere, self.said = browsing, address, [], []
         target = browsing.ask("Target.createTarget", url="about:blank")["targetId"]
         self.session = browsing.ask("Target.attachToTarget", targetId=target, flatten=True)["sessionId"]
         for method, words in (
@@ -89,7 +89,7 @@ class Visit:
             method, words = told.get("method"), told.get("params", {})
             if method == "Runtime.bindingCalled" and words["name"] == HAND:
                 found = json.loads(words["payload"])
-                if found["recordings"] or words.get("executionContextId") == 1 or not self.said:
+                if found["recordings"] or found["page"].split("#")[0] == self.address.split("#")[0]:
                     return found
             elif method == "Network.requestWillBeSent":
                 address = words["request"]["url"]

@@ -1,13 +1,11 @@
 -- The report of a script's history is read as its trace, whose verdict is None.
-use Rattle.std.proofs.Common.{◌≡◌, ℕ, ◌≤◌, List, length, Some, None, Ok, Err, refl, sym, ◌∙◌, subst, arith}
+use Rattle.std.proofs.Common.{◌≡◌, ℕ, List, Some, None, Ok, Err, refl, sym, ◌∙◌, subst, arith}
 use Rattle.wg_types.specs.declared.steps.Item.{Item}
 use Rattle.wg_io.specs.Exchange.{Taking}
-use Rattle.wg_check.specs.declared.clashes.Clash.{Clash}
 use Rattle.wg_check.specs.Verdict.{IsVerdict}
 use Rattle.wg_checker.specs.declared.checking.Checked.{Checked}
 use Rattle.wg_checker.specs.declared.checking.Checked.TheVariants.{Agrees, Differs, BadTrace, ReadFault, WriteFault, NoMemory, TooLarge}
-use Rattle.wg_checker.specs.Checks.{limit, Answers, HasAnswered}
-use Rattle.wg_readtrace.specs.Forms.{most_53}
+use Rattle.wg_checker.specs.Checks.{Answers, HasAnswered}
 use Rattle.wg_readtrace.specs.Reading.{trace_in}
 use Rattle.wg_history.specs.declared.events.Setup.{Setup}
 use Rattle.wg_history.specs.Entries.{Entry}

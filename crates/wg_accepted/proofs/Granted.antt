@@ -1,6 +1,6 @@
 -- The limits of a script that is read are ones that a device can have.
 use Rattle.std.specs.List.{list_all}
-use Rattle.std.proofs.Common.{◌≡◌, ℕ, List, [], Bool, true, false, Option, Some, None, Result, Ok, Err, codes, refl, ap, sym, ◌∙◌, subst, if◌then◌else◌}
+use Rattle.std.proofs.Common.{◌≡◌, ℕ, List, [], Bool, true, false, Option, Some, None, Result, Ok, Err, codes, refl, subst, if◌then◌else◌}
 use Rattle.serde_json.specs.Data.{Data}
 use Rattle.serde_json.specs.Find.{as_object, get}
 use Rattle.wg_types.specs.declared.limits.Limits.{Limits}
@@ -9,10 +9,9 @@ use Rattle.wg_limits.specs.declared.names.LimitName.{LimitName}
 use Rattle.wg_limits.proofs.Between.{all_between, all_fixed}
 use Rattle.wg_script.specs.Giving.{◌>>=◌}
 use Rattle.wg_script.specs.Limits.{members_from, limits_from, limits_in, limits_at}
-use Rattle.wg_script.specs.Draft.{Stop, at, check_top, budget_of, listed_of, limits_of, phases_of, top_of, json_of, draft_read, draft_of}
+use Rattle.wg_script.specs.Draft.{at, check_top, budget_of, listed_of, limits_of, phases_of, top_of, json_of, draft_read, draft_of}
 use Rattle.wg_script.specs.declared.draft.Draft.{Draft}
 use Rattle.wg_script.specs.declared.draft.Place.TheVariants as place
-use Rattle.wg_script.specs.declared.draft.Script.{Script}
 use Rattle.wg_names.specs.Script.{phases_bound, script_from}
 use Rattle.wg_accepted.specs.Accepted.{LimitsAreGranted}
 

@@ -4,7 +4,6 @@ use Rattle.std.specs.List.{list_all, flat_map}
 use Rattle.std.specs.Option.{option_map_or}
 use Rattle.std.proofs.Common.{◌≡◌, ℕ, zero, suc, ◌+◌, ◌≤◌, ◌==◌, List, [], ◌∷◌, ◌++◌, map, Bool, true, false, Option, Some, None, refl, arith, if◌then◌else◌}
 use Rattle.std.proofs.lemmas.Bool.{and_parts, and_from, leb-true}
-use Rattle.wg_types.specs.Handles.{HandleValue}
 use Rattle.wg_types.specs.Bindings.{entry_of}
 use Rattle.wg_types.specs.Commands.{Command}
 use Rattle.wg_types.specs.declared.bindings.BoundEntry.{BoundEntry}
@@ -18,7 +17,6 @@ use Rattle.wg_types.specs.declared.handles.Info.TheVariants.{Group}
 use Rattle.wg_rows.specs.Rows.{EachRow}
 use Rattle.wg_rows.specs.Runs.{Cells}
 use Rattle.wg_rows.specs.Uses.{Usages, Kind}
-use Rattle.wg_readtrace.specs.Forms.{most_53}
 use Rattle.wg_model.specs.Rules.{AreMet}
 use Rattle.wg_model.specs.Touches.{Touch}
 use Rattle.wg_model.specs.Bound.{Place, group_in, known_group, moved_by, place_of, entry_places, places_in, moved_range_fits, place_fits, set_rules, offset_rules, has_entries, set_places, index_places, layouts_places, kind_touch, resource_cells, place_touches, bound_touches}

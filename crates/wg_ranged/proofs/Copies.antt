@@ -1,12 +1,11 @@
 -- What commands on encoders touch is small.
 use Rattle.std.specs.Option.{option_to_list, option_map_or}
-use Rattle.std.proofs.Common.{◌≡◌, ℕ, ◌+◌, ◌*◌, ◌≤◌, ◌==◌, List, [], ◌∷◌, Bool, true, false, Option, Some, None, arith, nat_le, unwrap_or, true≢false, sym}
+use Rattle.std.proofs.Common.{◌≡◌, ℕ, ◌+◌, ◌*◌, ◌≤◌, ◌==◌, List, Bool, true, false, Option, Some, None, arith, nat_le, unwrap_or, true≢false, sym}
 use Rattle.std.proofs.lemmas.Bool.{and_parts, leb-true}
 use Rattle.wg_types.specs.Handles.{HandleValue}
 use Rattle.wg_types.specs.Commands.{Command}
 use Rattle.wg_types.specs.declared.commands.CommandOf.TheVariants.{CopyBufferToBuffer, CopyBufferToTexture, CopyTextureToBuffer, CopyTextureToTexture, ClearBuffer, ResolveQuerySet}
 use Rattle.wg_types.specs.declared.textures.DataLayout.{DataLayout}
-use Rattle.wg_types.specs.declared.textures.TextureInfo.{TextureInfo}
 use Rattle.wg_types.specs.declared.textures.TextureSpot.{TextureSpot}
 use Rattle.wg_rows.specs.Rows.{EachRow}
 use Rattle.wg_rows.specs.Uses.{Read}
@@ -16,9 +15,9 @@ use Rattle.wg_model.specs.Commands.{buffer_of, texture_of, queries_of, size_or_r
 use Rattle.wg_model.specs.Formats.{texel_from, texel_to}
 use Rattle.wg_model.specs.Subresources.{copied_cells, has_no_texel}
 use Rattle.wg_model.specs.TexelCopies.{required, bytes_fit, bytes_in, whole_spot, spot_fits}
-use Rattle.wg_model.specs.Touches.{Touch, Doing, unless, copy_src_usage, copy_dst_usage, target_kind, copied_to, copied_from, layout_bytes, encoder_does}
+use Rattle.wg_model.specs.Touches.{Doing, unless, copy_src_usage, copy_dst_usage, target_kind, copied_to, copied_from, layout_bytes, encoder_does}
 use Rattle.wg_model.specs.Walk.{encoder_gives}
-use Rattle.wg_ranged.proofs.Known.{IsSmallTexture, IsSmallHandle, buffer_small, texture_small, queries_small}
+use Rattle.wg_ranged.proofs.Known.{IsSmallHandle, buffer_small, texture_small, queries_small}
 use Rattle.wg_ranged.proofs.Bound.{AreSmallTouches, mapped_small, both_touched}
 use Rattle.wg_ranged.proofs.Meeting.{none_met, IsSmallCommand}
 

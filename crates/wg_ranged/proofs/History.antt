@@ -6,12 +6,11 @@ use Rattle.std.proofs.Common.{◌≡◌, ℕ, ◌≤◌, ◌==◌, ◌&&◌, not
 use Rattle.std.proofs.lemmas.Bool.{and_parts, or_parts, leb-true}
 use Rattle.std.proofs.lemmas.List.{reverse-append, reverse-reverse}
 use Rattle.wg_types.specs.Bindings.{resource_named, entries_named}
-use Rattle.wg_types.specs.Commands.{Command, named}
+use Rattle.wg_types.specs.Commands.{named}
 use Rattle.wg_types.specs.Handles.{HandleValue}
 use Rattle.wg_types.specs.declared.bindings.GroupEntryOf.{GroupEntryOf}
 use Rattle.wg_types.specs.declared.bindings.ResourceOf.{ResourceOf}
 use Rattle.wg_types.specs.declared.bindings.ResourceOf.TheVariants.{Buffer as BufferOf, View as ViewOf, Sampler as SamplerOf}
-use Rattle.wg_types.specs.declared.commands.On.{On}
 use Rattle.wg_types.specs.declared.handles.Info.{Info}
 use Rattle.wg_types.specs.declared.handles.Info.TheVariants.{Buffer, Texture, View}
 use Rattle.wg_types.specs.declared.handles.ObjRef.{ObjRef}
@@ -34,7 +33,7 @@ use Rattle.wg_model.proofs.Unmet.{all_met}
 use Rattle.wg_history.specs.declared.events.Setup.{Setup}
 use Rattle.wg_history.specs.declared.events.Event.{Event}
 use Rattle.wg_history.specs.declared.events.Event.TheVariants.{CreateBuffer, CreateTexture, CreateView, CreateBindGroup, CreateQuerySet, Finish, FinishBundle}
-use Rattle.wg_history.specs.Entries.{Entry, Past, deeds_by, effects_of}
+use Rattle.wg_history.specs.Entries.{Past, deeds_by, effects_of}
 use Rattle.wg_history.specs.Objects.{is_making, count, maker, info_made, known_in, info_at, is_valid, is_made_valid}
 use Rattle.wg_history.specs.Loss.{is_lost}
 use Rattle.wg_history.specs.Rules.{create_view_list, create_view_rule, is_genuine, is_barred, any_barred, encoder_rules, kept_rules, recording_rules, finish_rule, finish_bundle_rule}

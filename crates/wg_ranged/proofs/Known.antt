@@ -1,8 +1,7 @@
 -- What is known of valid objects is small, and so is what handles tell of them.
 use Rattle.std.specs.Prelude.{min, nat_lt}
-use Rattle.std.specs.List.{flat_map}
 use Rattle.std.specs.Option.{option_map_or}
-use Rattle.std.proofs.Common.{◌≡◌, ℕ, ◌+◌, ◌<◌, ◌≤◌, List, [], ◌∷◌, map, Bool, true, false, Option, Some, None, refl, arith, unwrap_or, if◌then◌else◌}
+use Rattle.std.proofs.Common.{◌≡◌, ℕ, ◌+◌, ◌<◌, ◌≤◌, List, [], ◌∷◌, map, Bool, true, false, None, refl, arith, unwrap_or, if◌then◌else◌}
 use Rattle.std.proofs.lemmas.Bool.{and_parts, ltb-true}
 use Rattle.wg_types.specs.Handles.{HandleValue}
 use Rattle.wg_types.specs.Formats.{row}
@@ -30,7 +29,7 @@ use Rattle.wg_model.specs.Textures.{within_limits, mips_fit, extent_at, extent, 
 use Rattle.wg_model.specs.TexelCopies.{spot_fits}
 use Rattle.wg_model.specs.Subresources.{level_runs, aspect_runs, view_runs, run_cells, view_cells, copied_cells}
 use Rattle.wg_model.specs.Making.{no_view}
-use Rattle.wg_model.specs.Attachments.{view_in, attached_view, attachment_of, handle_cells}
+use Rattle.wg_model.specs.Attachments.{view_in, attachment_of, handle_cells}
 use Rattle.wg_model.proofs.StepLaws.{each_joined}
 use Rattle.wg_small.specs.Small.{HaveSmallRange}
 use Rattle.wg_small.proofs.Ranges.{ranged}

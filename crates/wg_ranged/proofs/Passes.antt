@@ -1,16 +1,14 @@
 -- What passes and bundles touch is small.
-use Rattle.std.specs.Prelude.{nat_lt, nat_le}
+use Rattle.std.specs.Prelude.{nat_lt}
 use Rattle.std.specs.List.{flat_map, list_all}
-use Rattle.std.specs.Option.{option_map_or, option_to_list}
-use Rattle.std.proofs.Common.{◌≡◌, ℕ, ◌+◌, ◌<◌, ◌≤◌, ◌&&◌, List, [], ◌∷◌, ◌++◌, map, Bool, true, false, Option, Some, None, arith, refl, if◌then◌else◌}
-use Rattle.std.proofs.lemmas.Bool.{and_parts, leb-true, ltb-true}
+use Rattle.std.specs.Option.{option_to_list}
+use Rattle.std.proofs.Common.{◌≡◌, ℕ, ◌<◌, ◌≤◌, List, [], ◌∷◌, ◌++◌, map, Bool, true, false, Option, Some, None, arith, refl, if◌then◌else◌}
+use Rattle.std.proofs.lemmas.Bool.{and_parts, ltb-true}
 use Rattle.wg_types.specs.Handles.{HandleValue}
 use Rattle.wg_types.specs.Commands.{Command, bracket, named, named_on}
 use Rattle.wg_types.specs.Refs.{maybe_wanted}
 use Rattle.wg_types.specs.Render.{color_named, targets_named, depth_named}
-use Rattle.wg_types.specs.declared.bundles.BundleInfo.{BundleInfo}
 use Rattle.wg_types.specs.declared.bundles.BundleTouch.{BundleTouch}
-use Rattle.wg_types.specs.declared.commands.BoundGroup.{BoundGroup}
 use Rattle.wg_types.specs.declared.commands.Bracket.{Bracket}
 use Rattle.wg_types.specs.declared.commands.Bracket.TheVariants as brackets
 use Rattle.wg_types.specs.declared.commands.CommandOf.TheVariants.{BeginComputePass, BeginRenderPass, SetBindGroup, Dispatch, DispatchIndirect, SetVertexBuffer, SetIndexBuffer, DrawIndirect, DrawIndexedIndirect, BeginOcclusionQuery, ExecuteBundles}
@@ -22,32 +20,29 @@ use Rattle.wg_types.specs.declared.wanted.Kind.TheVariants as kind
 use Rattle.wg_types.specs.declared.wanted.Wanted.{Wanted}
 use Rattle.wg_types.specs.declared.wanted.Wanted.TheVariants as wanted
 use Rattle.wg_types.specs.Refs.{all_wanted}
-use Rattle.wg_rows.specs.Rows.{EachRow}
 use Rattle.wg_rows.specs.Runs.{Cells, Bytes, Layers, Slices, Queries}
 use Rattle.wg_rows.specs.Uses.{Write}
-use Rattle.wg_readtrace.specs.Forms.{most_32, most_53}
+use Rattle.wg_readtrace.specs.Forms.{most_32}
 use Rattle.wg_model.specs.Rules.{AreMet, first_unmet}
-use Rattle.wg_model.specs.Commands.{common_rules, debug_rules, size_or_rest, queries_of}
+use Rattle.wg_model.specs.Commands.{common_rules, debug_rules, size_or_rest}
 use Rattle.wg_model.specs.Textures.{extent}
 use Rattle.wg_types.specs.Textures.{depth}
-use Rattle.wg_model.specs.Touches.{Touch, Doing}
-use Rattle.wg_model.specs.Bound.{known_group, set_rules, set_places}
+use Rattle.wg_model.specs.Bound.{set_places}
 use Rattle.wg_model.specs.Bundles.{bundle_in, known_bundle, bundle_touch, touches_within, executed_touches}
 use Rattle.wg_model.specs.Settings.{Settings, settings, group_given, given_rules, end_rules, ready_rules, indirect_rules, indirect_touch, layouts_set}
 use Rattle.wg_model.specs.Compute.{compute_rules, dispatch_rules, dispatch_touches, compute_does}
 use Rattle.wg_model.specs.Queries.{Occlusion, set_of_pass, count_given, begin_query_rules, pass_end_rules, query_begun_touches}
-use Rattle.wg_model.specs.Attachments.{RenderBegin, ColorTarget, DepthTarget, color_view, color_attached, colors_given, slice_fits, is_deep, handle_cells, sliced, color_cells, attach_kind, attached, attachment_usage, resolve_touches, color_touches, depth_touch, depth_touches, targets_touches, begin_rules, begun_rules}
+use Rattle.wg_model.specs.Attachments.{RenderBegin, ColorTarget, DepthTarget, color_view, color_attached, slice_fits, is_deep, handle_cells, sliced, color_cells, attach_kind, attached, attachment_usage, resolve_touches, color_touches, depth_touch, depth_touches, targets_touches, begin_rules, begun_rules}
 use Rattle.wg_model.specs.Render.{RenderSet, render_set, bundle_set, touches_over, command_touches, bound_group_touches, render_rules, drawing_rules, pipeline_given_rules, render_does, render_does_by}
 use Rattle.wg_model.specs.Settings.{pipeline_given}
 use Rattle.wg_model.specs.Walk.{begun_rule, compute_rule, render_rule, rule_in, pass_rule, bundle_rule, bundle_verdict, pass_does}
-use Rattle.wg_model.proofs.StepLaws.{each_joined}
 use Rattle.wg_shaped.proofs.Recorded.{each_parts}
 use Rattle.wg_small.specs.Small.{HaveSmallRange}
-use Rattle.wg_ranged.proofs.Known.{AreSmall, AreSmallTouched, IsSmallTexture, IsSmallInfo, IsSmallHandle, queries_small, attached_small, attachment_small}
+use Rattle.wg_ranged.proofs.Known.{AreSmall, AreSmallTouched, IsSmallInfo, IsSmallHandle, queries_small, attached_small, attachment_small}
 use Rattle.wg_ranged.proofs.Bound.{IsSmallTouch, AreSmallTouches, mapped_small, both_touched, IsGivenSmall, AreSetSmall, given_small, more_set, bound_small, touched_places}
 use Rattle.wg_shaped.proofs.Walked.{or_none}
 use Rattle.wg_ranged.proofs.Meeting.{none_met, met_front, met_behind, AreSmallNamed, IsSmallCommand, AreSmallCommands, AreValid, all_valid, command_valid}
-use Rattle.wg_ranged.proofs.Copies.{IsSmallDoing, IsDoneSmall, range_small}
+use Rattle.wg_ranged.proofs.Copies.{IsDoneSmall, range_small}
 
 -- what is set in a compute pass
 given_met : (command : Command) → IsSmallCommand command → AreMet (given_rules (group_given command)) → IsGivenSmall (group_given command)

@@ -10,15 +10,11 @@ use Rattle.wg_types.specs.declared.steps.Item.TheVariants.{Bar, Step as StepItem
 use Rattle.wg_print.specs.Entries.{verb_text, answer_text, fault_text, settled_text, entry_text}
 use Rattle.wg_print.specs.Items.{place_text, use_text, access_text, item_text}
 use Rattle.wg_print.specs.Pieces.{line_text}
-use Rattle.wg_rows.specs.Rows.{EachRow}
-use Rattle.wg_history.specs.declared.events.Setup.{Setup}
 use Rattle.wg_history.specs.Entries.{Entry}
 use Rattle.wg_history.specs.Traces.{Trace}
-use Rattle.wg_readtrace.specs.Forms.{most_53}
 use Rattle.wg_readback.specs.Printable.{step_count}
 use Rattle.wg_readback.specs.Texts.{Told, numbered, told_after, told_line, entries_text, step_after, items_text, history_text}
 use Rattle.wg_shaped.specs.Reports.{told, report_text}
-use Rattle.wg_small.specs.Limits.{RecordsSmallRanges}
 use Rattle.wg_small.proofs.Stepped.{ranges_of_recordings, reads_back_by_recordings}
 use Rattle.wg_ranged.specs.Ranged.{StepsAreSmall, ReadsBackByCounts, ReadsBackByLength}
 use Rattle.wg_ranged.proofs.History.{recordings_are_small}

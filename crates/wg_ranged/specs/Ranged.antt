@@ -1,5 +1,5 @@
 -- The ranges of what command buffers do are small, so that the report of a run is read back.
-use Rattle.std.specs.Prelude.{ℕ, ◌+◌, ◌≤◌, List, length, Ok, ◌≡◌}
+use Rattle.std.specs.Prelude.{◌+◌, ◌≤◌, List, length, Ok, ◌≡◌}
 use Rattle.wg_limits.specs.Limits.{AreNoBetter, HaveFixed}
 use Rattle.wg_rows.specs.Rows.{EachRow}
 use Rattle.wg_history.specs.declared.events.Setup.{Setup}

@@ -25,6 +25,7 @@ const INFO: BufferInfo = BufferInfo {
 };
 
 /// A device, and what it handed out at its last call.
+#[derive(Drop)]
 struct Driven {
     alloc: Global,
     core: Core,
