@@ -35,7 +35,7 @@ fn with_buffer(alloc: Global) -> Result<Life, NoMemory>
 
 /// The buffer that is released where all operations up to this one are complete, if one is.
 fn released(alloc: Global, life: &mut Life, completed: u64) -> Result<Option<u64>, NoMemory> {
-    let mut trace = Vec::with_capacity(alloc, life.count() as usize)?;
+    let mut trace = Vec::with_capacity(alloc, life.live() as usize)?;
     life.release(completed, &mut trace);
     match trace.as_slice() {
         [
