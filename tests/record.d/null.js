@@ -33,9 +33,18 @@ const world = {
   console: { error() {}, warn() {}, log() {} }, performance, setTimeout, setInterval, clearInterval, queueMicrotask, DOMException, addEventListener() {},
   location: { href: 'http://127.0.0.1/null.html', pathname: '/null.html' },
 };
-let time = 0;
-world.requestAnimationFrame = act => setTimeout(() => act(time), 16);
-setInterval(() => { time++; }, 16).unref();
+// Each update has a time of its own, however long the machine takes.
+let time = 0, waiting = [];
+function update() {
+  const called = waiting;
+  waiting = [];
+  time++;
+  for (const act of called) act(time);
+}
+world.requestAnimationFrame = act => {
+  if (!waiting.length) setTimeout(update, 16);
+  return waiting.push(act);
+};
 world.MessageChannel = class {
   constructor() {
     this.port1 = {};
