@@ -1,5 +1,5 @@
 -- What is written of a log is what is written of the history that it is of.
-use Rattle.std.proofs.Common.{◌≡◌, ℕ, ◌+◌, Bool, List, [], ◌∷◌, ◌++◌, codes, map, length, count_by, Option, refl, ap, ap₂, sym, ◌∙◌, arith, if◌then◌else◌}
+use Rattle.std.proofs.Common.{◌≡◌, ℕ, ◌+◌, Bool, List, [], ◌∷◌, ◌++◌, codes, map, length, fold, count_by, Option, refl, ap, ap₂, sym, ◌∙◌, arith, if◌then◌else◌}
 use Rattle.wg_types.specs.declared.steps.Item.{Item}
 use Rattle.wg_history.specs.Entries.{Entry}
 use Rattle.wg_core.specs.declared.logged.Line.{Line}
@@ -20,9 +20,12 @@ text_of lines history trace are = ap (λ (ls : List Line). logged_text ls trace)
     trace_of : List Told → List ℕ
     trace_of entries = trace_behind (history_text entries) trace
 
+fold_lines : (f : ℕ → Line → ℕ) (n : ℕ) (history : List Entry) → fold f n (map line_of history) ≡ fold (λ (m : ℕ) (entry : Entry). f m (line_of entry)) n history
+fold_lines f n [] = refl
+fold_lines f n (entry ∷ history) = fold_lines f (f n (line_of entry)) history
+
 count_lines : (test : Line → Bool) (history : List Entry) → count_by test (map line_of history) ≡ count_by (λ (entry : Entry). test (line_of entry)) history
-count_lines test [] = refl
-count_lines test (entry ∷ history) = ap (λ n. (if test (line_of entry) then 1 else 0) + n) (count_lines test history)
+count_lines test history = fold_lines (λ (m : ℕ) (line : Line). m + (if test line then 1 else 0)) 0 history
 
 length_lines : (history : List Entry) → length (map line_of history) ≡ length history
 length_lines [] = refl
