@@ -204,7 +204,9 @@ fn of_groups<R: Wait + Abort>(
 
 /// The same, of a device that is dropped here.
 fn told_of_groups<R: Wait + Abort>(rt: &R, alloc: Global) -> Option<(Answer, Option<u16>)> {
-    let (device, mut passes) = Device::open(alloc, 1024, 1, &default_limits(), 1).ok()?;
+    let Ok((device, mut passes)) = Device::open(alloc, 1024, 1, &default_limits(), 1) else {
+        return None;
+    };
     let mut pass = passes.pop().unwrap();
     of_groups(rt, alloc, &device, &mut pass)
 }
@@ -260,7 +262,9 @@ fn of_rules<R: Wait>(rt: &R, alloc: Global, device: &Device, pass: &mut DevicePa
 
 /// The same, of a device that is dropped here.
 fn told_of_rules<R: Wait>(rt: &R, alloc: Global) -> Option<Told> {
-    let (device, mut passes) = Device::open(alloc, 1024, 1, &default_limits(), 1).ok()?;
+    let Ok((device, mut passes)) = Device::open(alloc, 1024, 1, &default_limits(), 1) else {
+        return None;
+    };
     let mut pass = passes.pop().unwrap();
     of_rules(rt, alloc, &device, &mut pass)
 }
