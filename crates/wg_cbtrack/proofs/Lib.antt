@@ -1,0 +1,10 @@
+pub mod Rowed
+pub mod Split
+pub mod Joins
+pub mod Items
+pub mod Adding
+pub mod Tracked
+pub mod Nexts
+pub mod Leaving
+pub mod Whole
+pub mod Seeing

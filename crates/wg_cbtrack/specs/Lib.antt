@@ -1,0 +1,9 @@
+pub mod Leaves
+pub mod Group
+pub mod Join
+pub mod Items
+pub mod Track
+pub mod Adds
+pub mod Next
+pub mod Seen
+pub mod Plans

@@ -1,0 +1,63 @@
+-- What one more noted step makes of a tracker.
+use Rattle.std.specs.Prelude.{◌≡◌, Bool, true, false, not, ◌&&◌, ◌||◌, List, [], ◌∷◌, ◌++◌, if◌then◌else◌}
+use Rattle.wg_types.specs.declared.steps.Deed.{Deed}
+use Rattle.wg_types.specs.declared.steps.StepName.TheVariants.{Clear}
+use Rattle.wg_rows.specs.Runs.{Cells, Cell, cell_spot, cell_sort}
+use Rattle.wg_rows.specs.Rows.{Apart, has_value}
+use Rattle.wg_rows.specs.Uses.{Kind, Write, same_kind, row_reads, row_writes, row_unsets}
+use Rattle.wg_rows.specs.Sets.{UseRow, sets}
+use Rattle.wg_tracker.specs.Cleared.{uses_of}
+use Rattle.wg_cbtrack.specs.declared.kept.Kept.{Kept}
+use Rattle.wg_cbtrack.specs.Leaves.{AreTidy}
+use Rattle.wg_cbtrack.specs.Join.{inner_changes, opens, used_after}
+use Rattle.wg_cbtrack.specs.Items.{noted}
+use Rattle.wg_cbtrack.specs.declared.kept.Rows.{Rows}
+use Rattle.wg_cbtrack.specs.Track.{IsTrack, Holds}
+
+-- a clear inside, of rows of cells
+abbrev pub clear_deed : List (Cells × Kind) → Deed
+clear_deed rows = record { name = Clear; uses = uses_of rows; accesses = rows }
+
+-- What is kept of a deed over rows of uses, and those after it.
+pub record IsKept (ends : List UseRow) (d : Deed) (was_noted : Bool) (k : Kept) (later : List UseRow) : Type 0 where
+  pub deed : k.deed ≡ d
+  pub changes : k.changes ≡ inner_changes ends (sets d.uses)
+  pub first : k.first ≡ opens ends (sets d.uses)
+  pub is_noted : k.is_noted ≡ was_noted
+  pub after : later ≡ used_after (sets d.uses) ends
+
+-- What is kept of a deed and of the clear inside before it, if there is one.
+pub record WithClear (ends : List UseRow) (rows : List (Cells × Kind)) (deed : Deed) (held : List Kept) (after : List UseRow) : Type 0 where
+  pub clear : Kept
+  pub mid : List UseRow
+  pub step : Kept
+  pub more : held ≡ clear ∷ (step ∷ [])
+  pub clears : IsKept ends (clear_deed rows) false clear mid
+  pub steps : IsKept mid deed true step after
+
+pub record WithoutClear (ends : List UseRow) (deed : Deed) (held : List Kept) (after : List UseRow) : Type 0 where
+  pub step : Kept
+  pub more : held ≡ step ∷ []
+  pub steps : IsKept ends deed true step after
+
+abbrev pub AreMore : List UseRow → List (Cells × Kind) → Deed → List Kept → List UseRow → Type 0
+AreMore ends [] deed more after = WithoutClear ends deed more after
+AreMore ends (x ∷ rows) deed more after = WithClear ends (x ∷ rows) deed more after
+
+-- The cells of one more step: those that a clear inside sets before it, those that are wanted from before all, and what
+-- is left after it.
+pub record AreCells (asked leaves accesses found asked_after leaves_after : List (Cells × Kind)) : Type 0 where
+  pub apart : Apart cell_sort found
+  pub clear : (c : Cell) (v : Kind) → has_value cell_sort same_kind (cell_spot c) v found ≡ ((row_reads c accesses && row_unsets c leaves) && same_kind v Write)
+  pub wants : (c : Cell) → row_reads c asked_after ≡ (row_reads c asked || (not (row_writes c leaves) && row_reads c accesses))
+  pub writes : (c : Cell) → row_writes c leaves_after ≡ (row_writes c accesses || row_writes c leaves)
+  pub unsets : (c : Cell) → row_unsets c leaves_after ≡ (if row_writes c accesses then row_unsets c accesses else (if row_reads c accesses && row_unsets c leaves then false else row_unsets c leaves))
+  pub tidy : AreTidy asked_after leaves_after
+
+-- What follows a tracker that keeps these rows: what more is kept, and the rows after one more step.
+abbrev pub Follows : List UseRow → List (Cells × Kind) → List (Cells × Kind) → Deed → List Kept → List UseRow → List (Cells × Kind) → List (Cells × Kind) → Type 0
+Follows ends wants leaves deed more ends_after wants_after leaves_after = (deeds : List Deed) (held : List Kept) → IsTrack deeds held ends wants leaves → deeds ≡ noted held → IsTrack (noted (held ++ more)) (held ++ more) ends_after wants_after leaves_after × (noted (held ++ more) ≡ deeds ++ deed ∷ [])
+
+-- The same of all that a tracker holds.
+abbrev pub FollowsAll : Rows → Deed → List Kept → Rows → Type 0
+FollowsAll rows deed more later = (deeds : List Deed) (held : List Kept) → Holds deeds held rows → deeds ≡ noted held → Holds (noted (held ++ more)) (held ++ more) later × (noted (held ++ more) ≡ deeds ++ deed ∷ [])

@@ -1,0 +1,41 @@
+//! The uses of noted steps: of each part the set of its first and of its last step.
+ghost use Rattle.std.specs.Prelude.{◌≡◌, List, [], ◌∷◌, ◌++◌, IfOk};
+ghost use Rattle.wg_types.specs.declared.steps.Deed.{Deed};
+ghost use Rattle.wg_cbtrack.specs.Seen.{AreSeen};
+
+use crate::join::{opens, used_after};
+use std::alloc::Global;
+use wg_entry::NoMemory;
+use wg_rows::rows::put_all;
+use wg_rows::uses::sets;
+use wg_types::parts::PartRun;
+use wg_types::usages::Usages;
+
+/// The first and the last sets of parts.
+#[derive(Drop)]
+pub struct Seen {
+    pub starts: Vec<(PartRun, Usages)>,
+    pub ends: Vec<(PartRun, Usages)>,
+}
+
+/// The first and the last sets after one more step with these uses.
+pub fn see(
+    alloc: Global,
+    starts: &[(PartRun, Usages)],
+    ends: &[(PartRun, Usages)],
+    uses: &[(PartRun, Usages)],
+) -> Result<Seen, NoMemory>
+    ensures { IfOk result (λ seen. (deeds : List Deed) (d : Deed) → d.uses ≡ uses.now →
+        AreSeen deeds starts.now ends.now → AreSeen (deeds ++ d ∷ []) seen.starts.items seen.ends.items) }
+{
+    let uses = sets(alloc, uses)?;
+    let first = opens(alloc, starts, uses.as_slice())?;
+    let before = Vec::from_slice(alloc, starts)?;
+    let starts_after = put_all(alloc, before, first.as_slice())?;
+    let held = Vec::from_slice(alloc, ends)?;
+    let ends_after = used_after(alloc, held, uses.as_slice())?;
+    Ok(Seen {
+        starts: starts_after,
+        ends: ends_after,
+    })
+}

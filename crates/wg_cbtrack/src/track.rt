@@ -1,0 +1,205 @@
+//! The tracker of a command buffer.
+ghost use Rattle.std.specs.Prelude.{◌≡◌, ◌+◌, ◌≤◌, [], ◌∷◌, ◌++◌, vec_len, vec_capacity, IfOk, IfErr, OnOk, OnErr};
+ghost use Rattle.wg_rows.specs.Rows.{Apart};
+ghost use Rattle.wg_rows.specs.Runs.{Cell, cell_sort};
+ghost use Rattle.wg_rows.specs.Uses.{row_reads};
+ghost use Rattle.wg_orders.specs.Steps.{StepPlace};
+ghost use Rattle.wg_orders.specs.Trace.{needs};
+ghost use Rattle.wg_cbtrack.specs.Group.{placed_all};
+ghost use Rattle.wg_cbtrack.specs.Leaves.{as_reads};
+ghost use Rattle.wg_cbtrack.specs.Track.{IsTrack};
+ghost use Rattle.wg_cbtrack.specs.Seen.{AreStarts, AreEnds};
+
+use crate::draft::Track;
+use crate::kept::{Kept, Rows};
+use crate::noting::{After, step_after};
+use std::alloc::Global;
+use std::marker::Model;
+use wg_entry::NoMemory;
+use wg_types::parts::{Cells, PartRun};
+use wg_types::steps::Deed;
+use wg_types::usages::Usages;
+
+/// What is found of the steps of a command buffer, outside any trace. It is seen as the list of what was
+/// noted.
+#[derive(Drop)]
+pub struct CbTrack {
+    alloc: Global,
+    kept: Vec<Kept>,
+    rows: Rows,
+}
+
+impl Model for CbTrack {
+    ghost use Rattle.std.specs.Prelude.{List};
+    ghost use Rattle.wg_types.specs.declared.steps.Deed.{Deed};
+    ghost use Rattle.wg_cbtrack.specs.Track.{Holds};
+    ghost use Rattle.wg_cbtrack.specs.Items.{noted};
+
+    ghost Value = { List Deed };
+
+    ghost view = { λ t. noted t.kept.items };
+
+    ghost invariant = { λ t. Holds (noted t.kept.items) t.kept.items t.rows };
+}
+
+/// A tracker with room for one more step.
+#[derive(Drop)]
+pub struct Ready {
+    alloc: Global,
+    kept: Vec<Kept>,
+    rows: Rows,
+    more: Vec<Kept>,
+    later: Rows,
+}
+
+impl Model for Ready {
+    ghost use Rattle.std.specs.Prelude.{◌≤◌, ◌+◌, ◌++◌, vec_len, vec_capacity};
+    ghost use Rattle.wg_cbtrack.specs.Track.{Holds, ReadyValue};
+    ghost use Rattle.wg_cbtrack.specs.Items.{noted};
+
+    ghost Value = { ReadyValue };
+
+    ghost view = { λ r. record { before = noted r.kept.items; after = noted (r.kept.items ++ r.more.items) } };
+
+    ghost invariant = { λ r. Holds (noted r.kept.items) r.kept.items r.rows × Holds (noted (r.kept.items ++ r.more.items)) (r.kept.items ++ r.more.items) r.later × (vec_len r.kept + vec_len r.more ≤ vec_capacity r.kept) };
+}
+
+/// Adds what is kept at the end, in room that there is.
+fn append_reserved(to: &mut Vec<Kept>, mut from: Vec<Kept>)
+    requires { vec_len to.old + vec_len from ≤ vec_capacity to.old }
+    ensures { to.new.items ≡ to.old.items ++ from.items }
+{
+    let _ = to.append(&mut from);
+}
+
+impl CbTrack {
+    /// Nothing is noted. It takes no memory.
+    pub fn new(alloc: Global) -> CbTrack
+        ensures { result ≡ [] }
+    {
+        CbTrack {
+            alloc,
+            kept: Vec::new(alloc),
+            rows: Rows {
+                ends: Vec::new(alloc),
+                wants: Vec::new(alloc),
+                leaves: Vec::new(alloc),
+                starts: Vec::new(alloc),
+                last: Vec::new(alloc),
+                needs: Vec::new(alloc),
+            },
+        }
+    }
+
+    /// What it keeps.
+    pub(crate) fn lent(&self) -> Track<'_>
+        ensures { IsTrack self.now result.kept.now result.ends.now result.wants.now result.leaves.now }
+    {
+        Track {
+            kept: self.kept.as_slice(),
+            ends: self.rows.ends.as_slice(),
+            wants: self.rows.wants.as_slice(),
+            leaves: self.rows.leaves.as_slice(),
+        }
+    }
+
+    /// Each part that the steps use, with its set in the first of them.
+    pub fn starts(&self) -> &[(PartRun, Usages)]
+        ensures { AreStarts self.now result.now }
+    {
+        self.rows.starts.as_slice()
+    }
+
+    /// Each part that the steps use, with its set in the last of them.
+    pub fn ends(&self) -> &[(PartRun, Usages)]
+        ensures { AreEnds self.now result.now }
+    {
+        self.rows.last.as_slice()
+    }
+
+    /// The cells that a step reads and no earlier one writes.
+    pub fn needs(&self) -> &[Cells]
+        ensures printed { Apart cell_sort (as_reads result.now) }
+        ensures cells { (place : StepPlace) (c : Cell) →
+            row_reads c (as_reads result.now) ≡ needs (placed_all place self.now) c }
+    {
+        self.rows.needs.as_slice()
+    }
+
+    /// Notes a step.
+    pub fn note(&mut self, deed: &Deed) -> Result<(), NoMemory>
+        ensures noted { OnOk result (self.new ≡ self.old ++ deed.now ∷ []) }
+        ensures unchanged { OnErr result (self.new ≡ self.old) }
+    {
+        let after = step_after(self.alloc, &self.rows, deed)?;
+        let After { mut kept, rows } = after;
+        self.kept.append(&mut kept)?;
+        self.rows = rows;
+        Ok(())
+    }
+
+    /// Takes the room that it takes to note a step, without noting it. Without memory the tracker comes
+    /// back as it was.
+    pub fn room(self, deed: &Deed) -> Result<Ready, CbTrack>
+        ensures before { IfOk result (λ ready. ready.before ≡ self) }
+        ensures after { IfOk result (λ ready. ready.after ≡ self ++ deed.now ∷ []) }
+        ensures back { IfErr result (λ track. track ≡ self) }
+    {
+        let CbTrack {
+            alloc,
+            mut kept,
+            rows,
+        } = self;
+        let Ok(after) = step_after(alloc, &rows, deed) else {
+            return Err(CbTrack { alloc, kept, rows });
+        };
+        let After {
+            kept: more,
+            rows: later,
+        } = after;
+        if kept.reserve(more.len()).is_err() {
+            return Err(CbTrack { alloc, kept, rows });
+        }
+        Ok(Ready {
+            alloc,
+            kept,
+            rows,
+            more,
+            later,
+        })
+    }
+}
+
+impl Ready {
+    /// The tracker with the step noted. It takes no memory, and the room is used.
+    pub fn note(self) -> CbTrack
+        ensures { result ≡ self.after }
+    {
+        let Ready {
+            alloc,
+            mut kept,
+            more,
+            later,
+            ..
+        } = self;
+        append_reserved(&mut kept, more);
+        CbTrack {
+            alloc,
+            kept,
+            rows: later,
+        }
+    }
+
+    /// The tracker without the step.
+    pub fn leave(self) -> CbTrack
+        ensures { result ≡ self.before }
+    {
+        let Ready {
+            alloc,
+            kept,
+            rows,
+            ..
+        } = self;
+        CbTrack { alloc, kept, rows }
+    }
+}
