@@ -120,7 +120,7 @@ impl Model for State {
       queue_fits : s.spare ≤ s.kept.queue.spare;
       errors_fit : s.spare ≤ s.kept.errors.spare;
       maps_fit : s.spare ≤ s.kept.maps.spare;
-      recordings_are : AreLeft s.setup (reverse s.book.entries) s.recordings.slots;
+      recordings_are : AreLeft s.setup (reverse s.book.entries) s.recordings.kept;
       recordings_fit : s.spare ≤ s.recordings.spare;
     } };
 }
@@ -362,6 +362,7 @@ impl State {
     }
 
     /// Makes room for one entry more, which makes this object, if it makes one.
+    #[tactic(auto, using(crate::proofs::Recorded::left_as))]
     pub fn reserve(&mut self, made: &Option<Made>) -> Result<(), NoMemory>
         ensures setup { self.new.setup ≡ self.old.setup }
         ensures history { self.new.history ≡ self.old.history }
@@ -422,9 +423,10 @@ impl State {
             &mut self.kept,
             trace,
         );
+        let number = self.book.count();
         self.book.add(&entry, info);
         let Entry { event, reply, .. } = entry;
-        keep(event, &mut self.recordings);
+        keep(number, event, &mut self.recordings);
         self.spare -= 1;
         reply
     }

@@ -208,7 +208,7 @@ pub fn uses_left(
     recordings: &Recordings,
     buffers: &[ObjRef],
 ) -> Result<Vec<Used>, NoMemory>
-    ensures { IfOk result (λ uses. uses.items ≡ uses_left recordings.now.slots buffers.now) }
+    ensures { IfOk result (λ uses. uses.items ≡ uses_left recordings.now.kept buffers.now) }
 {
     let mut uses = Vec::new(alloc);
     for buffer in buffers {

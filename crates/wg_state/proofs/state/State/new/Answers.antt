@@ -13,6 +13,6 @@ invariant_of-result-2 c = record {
   queue_fits = omega arith;
   errors_fit = omega arith;
   maps_fit = omega arith;
-  recordings_are = left_none c.args.setup c.new.result.entries c.new-6.result.slots (ap (λ (b : BookValue). b.entries) c.new.ensures) c.new-6.ensures;
+  recordings_are = left_none c.args.setup c.new.result.entries c.new-6.result.kept (ap (λ (b : BookValue). b.entries) c.new.ensures) c.new-6.ensures;
   recordings_fit = omega arith;
 }

@@ -1,0 +1,14 @@
+use Rattle.std.proofs.Common.{◌≡◌, reverse, Some, None, rules}
+use Rattle.wg_state.specs.Rows.{dropped_by}
+use Rattle.wg_state.proofs.Recorded.{dropped_none, dropped_one}
+use Rattle.wg_state.proofs.recordings.forget_dropped.Goals as goal
+
+pub returns-in_default-clause-kept : goal.returns-in_default-clause-kept
+returns-in_default-clause-kept c =
+    let none : dropped_by c.args.setup (reverse c.args.book.now.entries) c.args.event.now ≡ None = search rules in
+    dropped_none c.args.setup (reverse c.args.book.now.entries) c.args.event.now c.args.recordings.now.kept none
+
+pub returns-clause-kept : goal.returns-clause-kept
+returns-clause-kept c =
+    let some : dropped_by c.args.setup (reverse c.args.book.now.entries) c.args.event.now ≡ Some c.in-Some.number = search rules in
+    dropped_one c.args.setup (reverse c.args.book.now.entries) c.args.event.now c.in-Some.number c.args.recordings.now.kept c.forget.new.self.kept some c.forget.ensures.kept
