@@ -1,3 +1,5 @@
+pub mod Asked
+pub mod Flats
 pub mod Items
 pub mod Laws
 pub mod Replies
