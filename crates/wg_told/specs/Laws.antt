@@ -1,0 +1,23 @@
+-- Nothing is lost in what is told: what is told alike is the same.
+use Rattle.std.specs.Prelude.{◌≡◌, ℕ, map}
+use Rattle.wg_types.specs.declared.replies.Reply.{Reply}
+use Rattle.wg_types.specs.declared.replies.Settlement.{Settlement}
+use Rattle.wg_types.specs.declared.steps.Item.{Item}
+use Rattle.wg_told.specs.Replies.{reply_told, settlement_told}
+use Rattle.wg_told.specs.Items.{item_told, use_told, access_told, uses_of, accesses_of}
+
+-- two items that are told alike, with their uses and accesses
+abbrev pub ItemsToldApart : Type 0
+ItemsToldApart =
+    (a b : Item) → item_told a ≡ item_told b → map use_told (uses_of a) ≡ map use_told (uses_of b)
+    → map access_told (accesses_of a) ≡ map access_told (accesses_of b) → a ≡ b
+
+-- two settlements that are told alike
+abbrev pub SettlementsToldApart : Type 0
+SettlementsToldApart = (a b : Settlement) → settlement_told a ≡ settlement_told b → a ≡ b
+
+-- two replies that are told alike, with what they settle, and at the same entry and pass
+abbrev pub RepliesToldApart : Type 0
+RepliesToldApart =
+    (a b : Reply) (m n p q : ℕ) → reply_told a m p ≡ reply_told b n q
+    → map settlement_told a.settled ≡ map settlement_told b.settled → (a ≡ b) × (m ≡ n) × (p ≡ q)

@@ -1,0 +1,7 @@
+pub mod Asked
+pub mod Flats
+pub mod Items
+pub mod Laws
+pub mod Limits
+pub mod Replies
+pub mod Tables

@@ -1,0 +1,17 @@
+//! The laws of what is told, as the contracts of functions that do nothing.
+ghost use Rattle.wg_told.specs.Laws.{ItemsToldApart, RepliesToldApart, SettlementsToldApart};
+
+/// Two items that are told alike, with their uses and accesses, are the same.
+pub fn items_told_apart()
+    ensures { ItemsToldApart }
+{}
+
+/// Two settlements that are told alike are the same.
+pub fn settlements_told_apart()
+    ensures { SettlementsToldApart }
+{}
+
+/// Two replies that are told alike, with what they settle, are the same, of the same entry and the same pass.
+pub fn replies_told_apart()
+    ensures { RepliesToldApart }
+{}

@@ -1,0 +1,760 @@
+/* The device core of WebGPU, for callers in C (C99) and C++ (C++17).
+ *
+ * It answers which calls are valid and what error each makes, and it tells which barriers and clears a
+ * driver has to do, and when memory may be given back. It has no driver in it. docs/embedding.md says how
+ * to build and link it, and how an engine uses it; docs/rules.md what each rule number says.
+ *
+ * Device. A wethlorn_device is one pointer. Set it to {0} before wethlorn_open. C never writes, reads or
+ * copies it otherwise. What lies behind it belongs to it, until wethlorn_close. Each call tests whether it
+ * is open, and answers WETHLORN_CLOSED where it is not.
+ *
+ * Objects. An object goes by its number, which the reply to the call that makes it gives. Numbers of a
+ * device count up from 0, and none is given twice. They are no pointers: a number that was never given, or
+ * that was let go by wethlorn_drop, is answered by WETHLORN_NO_OBJECT, and one that stands for another kind
+ * of object by a fault, as WebGPU does. A caller has nothing to free but the device.
+ *
+ * Status. Each call returns a status. WETHLORN_OK: it was made, and `out` has the answer. Otherwise nothing
+ * was made: the device is as it was before the call, and `out` is not written. After WETHLORN_NO_MEMORY the
+ * call may be made again.
+ *
+ * Faults. A call that WebGPU refuses has the status WETHLORN_OK, and its reply has the fault: an error is
+ * an answer like others.
+ *
+ * Pointers. All are needed, none may be null, not even that of a list of 0 elements. What `const` pointers
+ * point to stays the caller's: it is read during the call and not kept. What `out` points to is the caller's
+ * too, and may not overlap anything else that the call is given.
+ *
+ * Threads. Any thread may call, one at a time for each device, with the calls ordered by the caller's own
+ * lock, or by a thread's start or join. Two devices have nothing in common. No call waits, and none may be
+ * made from a signal handler or a forked child.
+ *
+ * Values. An enumerated value that is left out is 0, and that is allowed where a comment says so. A flag is
+ * 0 or 1. A number or an object that may be left out is WETHLORN_NONE. Whatever else is out of range, also a
+ * number above 2^32 - 1 where one of 32 bits is asked for, has the status WETHLORN_BAD_VALUE.
+ */
+#ifndef WETHLORN_H
+#define WETHLORN_H
+#include <stddef.h>
+#include <stdint.h>
+#ifdef __cplusplus
+extern "C" {
+#endif
+
+/* A device: null before wethlorn_open and after wethlorn_close. */
+typedef struct wethlorn_device {
+    void *inside;
+} wethlorn_device;
+
+/* What is left out: a number, a size (which is then what remains) or an object. */
+#define WETHLORN_NONE UINT64_MAX
+/* As the pass on which a command stands: none, the command stands on the encoder or bundle encoder itself. */
+#define WETHLORN_ON_ENCODER UINT32_MAX
+
+/* What calls return. */
+enum {
+    WETHLORN_OK = 0,
+    WETHLORN_NO_MEMORY = 1, /* no memory on the host: nothing has changed, and the call may be made again */
+    WETHLORN_NO_OBJECT = 2, /* a number that was never given, or was let go by a drop: nothing was sent */
+    WETHLORN_CLOSED = 3,    /* the device is not open */
+    WETHLORN_BAD_VALUE = 4, /* a value out of its range: nothing was sent */
+    WETHLORN_NO_PASS = 5,   /* no pass with this number was begun on the encoder, which is open */
+    WETHLORN_END = 6,       /* of a drain: all was told */
+    WETHLORN_IS_OPEN = 7    /* of wethlorn_open: the device is open already */
+};
+
+/* What a reply says. */
+enum {
+    WETHLORN_MADE = 1,           /* the object `number` was made, `valid` or not */
+    WETHLORN_QUEUED = 2,         /* the operation `number` was queued; they count from 1 */
+    WETHLORN_PROMISED = 3,       /* the promise `number` was made */
+    WETHLORN_PLAIN = 4,          /* none of these */
+    WETHLORN_BAD_COMPLETION = 5, /* of operations that are complete already, or were never queued */
+    WETHLORN_KEPT = 6            /* a command was recorded. There is no word on validity till the finish */
+};
+
+/* Kinds of faults; also of what an error scope received. */
+enum { WETHLORN_NO_FAULT = 0, WETHLORN_VALIDATION = 1, WETHLORN_OUT_OF_MEMORY = 2 };
+
+/* Which faults an error scope catches. No fault is internal. */
+enum { WETHLORN_FILTER_VALIDATION = 1, WETHLORN_FILTER_OUT_OF_MEMORY = 2, WETHLORN_FILTER_INTERNAL = 3 };
+
+/* How a promise was settled. */
+enum {
+    WETHLORN_MAPPED = 1,
+    WETHLORN_DONE = 2,
+    WETHLORN_ABORTED = 3,
+    WETHLORN_REJECTED = 4,
+    WETHLORN_NULL = 5, /* of an error scope that received nothing */
+    WETHLORN_ERROR = 6 /* of an error scope, with the fault and the rule that it received first */
+};
+
+/* What an item of the trace is. */
+enum { WETHLORN_BARRIER = 1, WETHLORN_STEP = 2, WETHLORN_RELEASE = 3 };
+
+/* What a step is. */
+enum {
+    WETHLORN_STEP_CLEAR = 1, /* sets fresh memory to zero */
+    WETHLORN_STEP_WRITE_BUFFER = 2,
+    WETHLORN_STEP_WRITE_TEXTURE = 3,
+    WETHLORN_STEP_COPY_BUFFER_TO_BUFFER = 4,
+    WETHLORN_STEP_COPY_BUFFER_TO_TEXTURE = 5,
+    WETHLORN_STEP_COPY_TEXTURE_TO_BUFFER = 6,
+    WETHLORN_STEP_COPY_TEXTURE_TO_TEXTURE = 7,
+    WETHLORN_STEP_CLEAR_BUFFER = 8,
+    WETHLORN_STEP_RESOLVE_QUERY_SET = 9,
+    WETHLORN_STEP_DISPATCH = 10,
+    WETHLORN_STEP_RENDER_PASS = 11,
+    WETHLORN_STEP_HOST_READ = 12,
+    WETHLORN_STEP_HOST_WRITE = 13
+};
+
+/* What a range is of. */
+enum {
+    WETHLORN_OF_BUFFER = 1,    /* a part: the whole buffer. Cells: its bytes from `lo` to below `hi` */
+    WETHLORN_OF_QUERY_SET = 2, /* a part: the whole query set. Cells: its queries from `lo` to below `hi` */
+    WETHLORN_OF_TEXTURE = 3,   /* the layers from `lo` to below `hi` of one aspect and mip level */
+    WETHLORN_OF_SLICES = 4     /* cells of a 3D texture: the slices from `lo` to below `hi` of a mip level */
+};
+enum { WETHLORN_COLOR = 1, WETHLORN_DEPTH = 2, WETHLORN_STENCIL = 3 };
+
+/* How a step accesses cells. */
+enum {
+    WETHLORN_READ = 1,
+    WETHLORN_WRITE = 2,
+    WETHLORN_READ_WRITE = 3, /* reads and then writes */
+    WETHLORN_DISCARD = 4,    /* leaves them unset, and reads nothing */
+    WETHLORN_READ_DISCARD = 5 /* reads and then leaves them unset */
+};
+
+/* Usages of parts of memory, of which a barrier and a use have sets: a bit each. */
+enum {
+    WETHLORN_USAGE_INPUT = 1,
+    WETHLORN_USAGE_CONSTANT = 2,
+    WETHLORN_USAGE_STORAGE = 4,
+    WETHLORN_USAGE_STORAGE_READ = 8,
+    WETHLORN_USAGE_ATTACHMENT = 16,
+    WETHLORN_USAGE_ATTACHMENT_READ = 32,
+    WETHLORN_USAGE_COPY_SRC = 64,
+    WETHLORN_USAGE_COPY_DST = 128,
+    WETHLORN_USAGE_QUERY_WRITE = 256,
+    WETHLORN_USAGE_QUERY_READ = 512,
+    WETHLORN_USAGE_HOST_READ = 1024,
+    WETHLORN_USAGE_HOST_WRITE = 2048,
+    WETHLORN_USAGE_CLEAR = 4096
+};
+
+/* Limits that one can ask for. */
+enum {
+    WETHLORN_MAX_TEXTURE_DIMENSION_1D = 1,
+    WETHLORN_MAX_TEXTURE_DIMENSION_2D = 2,
+    WETHLORN_MAX_TEXTURE_DIMENSION_3D = 3,
+    WETHLORN_MAX_TEXTURE_ARRAY_LAYERS = 4,
+    WETHLORN_MAX_BIND_GROUPS = 5,
+    WETHLORN_MAX_BINDINGS_PER_BIND_GROUP = 6,
+    WETHLORN_MAX_DYNAMIC_UNIFORM_BUFFERS_PER_PIPELINE_LAYOUT = 7,
+    WETHLORN_MAX_DYNAMIC_STORAGE_BUFFERS_PER_PIPELINE_LAYOUT = 8,
+    WETHLORN_MAX_SAMPLED_TEXTURES_PER_SHADER_STAGE = 9,
+    WETHLORN_MAX_SAMPLERS_PER_SHADER_STAGE = 10,
+    WETHLORN_MAX_STORAGE_BUFFERS_PER_SHADER_STAGE = 11,
+    WETHLORN_MAX_STORAGE_TEXTURES_PER_SHADER_STAGE = 12,
+    WETHLORN_MAX_UNIFORM_BUFFERS_PER_SHADER_STAGE = 13,
+    WETHLORN_MAX_UNIFORM_BUFFER_BINDING_SIZE = 14,
+    WETHLORN_MAX_STORAGE_BUFFER_BINDING_SIZE = 15,
+    WETHLORN_MIN_UNIFORM_BUFFER_OFFSET_ALIGNMENT = 16,
+    WETHLORN_MIN_STORAGE_BUFFER_OFFSET_ALIGNMENT = 17,
+    WETHLORN_MAX_VERTEX_BUFFERS = 18,
+    WETHLORN_MAX_VERTEX_ATTRIBUTES = 19,
+    WETHLORN_MAX_VERTEX_BUFFER_ARRAY_STRIDE = 20,
+    WETHLORN_MAX_BUFFER_SIZE = 21,
+    WETHLORN_MAX_COLOR_ATTACHMENTS = 22,
+    WETHLORN_MAX_COMPUTE_WORKGROUPS_PER_DIMENSION = 23
+};
+
+/* Formats of textures. 0 where a format may be left out. */
+enum {
+    WETHLORN_R8_UNORM = 1,
+    WETHLORN_RG8_UNORM = 2,
+    WETHLORN_RGBA8_UNORM = 3,
+    WETHLORN_RGBA8_UNORM_SRGB = 4,
+    WETHLORN_BGRA8_UNORM = 5,
+    WETHLORN_R32_UINT = 6,
+    WETHLORN_R32_FLOAT = 7,
+    WETHLORN_RGBA16_FLOAT = 8,
+    WETHLORN_RGBA32_FLOAT = 9,
+    WETHLORN_DEPTH16_UNORM = 10,
+    WETHLORN_DEPTH24_PLUS = 11,
+    WETHLORN_DEPTH24_PLUS_STENCIL8 = 12,
+    WETHLORN_DEPTH32_FLOAT = 13,
+    WETHLORN_STENCIL8 = 14
+};
+
+/* Dimensions of textures, and of views, of which 0 is that of the texture. */
+enum { WETHLORN_1D = 1, WETHLORN_2D = 2, WETHLORN_3D = 3 };
+enum {
+    WETHLORN_VIEW_1D = 1,
+    WETHLORN_VIEW_2D = 2,
+    WETHLORN_VIEW_2D_ARRAY = 3,
+    WETHLORN_VIEW_CUBE = 4,
+    WETHLORN_VIEW_CUBE_ARRAY = 5,
+    WETHLORN_VIEW_3D = 6
+};
+
+/* Aspects that a view or a copy takes. */
+enum { WETHLORN_ASPECT_ALL = 1, WETHLORN_ASPECT_DEPTH_ONLY = 2, WETHLORN_ASPECT_STENCIL_ONLY = 3 };
+
+/* Kinds of samplers, and what a binding asks of one. */
+enum { WETHLORN_FILTERING = 1, WETHLORN_NON_FILTERING = 2, WETHLORN_COMPARISON = 3 };
+
+/* What a binding holds. */
+enum {
+    WETHLORN_BIND_UNIFORM = 1,           /* a buffer, with `dynamic` and `min_size` */
+    WETHLORN_BIND_STORAGE = 2,           /* the same */
+    WETHLORN_BIND_READ_ONLY_STORAGE = 3, /* the same */
+    WETHLORN_BIND_SAMPLER = 4,           /* with `sampler` */
+    WETHLORN_BIND_TEXTURE = 5,           /* with `sample`, `dim` and `multi` */
+    WETHLORN_BIND_STORAGE_TEXTURE = 6    /* with `access`, `format` and `dim` */
+};
+enum {
+    WETHLORN_SAMPLE_FLOAT = 1,
+    WETHLORN_SAMPLE_UNFILTERABLE_FLOAT = 2,
+    WETHLORN_SAMPLE_DEPTH = 3,
+    WETHLORN_SAMPLE_SINT = 4,
+    WETHLORN_SAMPLE_UINT = 5
+};
+enum { WETHLORN_ACCESS_READ_ONLY = 1, WETHLORN_ACCESS_WRITE_ONLY = 2, WETHLORN_ACCESS_READ_WRITE = 3 };
+enum { WETHLORN_STAGE_VERTEX = 1, WETHLORN_STAGE_FRAGMENT = 2, WETHLORN_STAGE_COMPUTE = 3 };
+
+/* What an entry of a bind group binds. */
+enum { WETHLORN_BOUND_BUFFER = 1, WETHLORN_BOUND_VIEW = 2, WETHLORN_BOUND_SAMPLER = 3 };
+
+enum { WETHLORN_STEP_PER_VERTEX = 1, WETHLORN_STEP_PER_INSTANCE = 2 };
+enum {
+    WETHLORN_VERTEX_UINT8X2 = 1,
+    WETHLORN_VERTEX_UINT8X4 = 2,
+    WETHLORN_VERTEX_UNORM8X4 = 3,
+    WETHLORN_VERTEX_UINT16X2 = 4,
+    WETHLORN_VERTEX_FLOAT16X2 = 5,
+    WETHLORN_VERTEX_FLOAT32 = 6,
+    WETHLORN_VERTEX_UINT32 = 7,
+    WETHLORN_VERTEX_SINT32 = 8,
+    WETHLORN_VERTEX_FLOAT16X4 = 9,
+    WETHLORN_VERTEX_FLOAT32X2 = 10,
+    WETHLORN_VERTEX_FLOAT32X3 = 11,
+    WETHLORN_VERTEX_FLOAT32X4 = 12
+};
+enum { WETHLORN_INDEX_UINT16 = 1, WETHLORN_INDEX_UINT32 = 2 };
+enum { WETHLORN_LOAD = 1, WETHLORN_CLEAR = 2 };
+enum { WETHLORN_STORE = 1, WETHLORN_STORE_DISCARD = 2 };
+
+/* The reply to a call. What its answer does not need is 0. */
+typedef struct wethlorn_reply {
+    uint64_t entry;  /* the number of the call's entry in the history, from 0; 0 of a KEPT, which has none */
+    uint64_t number; /* of the object, the operation or the promise; a promise goes by its entry */
+    uint64_t scope;  /* which error scope caught the fault, 0 being the outermost, where `caught` is 1 */
+    uint64_t settles; /* how many promises it settles, which wethlorn_next_settlement tells */
+    uint32_t answer;
+    uint32_t valid;  /* of a MADE: 1 where the object is valid */
+    uint32_t fault;  /* the kind of the fault, or WETHLORN_NO_FAULT */
+    uint32_t rule;   /* the number of the first rule that was broken (docs/rules.md) */
+    uint32_t caught; /* 1: an error scope caught the fault; 0: none did, and it is an uncaptured error */
+    uint32_t pass;   /* of a command that begins a pass: its number; 0 where the encoder has ended */
+} wethlorn_reply;
+
+/* A promise that was settled. */
+typedef struct wethlorn_settlement {
+    uint64_t promise;
+    uint32_t how, fault, rule;
+} wethlorn_settlement;
+
+/* Parts or cells of memory. What its sort does not need is 0. */
+typedef struct wethlorn_range {
+    uint64_t object, lo, hi;
+    uint32_t sort, aspect, mip;
+} wethlorn_range;
+
+/* An item of the trace. What it does not need is 0.
+ * A BARRIER: of `part`, from the set of usages `from`, or from none where `fresh` is 1, to `to`.
+ * A STEP: `name`; in the operation `place`, or where `host` is 1 on the host at the entry `place`; with so
+ * many uses and accesses, which wethlorn_item_use and wethlorn_item_access tell.
+ * A RELEASE: of the object and the sort of `part`. */
+typedef struct wethlorn_item {
+    uint32_t what, name;
+    wethlorn_range part;
+    uint32_t from, to, fresh, host;
+    uint64_t place, uses, accesses;
+} wethlorn_item;
+
+/* How a step uses a part: the set of its usages. */
+typedef struct wethlorn_use {
+    wethlorn_range part;
+    uint32_t usages;
+} wethlorn_use;
+
+/* How a step accesses cells. */
+typedef struct wethlorn_access {
+    wethlorn_range cells;
+    uint32_t kind;
+} wethlorn_access;
+
+typedef struct wethlorn_limit {
+    uint32_t name;
+    uint64_t value;
+} wethlorn_limit;
+
+typedef struct wethlorn_extent {
+    uint32_t width, height, depth; /* depth, or array layers */
+} wethlorn_extent;
+
+typedef struct wethlorn_origin {
+    uint32_t x, y, z; /* z: the slice, or the array layer */
+} wethlorn_origin;
+
+/* usage: MAP_READ 1, MAP_WRITE 2, COPY_SRC 4, COPY_DST 8, INDEX 16, VERTEX 32, UNIFORM 64, STORAGE 128,
+ * INDIRECT 256, QUERY_RESOLVE 512. */
+typedef struct wethlorn_buffer_desc {
+    uint64_t size;
+    uint32_t usage, mapped;
+} wethlorn_buffer_desc;
+
+/* usage: COPY_SRC 1, COPY_DST 2, TEXTURE_BINDING 4, STORAGE_BINDING 8, RENDER_ATTACHMENT 16. */
+typedef struct wethlorn_texture_desc {
+    wethlorn_extent size;
+    uint32_t usage, format, dim, mips, samples;
+} wethlorn_texture_desc;
+
+/* mips and layers may be WETHLORN_NONE, and dim 0. */
+typedef struct wethlorn_view_desc {
+    uint64_t mips, layers;
+    uint32_t dim, aspect, base_mip, base_layer;
+} wethlorn_view_desc;
+
+/* What a binding holds. Of the fields only those of its kind are looked at. */
+typedef struct wethlorn_binding {
+    uint64_t min_size;
+    uint32_t kind, dynamic, sampler, sample, dim, multi, access, format;
+} wethlorn_binding;
+
+/* visibility: vertex 1, fragment 2, compute 4. */
+typedef struct wethlorn_layout_entry {
+    uint32_t binding, visibility;
+    wethlorn_binding holds;
+} wethlorn_layout_entry;
+
+/* What a shader of a stage uses of a group. */
+typedef struct wethlorn_iface_entry {
+    uint32_t group, binding, stage;
+    wethlorn_binding holds;
+} wethlorn_iface_entry;
+
+/* Of a buffer offset and size count, and size may be WETHLORN_NONE. */
+typedef struct wethlorn_group_entry {
+    uint64_t object, offset, size;
+    uint32_t binding, bound;
+} wethlorn_group_entry;
+
+typedef struct wethlorn_vertex_buffer {
+    uint32_t stride, step;
+} wethlorn_vertex_buffer;
+
+/* An attribute of the vertex buffer with the index `buffer` in its list. Those of one buffer stand in order. */
+typedef struct wethlorn_vertex_attribute {
+    uint32_t buffer, format, offset, location;
+} wethlorn_vertex_attribute;
+
+/* layout may be WETHLORN_NONE: the pipeline derives its layout itself. depth_format may be 0: there is no
+ * depth, and depth_write and stencil_write are not looked at. */
+typedef struct wethlorn_render_desc {
+    uint64_t layout;
+    uint32_t samples, depth_format, depth_write, stencil_write;
+} wethlorn_render_desc;
+
+/* To what a bundle draws, beside its colors. depth_format may be 0. */
+typedef struct wethlorn_bundle_desc {
+    uint32_t samples, depth_format, depth_read_only, stencil_read_only;
+} wethlorn_bundle_desc;
+
+/* A color attachment. view may be WETHLORN_NONE: the slot is left out, and nothing else is looked at.
+ * depth_slice and resolve may be WETHLORN_NONE. */
+typedef struct wethlorn_color {
+    uint64_t view, depth_slice, resolve;
+    uint32_t load, store;
+} wethlorn_color;
+
+/* The depth and stencil attachment. view may be WETHLORN_NONE: there is none, and nothing else is looked at.
+ * The load and store operations may be 0. */
+typedef struct wethlorn_depth {
+    uint64_t view;
+    uint32_t depth_load, depth_store, depth_read_only, stencil_load, stencil_store, stencil_read_only;
+} wethlorn_depth;
+
+/* How texels lie in bytes. bytes_per_row and rows_per_image may be WETHLORN_NONE. */
+typedef struct wethlorn_texel_layout {
+    uint64_t offset, bytes_per_row, rows_per_image;
+} wethlorn_texel_layout;
+
+/* Where in a texture a copy begins. */
+typedef struct wethlorn_spot {
+    uint64_t texture;
+    wethlorn_origin origin;
+    uint32_t mip, aspect;
+} wethlorn_spot;
+
+typedef struct wethlorn_buffer_copy {
+    uint64_t source, source_offset, target, target_offset, size;
+} wethlorn_buffer_copy;
+
+/* A copy between a buffer and a texture, in either direction. */
+typedef struct wethlorn_texel_copy {
+    uint64_t buffer;
+    wethlorn_texel_layout layout;
+    wethlorn_spot spot;
+    wethlorn_extent size;
+} wethlorn_texel_copy;
+
+/* A copy of all aspects between textures. */
+typedef struct wethlorn_texture_copy {
+    uint64_t source, target;
+    wethlorn_origin source_origin, target_origin;
+    uint32_t source_mip, target_mip;
+    wethlorn_extent size;
+} wethlorn_texture_copy;
+
+/* A write of texels, from data_size bytes of data. */
+typedef struct wethlorn_texture_write {
+    wethlorn_texel_layout layout;
+    wethlorn_spot spot;
+    wethlorn_extent size;
+    uint64_t data_size;
+} wethlorn_texture_write;
+
+/* ---- Devices ---- */
+
+/* Opens a device whose resources may have `budget` bytes. Each device of a process gets another `serial`.
+ * It has the default limits, or of those that are asked for the better of default and value; where a limit
+ * stands twice the first counts. BAD_VALUE: a name that is none, a value better than the best, or an
+ * alignment that is no power of two below 2^32. Status: OK, NO_MEMORY, BAD_VALUE, IS_OPEN. Owner: the
+ * device owns what lies behind it until wethlorn_close; the list stays the caller's. Thread: any, one at a
+ * time, under the caller's lock. */
+uint32_t wethlorn_open(uint64_t budget, uint64_t serial, const wethlorn_limit *limits, size_t limits_count,
+    wethlorn_device *device);
+
+/* Closes a device, with all that it has. Items and settlements that were not told are lost. Status: OK,
+ * CLOSED. Owner: the memory behind the device is given back, and it is {0} afterwards. Thread: any, one at
+ * a time, under the caller's lock. */
+uint32_t wethlorn_close(wethlorn_device *device);
+
+/* ---- What is made. `who` is any number that the caller gives itself: it stands in the history alone. ---- */
+
+/* Makes a buffer (createBuffer). Status: OK, NO_MEMORY, CLOSED, BAD_VALUE. Owner: the device keeps what it
+ * makes; the arguments stay the caller's. Thread: any, one at a time, under the caller's lock. */
+uint32_t wethlorn_create_buffer(wethlorn_device *device, uint32_t who, const wethlorn_buffer_desc *desc,
+    wethlorn_reply *out);
+
+/* Makes a texture (createTexture). Status: OK, NO_MEMORY, CLOSED, BAD_VALUE. Owner: the device keeps what
+ * it makes; the arguments stay the caller's. Thread: any, one at a time, under the caller's lock. */
+uint32_t wethlorn_create_texture(wethlorn_device *device, uint32_t who, const wethlorn_texture_desc *desc,
+    wethlorn_reply *out);
+
+/* Makes a view of a texture (createView). Status: OK, NO_MEMORY, NO_OBJECT, CLOSED, BAD_VALUE. Owner: the
+ * device keeps what it makes; the arguments stay the caller's. Thread: any, one at a time, under the
+ * caller's lock. */
+uint32_t wethlorn_create_view(wethlorn_device *device, uint32_t who, uint64_t texture,
+    const wethlorn_view_desc *desc, wethlorn_reply *out);
+
+/* Makes a sampler (createSampler). Status: OK, NO_MEMORY, CLOSED, BAD_VALUE. Owner: the device keeps what
+ * it makes; the arguments stay the caller's. Thread: any, one at a time, under the caller's lock. */
+uint32_t wethlorn_create_sampler(wethlorn_device *device, uint32_t who, uint32_t kind, wethlorn_reply *out);
+
+/* Makes a bind group layout (createBindGroupLayout). Status: OK, NO_MEMORY, CLOSED, BAD_VALUE. Owner: the
+ * device keeps what it makes; the arguments stay the caller's. Thread: any, one at a time, under the
+ * caller's lock. */
+uint32_t wethlorn_create_bind_group_layout(wethlorn_device *device, uint32_t who,
+    const wethlorn_layout_entry *entries, size_t entries_count, wethlorn_reply *out);
+
+/* Makes a pipeline layout of bind group layouts (createPipelineLayout). Status: OK, NO_MEMORY, NO_OBJECT,
+ * CLOSED. Owner: the device keeps what it makes; the arguments stay the caller's. Thread: any, one at a
+ * time, under the caller's lock. */
+uint32_t wethlorn_create_pipeline_layout(wethlorn_device *device, uint32_t who, const uint64_t *layouts,
+    size_t layouts_count, wethlorn_reply *out);
+
+/* Makes a bind group (createBindGroup). Status: OK, NO_MEMORY, NO_OBJECT, CLOSED, BAD_VALUE. Owner: the
+ * device keeps what it makes; the arguments stay the caller's. Thread: any, one at a time, under the
+ * caller's lock. */
+uint32_t wethlorn_create_bind_group(wethlorn_device *device, uint32_t who, uint64_t layout,
+    const wethlorn_group_entry *entries, size_t entries_count, wethlorn_reply *out);
+
+/* Makes a compute pipeline (createComputePipeline) whose shader uses these bindings. `layout` may be
+ * WETHLORN_NONE: the pipeline derives its layout itself. Status: OK, NO_MEMORY, NO_OBJECT, CLOSED,
+ * BAD_VALUE. Owner: the device keeps what it makes; the arguments stay the caller's. Thread: any, one at a
+ * time, under the caller's lock. */
+uint32_t wethlorn_create_compute_pipeline(wethlorn_device *device, uint32_t who, uint64_t layout,
+    const wethlorn_iface_entry *iface, size_t iface_count, wethlorn_reply *out);
+
+/* Makes a render pipeline (createRenderPipeline). `buffers` stand by slot, and each of `attributes` has
+ * the index of its buffer: BAD_VALUE where there is none. `targets` are formats, of which each may be 0.
+ * Status: OK, NO_MEMORY, NO_OBJECT, CLOSED, BAD_VALUE. Owner: the device keeps what it makes; the
+ * arguments stay the caller's. Thread: any, one at a time, under the caller's lock. */
+uint32_t wethlorn_create_render_pipeline(wethlorn_device *device, uint32_t who,
+    const wethlorn_render_desc *desc, const wethlorn_iface_entry *iface, size_t iface_count,
+    const wethlorn_vertex_buffer *buffers, size_t buffers_count, const wethlorn_vertex_attribute *attributes,
+    size_t attributes_count, const uint32_t *targets, size_t targets_count, wethlorn_reply *out);
+
+/* Makes the bind group layout that a pipeline of either kind has for a group (getBindGroupLayout). Status:
+ * OK, NO_MEMORY, NO_OBJECT, CLOSED. Owner: the device keeps what it makes; the arguments stay the
+ * caller's. Thread: any, one at a time, under the caller's lock. */
+uint32_t wethlorn_get_bind_group_layout(wethlorn_device *device, uint32_t who, uint64_t pipeline,
+    uint32_t index, wethlorn_reply *out);
+
+/* Makes a set of occlusion queries (createQuerySet). Status: OK, NO_MEMORY, CLOSED. Owner: the device
+ * keeps what it makes; the arguments stay the caller's. Thread: any, one at a time, under the caller's
+ * lock. */
+uint32_t wethlorn_create_query_set(wethlorn_device *device, uint32_t who, uint32_t count,
+    wethlorn_reply *out);
+
+/* Makes an encoder (createCommandEncoder). Status: OK, NO_MEMORY, CLOSED. Owner: the device keeps what it
+ * makes; the arguments stay the caller's. Thread: any, one at a time, under the caller's lock. */
+uint32_t wethlorn_create_encoder(wethlorn_device *device, uint32_t who, wethlorn_reply *out);
+
+/* Makes a bundle encoder (createRenderBundleEncoder). `colors` are formats, of which each may be 0.
+ * Status: OK, NO_MEMORY, CLOSED, BAD_VALUE. Owner: the device keeps what it makes; the arguments stay the
+ * caller's. Thread: any, one at a time, under the caller's lock. */
+uint32_t wethlorn_create_bundle_encoder(wethlorn_device *device, uint32_t who,
+    const wethlorn_bundle_desc *desc, const uint32_t *colors, size_t colors_count, wethlorn_reply *out);
+
+/* Ends an encoder, and makes a command buffer of what was recorded on it (finish); or ends a bundle
+ * encoder, and makes a bundle. Status: OK, NO_MEMORY, NO_OBJECT, CLOSED. Owner: the device keeps what it
+ * makes; the arguments stay the caller's. Thread: any, one at a time, under the caller's lock. */
+uint32_t wethlorn_finish(wethlorn_device *device, uint32_t who, uint64_t encoder, wethlorn_reply *out);
+
+/* ---- The queue, maps, and what becomes of objects ---- */
+
+/* Queues command buffers as one operation (submit). Status: OK, NO_MEMORY, NO_OBJECT, CLOSED. Owner: the
+ * arguments stay the caller's. Thread: any, one at a time, under the caller's lock. */
+uint32_t wethlorn_submit(wethlorn_device *device, uint32_t who, const uint64_t *buffers,
+    size_t buffers_count, wethlorn_reply *out);
+
+/* Queues a write of `size` bytes of a buffer (writeBuffer). The data is no matter of this call. Status:
+ * OK, NO_MEMORY, NO_OBJECT, CLOSED. Owner: the arguments stay the caller's. Thread: any, one at a time,
+ * under the caller's lock. */
+uint32_t wethlorn_write_buffer(wethlorn_device *device, uint32_t who, uint64_t buffer, uint64_t offset,
+    uint64_t size, wethlorn_reply *out);
+
+/* Queues a write of texels (writeTexture). Status: OK, NO_MEMORY, NO_OBJECT, CLOSED, BAD_VALUE. Owner: the
+ * arguments stay the caller's. Thread: any, one at a time, under the caller's lock. */
+uint32_t wethlorn_write_texture(wethlorn_device *device, uint32_t who, const wethlorn_texture_write *write,
+    wethlorn_reply *out);
+
+/* Asks for a mapping of a range of a buffer (mapAsync), which makes a promise. `mode` is 1 to read and 2
+ * to write, and other numbers are answered by a fault. `size` may be WETHLORN_NONE. Status: OK, NO_MEMORY,
+ * NO_OBJECT, CLOSED. Owner: the arguments stay the caller's. Thread: any, one at a time, under the
+ * caller's lock. */
+uint32_t wethlorn_map_async(wethlorn_device *device, uint32_t who, uint64_t buffer, uint32_t mode,
+    uint64_t offset, uint64_t size, wethlorn_reply *out);
+
+/* Ends the mapping of a buffer, or gives up the one that was asked for (unmap). Status: OK, NO_MEMORY,
+ * NO_OBJECT, CLOSED. Owner: the arguments stay the caller's. Thread: any, one at a time, under the
+ * caller's lock. */
+uint32_t wethlorn_unmap(wethlorn_device *device, uint32_t who, uint64_t buffer, wethlorn_reply *out);
+
+/* Destroys a buffer, a texture or a query set (destroy). Status: OK, NO_MEMORY, NO_OBJECT, CLOSED. Owner:
+ * the arguments stay the caller's. Thread: any, one at a time, under the caller's lock. */
+uint32_t wethlorn_destroy(wethlorn_device *device, uint32_t who, uint64_t object, wethlorn_reply *out);
+
+/* Says that the caller lets go of an object, of any kind, as by garbage collection. Its number names
+ * nothing from then on. Status: OK, NO_MEMORY, NO_OBJECT, CLOSED. Owner: the arguments stay the caller's.
+ * Thread: any, one at a time, under the caller's lock. */
+uint32_t wethlorn_drop(wethlorn_device *device, uint32_t who, uint64_t object, wethlorn_reply *out);
+
+/* Says that the operations up to `op` are complete on the GPU, which is taken as true. Status: OK,
+ * NO_MEMORY, CLOSED. Owner: the arguments stay the caller's. Thread: any, one at a time, under the
+ * caller's lock. */
+uint32_t wethlorn_complete(wethlorn_device *device, uint32_t who, uint64_t op, wethlorn_reply *out);
+
+/* Makes a promise that is settled once all operations that were queued before are complete
+ * (onSubmittedWorkDone). Status: OK, NO_MEMORY, CLOSED. Owner: the arguments stay the caller's. Thread:
+ * any, one at a time, under the caller's lock. */
+uint32_t wethlorn_work_done(wethlorn_device *device, uint32_t who, wethlorn_reply *out);
+
+/* Opens an error scope (pushErrorScope). Status: OK, NO_MEMORY, CLOSED, BAD_VALUE. Owner: the arguments
+ * stay the caller's. Thread: any, one at a time, under the caller's lock. */
+uint32_t wethlorn_push_error_scope(wethlorn_device *device, uint32_t who, uint32_t filter,
+    wethlorn_reply *out);
+
+/* Closes the error scope that was opened last, and makes a promise that tells what it received first
+ * (popErrorScope). Status: OK, NO_MEMORY, CLOSED. Owner: the arguments stay the caller's. Thread: any, one
+ * at a time, under the caller's lock. */
+uint32_t wethlorn_pop_error_scope(wethlorn_device *device, uint32_t who, wethlorn_reply *out);
+
+/* The device is lost from here on (destroy of a device, or a loss). Status: OK, NO_MEMORY, CLOSED. Owner:
+ * the arguments stay the caller's. Thread: any, one at a time, under the caller's lock. */
+uint32_t wethlorn_lose(wethlorn_device *device, uint32_t who, wethlorn_reply *out);
+
+/* ---- Commands. They are recorded on an encoder or a bundle encoder. `pass` is the number of a pass that was
+ * begun on the encoder, or WETHLORN_ON_ENCODER. Passes of an encoder are numbered from 0 in the order of their
+ * begins; of an encoder that has ended any number will do. The reply is WETHLORN_KEPT, and nothing is asked of
+ * the device. Where the encoder or the pass has ended, or `encoder` is an object of another kind, it is the
+ * reply to the event that says so: WETHLORN_PLAIN with the fault of rule 14. ---- */
+
+/* Begins a compute pass (beginComputePass); `out->pass` is its number. Status: OK, NO_MEMORY, NO_OBJECT,
+ * CLOSED. Owner: the device keeps what it makes; the arguments stay the caller's. Thread: any, one at a
+ * time, under the caller's lock. */
+uint32_t wethlorn_begin_compute_pass(wethlorn_device *device, uint32_t who, uint64_t encoder,
+    wethlorn_reply *out);
+
+/* Begins a render pass (beginRenderPass); `out->pass` is its number. `colors` stand by slot. `queries` is
+ * the query set of its occlusion queries, or WETHLORN_NONE. Status: OK, NO_MEMORY, NO_OBJECT, CLOSED,
+ * BAD_VALUE. Owner: the device keeps what it makes; the arguments stay the caller's. Thread: any, one at a
+ * time, under the caller's lock. */
+uint32_t wethlorn_begin_render_pass(wethlorn_device *device, uint32_t who, uint64_t encoder,
+    const wethlorn_color *colors, size_t colors_count, const wethlorn_depth *depth, uint64_t queries,
+    wethlorn_reply *out);
+
+/* Ends a pass (end). Status: OK, NO_MEMORY, NO_OBJECT, CLOSED, NO_PASS. Owner: the arguments stay the
+ * caller's. Thread: any, one at a time, under the caller's lock. */
+uint32_t wethlorn_end(wethlorn_device *device, uint32_t who, uint64_t encoder, uint32_t pass,
+    wethlorn_reply *out);
+
+/* Opens a debug group of an encoder, a pass or a bundle encoder (pushDebugGroup). Status: OK, NO_MEMORY,
+ * NO_OBJECT, CLOSED, NO_PASS. Owner: the arguments stay the caller's. Thread: any, one at a time, under
+ * the caller's lock. */
+uint32_t wethlorn_push_debug_group(wethlorn_device *device, uint32_t who, uint64_t encoder, uint32_t pass,
+    wethlorn_reply *out);
+
+/* Closes the debug group that was opened last (popDebugGroup). Status: OK, NO_MEMORY, NO_OBJECT, CLOSED,
+ * NO_PASS. Owner: the arguments stay the caller's. Thread: any, one at a time, under the caller's lock. */
+uint32_t wethlorn_pop_debug_group(wethlorn_device *device, uint32_t who, uint64_t encoder, uint32_t pass,
+    wethlorn_reply *out);
+
+/* Records a copy of bytes (copyBufferToBuffer). Status: OK, NO_MEMORY, NO_OBJECT, CLOSED. Owner: the
+ * arguments stay the caller's. Thread: any, one at a time, under the caller's lock. */
+uint32_t wethlorn_copy_buffer_to_buffer(wethlorn_device *device, uint32_t who, uint64_t encoder,
+    const wethlorn_buffer_copy *copy, wethlorn_reply *out);
+
+/* Records a copy from a buffer to a texture (copyBufferToTexture). Status: OK, NO_MEMORY, NO_OBJECT,
+ * CLOSED, BAD_VALUE. Owner: the arguments stay the caller's. Thread: any, one at a time, under the
+ * caller's lock. */
+uint32_t wethlorn_copy_buffer_to_texture(wethlorn_device *device, uint32_t who, uint64_t encoder,
+    const wethlorn_texel_copy *copy, wethlorn_reply *out);
+
+/* Records a copy from a texture to a buffer (copyTextureToBuffer). Status: OK, NO_MEMORY, NO_OBJECT,
+ * CLOSED, BAD_VALUE. Owner: the arguments stay the caller's. Thread: any, one at a time, under the
+ * caller's lock. */
+uint32_t wethlorn_copy_texture_to_buffer(wethlorn_device *device, uint32_t who, uint64_t encoder,
+    const wethlorn_texel_copy *copy, wethlorn_reply *out);
+
+/* Records a copy between textures (copyTextureToTexture). Status: OK, NO_MEMORY, NO_OBJECT, CLOSED. Owner:
+ * the arguments stay the caller's. Thread: any, one at a time, under the caller's lock. */
+uint32_t wethlorn_copy_texture_to_texture(wethlorn_device *device, uint32_t who, uint64_t encoder,
+    const wethlorn_texture_copy *copy, wethlorn_reply *out);
+
+/* Records that bytes of a buffer are set to zero (clearBuffer). `size` may be WETHLORN_NONE. Status: OK,
+ * NO_MEMORY, NO_OBJECT, CLOSED. Owner: the arguments stay the caller's. Thread: any, one at a time, under
+ * the caller's lock. */
+uint32_t wethlorn_clear_buffer(wethlorn_device *device, uint32_t who, uint64_t encoder, uint64_t buffer,
+    uint64_t offset, uint64_t size, wethlorn_reply *out);
+
+/* Records that results of queries are written to a buffer (resolveQuerySet). Status: OK, NO_MEMORY,
+ * NO_OBJECT, CLOSED. Owner: the arguments stay the caller's. Thread: any, one at a time, under the
+ * caller's lock. */
+uint32_t wethlorn_resolve_query_set(wethlorn_device *device, uint32_t who, uint64_t encoder,
+    uint64_t queries, uint32_t first, uint32_t count, uint64_t buffer, uint64_t offset, wethlorn_reply *out);
+
+/* Sets the pipeline of a pass or a bundle (setPipeline). Status: OK, NO_MEMORY, NO_OBJECT, CLOSED,
+ * NO_PASS. Owner: the arguments stay the caller's. Thread: any, one at a time, under the caller's lock. */
+uint32_t wethlorn_set_pipeline(wethlorn_device *device, uint32_t who, uint64_t encoder, uint32_t pass,
+    uint64_t pipeline, wethlorn_reply *out);
+
+/* Sets a bind group of a pass or a bundle (setBindGroup), with an offset for each of its dynamic buffers.
+ * Status: OK, NO_MEMORY, NO_OBJECT, CLOSED, NO_PASS. Owner: the arguments stay the caller's. Thread: any,
+ * one at a time, under the caller's lock. */
+uint32_t wethlorn_set_bind_group(wethlorn_device *device, uint32_t who, uint64_t encoder, uint32_t pass,
+    uint32_t index, uint64_t group, const uint32_t *offsets, size_t offsets_count, wethlorn_reply *out);
+
+/* Records a dispatch (dispatchWorkgroups). Status: OK, NO_MEMORY, NO_OBJECT, CLOSED, NO_PASS. Owner: the
+ * arguments stay the caller's. Thread: any, one at a time, under the caller's lock. */
+uint32_t wethlorn_dispatch(wethlorn_device *device, uint32_t who, uint64_t encoder, uint32_t pass,
+    uint32_t x, uint32_t y, uint32_t z, wethlorn_reply *out);
+
+/* Records a dispatch whose counts stand in a buffer (dispatchWorkgroupsIndirect). Status: OK, NO_MEMORY,
+ * NO_OBJECT, CLOSED, NO_PASS. Owner: the arguments stay the caller's. Thread: any, one at a time, under
+ * the caller's lock. */
+uint32_t wethlorn_dispatch_indirect(wethlorn_device *device, uint32_t who, uint64_t encoder, uint32_t pass,
+    uint64_t buffer, uint64_t offset, wethlorn_reply *out);
+
+/* Sets a vertex buffer (setVertexBuffer). `size` may be WETHLORN_NONE. Status: OK, NO_MEMORY, NO_OBJECT,
+ * CLOSED, NO_PASS. Owner: the arguments stay the caller's. Thread: any, one at a time, under the caller's
+ * lock. */
+uint32_t wethlorn_set_vertex_buffer(wethlorn_device *device, uint32_t who, uint64_t encoder, uint32_t pass,
+    uint32_t slot, uint64_t buffer, uint64_t offset, uint64_t size, wethlorn_reply *out);
+
+/* Sets the index buffer (setIndexBuffer). `size` may be WETHLORN_NONE. Status: OK, NO_MEMORY, NO_OBJECT,
+ * CLOSED, NO_PASS, BAD_VALUE. Owner: the arguments stay the caller's. Thread: any, one at a time, under
+ * the caller's lock. */
+uint32_t wethlorn_set_index_buffer(wethlorn_device *device, uint32_t who, uint64_t encoder, uint32_t pass,
+    uint64_t buffer, uint32_t format, uint64_t offset, uint64_t size, wethlorn_reply *out);
+
+/* Records a draw (draw). Status: OK, NO_MEMORY, NO_OBJECT, CLOSED, NO_PASS. Owner: the arguments stay the
+ * caller's. Thread: any, one at a time, under the caller's lock. */
+uint32_t wethlorn_draw(wethlorn_device *device, uint32_t who, uint64_t encoder, uint32_t pass,
+    uint32_t vertices, uint32_t instances, uint32_t first_vertex, uint32_t first_instance,
+    wethlorn_reply *out);
+
+/* Records a draw by the index buffer (drawIndexed). Status: OK, NO_MEMORY, NO_OBJECT, CLOSED, NO_PASS.
+ * Owner: the arguments stay the caller's. Thread: any, one at a time, under the caller's lock. */
+uint32_t wethlorn_draw_indexed(wethlorn_device *device, uint32_t who, uint64_t encoder, uint32_t pass,
+    uint32_t indices, uint32_t instances, uint32_t first_index, uint32_t first_instance, wethlorn_reply *out);
+
+/* Records a draw whose numbers stand in a buffer (drawIndirect). Status: OK, NO_MEMORY, NO_OBJECT, CLOSED,
+ * NO_PASS. Owner: the arguments stay the caller's. Thread: any, one at a time, under the caller's lock. */
+uint32_t wethlorn_draw_indirect(wethlorn_device *device, uint32_t who, uint64_t encoder, uint32_t pass,
+    uint64_t buffer, uint64_t offset, wethlorn_reply *out);
+
+/* Records an indexed draw whose numbers stand in a buffer (drawIndexedIndirect). Status: OK, NO_MEMORY,
+ * NO_OBJECT, CLOSED, NO_PASS. Owner: the arguments stay the caller's. Thread: any, one at a time, under
+ * the caller's lock. */
+uint32_t wethlorn_draw_indexed_indirect(wethlorn_device *device, uint32_t who, uint64_t encoder,
+    uint32_t pass, uint64_t buffer, uint64_t offset, wethlorn_reply *out);
+
+/* Begins an occlusion query (beginOcclusionQuery). Status: OK, NO_MEMORY, NO_OBJECT, CLOSED, NO_PASS.
+ * Owner: the device keeps what it makes; the arguments stay the caller's. Thread: any, one at a time,
+ * under the caller's lock. */
+uint32_t wethlorn_begin_occlusion_query(wethlorn_device *device, uint32_t who, uint64_t encoder,
+    uint32_t pass, uint32_t index, wethlorn_reply *out);
+
+/* Ends the occlusion query that was begun last (endOcclusionQuery). Status: OK, NO_MEMORY, NO_OBJECT,
+ * CLOSED, NO_PASS. Owner: the arguments stay the caller's. Thread: any, one at a time, under the caller's
+ * lock. */
+uint32_t wethlorn_end_occlusion_query(wethlorn_device *device, uint32_t who, uint64_t encoder, uint32_t pass,
+    wethlorn_reply *out);
+
+/* Executes bundles in a render pass, one after another (executeBundles). Status: OK, NO_MEMORY, NO_OBJECT,
+ * CLOSED, NO_PASS. Owner: the arguments stay the caller's. Thread: any, one at a time, under the caller's
+ * lock. */
+uint32_t wethlorn_execute_bundles(wethlorn_device *device, uint32_t who, uint64_t encoder, uint32_t pass,
+    const uint64_t *bundles, size_t bundles_count, wethlorn_reply *out);
+
+/* ---- Drains. What calls add to the trace and what they settle waits in the device until it is told. Each is
+ * told once and in order, and a driver does the items in that order. When all are told the list is emptied and
+ * keeps its memory, so a drain takes none. ---- */
+
+/* Tells the next item of the trace. Status: OK, END, CLOSED. Owner: `out` is the caller's. Thread: any,
+ * one at a time, under the caller's lock. */
+uint32_t wethlorn_next_item(wethlorn_device *device, wethlorn_item *out);
+
+/* Tells a use of the item that was told last, by its index from 0. END: it has no more. An item can be
+ * asked until the next call of wethlorn_next_item. Status: OK, END, CLOSED. Owner: `out` is the caller's.
+ * Thread: any, one at a time, under the caller's lock. */
+uint32_t wethlorn_item_use(wethlorn_device *device, size_t at, wethlorn_use *out);
+
+/* Tells an access of the item that was told last, by its index from 0, in the same way. Status: OK, END,
+ * CLOSED. Owner: `out` is the caller's. Thread: any, one at a time, under the caller's lock. */
+uint32_t wethlorn_item_access(wethlorn_device *device, size_t at, wethlorn_access *out);
+
+/* Tells the next promise that was settled. Status: OK, END, CLOSED. Owner: `out` is the caller's. Thread:
+ * any, one at a time, under the caller's lock. */
+uint32_t wethlorn_next_settlement(wethlorn_device *device, wethlorn_settlement *out);
+
+#ifdef __cplusplus
+}
+#endif
+#endif
