@@ -11,7 +11,7 @@ use Rattle.wg_counts.proofs.Sums.{sum_same, sum_less, held_inside, living_some, 
 holders_as : (own other : ℕ → ℕ) (refers : ℕ → List ℕ) (counts : List ℕ) → ((n : ℕ) → own n ≡ other n) → AreHolders own refers counts → AreHolders other refers counts
 holders_as own other refers counts same are = record { each = λ n. are.each n ∙ ap (λ k. k + references counts refers n) (same n) }
 
-among_push : (list : List ℕ) (k n : ℕ) → is_among (list ++ k ∷ []) n ≡ (is_among list n || (k == n))
+pub among_push : (list : List ℕ) (k n : ℕ) → is_among (list ++ k ∷ []) n ≡ (is_among list n || (k == n))
 among_push list k n = list_any-append (λ m. m == n) list (k ∷ []) ∙ ap (λ b. is_among list n || b) (or_none (k == n))
   where
     or_none : (b : Bool) → (b || false) ≡ b

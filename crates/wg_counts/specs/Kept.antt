@@ -1,5 +1,5 @@
 -- What counts of holds are, and what becomes of them while holds end.
-use Rattle.std.specs.Prelude.{◌≡◌, ℕ, zero, suc, ◌+◌, ◌<◌, ◌≤◌, Bool, true, not, ◌&&◌, ◌||◌, ◌==◌, nat_lt, List, [], ◌∷◌, length, drop, slice_index_or, if◌then◌else◌}
+use Rattle.std.specs.Prelude.{◌≡◌, ℕ, zero, suc, ◌+◌, ◌<◌, ◌≤◌, Bool, true, not, ◌&&◌, ◌||◌, nat_lt, List, [], ◌∷◌, length, drop, slice_index_or, if◌then◌else◌}
 use Rattle.wg_model.specs.Holding.{is_among}
 use Rattle.wg_counts.specs.Counts.{own_at, refers_in, times}
 
@@ -32,6 +32,13 @@ pub record GoBack (refers : ℕ → List ℕ) : Type 0 where
 -- No count is above the number of holds that were ever taken.
 pub record AreWithin (taken : ℕ) (counts : List ℕ) : Type 0 where
   pub each : (n : ℕ) → count_at counts n ≤ taken
+
+-- The references of each object are kept while it is alive, and those of a list until they are gone through. What is listed is not
+-- alive, and stands there once.
+pub record ReferencesAreKept (referred : ℕ → List ℕ) (counts later : List ℕ) (refers : List (List ℕ)) : Type 0 where
+  pub len : length refers ≡ length counts
+  pub once : (n : ℕ) → times n later + (if is_alive counts n then 1 else 0) ≤ 1
+  pub each : (n : ℕ) → refers_in refers n ≡ (if is_alive counts n || is_among later n then referred n else [])
 
 pub record IsKept (own : List ℕ) (refers : List (List ℕ)) (counts : List ℕ) : Type 0 where
   pub holders : AreHolders (own_at own) (refers_in refers) counts

@@ -4,40 +4,50 @@
 ghost use Rattle.std.specs.Prelude.{◌≡◌, ℕ, ◌+◌, ◌-◌, ◌^◌, ◌<◌, ◌≤◌, ◌==◌, ◌∷◌, ◌++◌, [], true, if◌then◌else◌, length, slice_set, vec_len, vec_capacity, OnOk};
 ghost use Rattle.wg_model.specs.Holding.{is_among};
 ghost use Rattle.wg_counts.specs.Counts.{CountsValue, own_at, refers_in, is_held, one_more, one_less, Owns, Falls, times};
-ghost use Rattle.wg_counts.specs.Kept.{count_at, living, AreHolders, HaveFallen};
+ghost use Rattle.wg_counts.specs.Kept.{count_at, living, AreHolders, ReferencesAreKept, HaveFallen};
 
 use std::alloc::Global;
 use std::marker::Model;
+use std::mem;
+use wg_ghost::GhostList;
 use wg_types::NoMemory;
 use wg_types::items::Items;
 
 /// Objects by number, each with how many holds it has that are no objects, and those to which it
 /// refers. An object is held where it has such a hold or a held one refers to it; that is counted, so
-/// that a hold that ends costs what falls by it.
+/// that a hold that ends costs what falls by it. To what an object referred that fell is in the contracts
+/// alone.
 #[derive(Drop)]
 pub struct Counts {
     /// The holds of each that are no objects.
     own: Vec<u64>,
     /// All holds of each, with the references of held objects.
     counts: Vec<u64>,
+    /// The objects to which each refers that is held; those of what fell are given back.
     refers: Vec<Items<u64>>,
+    /// The objects to which each ever referred.
+    referred: GhostList<Items<u64>>,
     fallen: Vec<u64>,
+    /// How many objects are held.
+    alive: usize,
     /// How many holds were ever taken, of which each count is a part.
     taken: u64,
     spare: usize,
 }
 
 impl Model for Counts {
-    ghost use Rattle.std.specs.Prelude.{◌+◌, ◌-◌, ◌^◌, ◌≤◌, length, vec_len, vec_capacity};
-    ghost use Rattle.wg_counts.specs.Counts.{CountsValue};
-    ghost use Rattle.wg_counts.specs.Kept.{living, AreWithin, IsKept};
+    ghost use Rattle.std.specs.Prelude.{◌≡◌, ◌+◌, ◌-◌, ◌^◌, ◌≤◌, [], length, vec_len, vec_capacity};
+    ghost use Rattle.wg_counts.specs.Counts.{CountsValue, refers_in};
+    ghost use Rattle.wg_counts.specs.Kept.{living, AreWithin, ReferencesAreKept, IsKept};
 
     ghost Value = { CountsValue };
 
-    ghost view = { λ c. record { own = c.own.items; refers = c.refers.items; fallen = c.fallen.items; spare = c.spare; room = 2 ^ 64 - 1 - c.taken } };
+    ghost view = { λ c. record { own = c.own.items; refers = c.referred.items; fallen = c.fallen.items; spare = c.spare; room = 2 ^ 64 - 1 - c.taken } };
 
     ghost invariant = { λ c. record {
-      kept : IsKept c.own.items c.refers.items c.counts.items;
+      kept : IsKept c.own.items c.referred.items c.counts.items;
+      left : ReferencesAreKept (refers_in c.referred.items) c.counts.items [] c.refers.items;
+      alive_are : c.alive ≡ living c.counts.items;
       within : AreWithin c.taken c.counts.items;
       own_fit : vec_len c.own + c.spare ≤ vec_capacity c.own;
       counts_fit : vec_len c.counts + c.spare ≤ vec_capacity c.counts;
@@ -76,32 +86,39 @@ fn lower(counts: &mut Vec<u64>, fallen: &mut Vec<u64>, number: u64)
     }
 }
 
-/// The objects to which one refers.
-fn referred(refers: &[Items<u64>], number: u64) -> &[u64]
-    requires { number < length refers.now }
-    ensures { result.now ≡ refers_in refers.now number }
+/// Takes out the objects to which one refers.
+fn take_referred(refers: &mut Vec<Items<u64>>, number: u64) -> Items<u64>
+    requires { number < length refers.old.items }
+    ensures taken { result ≡ refers_in refers.old.items number }
+    ensures items { refers.new.items ≡ slice_set refers.old.items number [] }
+    ensures room { vec_capacity refers.new ≡ vec_capacity refers.old }
 {
-    refers[number as usize].as_slice()
+    let none = Items::new(*refers.allocator());
+    mem::replace(&mut refers[number as usize], none)
 }
 
 /// Ends a hold that is no object's. What falls by it is listed, and its references are holds that end
-/// in their turn: of the list, what stands behind the place has still to be gone through.
+/// in their turn: of the list, what stands behind the place has still to be gone through, and then its
+/// references are given back.
 fn end_hold(
     own: &mut Vec<u64>,
-    refers: &[Items<u64>],
+    refers: &mut Vec<Items<u64>>,
+    referred: &GhostList<Items<u64>>,
     counts: &mut Vec<u64>,
     fallen: &mut Vec<u64>,
     number: u64,
 )
     requires held { 0 < own_at own.old.items number }
-    requires holders { AreHolders (own_at own.old.items) (refers_in refers.now) counts.old.items }
+    requires holders { AreHolders (own_at own.old.items) (refers_in referred.now.items) counts.old.items }
+    requires left { ReferencesAreKept (refers_in referred.now.items) counts.old.items [] refers.old.items }
     requires owns { length own.old.items ≡ length counts.old.items }
-    requires lists { length refers.now ≡ length counts.old.items }
     requires room { vec_len fallen.old + living counts.old.items ≤ vec_capacity fallen.old }
     ensures own { own.new.items ≡ slice_set own.old.items number (own_at own.old.items number - 1) }
-    ensures holders { AreHolders (own_at own.new.items) (refers_in refers.now) counts.new.items }
+    ensures holders { AreHolders (own_at own.new.items) (refers_in referred.now.items) counts.new.items }
+    ensures left { ReferencesAreKept (refers_in referred.now.items) counts.new.items [] refers.new.items }
     ensures falls { HaveFallen counts.old.items fallen.old.items counts.new.items fallen.new.items }
     ensures own_capacity { vec_capacity own.new ≡ vec_capacity own.old }
+    ensures refers_capacity { vec_capacity refers.new ≡ vec_capacity refers.old }
     ensures capacity { vec_capacity counts.new ≡ vec_capacity counts.old }
     ensures fallen_capacity { vec_capacity fallen.new ≡ vec_capacity fallen.old }
 {
@@ -111,7 +128,8 @@ fn end_hold(
     while place < fallen.len() {
         let fell = fallen[place];
         place += 1;
-        let list = referred(refers, fell);
+        let taken = take_referred(refers, fell);
+        let list = taken.as_slice();
         for other in list {
             lower(counts, fallen, *other);
         }
@@ -120,6 +138,7 @@ fn end_hold(
 
 impl Counts {
     /// No objects.
+    #[tactic(auto, using(crate::proofs::Left::left_none))]
     pub fn new(alloc: Global) -> Counts
         ensures own { result.own ≡ [] }
         ensures refers { result.refers ≡ [] }
@@ -129,7 +148,9 @@ impl Counts {
             own: Vec::new(alloc),
             counts: Vec::new(alloc),
             refers: Vec::new(alloc),
+            referred: GhostList::new(),
             fallen: Vec::new(alloc),
+            alive: 0,
             taken: 0,
             spare: 0,
         }
@@ -137,7 +158,6 @@ impl Counts {
 
     /// Makes room for one object more and for so many holds more. There is no room for more holds than a
     /// 64-bit number counts, over all that were ever taken.
-    #[tactic(auto, using(crate::proofs::Sums::living_le))]
     pub fn reserve(&mut self, holds: u64) -> Result<(), NoMemory>
         ensures own { self.new.own ≡ self.old.own }
         ensures refers { self.new.refers ≡ self.old.refers }
@@ -153,7 +173,7 @@ impl Counts {
         if self.spare > 0 {
             return Ok(());
         }
-        let Some(more) = self.counts.len().checked_add(1) else {
+        let Some(more) = self.alive.checked_add(1) else {
             return Err(NoMemory);
         };
         self.own.reserve(1)?;
@@ -182,7 +202,9 @@ impl Counts {
         raise(&mut self.counts, list);
         self.own.push_reserved(1);
         self.counts.push_reserved(1);
+        self.referred = self.referred.and(&refers);
         self.refers.push_reserved(refers);
+        self.alive += 1;
         self.spare -= 1;
     }
 
@@ -212,13 +234,16 @@ impl Counts {
         ensures spare { self.new.spare ≡ self.old.spare }
         ensures room { self.new.room ≡ self.old.room }
     {
+        let before = self.fallen.len();
         end_hold(
             &mut self.own,
-            self.refers.as_slice(),
+            &mut self.refers,
+            &self.referred,
             &mut self.counts,
             &mut self.fallen,
             number,
         );
+        self.alive = self.alive + before - self.fallen.len();
     }
 
     /// Whether an object is held.

@@ -1,9 +1,9 @@
 -- What is held by the counts is what is held.
-use Rattle.std.proofs.Common.{◌≡◌, ℕ, zero, suc, ◌+◌, ◌<◌, ◌≤◌, Bool, true, false, not, ◌&&◌, ◌||◌, nat_lt, List, [], ◌∷◌, ◌++◌, length, is_some, inl, inr, refl, sym, ap, ap₂, ◌∙◌, subst, arith, slice_index_or, if◌then◌else◌}
-use Rattle.std.proofs.lemmas.Bool.{lt-ltb, cases_eq}
-use Rattle.std.proofs.lemmas.List.{length_push, get_or_append_left, get_or_push}
+use Rattle.std.proofs.Common.{◌≡◌, ℕ, zero, suc, ◌+◌, ◌<◌, ◌≤◌, Bool, true, false, not, ◌&&◌, ◌||◌, nat_lt, List, [], ◌∷◌, ◌++◌, length, is_some, refl, sym, ap, ap₂, ◌∙◌, subst, arith, slice_index_or, if◌then◌else◌}
+use Rattle.std.proofs.lemmas.Bool.{lt-ltb}
+use Rattle.std.proofs.lemmas.List.{length_push}
 use Rattle.wg_model.specs.Holding.{Node, is_among, nobody, has_holder, with_holders, is_held_among, is_named_in, is_root_in, nodes_below, is_held_in}
-use Rattle.wg_counts.specs.Counts.{CountsValue, own_at, node_at, counted_below, is_counted, Falls as CountsFalls, times}
+use Rattle.wg_counts.specs.Counts.{CountsValue, own_at, counted_below, is_counted, Falls as CountsFalls, times}
 use Rattle.wg_counts.proofs.Keeping.{counted_at}
 use Rattle.wg_holders.specs.declared.marks.Mark.{Mark}
 use Rattle.wg_holders.specs.declared.tokens.Awaited.{Awaited}

@@ -5,3 +5,4 @@ pub mod QueueLemmas
 pub mod OwnLemmas
 pub mod HeldLemmas
 pub mod StepLemmas
+pub mod GivenBack

@@ -5,7 +5,8 @@ use Rattle.wg_counts.specs.Counts.{times}
 use Rattle.wg_holders.specs.declared.marks.Mark.{Mark}
 use Rattle.wg_holders.specs.declared.marks.Links.{Links}
 
--- what was noted of each object by number; the objects that a valid command buffer names; those to which a valid object refers
+-- what was noted of each object by number; the objects that a valid command buffer names, until it is consumed or dropped; those
+-- to which a valid object refers
 pub record Holdings : Type 0 where
   pub marks : List Mark
   pub names : List (List ℕ)
@@ -68,11 +69,19 @@ with_consumed b mark = record mark { consumed = b || mark.consumed }
 abbrev pub with_dropped : ℕ → Bool → Mark → Mark
 with_dropped k b mark = record mark { dropped = if b then Some k else mark.dropped }
 
--- holdings and what a note makes of their marks, by number
+-- Nothing is kept of what a command buffer names that was consumed or dropped.
+pub record AreGivenBack (marks : List Mark) (names : List (List ℕ)) : Type 0 where
+  pub each : (n : ℕ) → is_unspent (mark_at marks n) ≡ false → list_at names n ≡ []
+
+-- Holdings and what a note makes of their marks, by number. What is consumed or dropped stays so; until then what it names
+-- stays, and then nothing of that is kept.
 pub record Marks (note : ℕ → Mark → Mark) (old new : Holdings) : Type 0 where
   pub len : length new.marks ≡ length old.marks
   pub each : (n : ℕ) → n < length old.marks → mark_at new.marks n ≡ note n (mark_at old.marks n)
-  pub names : new.names ≡ old.names
+  pub unspent : (n : ℕ) → is_unspent (mark_at new.marks n) ≡ true → is_unspent (mark_at old.marks n) ≡ true
+  pub names_len : length new.names ≡ length old.names
+  pub names : (n : ℕ) → is_unspent (mark_at new.marks n) ≡ true → list_at new.names n ≡ list_at old.names n
+  pub given_back : AreGivenBack old.marks old.names → AreGivenBack new.marks new.names
   pub refers : new.refers ≡ old.refers
 
 -- what fell is listed, once more than it was, and nothing that was not held is held

@@ -9,7 +9,7 @@ ghost use Rattle.std.specs.Prelude.{◌≡◌, ℕ, ◌+◌, ◌<◌, ◌≤◌,
 ghost use Rattle.wg_model.specs.Holding.{is_among};
 ghost use Rattle.wg_holders.specs.Holders.{HoldersValue, no_holdings, mark_at, is_held, with_made, with_ended, with_consumed, with_dropped, Marks, Falls};
 
-use marks::{held_by, mark_consumed, mark_dropped, mark_ended, mark_in};
+use marks::{mark_consumed, mark_dropped, mark_ended, mark_in, take_names};
 pub use marks::{Links, Mark};
 use std::alloc::Global;
 use std::collections::VecDeque;
@@ -25,7 +25,7 @@ use wg_types::items::Items;
 #[derive(Drop)]
 pub struct Holders {
     marks: Vec<Mark>,
-    /// What each names; it stays when that is no longer held.
+    /// What each names; nothing once it is consumed or dropped.
     names: Vec<Items<u64>>,
     /// The holds that each has, with one while it is not dropped or waits for an open encoder.
     counts: Counts,
@@ -33,14 +33,16 @@ pub struct Holders {
     opened: VecDeque<u64>,
     /// The dropped objects that wait for an open encoder, in the order of their drops.
     awaited: VecDeque<Awaited>,
+    /// How many objects are not dropped.
+    undropped: usize,
     /// For how many more objects there is room.
     spare: usize,
 }
 
 impl Model for Holders {
-    ghost use Rattle.std.specs.Prelude.{◌+◌, ◌≤◌, vec_len, vec_capacity};
+    ghost use Rattle.std.specs.Prelude.{◌≡◌, ◌+◌, ◌≤◌, vec_len, vec_capacity};
     ghost use Rattle.std.specs.VecDeque.{deque_len, deque_capacity};
-    ghost use Rattle.wg_holders.specs.Holders.{HoldersValue};
+    ghost use Rattle.wg_holders.specs.Holders.{HoldersValue, AreGivenBack};
     ghost use Rattle.wg_holders.specs.Tokens.{living, IsOwned, IsTidy};
 
     ghost Value = { HoldersValue };
@@ -50,6 +52,8 @@ impl Model for Holders {
     ghost invariant = { λ h. record {
       tidy : IsTidy h.marks.items h.opened.items h.awaited.items;
       owned : IsOwned h.marks.items h.names.items h.awaited.items h.counts.own;
+      given_back : AreGivenBack h.marks.items h.names.items;
+      undropped_are : h.undropped ≡ living h.marks.items;
       marks_fit : vec_len h.marks + h.spare ≤ vec_capacity h.marks;
       names_fit : vec_len h.names + h.spare ≤ vec_capacity h.names;
       opened_fit : deque_len h.opened + h.spare ≤ deque_capacity h.opened;
@@ -60,6 +64,7 @@ impl Model for Holders {
 
 impl Holders {
     /// No objects.
+    #[tactic(auto, using(crate::proofs::GivenBack::back_none))]
     pub fn new(alloc: Global) -> Holders
         ensures holdings { result.holdings ≡ no_holdings }
         ensures fallen { result.fallen ≡ [] }
@@ -70,6 +75,7 @@ impl Holders {
             counts: Counts::new(alloc),
             opened: VecDeque::new(alloc),
             awaited: VecDeque::new(alloc),
+            undropped: 0,
             spare: 0,
         }
     }
@@ -88,7 +94,7 @@ impl Holders {
         };
         self.counts.reserve(holds)?;
         if self.spare == 0 {
-            let Some(more) = self.marks.len().checked_add(1) else {
+            let Some(more) = self.undropped.checked_add(1) else {
                 return Err(NoMemory);
             };
             self.marks.reserve(1)?;
@@ -127,6 +133,7 @@ impl Holders {
             dropped: None,
         });
         self.names.push_reserved(names);
+        self.undropped += 1;
         self.spare -= 1;
     }
 
@@ -146,19 +153,20 @@ impl Holders {
         );
     }
 
-    /// Notes that a submit listed a command buffer, which ends its holds.
+    /// Notes that a submit listed a command buffer, which ends its holds and gives back what it names.
     pub fn consumed(&mut self, buffer: u64)
         ensures marks { Marks (λ n. with_consumed (buffer == n)) self.old.holdings self.new.holdings }
         ensures falls { Falls self.old self.new }
         ensures spare { self.new.spare ≡ self.old.spare }
         ensures room { self.new.room ≡ self.old.room }
     {
-        let names = held_by(self.marks.as_slice(), self.names.as_slice(), buffer);
-        end_each(&mut self.counts, names);
+        let names = take_names(&mut self.names, buffer);
+        end_each(&mut self.counts, names.as_slice());
         mark_consumed(&mut self.marks, buffer);
     }
 
-    /// Notes the drop of an object that was not dropped before.
+    /// Notes the drop of an object that was not dropped before; that of a command buffer gives back what
+    /// it names.
     pub fn dropped(&mut self, number: u64)
         requires { (mark_at self.old.holdings.marks number).dropped ≡ None }
         ensures marks { Marks (λ n. with_dropped (length self.old.holdings.marks) (number == n)) self.old.holdings self.new.holdings }
@@ -170,9 +178,10 @@ impl Holders {
         if number >= made {
             return;
         }
-        let names = held_by(self.marks.as_slice(), self.names.as_slice(), number);
-        end_each(&mut self.counts, names);
+        let names = take_names(&mut self.names, number);
+        end_each(&mut self.counts, names.as_slice());
         mark_dropped(&mut self.marks, number, made);
+        self.undropped -= 1;
         self.awaited.push_back_reserved(Awaited { number, made });
         close(
             self.marks.as_slice(),

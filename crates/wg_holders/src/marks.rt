@@ -1,8 +1,9 @@
 //! What is noted of an object that holds or is held.
-ghost use Rattle.std.specs.Prelude.{◌≡◌, ◌==◌, slice_set, vec_len, vec_capacity};
-ghost use Rattle.wg_holders.specs.Holders.{mark_at, is_open, is_unspent, with_ended, with_consumed, with_dropped};
-ghost use Rattle.wg_holders.specs.Tokens.{Notes, held_by};
+ghost use Rattle.std.specs.Prelude.{◌≡◌, ◌==◌, [], slice_set, vec_len, vec_capacity};
+ghost use Rattle.wg_holders.specs.Holders.{mark_at, list_at, is_open, with_ended, with_consumed, with_dropped};
+ghost use Rattle.wg_holders.specs.Tokens.{Notes};
 
+use std::mem;
 use wg_types::items::Items;
 
 /// What was noted of an object.
@@ -109,19 +110,16 @@ pub fn is_open(mark: Mark) -> bool
     mark.encoder && !mark.ended && mark.dropped.is_none()
 }
 
-/// Whether a command buffer holds what it names.
-fn is_unspent(mark: Mark) -> bool
-    ensures { result ≡ is_unspent mark }
+/// Takes out what an object names.
+pub fn take_names(names: &mut Vec<Items<u64>>, number: u64) -> Items<u64>
+    ensures taken { result ≡ list_at names.old.items number }
+    ensures items { names.new.items ≡ slice_set names.old.items number [] }
+    ensures len { vec_len names.new ≡ vec_len names.old }
+    ensures room { vec_capacity names.new ≡ vec_capacity names.old }
 {
-    !mark.consumed && mark.dropped.is_none()
-}
-
-/// What a command buffer holds by naming it: nothing once it is consumed or dropped.
-pub fn held_by<'a>(marks: &[Mark], names: &'a [Items<u64>], number: u64) -> &'a [u64]
-    ensures { result.now ≡ held_by marks.now names.now number }
-{
-    if !is_unspent(mark_in(marks, number)) || number as usize >= names.len() {
-        return &[];
+    let none = Items::new(*names.allocator());
+    if number as usize >= names.len() {
+        return none;
     }
-    names[number as usize].as_slice()
+    mem::replace(&mut names[number as usize], none)
 }

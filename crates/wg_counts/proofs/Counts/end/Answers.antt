@@ -6,10 +6,10 @@ use Rattle.wg_counts.proofs.Counts.end.Goals as goal
 pub returns-clause-falls : goal.returns-clause-falls
 returns-clause-falls c =
     let own = c.self.inside.own.items in
-    let refers = c.self.inside.refers.items in
+    let refers = c.self.inside.referred.items in
     let counts = c.self.inside.counts.items in
     let kept = c.self.invariant.kept in
-    let holders : AreHolders (own_at c.end_hold.new.own.items) (refers_in refers) c.end_hold.new.counts.items = rw c.as_slice.ensures.value at c.end_hold.ensures.holders in
+    let holders : AreHolders (own_at c.end_hold.new.own.items) (refers_in refers) c.end_hold.new.counts.items = c.end_hold.ensures.holders in
     let later = kept_lowered own refers counts _ c.args.number _ _ _ _ kept c.end_hold.ensures.own holders c.end_hold.ensures.falls in
     rw (← c.self.view_is) (record {
       listed = λ n. listed_fallen own refers counts _ _ _ _ kept later c.end_hold.ensures.falls n;

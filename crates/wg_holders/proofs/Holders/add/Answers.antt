@@ -5,6 +5,7 @@ use Rattle.wg_holders.specs.Tokens.{living}
 use Rattle.wg_holders.proofs.OwnLemmas.{living_added}
 use Rattle.wg_holders.proofs.StepLemmas.{kept_added}
 use Rattle.wg_holders.proofs.HeldLemmas.{held_is, held_view, new_held}
+use Rattle.wg_holders.proofs.GivenBack.{back_added}
 use Rattle.wg_holders.proofs.Holders.add.Goals as goal
 
 pub add-requires-clause-held : goal.add-requires-clause-held
@@ -28,6 +29,8 @@ invariant_of-self c =
     record {
       tidy = kept.tidy;
       owned = kept.owned;
+      given_back = back_added _ _ _ _ c.args.encoder c.args.links.names c.push_reserved.ensures.items c.push_reserved-2.ensures.items c.self.invariant.owned.names_len c.self.invariant.given_back;
+      undropped_are = let was = c.self.invariant.undropped_are in omega (arith, was, more);
       marks_fit = search rules;
       names_fit = search rules;
       opened_fit = let len = c.open.ensures.len in let room = c.open.ensures.capacity in omega (arith, len, room, spare);

@@ -1,6 +1,6 @@
-use Rattle.std.proofs.Common.{◌≡◌, ◌+◌, ◌≤◌, length, rules, arith}
+use Rattle.std.proofs.Common.{◌≡◌, ◌+◌, ◌≤◌, rules, arith}
 use Rattle.std.specs.VecDeque.{deque_len, deque_capacity}
-use Rattle.wg_holders.proofs.OwnLemmas.{living_le}
+use Rattle.wg_holders.specs.Tokens.{living}
 use Rattle.wg_holders.proofs.Holders.reserve.Goals as goal
 
 pub invariant_of-self-then-self-eq0 : goal.invariant_of-self-then-self-eq0
@@ -13,13 +13,14 @@ invariant_of-self-then-self-eq0 c =
     record {
       tidy = rw (marks, opened, awaited) c.self.invariant.tidy;
       owned = rw (marks, names, awaited, own) c.self.invariant.owned;
+      given_back = rw (marks, names) c.self.invariant.given_back;
+      undropped_are = rw marks c.self.invariant.undropped_are;
       marks_fit = search rules;
       names_fit = search rules;
       opened_fit = search rules;
       awaited_fit =
-          let le = living_le c.reserve-then-self-eq0.new.self.items in
-          let more : c.in-Some-checked_add.more ≡ length c.reserve-then-self-eq0.new.self.items + 1 = search rules in
+          let more : c.in-Some-checked_add.more ≡ living c.reserve-then-self-eq0.new.self.items + 1 = rw marks (let was = c.self.invariant.undropped_are in let e : c.in-Some-checked_add.more ≡ c.self.inside.undropped + 1 = search rules in omega (arith, e, was)) in
           let room : deque_len c.reserve_twice.new.awaited + c.in-Some-checked_add.more ≤ deque_capacity c.reserve_twice.new.awaited = search rules in
-          omega (arith, le, more, room);
+          omega (arith, more, room);
       counts_fit = search rules;
     }
