@@ -13,6 +13,8 @@ mod bundles;
 #[cfg(test)]
 mod canvas;
 #[cfg(test)]
+mod cbtrack;
+#[cfg(test)]
 mod copy;
 #[cfg(test)]
 mod counts;
