@@ -1,0 +1,7 @@
+pub mod Asking
+pub mod Begun
+pub mod Lists
+pub mod Naming
+pub mod Refusing
+pub mod Seating
+pub mod Sending

@@ -1,0 +1,4 @@
+pub mod Seats
+pub mod Coming
+pub mod Sent
+pub mod Desks

@@ -1,0 +1,129 @@
+-- What is kept of objects, by their numbers.
+use Rattle.std.specs.Prelude.{◌≡◌, ℕ, nat_lt, not, Bool, true, false, List, length, reverse, slice_get, slice_set, Option, Some, None, IfSome, is_none, unwrap_or, option_map, option_and_then}
+use Rattle.std.specs.List.{list_any}
+use Rattle.std.specs.Option.{option_map_or}
+use Rattle.wg_types.specs.Handles.{HandleValue}
+use Rattle.wg_types.specs.Commands.{Command}
+use Rattle.wg_types.specs.declared.handles.ObjRef.{ObjRef}
+use Rattle.wg_types.specs.declared.handles.Info.{Info}
+use Rattle.wg_types.specs.declared.handles.Info.TheVariants as info
+use Rattle.wg_types.specs.declared.commands.On.{On}
+use Rattle.wg_types.specs.declared.commands.On.TheVariants.{Encoder, Pass}
+use Rattle.wg_types.specs.declared.replies.Answer.{Answer}
+use Rattle.wg_types.specs.declared.wanted.Wanted.{Wanted}
+use Rattle.wg_encoder.specs.Recorders.{RecorderValue, is_late, recorded}
+use Rattle.wg_history.specs.declared.events.Setup.{Setup}
+use Rattle.wg_history.specs.Entries.{Entry}
+use Rattle.wg_history.specs.Objects.{count}
+use Rattle.wg_history.specs.Rules.{is_genuine}
+use Rattle.wg_calls.specs.Calls.{handle_of, opened_for, opened_with}
+use Rattle.wg_desk.specs.declared.seats.Seat.{Seat}
+
+-- the handle at a number, until its object is dropped
+abbrev pub handle_at : List Seat → ℕ → Option HandleValue
+handle_at seats n = option_and_then (λ seat. seat.handle) (slice_get seats n)
+
+-- the recorder at a number, while its encoder is open
+abbrev pub recorder_at : List Seat → ℕ → Option RecorderValue
+recorder_at seats n = option_and_then (λ seat. seat.recorder) (slice_get seats n)
+
+-- Stands for no object. A call that names a number without a handle is not made, so that it is not met.
+abbrev pub no_object : HandleValue
+no_object = record { reference = record { device = 0; number = 0 }; valid = false; info = info.CommandBuffer }
+
+-- the handle that a number stands for
+abbrev pub found_at : List Seat → ℕ → HandleValue
+found_at seats n = unwrap_or (handle_at seats n) no_object
+
+-- whether a number that a call names has no handle
+abbrev pub is_missing : List Seat → ℕ × Wanted → Bool
+is_missing seats used = is_none (handle_at seats used.0)
+
+abbrev pub any_missing : List Seat → List (ℕ × Wanted) → Bool
+any_missing seats useds = list_any (is_missing seats) useds
+
+-- how many passes were begun on the encoder of a number, while it is open
+abbrev pub passes_at : List Seat → ℕ → ℕ
+passes_at seats n = option_map_or (λ recorder. recorder.passes) (recorder_at seats n) 0
+
+-- whether a command stands on a pass that was not begun
+abbrev pub is_beyond : On → ℕ → Bool
+is_beyond Encoder passes = false
+is_beyond (Pass pass) passes = not (nat_lt pass passes)
+
+-- the same of the encoder of a number, which is open
+abbrev pub is_unbegun : List Seat → ℕ → On → Bool
+is_unbegun seats n on = option_map_or (λ recorder. is_beyond on recorder.passes) (recorder_at seats n) false
+
+-- A command is late where its encoder is not open, or its pass has ended.
+abbrev pub is_late_at : List Seat → ℕ → On → Bool
+is_late_at seats n on = option_map_or (λ recorder. is_late recorder on) (recorder_at seats n) true
+
+-- the seats with a change of the one of a number
+abbrev pub changed_at : List Seat → ℕ → (Seat → Seat) → List Seat
+changed_at seats n change = option_map_or (λ seat. slice_set seats n (change seat)) (slice_get seats n) seats
+
+-- with a command on its recorder
+abbrev pub recorded_in : On → Command → Seat → Seat
+recorded_in on command seat = record { handle = seat.handle; recorder = option_map (λ recorder. recorded recorder on command) seat.recorder }
+
+abbrev pub recorded_at : List Seat → ℕ → On → Command → List Seat
+recorded_at seats n on command = changed_at seats n (recorded_in on command)
+
+-- with its recorder taken out
+abbrev pub closed : Seat → Seat
+closed seat = record { handle = seat.handle; recorder = None }
+
+abbrev pub closed_at : List Seat → ℕ → List Seat
+closed_at seats n = changed_at seats n closed
+
+-- with a recorder put in
+abbrev pub reopened : RecorderValue → Seat → Seat
+reopened recorder seat = record { handle = seat.handle; recorder = Some recorder }
+
+abbrev pub reopened_at : List Seat → ℕ → RecorderValue → List Seat
+reopened_at seats n recorder = changed_at seats n (reopened recorder)
+
+-- with nothing kept there
+abbrev pub emptied : Seat → Seat
+emptied seat = record { handle = None; recorder = None }
+
+abbrev pub emptied_at : List Seat → ℕ → List Seat
+emptied_at seats n = changed_at seats n emptied
+
+-- the recorder of a new object, if it is an encoder: one that is open for it and has kept nothing
+abbrev pub recorder_by : ObjRef → Info → Option RecorderValue
+recorder_by reference info.Encoder = Some (opened_for reference)
+recorder_by reference (info.BundleEncoder targets) = Some (opened_with targets reference)
+recorder_by reference (info.Buffer known) = None
+recorder_by reference (info.Texture known) = None
+recorder_by reference (info.View known) = None
+recorder_by reference (info.Sampler known) = None
+recorder_by reference (info.GroupLayout known) = None
+recorder_by reference (info.PipelineLayout known) = None
+recorder_by reference (info.Group known) = None
+recorder_by reference (info.Compute known) = None
+recorder_by reference (info.Render known) = None
+recorder_by reference (info.Queries known) = None
+recorder_by reference info.CommandBuffer = None
+recorder_by reference (info.Bundle known) = None
+
+-- what is kept of an object that was made
+abbrev pub seat_of : HandleValue → Seat
+seat_of handle = record { handle = Some handle; recorder = recorder_by handle.reference handle.info }
+
+-- what is kept of what an answer made, of which so much is known
+abbrev pub seat_made : ℕ → Option Info → Answer → Option Seat
+seat_made serial known answer = option_map seat_of (option_and_then (λ known. handle_of serial known answer) known)
+
+-- What is kept at number n after a history: a handle that is genuine and of object n, if one, and a recorder that was not taken
+-- from, if one.
+pub record IsSeated (setup : Setup) (history : List Entry) (n : ℕ) (seat : Seat) : Type 0 where
+  pub genuine : IfSome seat.handle (λ handle. is_genuine setup (reverse history) handle ≡ true)
+  pub number : IfSome seat.handle (λ handle. handle.reference.number ≡ n)
+  pub open_still : IfSome seat.recorder (λ recorder. recorder.takes ≡ 0)
+
+-- There is a seat for each object that was made.
+pub record AreSeated (setup : Setup) (history : List Entry) (seats : List Seat) : Type 0 where
+  pub count_is : length seats ≡ count (reverse history)
+  pub each : (n : ℕ) (seat : Seat) → slice_get seats n ≡ Some seat → IsSeated setup history n seat

@@ -1,0 +1,130 @@
+-- Which event a call over numbers is, and what becomes of the seats.
+use Rattle.std.specs.Prelude.{ℕ, List, ◌++◌, Option, Some, None, option_to_list}
+use Rattle.std.specs.Option.{option_map_or}
+use Rattle.wg_types.specs.Handles.{HandleValue}
+use Rattle.wg_types.specs.Requests.{map_refs}
+use Rattle.wg_types.specs.declared.handles.Info.{Info}
+use Rattle.wg_types.specs.declared.handles.Info.TheVariants as info
+use Rattle.wg_types.specs.declared.replies.Answer.{Answer}
+use Rattle.wg_types.specs.declared.requests.RequestOf.{RequestOf}
+use Rattle.wg_types.specs.declared.requests.RequestOf.TheVariants.{CreateBuffer, CreateTexture, CreateView, CreateSampler, CreateBindGroupLayout, CreatePipelineLayout, CreateBindGroup, CreateComputePipeline, CreateRenderPipeline, GetBindGroupLayout, CreateQuerySet, CreateEncoder, CreateBundleEncoder, Finish, FinishBundle, Submit, WriteBuffer, WriteTexture, Destroy, Drop, Complete, PushErrorScope, PopErrorScope, Lose, WorkDone, MapAsync, Unmap}
+use Rattle.wg_encoder.specs.Recorders.{RecorderValue, RecordingValue}
+use Rattle.wg_history.specs.declared.events.Event.{Event}
+use Rattle.wg_history.specs.declared.events.Event.TheVariants as event
+use Rattle.wg_calls.specs.Calls.{event_asked, info_asked, finish_of, known_of_finish}
+use Rattle.wg_desk.specs.declared.seats.Seat.{Seat}
+use Rattle.wg_desk.specs.Seats.{found_at, recorder_at, closed_at, emptied_at, seat_made}
+
+-- the encoder that a call ends, if it ends one
+abbrev pub ended_by : RequestOf ℕ → Option ℕ
+ended_by (Finish encoder) = Some encoder
+ended_by (FinishBundle encoder) = Some encoder
+ended_by (CreateBuffer known) = None
+ended_by (CreateTexture known) = None
+ended_by (CreateView texture asked) = None
+ended_by (CreateSampler known) = None
+ended_by (CreateBindGroupLayout entries) = None
+ended_by (CreatePipelineLayout layouts) = None
+ended_by (CreateBindGroup layout entries) = None
+ended_by (CreateComputePipeline layout iface) = None
+ended_by (CreateRenderPipeline layout desc) = None
+ended_by (GetBindGroupLayout pipeline index) = None
+ended_by (CreateQuerySet known) = None
+ended_by CreateEncoder = None
+ended_by (CreateBundleEncoder targets) = None
+ended_by (Submit buffers) = None
+ended_by (WriteBuffer buffer offset size) = None
+ended_by (WriteTexture texture spot layout size data_size) = None
+ended_by (Destroy object) = None
+ended_by (Drop object) = None
+ended_by (Complete op) = None
+ended_by (PushErrorScope filter) = None
+ended_by PopErrorScope = None
+ended_by Lose = None
+ended_by WorkDone = None
+ended_by (MapAsync buffer mode offset size) = None
+ended_by (Unmap buffer) = None
+
+-- the object that a call drops, if it drops one
+abbrev pub dropped_by : RequestOf ℕ → Option ℕ
+dropped_by (Drop object) = Some object
+dropped_by (CreateBuffer known) = None
+dropped_by (CreateTexture known) = None
+dropped_by (CreateView texture asked) = None
+dropped_by (CreateSampler known) = None
+dropped_by (CreateBindGroupLayout entries) = None
+dropped_by (CreatePipelineLayout layouts) = None
+dropped_by (CreateBindGroup layout entries) = None
+dropped_by (CreateComputePipeline layout iface) = None
+dropped_by (CreateRenderPipeline layout desc) = None
+dropped_by (GetBindGroupLayout pipeline index) = None
+dropped_by (CreateQuerySet known) = None
+dropped_by CreateEncoder = None
+dropped_by (CreateBundleEncoder targets) = None
+dropped_by (Finish encoder) = None
+dropped_by (FinishBundle encoder) = None
+dropped_by (Submit buffers) = None
+dropped_by (WriteBuffer buffer offset size) = None
+dropped_by (WriteTexture texture spot layout size data_size) = None
+dropped_by (Destroy object) = None
+dropped_by (Complete op) = None
+dropped_by (PushErrorScope filter) = None
+dropped_by PopErrorScope = None
+dropped_by Lose = None
+dropped_by WorkDone = None
+dropped_by (MapAsync buffer mode offset size) = None
+dropped_by (Unmap buffer) = None
+
+-- the call that ends an object with no commands: a finishBundle of a bundle encoder, and else a finish
+abbrev pub ending_by : HandleValue → Info → RequestOf HandleValue
+ending_by encoder (info.BundleEncoder targets) = FinishBundle encoder
+ending_by encoder info.Encoder = Finish encoder
+ending_by encoder (info.Buffer known) = Finish encoder
+ending_by encoder (info.Texture known) = Finish encoder
+ending_by encoder (info.View known) = Finish encoder
+ending_by encoder (info.Sampler known) = Finish encoder
+ending_by encoder (info.GroupLayout known) = Finish encoder
+ending_by encoder (info.PipelineLayout known) = Finish encoder
+ending_by encoder (info.Group known) = Finish encoder
+ending_by encoder (info.Compute known) = Finish encoder
+ending_by encoder (info.Render known) = Finish encoder
+ending_by encoder (info.Queries known) = Finish encoder
+ending_by encoder info.CommandBuffer = Finish encoder
+ending_by encoder (info.Bundle known) = Finish encoder
+
+abbrev pub ending_asked : HandleValue → RequestOf HandleValue
+ending_asked encoder = ending_by encoder encoder.info
+
+-- what an event hands over that ends an encoder
+abbrev pub handed_over : Event → Option RecordingValue
+handed_over (event.Finish encoder recording) = Some recording
+handed_over (event.FinishBundle encoder recording) = Some recording
+handed_over _ = None
+
+-- The end of the encoder of a number: it hands over what the recorder has kept, and nothing where the encoder is not open. And what
+-- is known of that which it makes.
+
+abbrev pub ending_at : List Seat → ℕ → Event
+ending_at seats n = option_map_or (λ (recorder : RecorderValue). finish_of (found_at seats n).reference recorder) (recorder_at seats n) (event_asked (ending_asked (found_at seats n)))
+
+abbrev pub ending_known_at : List Seat → ℕ → Option Info
+ending_known_at seats n = option_map_or (λ (recorder : RecorderValue). Some (known_of_finish recorder)) (recorder_at seats n) (info_asked (ending_asked (found_at seats n)))
+
+-- the event of a call, over the handles at its numbers
+abbrev pub event_sent : List Seat → RequestOf ℕ → Event
+event_sent seats request = option_map_or (ending_at seats) (ended_by request) (event_asked (map_refs (found_at seats) request))
+
+-- The seats after a call that was answered so: what it makes is seated at the next number. The encoder that it ends is closed, and of
+-- the object that it drops nothing is kept.
+
+abbrev pub seats_ended : ℕ → List Seat → ℕ → Answer → List Seat
+seats_ended serial seats encoder answer = closed_at seats encoder ++ option_to_list (seat_made serial (ending_known_at seats encoder) answer)
+
+abbrev pub seats_asked : ℕ → List Seat → RequestOf ℕ → Answer → List Seat
+seats_asked serial seats request answer = seats ++ option_to_list (seat_made serial (info_asked (map_refs (found_at seats) request)) answer)
+
+abbrev pub seats_left : ℕ → List Seat → RequestOf ℕ → Answer → List Seat
+seats_left serial seats request answer = option_map_or (emptied_at (seats_asked serial seats request answer)) (dropped_by request) (seats_asked serial seats request answer)
+
+abbrev pub seats_after : ℕ → List Seat → RequestOf ℕ → Answer → List Seat
+seats_after serial seats request answer = option_map_or (λ encoder. seats_ended serial seats encoder answer) (ended_by request) (seats_left serial seats request answer)
