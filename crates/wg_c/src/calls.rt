@@ -55,7 +55,13 @@ pub extern "C" fn wethlorn_create_view(
 ) -> u32
     ensures { Asks (asked.create_view texture desc.now) who device.old.inside device.new.inside out.old out.new result }
 {
-    ask(device, alloc, who, Ok(requests::create_view(texture, desc)), out)
+    ask(
+        device,
+        alloc,
+        who,
+        Ok(requests::create_view(texture, desc)),
+        out,
+    )
 }
 
 /// Makes a sampler.
@@ -83,7 +89,13 @@ pub extern "C" fn wethlorn_create_bind_group_layout(
 ) -> u32
     ensures { Asks (asked.create_bind_group_layout entries.now) who device.old.inside device.new.inside out.old out.new result }
 {
-    ask(device, alloc, who, requests::create_bind_group_layout(alloc, entries), out)
+    ask(
+        device,
+        alloc,
+        who,
+        requests::create_bind_group_layout(alloc, entries),
+        out,
+    )
 }
 
 /// Makes a pipeline layout.
@@ -97,7 +109,13 @@ pub extern "C" fn wethlorn_create_pipeline_layout(
 ) -> u32
     ensures { Asks (Some (request.CreatePipelineLayout layouts.now)) who device.old.inside device.new.inside out.old out.new result }
 {
-    ask_made(device, alloc, who, requests::create_pipeline_layout(alloc, layouts), out)
+    ask_made(
+        device,
+        alloc,
+        who,
+        requests::create_pipeline_layout(alloc, layouts),
+        out,
+    )
 }
 
 /// Makes a bind group.
@@ -112,7 +130,13 @@ pub extern "C" fn wethlorn_create_bind_group(
 ) -> u32
     ensures { Asks (asked.create_bind_group layout entries.now) who device.old.inside device.new.inside out.old out.new result }
 {
-    ask(device, alloc, who, requests::create_bind_group(alloc, layout, entries), out)
+    ask(
+        device,
+        alloc,
+        who,
+        requests::create_bind_group(alloc, layout, entries),
+        out,
+    )
 }
 
 /// Makes a compute pipeline.
@@ -127,7 +151,13 @@ pub extern "C" fn wethlorn_create_compute_pipeline(
 ) -> u32
     ensures { Asks (asked.create_compute_pipeline layout iface.now) who device.old.inside device.new.inside out.old out.new result }
 {
-    ask(device, alloc, who, requests::create_compute_pipeline(alloc, layout, iface), out)
+    ask(
+        device,
+        alloc,
+        who,
+        requests::create_compute_pipeline(alloc, layout, iface),
+        out,
+    )
 }
 
 /// Makes a render pipeline.
@@ -145,7 +175,13 @@ pub extern "C" fn wethlorn_create_render_pipeline(
 ) -> u32
     ensures { Asks (asked.create_render_pipeline desc.now iface.now buffers.now attributes.now targets.now) who device.old.inside device.new.inside out.old out.new result }
 {
-    ask(device, alloc, who, requests::create_render_pipeline(alloc, desc, iface, buffers, attributes, targets), out)
+    ask(
+        device,
+        alloc,
+        who,
+        requests::create_render_pipeline(alloc, desc, iface, buffers, attributes, targets),
+        out,
+    )
 }
 
 /// Gets the bind group layout of a pipeline.
@@ -160,7 +196,13 @@ pub extern "C" fn wethlorn_get_bind_group_layout(
 ) -> u32
     ensures { Asks (Some (request.GetBindGroupLayout pipeline index)) who device.old.inside device.new.inside out.old out.new result }
 {
-    ask(device, alloc, who, Ok(Some(RequestOf::GetBindGroupLayout { pipeline, index })), out)
+    ask(
+        device,
+        alloc,
+        who,
+        Ok(Some(RequestOf::GetBindGroupLayout { pipeline, index })),
+        out,
+    )
 }
 
 /// Makes a query set.
@@ -174,7 +216,15 @@ pub extern "C" fn wethlorn_create_query_set(
 ) -> u32
     ensures { Asks (Some (request.CreateQuerySet (record { count = count }))) who device.old.inside device.new.inside out.old out.new result }
 {
-    ask(device, alloc, who, Ok(Some(RequestOf::CreateQuerySet { info: QueriesInfo { count } })), out)
+    ask(
+        device,
+        alloc,
+        who,
+        Ok(Some(RequestOf::CreateQuerySet {
+            info: QueriesInfo { count },
+        })),
+        out,
+    )
 }
 
 /// Makes an encoder.
@@ -202,7 +252,13 @@ pub extern "C" fn wethlorn_create_bundle_encoder(
 ) -> u32
     ensures { Asks (asked.create_bundle_encoder desc.now colors.now) who device.old.inside device.new.inside out.old out.new result }
 {
-    ask(device, alloc, who, requests::create_bundle_encoder(alloc, desc, colors), out)
+    ask(
+        device,
+        alloc,
+        who,
+        requests::create_bundle_encoder(alloc, desc, colors),
+        out,
+    )
 }
 
 /// Ends an encoder or a bundle encoder.
@@ -216,5 +272,11 @@ pub extern "C" fn wethlorn_finish(
 ) -> u32
     ensures { Asks (Some (request.Finish encoder)) who device.old.inside device.new.inside out.old out.new result }
 {
-    ask(device, alloc, who, Ok(Some(RequestOf::Finish { encoder })), out)
+    ask(
+        device,
+        alloc,
+        who,
+        Ok(Some(RequestOf::Finish { encoder })),
+        out,
+    )
 }

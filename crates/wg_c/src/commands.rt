@@ -25,7 +25,15 @@ pub extern "C" fn wethlorn_begin_compute_pass(
 ) -> u32
     ensures { Records (Some command.BeginComputePass) who encoder Encoder device.old.inside device.new.inside out.old out.new result }
 {
-    record(device, alloc, who, encoder, u32::MAX, Ok(Some(CommandOf::BeginComputePass)), out)
+    record(
+        device,
+        alloc,
+        who,
+        encoder,
+        u32::MAX,
+        Ok(Some(CommandOf::BeginComputePass)),
+        out,
+    )
 }
 
 /// Begins a render pass.
@@ -42,7 +50,15 @@ pub extern "C" fn wethlorn_begin_render_pass(
 ) -> u32
     ensures { Records (asked.begin_render_pass colors.now depth.now queries) who encoder Encoder device.old.inside device.new.inside out.old out.new result }
 {
-    record(device, alloc, who, encoder, u32::MAX, commands::begin_render_pass(alloc, colors, depth, queries), out)
+    record(
+        device,
+        alloc,
+        who,
+        encoder,
+        u32::MAX,
+        commands::begin_render_pass(alloc, colors, depth, queries),
+        out,
+    )
 }
 
 /// Ends a pass.
@@ -57,7 +73,15 @@ pub extern "C" fn wethlorn_end(
 ) -> u32
     ensures { Records (Some command.End) who encoder (on_of pass) device.old.inside device.new.inside out.old out.new result }
 {
-    record(device, alloc, who, encoder, pass, Ok(Some(CommandOf::End)), out)
+    record(
+        device,
+        alloc,
+        who,
+        encoder,
+        pass,
+        Ok(Some(CommandOf::End)),
+        out,
+    )
 }
 
 /// Opens a debug group.
@@ -72,7 +96,15 @@ pub extern "C" fn wethlorn_push_debug_group(
 ) -> u32
     ensures { Records (Some command.PushDebugGroup) who encoder (on_of pass) device.old.inside device.new.inside out.old out.new result }
 {
-    record(device, alloc, who, encoder, pass, Ok(Some(CommandOf::PushDebugGroup)), out)
+    record(
+        device,
+        alloc,
+        who,
+        encoder,
+        pass,
+        Ok(Some(CommandOf::PushDebugGroup)),
+        out,
+    )
 }
 
 /// Closes a debug group.
@@ -87,7 +119,15 @@ pub extern "C" fn wethlorn_pop_debug_group(
 ) -> u32
     ensures { Records (Some command.PopDebugGroup) who encoder (on_of pass) device.old.inside device.new.inside out.old out.new result }
 {
-    record(device, alloc, who, encoder, pass, Ok(Some(CommandOf::PopDebugGroup)), out)
+    record(
+        device,
+        alloc,
+        who,
+        encoder,
+        pass,
+        Ok(Some(CommandOf::PopDebugGroup)),
+        out,
+    )
 }
 
 /// Records a copy of bytes.
@@ -102,7 +142,15 @@ pub extern "C" fn wethlorn_copy_buffer_to_buffer(
 ) -> u32
     ensures { Records (Some (asked.copy_buffer_to_buffer copy.now)) who encoder Encoder device.old.inside device.new.inside out.old out.new result }
 {
-    record(device, alloc, who, encoder, u32::MAX, Ok(Some(commands::copy_buffer_to_buffer(copy))), out)
+    record(
+        device,
+        alloc,
+        who,
+        encoder,
+        u32::MAX,
+        Ok(Some(commands::copy_buffer_to_buffer(copy))),
+        out,
+    )
 }
 
 /// Records a copy from a buffer to a texture.
@@ -117,7 +165,15 @@ pub extern "C" fn wethlorn_copy_buffer_to_texture(
 ) -> u32
     ensures { Records (asked.copy_buffer_to_texture copy.now) who encoder Encoder device.old.inside device.new.inside out.old out.new result }
 {
-    record(device, alloc, who, encoder, u32::MAX, Ok(commands::copy_buffer_to_texture(copy)), out)
+    record(
+        device,
+        alloc,
+        who,
+        encoder,
+        u32::MAX,
+        Ok(commands::copy_buffer_to_texture(copy)),
+        out,
+    )
 }
 
 /// Records a copy from a texture to a buffer.
@@ -132,7 +188,15 @@ pub extern "C" fn wethlorn_copy_texture_to_buffer(
 ) -> u32
     ensures { Records (asked.copy_texture_to_buffer copy.now) who encoder Encoder device.old.inside device.new.inside out.old out.new result }
 {
-    record(device, alloc, who, encoder, u32::MAX, Ok(commands::copy_texture_to_buffer(copy)), out)
+    record(
+        device,
+        alloc,
+        who,
+        encoder,
+        u32::MAX,
+        Ok(commands::copy_texture_to_buffer(copy)),
+        out,
+    )
 }
 
 /// Records a copy between textures.
@@ -147,7 +211,15 @@ pub extern "C" fn wethlorn_copy_texture_to_texture(
 ) -> u32
     ensures { Records (Some (asked.copy_texture_to_texture copy.now)) who encoder Encoder device.old.inside device.new.inside out.old out.new result }
 {
-    record(device, alloc, who, encoder, u32::MAX, Ok(Some(commands::copy_texture_to_texture(copy))), out)
+    record(
+        device,
+        alloc,
+        who,
+        encoder,
+        u32::MAX,
+        Ok(Some(commands::copy_texture_to_texture(copy))),
+        out,
+    )
 }
 
 /// Records that bytes are set to zero.
@@ -164,7 +236,19 @@ pub extern "C" fn wethlorn_clear_buffer(
 ) -> u32
     ensures { Records (Some (command.ClearBuffer buffer offset (wide_of size))) who encoder Encoder device.old.inside device.new.inside out.old out.new result }
 {
-    record(device, alloc, who, encoder, u32::MAX, Ok(Some(CommandOf::ClearBuffer { buffer, offset, size: wide_of(size) })), out)
+    record(
+        device,
+        alloc,
+        who,
+        encoder,
+        u32::MAX,
+        Ok(Some(CommandOf::ClearBuffer {
+            buffer,
+            offset,
+            size: wide_of(size),
+        })),
+        out,
+    )
 }
 
 /// Records that results of queries are written to a buffer.
@@ -183,5 +267,19 @@ pub extern "C" fn wethlorn_resolve_query_set(
 ) -> u32
     ensures { Records (Some (command.ResolveQuerySet queries first count buffer offset)) who encoder Encoder device.old.inside device.new.inside out.old out.new result }
 {
-    record(device, alloc, who, encoder, u32::MAX, Ok(Some(CommandOf::ResolveQuerySet { queries, first, count, buffer, offset })), out)
+    record(
+        device,
+        alloc,
+        who,
+        encoder,
+        u32::MAX,
+        Ok(Some(CommandOf::ResolveQuerySet {
+            queries,
+            first,
+            count,
+            buffer,
+            offset,
+        })),
+        out,
+    )
 }

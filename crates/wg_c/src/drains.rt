@@ -9,11 +9,7 @@ use wg_told::{ToldAccess, ToldItem, ToldSettlement, ToldUse};
 
 /// Tells the next item of the trace.
 #[unsafe(no_mangle)]
-pub extern "C" fn wethlorn_next_item(
-    alloc: Global,
-    device: &mut Device,
-    out: &mut ToldItem,
-) -> u32
+pub extern "C" fn wethlorn_next_item(alloc: Global, device: &mut Device, out: &mut ToldItem) -> u32
     ensures { NextItem device.old.inside device.new.inside out.old out.new result }
 {
     let Some(mut inner) = take(device, alloc) else {

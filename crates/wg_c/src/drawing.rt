@@ -25,7 +25,15 @@ pub extern "C" fn wethlorn_set_pipeline(
 ) -> u32
     ensures { Records (Some (command.SetPipeline pipeline)) who encoder (on_of pass) device.old.inside device.new.inside out.old out.new result }
 {
-    record(device, alloc, who, encoder, pass, Ok(Some(CommandOf::SetPipeline { pipeline })), out)
+    record(
+        device,
+        alloc,
+        who,
+        encoder,
+        pass,
+        Ok(Some(CommandOf::SetPipeline { pipeline })),
+        out,
+    )
 }
 
 /// Sets a bind group.
@@ -43,7 +51,15 @@ pub extern "C" fn wethlorn_set_bind_group(
 ) -> u32
     ensures { Records (Some (command.SetBindGroup index group offsets.now)) who encoder (on_of pass) device.old.inside device.new.inside out.old out.new result }
 {
-    record_made(device, alloc, who, encoder, pass, commands::set_bind_group(alloc, index, group, offsets), out)
+    record_made(
+        device,
+        alloc,
+        who,
+        encoder,
+        pass,
+        commands::set_bind_group(alloc, index, group, offsets),
+        out,
+    )
 }
 
 /// Records a dispatch.
@@ -61,7 +77,15 @@ pub extern "C" fn wethlorn_dispatch(
 ) -> u32
     ensures { Records (Some (command.Dispatch x y z)) who encoder (on_of pass) device.old.inside device.new.inside out.old out.new result }
 {
-    record(device, alloc, who, encoder, pass, Ok(Some(CommandOf::Dispatch { x, y, z })), out)
+    record(
+        device,
+        alloc,
+        who,
+        encoder,
+        pass,
+        Ok(Some(CommandOf::Dispatch { x, y, z })),
+        out,
+    )
 }
 
 /// Records a dispatch whose counts stand in a buffer.
@@ -78,7 +102,15 @@ pub extern "C" fn wethlorn_dispatch_indirect(
 ) -> u32
     ensures { Records (Some (command.DispatchIndirect buffer offset)) who encoder (on_of pass) device.old.inside device.new.inside out.old out.new result }
 {
-    record(device, alloc, who, encoder, pass, Ok(Some(CommandOf::DispatchIndirect { buffer, offset })), out)
+    record(
+        device,
+        alloc,
+        who,
+        encoder,
+        pass,
+        Ok(Some(CommandOf::DispatchIndirect { buffer, offset })),
+        out,
+    )
 }
 
 /// Sets a vertex buffer.
@@ -97,7 +129,20 @@ pub extern "C" fn wethlorn_set_vertex_buffer(
 ) -> u32
     ensures { Records (Some (command.SetVertexBuffer slot buffer offset (wide_of size))) who encoder (on_of pass) device.old.inside device.new.inside out.old out.new result }
 {
-    record(device, alloc, who, encoder, pass, Ok(Some(CommandOf::SetVertexBuffer { slot, buffer, offset, size: wide_of(size) })), out)
+    record(
+        device,
+        alloc,
+        who,
+        encoder,
+        pass,
+        Ok(Some(CommandOf::SetVertexBuffer {
+            slot,
+            buffer,
+            offset,
+            size: wide_of(size),
+        })),
+        out,
+    )
 }
 
 /// Sets the index buffer.
@@ -116,7 +161,15 @@ pub extern "C" fn wethlorn_set_index_buffer(
 ) -> u32
     ensures { Records (asked.set_index_buffer buffer format offset size) who encoder (on_of pass) device.old.inside device.new.inside out.old out.new result }
 {
-    record(device, alloc, who, encoder, pass, Ok(commands::set_index_buffer(buffer, format, offset, size)), out)
+    record(
+        device,
+        alloc,
+        who,
+        encoder,
+        pass,
+        Ok(commands::set_index_buffer(buffer, format, offset, size)),
+        out,
+    )
 }
 
 /// Records a draw.
@@ -135,7 +188,20 @@ pub extern "C" fn wethlorn_draw(
 ) -> u32
     ensures { Records (Some (command.Draw vertices instances first_vertex first_instance)) who encoder (on_of pass) device.old.inside device.new.inside out.old out.new result }
 {
-    record(device, alloc, who, encoder, pass, Ok(Some(CommandOf::Draw { vertices, instances, first_vertex, first_instance })), out)
+    record(
+        device,
+        alloc,
+        who,
+        encoder,
+        pass,
+        Ok(Some(CommandOf::Draw {
+            vertices,
+            instances,
+            first_vertex,
+            first_instance,
+        })),
+        out,
+    )
 }
 
 /// Records a draw by the index buffer.
@@ -154,7 +220,20 @@ pub extern "C" fn wethlorn_draw_indexed(
 ) -> u32
     ensures { Records (Some (command.DrawIndexed indices instances first_index first_instance)) who encoder (on_of pass) device.old.inside device.new.inside out.old out.new result }
 {
-    record(device, alloc, who, encoder, pass, Ok(Some(CommandOf::DrawIndexed { indices, instances, first_index, first_instance })), out)
+    record(
+        device,
+        alloc,
+        who,
+        encoder,
+        pass,
+        Ok(Some(CommandOf::DrawIndexed {
+            indices,
+            instances,
+            first_index,
+            first_instance,
+        })),
+        out,
+    )
 }
 
 /// Records a draw whose numbers stand in a buffer.
@@ -171,7 +250,15 @@ pub extern "C" fn wethlorn_draw_indirect(
 ) -> u32
     ensures { Records (Some (command.DrawIndirect buffer offset)) who encoder (on_of pass) device.old.inside device.new.inside out.old out.new result }
 {
-    record(device, alloc, who, encoder, pass, Ok(Some(CommandOf::DrawIndirect { buffer, offset })), out)
+    record(
+        device,
+        alloc,
+        who,
+        encoder,
+        pass,
+        Ok(Some(CommandOf::DrawIndirect { buffer, offset })),
+        out,
+    )
 }
 
 /// Records an indexed draw whose numbers stand in a buffer.
@@ -188,7 +275,15 @@ pub extern "C" fn wethlorn_draw_indexed_indirect(
 ) -> u32
     ensures { Records (Some (command.DrawIndexedIndirect buffer offset)) who encoder (on_of pass) device.old.inside device.new.inside out.old out.new result }
 {
-    record(device, alloc, who, encoder, pass, Ok(Some(CommandOf::DrawIndexedIndirect { buffer, offset })), out)
+    record(
+        device,
+        alloc,
+        who,
+        encoder,
+        pass,
+        Ok(Some(CommandOf::DrawIndexedIndirect { buffer, offset })),
+        out,
+    )
 }
 
 /// Begins an occlusion query.
@@ -204,7 +299,15 @@ pub extern "C" fn wethlorn_begin_occlusion_query(
 ) -> u32
     ensures { Records (Some (command.BeginOcclusionQuery index)) who encoder (on_of pass) device.old.inside device.new.inside out.old out.new result }
 {
-    record(device, alloc, who, encoder, pass, Ok(Some(CommandOf::BeginOcclusionQuery { index })), out)
+    record(
+        device,
+        alloc,
+        who,
+        encoder,
+        pass,
+        Ok(Some(CommandOf::BeginOcclusionQuery { index })),
+        out,
+    )
 }
 
 /// Ends an occlusion query.
@@ -219,7 +322,15 @@ pub extern "C" fn wethlorn_end_occlusion_query(
 ) -> u32
     ensures { Records (Some command.EndOcclusionQuery) who encoder (on_of pass) device.old.inside device.new.inside out.old out.new result }
 {
-    record(device, alloc, who, encoder, pass, Ok(Some(CommandOf::EndOcclusionQuery)), out)
+    record(
+        device,
+        alloc,
+        who,
+        encoder,
+        pass,
+        Ok(Some(CommandOf::EndOcclusionQuery)),
+        out,
+    )
 }
 
 /// Executes bundles.
@@ -235,5 +346,13 @@ pub extern "C" fn wethlorn_execute_bundles(
 ) -> u32
     ensures { Records (Some (command.ExecuteBundles bundles.now)) who encoder (on_of pass) device.old.inside device.new.inside out.old out.new result }
 {
-    record_made(device, alloc, who, encoder, pass, commands::execute_bundles(alloc, bundles), out)
+    record_made(
+        device,
+        alloc,
+        who,
+        encoder,
+        pass,
+        commands::execute_bundles(alloc, bundles),
+        out,
+    )
 }

@@ -18,8 +18,10 @@ use wg_told::{
 };
 use wg_types::commands::{CommandOf, On};
 use wg_types::limits::Limits;
+use wg_types::parts::{Cells, Kind, PartRun};
 use wg_types::requests::RequestOf;
 use wg_types::steps::Item;
+use wg_types::usages::Usages;
 
 /// A desk, with the items and the settlements that wait to be told. Of the items those before `told` were.
 #[derive(Drop)]
@@ -47,6 +49,22 @@ fn item_at(items: &[Item], told: usize) -> Option<&Item>
         return None;
     }
     items.get(told - 1)
+}
+
+/// A use of a list, as it is told.
+fn use_in(uses: &[(PartRun, Usages)], at: usize) -> Option<ToldUse>
+    ensures { result ≡ option_map use_told (slice_get uses.now at) }
+{
+    let (part, set) = uses.get(at)?;
+    Some(use_told(*part, *set))
+}
+
+/// An access of a list, as it is told.
+fn access_in(accesses: &[(Cells, Kind)], at: usize) -> Option<ToldAccess>
+    ensures { result ≡ option_map access_told (slice_get accesses.now at) }
+{
+    let (cells, kind) = accesses.get(at)?;
+    Some(access_told(*cells, *kind))
 }
 
 impl Inner {
@@ -145,10 +163,7 @@ impl Inner {
         ensures { result ≡ option_map use_told (option_and_then (λ item. slice_get (uses_of item) at) (last_of self.now.items self.now.told)) }
     {
         match item_at(self.items.as_slice(), self.told) {
-            Some(Item::Step(step)) => {
-                let (part, set) = step.uses.as_slice().get(at)?;
-                Some(use_told(*part, *set))
-            }
+            Some(Item::Step(step)) => use_in(step.uses.as_slice(), at),
             _ => None,
         }
     }
@@ -158,10 +173,7 @@ impl Inner {
         ensures { result ≡ option_map access_told (option_and_then (λ item. slice_get (accesses_of item) at) (last_of self.now.items self.now.told)) }
     {
         match item_at(self.items.as_slice(), self.told) {
-            Some(Item::Step(step)) => {
-                let (cells, kind) = step.accesses.as_slice().get(at)?;
-                Some(access_told(*cells, *kind))
-            }
+            Some(Item::Step(step)) => access_in(step.accesses.as_slice(), at),
             _ => None,
         }
     }

@@ -39,7 +39,17 @@ pub extern "C" fn wethlorn_write_buffer(
 ) -> u32
     ensures { Asks (Some (request.WriteBuffer buffer offset size)) who device.old.inside device.new.inside out.old out.new result }
 {
-    ask(device, alloc, who, Ok(Some(RequestOf::WriteBuffer { buffer, offset, size })), out)
+    ask(
+        device,
+        alloc,
+        who,
+        Ok(Some(RequestOf::WriteBuffer {
+            buffer,
+            offset,
+            size,
+        })),
+        out,
+    )
 }
 
 /// Writes to a texture.
@@ -70,7 +80,18 @@ pub extern "C" fn wethlorn_map_async(
 ) -> u32
     ensures { Asks (Some (request.MapAsync buffer mode offset (wide_of size))) who device.old.inside device.new.inside out.old out.new result }
 {
-    ask(device, alloc, who, Ok(Some(RequestOf::MapAsync { buffer, mode, offset, size: wide_of(size) })), out)
+    ask(
+        device,
+        alloc,
+        who,
+        Ok(Some(RequestOf::MapAsync {
+            buffer,
+            mode,
+            offset,
+            size: wide_of(size),
+        })),
+        out,
+    )
 }
 
 /// Ends a mapping.
@@ -84,7 +105,13 @@ pub extern "C" fn wethlorn_unmap(
 ) -> u32
     ensures { Asks (Some (request.Unmap buffer)) who device.old.inside device.new.inside out.old out.new result }
 {
-    ask(device, alloc, who, Ok(Some(RequestOf::Unmap { buffer })), out)
+    ask(
+        device,
+        alloc,
+        who,
+        Ok(Some(RequestOf::Unmap { buffer })),
+        out,
+    )
 }
 
 /// Destroys an object.
@@ -98,7 +125,13 @@ pub extern "C" fn wethlorn_destroy(
 ) -> u32
     ensures { Asks (Some (request.Destroy object)) who device.old.inside device.new.inside out.old out.new result }
 {
-    ask(device, alloc, who, Ok(Some(RequestOf::Destroy { object })), out)
+    ask(
+        device,
+        alloc,
+        who,
+        Ok(Some(RequestOf::Destroy { object })),
+        out,
+    )
 }
 
 /// Lets go of an object.
@@ -112,7 +145,13 @@ pub extern "C" fn wethlorn_drop(
 ) -> u32
     ensures { Asks (Some (request.Drop object)) who device.old.inside device.new.inside out.old out.new result }
 {
-    ask(device, alloc, who, Ok(Some(RequestOf::Drop { object })), out)
+    ask(
+        device,
+        alloc,
+        who,
+        Ok(Some(RequestOf::Drop { object })),
+        out,
+    )
 }
 
 /// Says that operations are complete.
@@ -126,7 +165,13 @@ pub extern "C" fn wethlorn_complete(
 ) -> u32
     ensures { Asks (Some (request.Complete op)) who device.old.inside device.new.inside out.old out.new result }
 {
-    ask(device, alloc, who, Ok(Some(RequestOf::Complete { op })), out)
+    ask(
+        device,
+        alloc,
+        who,
+        Ok(Some(RequestOf::Complete { op })),
+        out,
+    )
 }
 
 /// Asks when the work is done.
@@ -153,7 +198,13 @@ pub extern "C" fn wethlorn_push_error_scope(
 ) -> u32
     ensures { Asks (asked.push_error_scope filter) who device.old.inside device.new.inside out.old out.new result }
 {
-    ask(device, alloc, who, Ok(requests::push_error_scope(filter)), out)
+    ask(
+        device,
+        alloc,
+        who,
+        Ok(requests::push_error_scope(filter)),
+        out,
+    )
 }
 
 /// Closes an error scope.
