@@ -70,7 +70,7 @@ static named *meant(player *p, const json_t *name) {
     const json_t *at = json_is_string(name) ? json_object_get(p->names, json_string_value(name)) : NULL;
     named *it = at ? &p->all[json_integer_value(at)] : NULL;
     if (it && it->is_dropped)
-        p->is_left_out = 1;
+        p->names_dropped = 1;
     return it;
 }
 
@@ -584,11 +584,11 @@ void play_call(player *p, const json_t *call) {
     p->word = NULL;
     if (!word || !make(p, word, call))
         p->wrong = "a call of no known word";
-    else if (p->word && p->is_left_out && p->status != WETHLORN_NO_OBJECT)
+    else if (p->word && p->names_dropped && p->status != WETHLORN_NO_OBJECT)
         p->wrong = "what was dropped was taken";
-    else if (p->word && !p->is_left_out && p->status != WETHLORN_OK)
+    else if (p->word && !p->names_dropped && p->status != WETHLORN_OK)
         p->wrong = word;
-    else if (json_object_get(call, "as") && !p->is_left_out)
+    else if (json_object_get(call, "as") && !p->names_dropped)
         give_name(p, word, call);
 }
 

@@ -5,14 +5,14 @@
  *                                      memory is made again, and the report has to be the same. Prints how many were refused
  *
  * Status 0: played; 1: something is wrong, which standard error tells; 4: the script names what it dropped, which C answers by a status
- * in place of a fault, so that it has no report by C. */
+ * in place of a fault, and is played up to that call alone. */
 #include "play.h"
 #include "refuse.h"
 #include <inttypes.h>
 #include <stdlib.h>
 #include <string.h>
 
-enum { LANES = 64, UNTOUCHED = 0xA5, LEFT_OUT = 4 };
+enum { LANES = 64, UNTOUCHED = 0xA5, NAMES_DROPPED = 4 };
 
 /* A play of a script: the phase in which it is, and how far each lane is. */
 typedef struct play {
@@ -39,7 +39,7 @@ int call_is_again(player *p) {
 }
 
 static int is_over(const play *it) {
-    return it->player.wrong || it->player.is_left_out;
+    return it->player.wrong || it->player.names_dropped;
 }
 
 static const json_t *lane_of(const play *it, size_t lane) {
@@ -50,9 +50,13 @@ static const json_t *lane_of(const play *it, size_t lane) {
 static int play_turn(play *it, size_t lane) {
     player *p = &it->player;
     const json_t *calls = lane_of(it, lane);
+    wethlorn_item item;
+    wethlorn_settlement settled;
     p->who = (uint32_t)lane;
     while (!is_over(it) && it->at[lane] < json_array_size(calls)) {
         play_call(p, json_array_get(calls, it->at[lane]++));
+        if (p->names_dropped && (wethlorn_next_item(&p->device, &item) != WETHLORN_END || wethlorn_next_settlement(&p->device, &settled) != WETHLORN_END))
+            p->wrong = "a call that was not made has done something";
         if (is_over(it) || !p->word)
             continue;
         if (!report_call(&it->player.report, &p->device, p->who, p->word, &p->reply))
@@ -94,7 +98,7 @@ static size_t count_calls(const json_t *script) {
     return count;
 }
 
-/* Plays a script on a new device. Gives its report, which the caller frees, or null where something is wrong or it is left out. */
+/* Plays a script on a new device. Gives its report, which the caller frees, or null where something is wrong. */
 static char *played(play *it, const json_t *script, const char *report) {
     static uint64_t serial;
     player *p = &it->player;
@@ -114,7 +118,7 @@ static char *played(play *it, const json_t *script, const char *report) {
     json_decref(p->names);
     free(p->all);
     text = report_end(&p->report);
-    if (!is_over(it))
+    if (!p->wrong)
         return text;
     free(text);
     return NULL;
@@ -164,12 +168,10 @@ static int play_files(const char *script_path, const char *report_path, int is_r
         fprintf(stderr, "%s: no script, or no report\n", script_path);
     else if (it.player.wrong)
         fprintf(stderr, "%s: %s (status %u)\n", script_path, it.player.wrong, (unsigned)it.player.status);
-    else if (it.player.is_left_out)
-        status = LEFT_OUT;
     else if (is_refusing)
         status = play_refused(&it, script, report, text);
-    else
-        status = text && fputs(text, stdout) >= 0 && !fflush(stdout) ? 0 : 1;
+    else if (text && fputs(text, stdout) >= 0 && !fflush(stdout))
+        status = it.player.names_dropped ? NAMES_DROPPED : 0;
     free(text);
     free(report);
     json_decref(script);

@@ -25,7 +25,7 @@ typedef struct player {
     size_t count;
     uint64_t again;     /* how many calls found no memory, and were made again */
     const char *wrong;  /* what is wrong, or null */
-    int is_left_out;    /* a call names what was dropped, which C answers by a status and a script by a fault */
+    int names_dropped;  /* a call names what was dropped, which C answers by a status and a script by a fault */
 } player;
 
 /* Makes one call of the library into `p->status`, and once more as long as it finds no memory because it was refused some. Tests that
