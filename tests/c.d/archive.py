@@ -17,6 +17,11 @@ ARCHIVE = CRATE / "out/libwg_c.a"
 STAMP = CRATE / "out/libwg_c.sources"
 
 
+def is_there():
+    """Whether the repository has the crate of the exports."""
+    return "wg_c" in building.listed()
+
+
 def kit():
     """The folder of the toolchain, or None."""
     found = shutil.which("rt")
@@ -83,8 +88,6 @@ def found():
     """The archive of the sources as they are, built if need be, and None; or None, and why there is none."""
     if kit() is None:
         return None, building.NEEDS_RT.format("build the archive of the C interface")
-    if not CRATE.is_dir():
-        return None, "there is no crate wg_c"
     sources = sum_of_sources()
     if ARCHIVE.exists() and STAMP.exists() and STAMP.read_text(encoding="utf-8") == building.stamp_of(ARCHIVE, sources):
         return ARCHIVE, None
