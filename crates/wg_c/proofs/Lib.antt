@@ -1,0 +1,5 @@
+mod AsBox
+pub mod Crossing
+pub mod Inside
+mod Pairs
+pub mod Waits

@@ -1,0 +1,109 @@
+-- What contracts see of what lies behind a device, and what calls do to it.
+use Rattle.std.specs.Prelude.{◌≡◌, ℕ, zero, suc, ◌+◌, ◌++◌, ◌||◌, Bool, true, false, List, [], ◌∷◌, length, reverse, slice_get, Option, Some, None, is_none, MatchBool, IfSome, if◌then◌else◌}
+use Rattle.wg_types.specs.declared.commands.CommandOf.{CommandOf}
+use Rattle.wg_types.specs.declared.commands.On.{On}
+use Rattle.wg_types.specs.declared.limits.Limits.{Limits}
+use Rattle.wg_types.specs.declared.replies.Reply.{Reply}
+use Rattle.wg_types.specs.declared.replies.Settlement.{Settlement}
+use Rattle.wg_types.specs.declared.requests.RequestOf.{RequestOf}
+use Rattle.wg_types.specs.Commands.{is_begin, map_refs as map_command}
+use Rattle.wg_orders.specs.Trace.{Item}
+use Rattle.wg_history.specs.declared.events.Event.{Event}
+use Rattle.wg_history.specs.declared.events.Event.TheVariants.{Late}
+use Rattle.wg_history.specs.Answers.{reply_to}
+use Rattle.wg_desk.specs.declared.desk.DeskError.{DeskError}
+use Rattle.wg_desk.specs.declared.desk.DeskError.TheVariants.{NoMemory, NoObject, NoPass}
+use Rattle.wg_desk.specs.Desks.{DeskValue, HasSent, HasGrown, IsUnchanged, IsNumber}
+use Rattle.wg_desk.specs.Seats.{found_at, passes_at, is_late_at, recorded_at}
+use Rattle.wg_desk.specs.Sent.{event_sent, seats_after}
+use Rattle.wg_told.specs.declared.replies.ToldReply.{ToldReply}
+use Rattle.wg_told.specs.declared.replies.ToldSettlement.{ToldSettlement}
+use Rattle.wg_told.specs.Replies.{reply_told, kept_told, settlement_told}
+
+-- the desk, the items that were handed out and not let go, how many of these were told, and the settlements that are left to be told
+pub record InnerValue : Type 0 where
+  pub desk : DeskValue
+  pub items : List Item
+  pub told : ℕ
+  pub settled : List Settlement
+
+-- a device with nothing on it
+pub record IsOpened (new : InnerValue) (budget serial : ℕ) (limits : Limits) : Type 0 where
+  pub setup : new.desk.setup ≡ record { serial = serial; budget = budget; limits = limits }
+  pub history : new.desk.history ≡ []
+  pub seats : new.desk.seats ≡ []
+  pub items : new.items ≡ []
+  pub settled : new.settled ≡ []
+
+-- nothing has changed
+pub record IsAsBefore (old new : InnerValue) : Type 0 where
+  pub setup : new.desk.setup ≡ old.desk.setup
+  pub desk : IsUnchanged old.desk new.desk
+  pub items : new.items ≡ old.items
+  pub told : new.told ≡ old.told
+  pub settled : new.settled ≡ old.settled
+
+-- the one reply to an event
+abbrev pub answer_to : InnerValue → Event → Reply
+answer_to old event = reply_to old.desk.setup (reverse old.desk.history) event
+
+-- An event was sent: the history has its entry, what came to the trace waits with the items, and what was settled with the settlements.
+pub record HasDone (old new : InnerValue) (who : ℕ) (event : Event) : Type 0 where
+  pub setup : new.desk.setup ≡ old.desk.setup
+  pub sent : HasSent old.desk new.desk who event (answer_to old event)
+  pub grown : HasGrown old.desk new.desk old.items new.items
+  pub still : new.told ≡ old.told
+  pub settled : new.settled ≡ old.settled ++ (answer_to old event).settled
+
+-- A call was made, and this is what was told of it.
+pub record HasAsked (old new : InnerValue) (who : ℕ) (request : RequestOf ℕ) (out : ToldReply) : Type 0 where
+  pub done : HasDone old new who (event_sent old.desk.seats request)
+  pub seats : new.desk.seats ≡ seats_after old.desk.setup.serial old.desk.seats request (answer_to old (event_sent old.desk.seats request)).answer
+  pub number : IsNumber (answer_to old (event_sent old.desk.seats request)).answer (length old.desk.seats)
+  pub out_is : out ≡ reply_told (answer_to old (event_sent old.desk.seats request)) (length old.desk.history) 0
+
+-- the number of the pass that a command begins
+abbrev pub pass_begun : InnerValue → ℕ → CommandOf ℕ → ℕ
+pass_begun old encoder command = if is_begin command then passes_at old.desk.seats encoder else 0
+
+-- the event of a command that comes too late
+abbrev pub late_event : InnerValue → ℕ → Event
+late_event old encoder = Late (found_at old.desk.seats encoder).reference
+
+pub record HasComeLate (old new : InnerValue) (who encoder : ℕ) (command : CommandOf ℕ) (out : ToldReply) : Type 0 where
+  pub done : HasDone old new who (late_event old encoder)
+  pub seats : new.desk.seats ≡ old.desk.seats
+  pub out_is : out ≡ reply_told (answer_to old (late_event old encoder)) (length old.desk.history) (pass_begun old encoder command)
+
+pub record HasKept (old new : InnerValue) (encoder : ℕ) (on : On) (command : CommandOf ℕ) (out : ToldReply) : Type 0 where
+  pub setup : new.desk.setup ≡ old.desk.setup
+  pub history : new.desk.history ≡ old.desk.history
+  pub seats : new.desk.seats ≡ recorded_at old.desk.seats encoder on (map_command (found_at old.desk.seats) command)
+  pub items : new.items ≡ old.items
+  pub still : new.told ≡ old.told
+  pub settled : new.settled ≡ old.settled
+  pub out_is : out ≡ kept_told (pass_begun old encoder command)
+
+-- A command came late, which is an event, or was kept.
+abbrev pub HasRecorded : InnerValue → InnerValue → ℕ → ℕ → On → CommandOf ℕ → ToldReply → Type 0
+HasRecorded old new who encoder on command out =
+    MatchBool (is_late_at old.desk.seats encoder on) (HasComeLate old new who encoder command out) (HasKept old new encoder on command out)
+
+-- why a call was not made; want of memory is the one free reason
+abbrev pub IsCause : DeskError → Bool → Bool → Type 0
+IsCause NoMemory missing unbegun = Unit {0}
+IsCause NoObject missing unbegun = missing ≡ true
+IsCause NoPass missing unbegun = unbegun ≡ true
+
+-- the item that was told last
+abbrev pub last_of : List Item → ℕ → Option Item
+last_of items zero = None
+last_of items (suc n) = slice_get items n
+
+-- the next settlement was told
+pub record HasToldNext (old new : InnerValue) (out : ToldSettlement) : Type 0 where
+  pub desk : new.desk ≡ old.desk
+  pub items : new.items ≡ old.items
+  pub still : new.told ≡ old.told
+  pub next : IfSome (slice_get old.settled 0) (λ settlement. (old.settled ≡ settlement ∷ new.settled) × (out ≡ settlement_told settlement))
+  pub some : is_none (slice_get old.settled 0) ≡ false

@@ -1,0 +1,4 @@
+pub mod Exports
+pub mod Inners
+pub mod Owned
+pub mod Waits

@@ -1,0 +1,282 @@
+//! The exports that make objects.
+ghost use Rattle.std.specs.Prelude.{Some};
+ghost use Rattle.wg_types.specs.declared.requests.RequestOf.TheVariants as request;
+ghost use Rattle.wg_told.specs.Asked as asked;
+ghost use Rattle.wg_c.specs.Exports.{Asks};
+
+use crate::boundary::{ask, ask_made};
+use crate::sealed::Device;
+use std::alloc::Global;
+use wg_told::flats::{
+    FlatAttribute, FlatBuffer, FlatBundle, FlatGroupEntry, FlatIfaceEntry, FlatLayoutEntry,
+    FlatRender, FlatTexture, FlatVertexBuffer, FlatView,
+};
+use wg_told::{ToldReply, requests};
+use wg_types::handles::QueriesInfo;
+use wg_types::requests::RequestOf;
+
+/// Makes a buffer.
+#[unsafe(no_mangle)]
+pub extern "C" fn wethlorn_create_buffer(
+    alloc: Global,
+    device: &mut Device,
+    who: u32,
+    desc: &FlatBuffer,
+    out: &mut ToldReply,
+) -> u32
+    ensures { Asks (asked.create_buffer desc.now) who device.old.inside device.new.inside out.old out.new result }
+{
+    ask(device, alloc, who, Ok(requests::create_buffer(desc)), out)
+}
+
+/// Makes a texture.
+#[unsafe(no_mangle)]
+pub extern "C" fn wethlorn_create_texture(
+    alloc: Global,
+    device: &mut Device,
+    who: u32,
+    desc: &FlatTexture,
+    out: &mut ToldReply,
+) -> u32
+    ensures { Asks (asked.create_texture desc.now) who device.old.inside device.new.inside out.old out.new result }
+{
+    ask(device, alloc, who, Ok(requests::create_texture(desc)), out)
+}
+
+/// Makes a view.
+#[unsafe(no_mangle)]
+pub extern "C" fn wethlorn_create_view(
+    alloc: Global,
+    device: &mut Device,
+    who: u32,
+    texture: u64,
+    desc: &FlatView,
+    out: &mut ToldReply,
+) -> u32
+    ensures { Asks (asked.create_view texture desc.now) who device.old.inside device.new.inside out.old out.new result }
+{
+    ask(
+        device,
+        alloc,
+        who,
+        Ok(requests::create_view(texture, desc)),
+        out,
+    )
+}
+
+/// Makes a sampler.
+#[unsafe(no_mangle)]
+pub extern "C" fn wethlorn_create_sampler(
+    alloc: Global,
+    device: &mut Device,
+    who: u32,
+    kind: u32,
+    out: &mut ToldReply,
+) -> u32
+    ensures { Asks (asked.create_sampler kind) who device.old.inside device.new.inside out.old out.new result }
+{
+    ask(device, alloc, who, Ok(requests::create_sampler(kind)), out)
+}
+
+/// Makes a bind group layout.
+#[unsafe(no_mangle)]
+pub extern "C" fn wethlorn_create_bind_group_layout(
+    alloc: Global,
+    device: &mut Device,
+    who: u32,
+    entries: &[FlatLayoutEntry],
+    out: &mut ToldReply,
+) -> u32
+    ensures { Asks (asked.create_bind_group_layout entries.now) who device.old.inside device.new.inside out.old out.new result }
+{
+    ask(
+        device,
+        alloc,
+        who,
+        requests::create_bind_group_layout(alloc, entries),
+        out,
+    )
+}
+
+/// Makes a pipeline layout.
+#[unsafe(no_mangle)]
+pub extern "C" fn wethlorn_create_pipeline_layout(
+    alloc: Global,
+    device: &mut Device,
+    who: u32,
+    layouts: &[u64],
+    out: &mut ToldReply,
+) -> u32
+    ensures { Asks (Some (request.CreatePipelineLayout layouts.now)) who device.old.inside device.new.inside out.old out.new result }
+{
+    ask_made(
+        device,
+        alloc,
+        who,
+        requests::create_pipeline_layout(alloc, layouts),
+        out,
+    )
+}
+
+/// Makes a bind group.
+#[unsafe(no_mangle)]
+pub extern "C" fn wethlorn_create_bind_group(
+    alloc: Global,
+    device: &mut Device,
+    who: u32,
+    layout: u64,
+    entries: &[FlatGroupEntry],
+    out: &mut ToldReply,
+) -> u32
+    ensures { Asks (asked.create_bind_group layout entries.now) who device.old.inside device.new.inside out.old out.new result }
+{
+    ask(
+        device,
+        alloc,
+        who,
+        requests::create_bind_group(alloc, layout, entries),
+        out,
+    )
+}
+
+/// Makes a compute pipeline.
+#[unsafe(no_mangle)]
+pub extern "C" fn wethlorn_create_compute_pipeline(
+    alloc: Global,
+    device: &mut Device,
+    who: u32,
+    layout: u64,
+    iface: &[FlatIfaceEntry],
+    out: &mut ToldReply,
+) -> u32
+    ensures { Asks (asked.create_compute_pipeline layout iface.now) who device.old.inside device.new.inside out.old out.new result }
+{
+    ask(
+        device,
+        alloc,
+        who,
+        requests::create_compute_pipeline(alloc, layout, iface),
+        out,
+    )
+}
+
+/// Makes a render pipeline.
+#[unsafe(no_mangle)]
+pub extern "C" fn wethlorn_create_render_pipeline(
+    alloc: Global,
+    device: &mut Device,
+    who: u32,
+    desc: &FlatRender,
+    iface: &[FlatIfaceEntry],
+    buffers: &[FlatVertexBuffer],
+    attributes: &[FlatAttribute],
+    targets: &[u32],
+    out: &mut ToldReply,
+) -> u32
+    ensures { Asks (asked.create_render_pipeline desc.now iface.now buffers.now attributes.now targets.now) who device.old.inside device.new.inside out.old out.new result }
+{
+    ask(
+        device,
+        alloc,
+        who,
+        requests::create_render_pipeline(alloc, desc, iface, buffers, attributes, targets),
+        out,
+    )
+}
+
+/// Gets the bind group layout of a pipeline.
+#[unsafe(no_mangle)]
+pub extern "C" fn wethlorn_get_bind_group_layout(
+    alloc: Global,
+    device: &mut Device,
+    who: u32,
+    pipeline: u64,
+    index: u32,
+    out: &mut ToldReply,
+) -> u32
+    ensures { Asks (Some (request.GetBindGroupLayout pipeline index)) who device.old.inside device.new.inside out.old out.new result }
+{
+    ask(
+        device,
+        alloc,
+        who,
+        Ok(Some(RequestOf::GetBindGroupLayout { pipeline, index })),
+        out,
+    )
+}
+
+/// Makes a query set.
+#[unsafe(no_mangle)]
+pub extern "C" fn wethlorn_create_query_set(
+    alloc: Global,
+    device: &mut Device,
+    who: u32,
+    count: u32,
+    out: &mut ToldReply,
+) -> u32
+    ensures { Asks (Some (request.CreateQuerySet (record { count = count }))) who device.old.inside device.new.inside out.old out.new result }
+{
+    ask(
+        device,
+        alloc,
+        who,
+        Ok(Some(RequestOf::CreateQuerySet {
+            info: QueriesInfo { count },
+        })),
+        out,
+    )
+}
+
+/// Makes an encoder.
+#[unsafe(no_mangle)]
+pub extern "C" fn wethlorn_create_encoder(
+    alloc: Global,
+    device: &mut Device,
+    who: u32,
+    out: &mut ToldReply,
+) -> u32
+    ensures { Asks (Some request.CreateEncoder) who device.old.inside device.new.inside out.old out.new result }
+{
+    ask(device, alloc, who, Ok(Some(RequestOf::CreateEncoder)), out)
+}
+
+/// Makes a bundle encoder.
+#[unsafe(no_mangle)]
+pub extern "C" fn wethlorn_create_bundle_encoder(
+    alloc: Global,
+    device: &mut Device,
+    who: u32,
+    desc: &FlatBundle,
+    colors: &[u32],
+    out: &mut ToldReply,
+) -> u32
+    ensures { Asks (asked.create_bundle_encoder desc.now colors.now) who device.old.inside device.new.inside out.old out.new result }
+{
+    ask(
+        device,
+        alloc,
+        who,
+        requests::create_bundle_encoder(alloc, desc, colors),
+        out,
+    )
+}
+
+/// Ends an encoder or a bundle encoder.
+#[unsafe(no_mangle)]
+pub extern "C" fn wethlorn_finish(
+    alloc: Global,
+    device: &mut Device,
+    who: u32,
+    encoder: u64,
+    out: &mut ToldReply,
+) -> u32
+    ensures { Asks (Some (request.Finish encoder)) who device.old.inside device.new.inside out.old out.new result }
+{
+    ask(
+        device,
+        alloc,
+        who,
+        Ok(Some(RequestOf::Finish { encoder })),
+        out,
+    )
+}

@@ -1,0 +1,98 @@
+//! The exports that tell what waits to be told.
+ghost use Rattle.wg_c.specs.Exports.{NextItem, ItemUse, ItemAccess, NextSettlement};
+
+use crate::boundary::{give, take};
+use crate::sealed::Device;
+use crate::statuses::{CLOSED, END, OK};
+use std::alloc::Global;
+use wg_told::{ToldAccess, ToldItem, ToldSettlement, ToldUse};
+
+/// Tells the next item of the trace.
+#[unsafe(no_mangle)]
+pub extern "C" fn wethlorn_next_item(alloc: Global, device: &mut Device, out: &mut ToldItem) -> u32
+    ensures { NextItem device.old.inside device.new.inside out.old out.new result }
+{
+    let Some(mut inner) = take(device, alloc) else {
+        return CLOSED;
+    };
+    let next = inner.next_item();
+    give(device, inner);
+    match next {
+        Some(told) => {
+            *out = told;
+            OK
+        }
+        None => END,
+    }
+}
+
+/// Tells a use of the item that was told last.
+#[unsafe(no_mangle)]
+pub extern "C" fn wethlorn_item_use(
+    alloc: Global,
+    device: &mut Device,
+    at: usize,
+    out: &mut ToldUse,
+) -> u32
+    ensures { ItemUse at device.old.inside device.new.inside out.old out.new result }
+{
+    let Some(inner) = take(device, alloc) else {
+        return CLOSED;
+    };
+    let found = inner.use_at(at);
+    give(device, inner);
+    match found {
+        Some(told) => {
+            *out = told;
+            OK
+        }
+        None => END,
+    }
+}
+
+/// Tells an access of the item that was told last.
+#[unsafe(no_mangle)]
+pub extern "C" fn wethlorn_item_access(
+    alloc: Global,
+    device: &mut Device,
+    at: usize,
+    out: &mut ToldAccess,
+) -> u32
+    ensures { ItemAccess at device.old.inside device.new.inside out.old out.new result }
+{
+    let Some(inner) = take(device, alloc) else {
+        return CLOSED;
+    };
+    let found = inner.access_at(at);
+    give(device, inner);
+    match found {
+        Some(told) => {
+            *out = told;
+            OK
+        }
+        None => END,
+    }
+}
+
+/// Tells the next promise that was settled.
+#[unsafe(no_mangle)]
+pub extern "C" fn wethlorn_next_settlement(
+    alloc: Global,
+    device: &mut Device,
+    out: &mut ToldSettlement,
+) -> u32
+    ensures { NextSettlement device.old.inside device.new.inside out.old out.new result }
+{
+    let Some(mut inner) = take(device, alloc) else {
+        return CLOSED;
+    };
+    let next = inner.next_settlement();
+    give(device, inner);
+    match next {
+        Some(told) => {
+            *out = told;
+            OK
+        }
+        None => END,
+    }
+}

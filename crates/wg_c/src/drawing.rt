@@ -1,0 +1,358 @@
+//! The exports that record what passes and bundles set and run.
+ghost use Rattle.std.specs.Prelude.{Some};
+ghost use Rattle.wg_types.specs.declared.commands.CommandOf.TheVariants as command;
+ghost use Rattle.wg_told.specs.Asked as asked;
+ghost use Rattle.wg_told.specs.Tables.{wide_of};
+ghost use Rattle.wg_told.specs.Flats.{on_of};
+ghost use Rattle.wg_c.specs.Exports.{Records};
+
+use crate::boundary::{record, record_made};
+use crate::sealed::Device;
+use std::alloc::Global;
+use wg_told::{ToldReply, commands, wide_of};
+use wg_types::commands::CommandOf;
+
+/// Sets a pipeline.
+#[unsafe(no_mangle)]
+pub extern "C" fn wethlorn_set_pipeline(
+    alloc: Global,
+    device: &mut Device,
+    who: u32,
+    encoder: u64,
+    pass: u32,
+    pipeline: u64,
+    out: &mut ToldReply,
+) -> u32
+    ensures { Records (Some (command.SetPipeline pipeline)) who encoder (on_of pass) device.old.inside device.new.inside out.old out.new result }
+{
+    record(
+        device,
+        alloc,
+        who,
+        encoder,
+        pass,
+        Ok(Some(CommandOf::SetPipeline { pipeline })),
+        out,
+    )
+}
+
+/// Sets a bind group.
+#[unsafe(no_mangle)]
+pub extern "C" fn wethlorn_set_bind_group(
+    alloc: Global,
+    device: &mut Device,
+    who: u32,
+    encoder: u64,
+    pass: u32,
+    index: u32,
+    group: u64,
+    offsets: &[u32],
+    out: &mut ToldReply,
+) -> u32
+    ensures { Records (Some (command.SetBindGroup index group offsets.now)) who encoder (on_of pass) device.old.inside device.new.inside out.old out.new result }
+{
+    record_made(
+        device,
+        alloc,
+        who,
+        encoder,
+        pass,
+        commands::set_bind_group(alloc, index, group, offsets),
+        out,
+    )
+}
+
+/// Records a dispatch.
+#[unsafe(no_mangle)]
+pub extern "C" fn wethlorn_dispatch(
+    alloc: Global,
+    device: &mut Device,
+    who: u32,
+    encoder: u64,
+    pass: u32,
+    x: u32,
+    y: u32,
+    z: u32,
+    out: &mut ToldReply,
+) -> u32
+    ensures { Records (Some (command.Dispatch x y z)) who encoder (on_of pass) device.old.inside device.new.inside out.old out.new result }
+{
+    record(
+        device,
+        alloc,
+        who,
+        encoder,
+        pass,
+        Ok(Some(CommandOf::Dispatch { x, y, z })),
+        out,
+    )
+}
+
+/// Records a dispatch whose counts stand in a buffer.
+#[unsafe(no_mangle)]
+pub extern "C" fn wethlorn_dispatch_indirect(
+    alloc: Global,
+    device: &mut Device,
+    who: u32,
+    encoder: u64,
+    pass: u32,
+    buffer: u64,
+    offset: u64,
+    out: &mut ToldReply,
+) -> u32
+    ensures { Records (Some (command.DispatchIndirect buffer offset)) who encoder (on_of pass) device.old.inside device.new.inside out.old out.new result }
+{
+    record(
+        device,
+        alloc,
+        who,
+        encoder,
+        pass,
+        Ok(Some(CommandOf::DispatchIndirect { buffer, offset })),
+        out,
+    )
+}
+
+/// Sets a vertex buffer.
+#[unsafe(no_mangle)]
+pub extern "C" fn wethlorn_set_vertex_buffer(
+    alloc: Global,
+    device: &mut Device,
+    who: u32,
+    encoder: u64,
+    pass: u32,
+    slot: u32,
+    buffer: u64,
+    offset: u64,
+    size: u64,
+    out: &mut ToldReply,
+) -> u32
+    ensures { Records (Some (command.SetVertexBuffer slot buffer offset (wide_of size))) who encoder (on_of pass) device.old.inside device.new.inside out.old out.new result }
+{
+    record(
+        device,
+        alloc,
+        who,
+        encoder,
+        pass,
+        Ok(Some(CommandOf::SetVertexBuffer {
+            slot,
+            buffer,
+            offset,
+            size: wide_of(size),
+        })),
+        out,
+    )
+}
+
+/// Sets the index buffer.
+#[unsafe(no_mangle)]
+pub extern "C" fn wethlorn_set_index_buffer(
+    alloc: Global,
+    device: &mut Device,
+    who: u32,
+    encoder: u64,
+    pass: u32,
+    buffer: u64,
+    format: u32,
+    offset: u64,
+    size: u64,
+    out: &mut ToldReply,
+) -> u32
+    ensures { Records (asked.set_index_buffer buffer format offset size) who encoder (on_of pass) device.old.inside device.new.inside out.old out.new result }
+{
+    record(
+        device,
+        alloc,
+        who,
+        encoder,
+        pass,
+        Ok(commands::set_index_buffer(buffer, format, offset, size)),
+        out,
+    )
+}
+
+/// Records a draw.
+#[unsafe(no_mangle)]
+pub extern "C" fn wethlorn_draw(
+    alloc: Global,
+    device: &mut Device,
+    who: u32,
+    encoder: u64,
+    pass: u32,
+    vertices: u32,
+    instances: u32,
+    first_vertex: u32,
+    first_instance: u32,
+    out: &mut ToldReply,
+) -> u32
+    ensures { Records (Some (command.Draw vertices instances first_vertex first_instance)) who encoder (on_of pass) device.old.inside device.new.inside out.old out.new result }
+{
+    record(
+        device,
+        alloc,
+        who,
+        encoder,
+        pass,
+        Ok(Some(CommandOf::Draw {
+            vertices,
+            instances,
+            first_vertex,
+            first_instance,
+        })),
+        out,
+    )
+}
+
+/// Records a draw by the index buffer.
+#[unsafe(no_mangle)]
+pub extern "C" fn wethlorn_draw_indexed(
+    alloc: Global,
+    device: &mut Device,
+    who: u32,
+    encoder: u64,
+    pass: u32,
+    indices: u32,
+    instances: u32,
+    first_index: u32,
+    first_instance: u32,
+    out: &mut ToldReply,
+) -> u32
+    ensures { Records (Some (command.DrawIndexed indices instances first_index first_instance)) who encoder (on_of pass) device.old.inside device.new.inside out.old out.new result }
+{
+    record(
+        device,
+        alloc,
+        who,
+        encoder,
+        pass,
+        Ok(Some(CommandOf::DrawIndexed {
+            indices,
+            instances,
+            first_index,
+            first_instance,
+        })),
+        out,
+    )
+}
+
+/// Records a draw whose numbers stand in a buffer.
+#[unsafe(no_mangle)]
+pub extern "C" fn wethlorn_draw_indirect(
+    alloc: Global,
+    device: &mut Device,
+    who: u32,
+    encoder: u64,
+    pass: u32,
+    buffer: u64,
+    offset: u64,
+    out: &mut ToldReply,
+) -> u32
+    ensures { Records (Some (command.DrawIndirect buffer offset)) who encoder (on_of pass) device.old.inside device.new.inside out.old out.new result }
+{
+    record(
+        device,
+        alloc,
+        who,
+        encoder,
+        pass,
+        Ok(Some(CommandOf::DrawIndirect { buffer, offset })),
+        out,
+    )
+}
+
+/// Records an indexed draw whose numbers stand in a buffer.
+#[unsafe(no_mangle)]
+pub extern "C" fn wethlorn_draw_indexed_indirect(
+    alloc: Global,
+    device: &mut Device,
+    who: u32,
+    encoder: u64,
+    pass: u32,
+    buffer: u64,
+    offset: u64,
+    out: &mut ToldReply,
+) -> u32
+    ensures { Records (Some (command.DrawIndexedIndirect buffer offset)) who encoder (on_of pass) device.old.inside device.new.inside out.old out.new result }
+{
+    record(
+        device,
+        alloc,
+        who,
+        encoder,
+        pass,
+        Ok(Some(CommandOf::DrawIndexedIndirect { buffer, offset })),
+        out,
+    )
+}
+
+/// Begins an occlusion query.
+#[unsafe(no_mangle)]
+pub extern "C" fn wethlorn_begin_occlusion_query(
+    alloc: Global,
+    device: &mut Device,
+    who: u32,
+    encoder: u64,
+    pass: u32,
+    index: u32,
+    out: &mut ToldReply,
+) -> u32
+    ensures { Records (Some (command.BeginOcclusionQuery index)) who encoder (on_of pass) device.old.inside device.new.inside out.old out.new result }
+{
+    record(
+        device,
+        alloc,
+        who,
+        encoder,
+        pass,
+        Ok(Some(CommandOf::BeginOcclusionQuery { index })),
+        out,
+    )
+}
+
+/// Ends an occlusion query.
+#[unsafe(no_mangle)]
+pub extern "C" fn wethlorn_end_occlusion_query(
+    alloc: Global,
+    device: &mut Device,
+    who: u32,
+    encoder: u64,
+    pass: u32,
+    out: &mut ToldReply,
+) -> u32
+    ensures { Records (Some command.EndOcclusionQuery) who encoder (on_of pass) device.old.inside device.new.inside out.old out.new result }
+{
+    record(
+        device,
+        alloc,
+        who,
+        encoder,
+        pass,
+        Ok(Some(CommandOf::EndOcclusionQuery)),
+        out,
+    )
+}
+
+/// Executes bundles.
+#[unsafe(no_mangle)]
+pub extern "C" fn wethlorn_execute_bundles(
+    alloc: Global,
+    device: &mut Device,
+    who: u32,
+    encoder: u64,
+    pass: u32,
+    bundles: &[u64],
+    out: &mut ToldReply,
+) -> u32
+    ensures { Records (Some (command.ExecuteBundles bundles.now)) who encoder (on_of pass) device.old.inside device.new.inside out.old out.new result }
+{
+    record_made(
+        device,
+        alloc,
+        who,
+        encoder,
+        pass,
+        commands::execute_bundles(alloc, bundles),
+        out,
+    )
+}

@@ -1,0 +1,189 @@
+//! What lies behind a device: the desk, and what waits to be told.
+ghost use Rattle.std.specs.Prelude.{◌≡◌, ◌+◌, ◌||◌, [], false, length, slice_get, Some, None, IfOk, IfErr, IfSome, IfNone, OnErr, option_map, option_and_then, is_none, if◌then◌else◌};
+ghost use Rattle.wg_types.specs.Commands.{is_begin, named as command_named};
+ghost use Rattle.wg_types.specs.Requests.{named};
+ghost use Rattle.wg_desk.specs.Seats.{any_missing, handle_at, is_late_at, is_unbegun, passes_at};
+ghost use Rattle.wg_desk.specs.Sent.{event_sent, seats_after};
+ghost use Rattle.wg_told.specs.Replies.{settlement_told};
+ghost use Rattle.wg_told.specs.Items.{item_told, use_told, access_told, uses_of, accesses_of};
+ghost use Rattle.wg_c.specs.Inners.{IsOpened, HasAsked, HasRecorded, IsAsBefore, IsCause, HasToldNext, last_of};
+
+use crate::waiting::Waiting;
+use std::alloc::Global;
+use std::marker::Model;
+use wg_desk::{Desk, DeskError};
+use wg_told::{
+    ToldAccess, ToldItem, ToldReply, ToldSettlement, ToldUse, access_told, item_told, kept_told,
+    reply_told, settlement_told, use_told,
+};
+use wg_types::commands::{CommandOf, On};
+use wg_types::limits::Limits;
+use wg_types::parts::{Cells, Kind, PartRun};
+use wg_types::requests::RequestOf;
+use wg_types::steps::Item;
+use wg_types::usages::Usages;
+
+/// A desk, with the items and the settlements that wait to be told. Of the items those before `told` were.
+#[derive(Drop)]
+pub struct Inner {
+    desk: Desk,
+    items: Vec<Item>,
+    told: usize,
+    waiting: Waiting,
+}
+
+impl Model for Inner {
+    ghost use Rattle.wg_c.specs.Inners.{InnerValue};
+
+    ghost Value = { InnerValue };
+
+    ghost view = { λ i. record { desk = i.desk; items = i.items.items; told = i.told; settled = i.waiting.left } };
+}
+
+/// An item, if there is one.
+fn item_at(items: &[Item], told: usize) -> Option<&Item>
+    ensures some { IfSome result (λ item. last_of items.now told ≡ Some item.now) }
+    ensures none { IfNone result (last_of items.now told ≡ None) }
+{
+    if told == 0 {
+        return None;
+    }
+    items.get(told - 1)
+}
+
+/// A use of a list, as it is told.
+fn use_in(uses: &[(PartRun, Usages)], at: usize) -> Option<ToldUse>
+    ensures { result ≡ option_map use_told (slice_get uses.now at) }
+{
+    let (part, set) = uses.get(at)?;
+    Some(use_told(*part, *set))
+}
+
+/// An access of a list, as it is told.
+fn access_in(accesses: &[(Cells, Kind)], at: usize) -> Option<ToldAccess>
+    ensures { result ≡ option_map access_told (slice_get accesses.now at) }
+{
+    let (cells, kind) = accesses.get(at)?;
+    Some(access_told(*cells, *kind))
+}
+
+impl Inner {
+    /// One of a device with nothing on it. It takes no memory.
+    pub fn open(alloc: Global, budget: u64, serial: u64, limits: &Limits) -> Inner
+        ensures { IsOpened result budget serial limits.now }
+    {
+        Inner {
+            desk: Desk::open(alloc, budget, serial, limits),
+            items: Vec::new(alloc),
+            told: 0,
+            waiting: Waiting::new(alloc),
+        }
+    }
+
+    /// Makes a call. What it adds to the trace and what it settles waits to be told.
+    #[tactic(auto, using(crate::proofs::Inside::asked_by))]
+    pub fn ask(&mut self, who: u32, request: &RequestOf<u64>) -> Result<ToldReply, DeskError>
+        ensures done { IfOk result (λ told. HasAsked self.old self.new who request.now told) }
+        ensures cause { IfErr result (λ error. IsCause error (any_missing self.old.desk.seats (named request.now)) false) }
+        ensures unchanged { OnErr result (IsAsBefore self.old self.new) }
+    {
+        if self.waiting.reserve().is_err() {
+            return Err(DeskError::NoMemory);
+        }
+        let entry = self.desk.len();
+        match self.desk.ask(who, request, &mut self.items) {
+            Ok(reply) => {
+                let told = reply_told(&reply, entry, 0);
+                self.waiting.push(reply.settled);
+                Ok(told)
+            }
+            Err(error) => Err(error),
+        }
+    }
+
+    /// The number of the pass that a command begins on an encoder; 0 of one that begins none.
+    fn pass_of(&self, encoder: u64, command: &CommandOf<u64>) -> u32
+        ensures { result ≡ (if is_begin command.now then passes_at self.now.desk.seats encoder else 0) }
+    {
+        if command.is_begin() {
+            return self.desk.passes(encoder);
+        }
+        0
+    }
+
+    /// Records a command.
+    #[tactic(auto, using(crate::proofs::Inside::came_late, crate::proofs::Inside::was_kept))]
+    pub fn record(
+        &mut self,
+        who: u32,
+        encoder: u64,
+        on: On,
+        command: &CommandOf<u64>,
+    ) -> Result<ToldReply, DeskError>
+        ensures done { IfOk result (λ told. HasRecorded self.old self.new who encoder on command.now told) }
+        ensures cause { IfErr result (λ error. IsCause error
+            (is_none (handle_at self.old.desk.seats encoder) || any_missing self.old.desk.seats (command_named command.now))
+            (is_unbegun self.old.desk.seats encoder on)) }
+        ensures unchanged { OnErr result (IsAsBefore self.old self.new) }
+    {
+        if self.waiting.reserve().is_err() {
+            return Err(DeskError::NoMemory);
+        }
+        let pass = self.pass_of(encoder, command);
+        let entry = self.desk.len();
+        match self.desk.record(who, encoder, on, command, &mut self.items) {
+            Ok(Some(reply)) => {
+                let told = reply_told(&reply, entry, pass);
+                self.waiting.push(reply.settled);
+                Ok(told)
+            }
+            Ok(None) => Ok(kept_told(pass)),
+            Err(error) => Err(error),
+        }
+    }
+
+    /// The next item. When all are told the list is emptied, and keeps its room.
+    pub fn next_item(&mut self) -> Option<ToldItem>
+        ensures item { result ≡ option_map item_told (slice_get self.old.items self.old.told) }
+        ensures told { IfSome result (λ _. self.new ≡ record self.old { told = self.old.told + 1 }) }
+        ensures ended { IfNone result (self.new ≡ record self.old { items = []; told = 0 }) }
+    {
+        if let Some(item) = self.items.as_slice().get(self.told) {
+            let told = item_told(item);
+            self.told += 1;
+            return Some(told);
+        }
+        self.items.clear();
+        self.told = 0;
+        None
+    }
+
+    /// A use of the item that was told last.
+    pub fn use_at(&self, at: usize) -> Option<ToldUse>
+        ensures { result ≡ option_map use_told (option_and_then (λ item. slice_get (uses_of item) at) (last_of self.now.items self.now.told)) }
+    {
+        match item_at(self.items.as_slice(), self.told) {
+            Some(Item::Step(step)) => use_in(step.uses.as_slice(), at),
+            _ => None,
+        }
+    }
+
+    /// An access of the item that was told last.
+    pub fn access_at(&self, at: usize) -> Option<ToldAccess>
+        ensures { result ≡ option_map access_told (option_and_then (λ item. slice_get (accesses_of item) at) (last_of self.now.items self.now.told)) }
+    {
+        match item_at(self.items.as_slice(), self.told) {
+            Some(Item::Step(step)) => access_in(step.accesses.as_slice(), at),
+            _ => None,
+        }
+    }
+
+    /// The next settlement.
+    pub fn next_settlement(&mut self) -> Option<ToldSettlement>
+        ensures told { IfSome result (λ told. HasToldNext self.old self.new told) }
+        ensures ended { IfNone result ((self.old.settled ≡ []) × (self.new ≡ self.old)) }
+    {
+        let settlement = self.waiting.next()?;
+        Some(settlement_told(settlement))
+    }
+}

@@ -1,0 +1,15 @@
+//! The device for callers in C: the exports that `include/wethlorn.h` declares, and what lies behind them.
+#![tactic(auto)]
+
+mod boundary;
+mod calls;
+mod commands;
+mod devices;
+mod drains;
+mod drawing;
+mod inner;
+mod parts;
+mod queue;
+mod sealed;
+mod statuses;
+mod waiting;
