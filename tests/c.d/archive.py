@@ -2,7 +2,7 @@
 
 `rt lib` in crates/wg_c builds it, and proves what it stands on where that was not kept. The gate proves all of it too, and leaves the
 libraries, yet no archive, and with no stamp that `rt lib` would go by. So where the libraries are there, the archive is built over
-them as they are, by the toolchain's own `rattle build`, which checks the crate itself once more: a matter of a minute.
+them as they are, by the toolchain's own `rattle build`, and the crate itself is checked once more: some processor minutes.
 """
 
 import hashlib
