@@ -132,8 +132,9 @@ def check_words(top, crates, findings):
 
 
 def check_blocks(top, crates, findings):
-    """What the page on embedding shows of Rattle stands so in the sources."""
-    sources = [path.read_text(encoding="utf-8") for path in sorted(top.glob("crates/*/src/*.rt"))]
+    """What the page on embedding shows of Rattle and of Rust stands so in the sources."""
+    paths = [*sorted(top.glob("crates/*/src/*.rt")), *sorted(top.glob("examples/rust/*/*.rs"))]
+    sources = [path.read_text(encoding="utf-8") for path in paths]
     for block in BLOCK.findall(text_of(top, "docs/embedding.md")):
         if not any(block in source for source in sources):
             findings.append(f"docs/embedding.md: no source has the block that begins `{block.splitlines()[0]}`")

@@ -1,0 +1,181 @@
+//! A small frame: a texture is written, drawn from into another, and read back. Prints each reply and each item of the trace.
+
+use wethlorn::*;
+
+const ME: u32 = 0;
+
+/// Prints what a call answered, and what a driver has to do for it.
+fn told(device: &mut Device, call: &str, reply: Reply) -> Reply {
+    if reply.answer != Answer::Kept {
+        println!("{call}: {:?} {:?}", reply.answer, reply.fault);
+    }
+    while let Some(settled) = device.next_settlement() {
+        println!("    {settled:?}");
+    }
+    while let Some(item) = device.next_item() {
+        println!("    {item:?}");
+    }
+    reply
+}
+
+fn number(reply: Reply) -> u64 {
+    reply.object().expect("the object is valid")
+}
+
+fn texture(device: &mut Device, usage: u32) -> Result<u64, Error> {
+    let size = Extent {
+        width: 4,
+        height: 4,
+        depth: 1,
+    };
+    let desc = TextureDesc {
+        size,
+        usage,
+        format: RGBA8_UNORM,
+        dim: DIM_2D,
+        mips: 1,
+        samples: 1,
+    };
+    let reply = device.create_texture(ME, &desc)?;
+    Ok(number(told(device, "createTexture", reply)))
+}
+
+fn view(device: &mut Device, texture: u64) -> Result<u64, Error> {
+    let desc = ViewDesc {
+        mips: NONE,
+        layers: NONE,
+        aspect: ASPECT_ALL,
+        ..ViewDesc::default()
+    };
+    let reply = device.create_view(ME, texture, &desc)?;
+    Ok(number(told(device, "createView", reply)))
+}
+
+/// A pipeline that samples one texture, and a bind group with that texture.
+fn pipeline(device: &mut Device, sampled: u64) -> Result<(u64, u64), Error> {
+    let holds = Binding {
+        kind: BIND_TEXTURE,
+        sample: SAMPLE_FLOAT,
+        dim: VIEW_2D,
+        ..Binding::default()
+    };
+    let iface = [IfaceEntry {
+        group: 0,
+        binding: 0,
+        stage: STAGE_FRAGMENT,
+        holds,
+    }];
+    let desc = RenderDesc {
+        layout: NONE,
+        samples: 1,
+        ..RenderDesc::default()
+    };
+    let reply = device.create_render_pipeline(ME, &desc, &iface, &[], &[], &[RGBA8_UNORM])?;
+    let pipeline = number(told(device, "createRenderPipeline", reply));
+    let reply = device.get_bind_group_layout(ME, pipeline, 0)?;
+    let layout = number(told(device, "getBindGroupLayout", reply));
+    let entry = GroupEntry {
+        object: sampled,
+        bound: BOUND_VIEW,
+        ..GroupEntry::default()
+    };
+    let reply = device.create_bind_group(ME, layout, &[entry])?;
+    Ok((pipeline, number(told(device, "createBindGroup", reply))))
+}
+
+fn write(device: &mut Device, texture: u64) -> Result<(), Error> {
+    let write = TextureWrite {
+        layout: TexelLayout {
+            offset: 0,
+            bytes_per_row: 16,
+            rows_per_image: NONE,
+        },
+        spot: Spot {
+            texture,
+            aspect: ASPECT_ALL,
+            ..Spot::default()
+        },
+        size: Extent {
+            width: 4,
+            height: 4,
+            depth: 1,
+        },
+        data_size: 64,
+    };
+    let reply = device.write_texture(ME, &write)?;
+    told(device, "writeTexture", reply);
+    Ok(())
+}
+
+/// Records the pass and the copy, and submits them. Gives the number of the operation.
+fn draw(device: &mut Device, target: u64, color: u64, drawn: (u64, u64), read: u64) -> Result<u64, Error> {
+    let reply = device.create_encoder(ME)?;
+    let encoder = number(told(device, "createEncoder", reply));
+    let color = Color {
+        view: color,
+        depth_slice: NONE,
+        resolve: NONE,
+        load: CLEAR,
+        store: STORE,
+    };
+    let depth = Depth {
+        view: NONE,
+        ..Depth::default()
+    };
+    let (pass, _) = device.begin_render_pass(ME, encoder, &[color], &depth, NONE)?;
+    device.set_pipeline(ME, encoder, pass, drawn.0)?;
+    device.set_bind_group(ME, encoder, pass, 0, drawn.1, &[])?;
+    device.draw(ME, encoder, pass, 3, 1, 0, 0)?;
+    device.end(ME, encoder, pass)?;
+    let copy = TexelCopy {
+        buffer: read,
+        layout: TexelLayout {
+            offset: 0,
+            bytes_per_row: 256,
+            rows_per_image: NONE,
+        },
+        spot: Spot {
+            texture: target,
+            aspect: ASPECT_ALL,
+            ..Spot::default()
+        },
+        size: Extent {
+            width: 4,
+            height: 4,
+            depth: 1,
+        },
+    };
+    device.copy_texture_to_buffer(ME, encoder, &copy)?;
+    let reply = device.finish(ME, encoder)?;
+    let commands = number(told(device, "finish", reply));
+    let reply = device.submit(ME, &[commands])?;
+    match told(device, "submit", reply).answer {
+        Answer::Queued(operation) => Ok(operation),
+        other => panic!("the submit was answered {other:?}"),
+    }
+}
+
+fn main() -> Result<(), Error> {
+    let mut device = Device::open(1_000_000, &[])?;
+    let source = texture(&mut device, 6)?;
+    let target = texture(&mut device, 17)?;
+    let sampled = view(&mut device, source)?;
+    let color = view(&mut device, target)?;
+    let reply = device.create_buffer(
+        ME,
+        &BufferDesc {
+            size: 1024,
+            usage: 9,
+            mapped: 0,
+        },
+    )?;
+    let read = number(told(&mut device, "createBuffer", reply));
+    let drawn = pipeline(&mut device, sampled)?;
+    write(&mut device, source)?;
+    let operation = draw(&mut device, target, color, drawn, read)?;
+    let reply = device.map_async(ME, read, 1, 0, NONE)?;
+    told(&mut device, "mapAsync", reply);
+    let reply = device.complete(ME, operation)?;
+    told(&mut device, "complete", reply);
+    Ok(())
+}

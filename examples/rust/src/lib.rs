@@ -1,0 +1,35 @@
+//! The proved core of a WebGPU device, for callers in Rust, over its C interface (`include/wethlorn.h`, `docs/embedding.md`).
+//!
+//! What the C interface asks of its caller and types can keep is kept by types here: a [`Device`] is open as long as it lives and is
+//! closed by its drop, one call at a time is made on it, since each takes `&mut self`, it may move to another thread and may not be
+//! shared by two, no pointer is null, and no two devices have one serial. What is left is that `complete` and `drop_object` are true,
+//! and that a driver does each item that is drained, in order.
+//!
+//! ```
+//! use wethlorn::{Answer, BufferDesc, Device};
+//!
+//! # fn main() -> Result<(), wethlorn::Error> {
+//! let mut device = Device::open(1024, &[])?;
+//! let buffer = device.create_buffer(0, &BufferDesc { size: 16, usage: 8, mapped: 0 })?;
+//! assert_eq!(buffer.answer, Answer::Made { number: 0, is_valid: true });
+//! # Ok(())
+//! # }
+//! ```
+//!
+//! Two threads share a device by a lock around it, and not without one:
+//!
+//! ```compile_fail
+//! fn shared<T: Sync>() {}
+//! shared::<wethlorn::Device>();
+//! ```
+
+mod device;
+mod raw;
+mod told;
+mod values;
+
+pub use device::Device;
+pub use told::{
+    Access, Answer, Aspect, Cells, Error, Fault, FaultKind, How, Item, Part, Place, Reply, Settlement, StepName, Use,
+};
+pub use values::*;

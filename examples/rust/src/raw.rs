@@ -1,0 +1,335 @@
+//! The functions and what they write, as `include/wethlorn.h` declares them.
+
+use crate::values::*;
+use std::ffi::c_void;
+
+#[repr(C)]
+pub struct Device {
+    pub inside: *mut c_void,
+}
+
+#[repr(C)]
+#[derive(Clone, Copy, Default)]
+pub struct Reply {
+    pub entry: u64,
+    pub number: u64,
+    pub scope: u64,
+    pub settles: u64,
+    pub answer: u32,
+    pub valid: u32,
+    pub fault: u32,
+    pub rule: u32,
+    pub caught: u32,
+    pub pass: u32,
+}
+
+#[repr(C)]
+#[derive(Clone, Copy, Default)]
+pub struct Settlement {
+    pub promise: u64,
+    pub how: u32,
+    pub fault: u32,
+    pub rule: u32,
+}
+
+#[repr(C)]
+#[derive(Clone, Copy, Default)]
+pub struct Range {
+    pub object: u64,
+    pub lo: u64,
+    pub hi: u64,
+    pub sort: u32,
+    pub aspect: u32,
+    pub mip: u32,
+}
+
+#[repr(C)]
+#[derive(Clone, Copy, Default)]
+pub struct Item {
+    pub what: u32,
+    pub name: u32,
+    pub part: Range,
+    pub from: u32,
+    pub to: u32,
+    pub fresh: u32,
+    pub host: u32,
+    pub place: u64,
+    pub uses: u64,
+    pub accesses: u64,
+}
+
+#[repr(C)]
+#[derive(Clone, Copy, Default)]
+pub struct Use {
+    pub part: Range,
+    pub usages: u32,
+}
+
+#[repr(C)]
+#[derive(Clone, Copy, Default)]
+pub struct Access {
+    pub cells: Range,
+    pub kind: u32,
+}
+
+extern "C" {
+    pub fn wethlorn_open(budget: u64, serial: u64, limits: *const Limit, limits_count: usize, device: *mut Device) -> u32;
+    pub fn wethlorn_close(device: *mut Device) -> u32;
+    pub fn wethlorn_create_buffer(device: *mut Device, who: u32, desc: *const BufferDesc, out: *mut Reply) -> u32;
+    pub fn wethlorn_create_texture(device: *mut Device, who: u32, desc: *const TextureDesc, out: *mut Reply) -> u32;
+    pub fn wethlorn_create_view(device: *mut Device, who: u32, texture: u64, desc: *const ViewDesc, out: *mut Reply) -> u32;
+    pub fn wethlorn_create_sampler(device: *mut Device, who: u32, kind: u32, out: *mut Reply) -> u32;
+    pub fn wethlorn_create_bind_group_layout(
+        device: *mut Device,
+        who: u32,
+        entries: *const LayoutEntry,
+        entries_count: usize,
+        out: *mut Reply,
+    ) -> u32;
+    pub fn wethlorn_create_pipeline_layout(
+        device: *mut Device,
+        who: u32,
+        layouts: *const u64,
+        layouts_count: usize,
+        out: *mut Reply,
+    ) -> u32;
+    pub fn wethlorn_create_bind_group(
+        device: *mut Device,
+        who: u32,
+        layout: u64,
+        entries: *const GroupEntry,
+        entries_count: usize,
+        out: *mut Reply,
+    ) -> u32;
+    pub fn wethlorn_create_compute_pipeline(
+        device: *mut Device,
+        who: u32,
+        layout: u64,
+        iface: *const IfaceEntry,
+        iface_count: usize,
+        out: *mut Reply,
+    ) -> u32;
+    pub fn wethlorn_create_render_pipeline(
+        device: *mut Device,
+        who: u32,
+        desc: *const RenderDesc,
+        iface: *const IfaceEntry,
+        iface_count: usize,
+        buffers: *const VertexBuffer,
+        buffers_count: usize,
+        attributes: *const VertexAttribute,
+        attributes_count: usize,
+        targets: *const u32,
+        targets_count: usize,
+        out: *mut Reply,
+    ) -> u32;
+    pub fn wethlorn_get_bind_group_layout(device: *mut Device, who: u32, pipeline: u64, index: u32, out: *mut Reply) -> u32;
+    pub fn wethlorn_create_query_set(device: *mut Device, who: u32, count: u32, out: *mut Reply) -> u32;
+    pub fn wethlorn_create_encoder(device: *mut Device, who: u32, out: *mut Reply) -> u32;
+    pub fn wethlorn_create_bundle_encoder(
+        device: *mut Device,
+        who: u32,
+        desc: *const BundleDesc,
+        colors: *const u32,
+        colors_count: usize,
+        out: *mut Reply,
+    ) -> u32;
+    pub fn wethlorn_finish(device: *mut Device, who: u32, encoder: u64, out: *mut Reply) -> u32;
+    pub fn wethlorn_submit(device: *mut Device, who: u32, buffers: *const u64, buffers_count: usize, out: *mut Reply) -> u32;
+    pub fn wethlorn_write_buffer(device: *mut Device, who: u32, buffer: u64, offset: u64, size: u64, out: *mut Reply) -> u32;
+    pub fn wethlorn_write_texture(device: *mut Device, who: u32, write: *const TextureWrite, out: *mut Reply) -> u32;
+    pub fn wethlorn_map_async(
+        device: *mut Device,
+        who: u32,
+        buffer: u64,
+        mode: u32,
+        offset: u64,
+        size: u64,
+        out: *mut Reply,
+    ) -> u32;
+    pub fn wethlorn_unmap(device: *mut Device, who: u32, buffer: u64, out: *mut Reply) -> u32;
+    pub fn wethlorn_destroy(device: *mut Device, who: u32, object: u64, out: *mut Reply) -> u32;
+    pub fn wethlorn_drop(device: *mut Device, who: u32, object: u64, out: *mut Reply) -> u32;
+    pub fn wethlorn_complete(device: *mut Device, who: u32, op: u64, out: *mut Reply) -> u32;
+    pub fn wethlorn_work_done(device: *mut Device, who: u32, out: *mut Reply) -> u32;
+    pub fn wethlorn_push_error_scope(device: *mut Device, who: u32, filter: u32, out: *mut Reply) -> u32;
+    pub fn wethlorn_pop_error_scope(device: *mut Device, who: u32, out: *mut Reply) -> u32;
+    pub fn wethlorn_lose(device: *mut Device, who: u32, out: *mut Reply) -> u32;
+    pub fn wethlorn_begin_compute_pass(device: *mut Device, who: u32, encoder: u64, out: *mut Reply) -> u32;
+    pub fn wethlorn_begin_render_pass(
+        device: *mut Device,
+        who: u32,
+        encoder: u64,
+        colors: *const Color,
+        colors_count: usize,
+        depth: *const Depth,
+        queries: u64,
+        out: *mut Reply,
+    ) -> u32;
+    pub fn wethlorn_end(device: *mut Device, who: u32, encoder: u64, pass: u32, out: *mut Reply) -> u32;
+    pub fn wethlorn_push_debug_group(device: *mut Device, who: u32, encoder: u64, pass: u32, out: *mut Reply) -> u32;
+    pub fn wethlorn_pop_debug_group(device: *mut Device, who: u32, encoder: u64, pass: u32, out: *mut Reply) -> u32;
+    pub fn wethlorn_copy_buffer_to_buffer(
+        device: *mut Device,
+        who: u32,
+        encoder: u64,
+        copy: *const BufferCopy,
+        out: *mut Reply,
+    ) -> u32;
+    pub fn wethlorn_copy_buffer_to_texture(
+        device: *mut Device,
+        who: u32,
+        encoder: u64,
+        copy: *const TexelCopy,
+        out: *mut Reply,
+    ) -> u32;
+    pub fn wethlorn_copy_texture_to_buffer(
+        device: *mut Device,
+        who: u32,
+        encoder: u64,
+        copy: *const TexelCopy,
+        out: *mut Reply,
+    ) -> u32;
+    pub fn wethlorn_copy_texture_to_texture(
+        device: *mut Device,
+        who: u32,
+        encoder: u64,
+        copy: *const TextureCopy,
+        out: *mut Reply,
+    ) -> u32;
+    pub fn wethlorn_clear_buffer(
+        device: *mut Device,
+        who: u32,
+        encoder: u64,
+        buffer: u64,
+        offset: u64,
+        size: u64,
+        out: *mut Reply,
+    ) -> u32;
+    pub fn wethlorn_resolve_query_set(
+        device: *mut Device,
+        who: u32,
+        encoder: u64,
+        queries: u64,
+        first: u32,
+        count: u32,
+        buffer: u64,
+        offset: u64,
+        out: *mut Reply,
+    ) -> u32;
+    pub fn wethlorn_set_pipeline(device: *mut Device, who: u32, encoder: u64, pass: u32, pipeline: u64, out: *mut Reply) -> u32;
+    pub fn wethlorn_set_bind_group(
+        device: *mut Device,
+        who: u32,
+        encoder: u64,
+        pass: u32,
+        index: u32,
+        group: u64,
+        offsets: *const u32,
+        offsets_count: usize,
+        out: *mut Reply,
+    ) -> u32;
+    pub fn wethlorn_dispatch(
+        device: *mut Device,
+        who: u32,
+        encoder: u64,
+        pass: u32,
+        x: u32,
+        y: u32,
+        z: u32,
+        out: *mut Reply,
+    ) -> u32;
+    pub fn wethlorn_dispatch_indirect(
+        device: *mut Device,
+        who: u32,
+        encoder: u64,
+        pass: u32,
+        buffer: u64,
+        offset: u64,
+        out: *mut Reply,
+    ) -> u32;
+    pub fn wethlorn_set_vertex_buffer(
+        device: *mut Device,
+        who: u32,
+        encoder: u64,
+        pass: u32,
+        slot: u32,
+        buffer: u64,
+        offset: u64,
+        size: u64,
+        out: *mut Reply,
+    ) -> u32;
+    pub fn wethlorn_set_index_buffer(
+        device: *mut Device,
+        who: u32,
+        encoder: u64,
+        pass: u32,
+        buffer: u64,
+        format: u32,
+        offset: u64,
+        size: u64,
+        out: *mut Reply,
+    ) -> u32;
+    pub fn wethlorn_draw(
+        device: *mut Device,
+        who: u32,
+        encoder: u64,
+        pass: u32,
+        vertices: u32,
+        instances: u32,
+        first_vertex: u32,
+        first_instance: u32,
+        out: *mut Reply,
+    ) -> u32;
+    pub fn wethlorn_draw_indexed(
+        device: *mut Device,
+        who: u32,
+        encoder: u64,
+        pass: u32,
+        indices: u32,
+        instances: u32,
+        first_index: u32,
+        first_instance: u32,
+        out: *mut Reply,
+    ) -> u32;
+    pub fn wethlorn_draw_indirect(
+        device: *mut Device,
+        who: u32,
+        encoder: u64,
+        pass: u32,
+        buffer: u64,
+        offset: u64,
+        out: *mut Reply,
+    ) -> u32;
+    pub fn wethlorn_draw_indexed_indirect(
+        device: *mut Device,
+        who: u32,
+        encoder: u64,
+        pass: u32,
+        buffer: u64,
+        offset: u64,
+        out: *mut Reply,
+    ) -> u32;
+    pub fn wethlorn_begin_occlusion_query(
+        device: *mut Device,
+        who: u32,
+        encoder: u64,
+        pass: u32,
+        index: u32,
+        out: *mut Reply,
+    ) -> u32;
+    pub fn wethlorn_end_occlusion_query(device: *mut Device, who: u32, encoder: u64, pass: u32, out: *mut Reply) -> u32;
+    pub fn wethlorn_execute_bundles(
+        device: *mut Device,
+        who: u32,
+        encoder: u64,
+        pass: u32,
+        bundles: *const u64,
+        bundles_count: usize,
+        out: *mut Reply,
+    ) -> u32;
+    pub fn wethlorn_next_item(device: *mut Device, out: *mut Item) -> u32;
+    pub fn wethlorn_item_use(device: *mut Device, at: usize, out: *mut Use) -> u32;
+    pub fn wethlorn_item_access(device: *mut Device, at: usize, out: *mut Access) -> u32;
+    pub fn wethlorn_next_settlement(device: *mut Device, out: *mut Settlement) -> u32;
+}

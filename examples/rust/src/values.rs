@@ -1,0 +1,371 @@
+//! The numbers and the descriptors of the C interface, `include/wethlorn.h`, which says more of each.
+
+/// What is left out: a number, a size (which is then what remains) or an object.
+pub const NONE: u64 = u64::MAX;
+/// As the pass on which a command stands: none, the command stands on the encoder or bundle encoder itself.
+pub const ON_ENCODER: u32 = u32::MAX;
+
+// Which faults an error scope catches. No fault is internal.
+pub const FILTER_VALIDATION: u32 = 1;
+pub const FILTER_OUT_OF_MEMORY: u32 = 2;
+pub const FILTER_INTERNAL: u32 = 3;
+
+// Usages of parts of memory, of which a barrier and a use have sets: a bit each.
+pub const USAGE_INPUT: u32 = 1;
+pub const USAGE_CONSTANT: u32 = 2;
+pub const USAGE_STORAGE: u32 = 4;
+pub const USAGE_STORAGE_READ: u32 = 8;
+pub const USAGE_ATTACHMENT: u32 = 16;
+pub const USAGE_ATTACHMENT_READ: u32 = 32;
+pub const USAGE_COPY_SRC: u32 = 64;
+pub const USAGE_COPY_DST: u32 = 128;
+pub const USAGE_QUERY_WRITE: u32 = 256;
+pub const USAGE_QUERY_READ: u32 = 512;
+pub const USAGE_HOST_READ: u32 = 1024;
+pub const USAGE_HOST_WRITE: u32 = 2048;
+pub const USAGE_CLEAR: u32 = 4096;
+
+// Limits that one can ask for.
+pub const MAX_TEXTURE_DIMENSION_1D: u32 = 1;
+pub const MAX_TEXTURE_DIMENSION_2D: u32 = 2;
+pub const MAX_TEXTURE_DIMENSION_3D: u32 = 3;
+pub const MAX_TEXTURE_ARRAY_LAYERS: u32 = 4;
+pub const MAX_BIND_GROUPS: u32 = 5;
+pub const MAX_BINDINGS_PER_BIND_GROUP: u32 = 6;
+pub const MAX_DYNAMIC_UNIFORM_BUFFERS_PER_PIPELINE_LAYOUT: u32 = 7;
+pub const MAX_DYNAMIC_STORAGE_BUFFERS_PER_PIPELINE_LAYOUT: u32 = 8;
+pub const MAX_SAMPLED_TEXTURES_PER_SHADER_STAGE: u32 = 9;
+pub const MAX_SAMPLERS_PER_SHADER_STAGE: u32 = 10;
+pub const MAX_STORAGE_BUFFERS_PER_SHADER_STAGE: u32 = 11;
+pub const MAX_STORAGE_TEXTURES_PER_SHADER_STAGE: u32 = 12;
+pub const MAX_UNIFORM_BUFFERS_PER_SHADER_STAGE: u32 = 13;
+pub const MAX_UNIFORM_BUFFER_BINDING_SIZE: u32 = 14;
+pub const MAX_STORAGE_BUFFER_BINDING_SIZE: u32 = 15;
+pub const MIN_UNIFORM_BUFFER_OFFSET_ALIGNMENT: u32 = 16;
+pub const MIN_STORAGE_BUFFER_OFFSET_ALIGNMENT: u32 = 17;
+pub const MAX_VERTEX_BUFFERS: u32 = 18;
+pub const MAX_VERTEX_ATTRIBUTES: u32 = 19;
+pub const MAX_VERTEX_BUFFER_ARRAY_STRIDE: u32 = 20;
+pub const MAX_BUFFER_SIZE: u32 = 21;
+pub const MAX_COLOR_ATTACHMENTS: u32 = 22;
+pub const MAX_COMPUTE_WORKGROUPS_PER_DIMENSION: u32 = 23;
+
+// Formats of textures. 0 where a format may be left out.
+pub const R8_UNORM: u32 = 1;
+pub const RG8_UNORM: u32 = 2;
+pub const RGBA8_UNORM: u32 = 3;
+pub const RGBA8_UNORM_SRGB: u32 = 4;
+pub const BGRA8_UNORM: u32 = 5;
+pub const R32_UINT: u32 = 6;
+pub const R32_FLOAT: u32 = 7;
+pub const RGBA16_FLOAT: u32 = 8;
+pub const RGBA32_FLOAT: u32 = 9;
+pub const DEPTH16_UNORM: u32 = 10;
+pub const DEPTH24_PLUS: u32 = 11;
+pub const DEPTH24_PLUS_STENCIL8: u32 = 12;
+pub const DEPTH32_FLOAT: u32 = 13;
+pub const STENCIL8: u32 = 14;
+
+// Dimensions of textures, and of views, of which 0 is that of the texture.
+pub const DIM_1D: u32 = 1;
+pub const DIM_2D: u32 = 2;
+pub const DIM_3D: u32 = 3;
+
+pub const VIEW_1D: u32 = 1;
+pub const VIEW_2D: u32 = 2;
+pub const VIEW_2D_ARRAY: u32 = 3;
+pub const VIEW_CUBE: u32 = 4;
+pub const VIEW_CUBE_ARRAY: u32 = 5;
+pub const VIEW_3D: u32 = 6;
+
+// Aspects that a view or a copy takes.
+pub const ASPECT_ALL: u32 = 1;
+pub const ASPECT_DEPTH_ONLY: u32 = 2;
+pub const ASPECT_STENCIL_ONLY: u32 = 3;
+
+// Kinds of samplers, and what a binding asks of one.
+pub const FILTERING: u32 = 1;
+pub const NON_FILTERING: u32 = 2;
+pub const COMPARISON: u32 = 3;
+
+// What a binding holds.
+pub const BIND_UNIFORM: u32 = 1;
+pub const BIND_STORAGE: u32 = 2;
+pub const BIND_READ_ONLY_STORAGE: u32 = 3;
+pub const BIND_SAMPLER: u32 = 4;
+pub const BIND_TEXTURE: u32 = 5;
+pub const BIND_STORAGE_TEXTURE: u32 = 6;
+
+pub const SAMPLE_FLOAT: u32 = 1;
+pub const SAMPLE_UNFILTERABLE_FLOAT: u32 = 2;
+pub const SAMPLE_DEPTH: u32 = 3;
+pub const SAMPLE_SINT: u32 = 4;
+pub const SAMPLE_UINT: u32 = 5;
+
+pub const ACCESS_READ_ONLY: u32 = 1;
+pub const ACCESS_WRITE_ONLY: u32 = 2;
+pub const ACCESS_READ_WRITE: u32 = 3;
+
+pub const STAGE_VERTEX: u32 = 1;
+pub const STAGE_FRAGMENT: u32 = 2;
+pub const STAGE_COMPUTE: u32 = 3;
+
+// What an entry of a bind group binds.
+pub const BOUND_BUFFER: u32 = 1;
+pub const BOUND_VIEW: u32 = 2;
+pub const BOUND_SAMPLER: u32 = 3;
+
+pub const STEP_PER_VERTEX: u32 = 1;
+pub const STEP_PER_INSTANCE: u32 = 2;
+
+pub const VERTEX_UINT8X2: u32 = 1;
+pub const VERTEX_UINT8X4: u32 = 2;
+pub const VERTEX_UNORM8X4: u32 = 3;
+pub const VERTEX_UINT16X2: u32 = 4;
+pub const VERTEX_FLOAT16X2: u32 = 5;
+pub const VERTEX_FLOAT32: u32 = 6;
+pub const VERTEX_UINT32: u32 = 7;
+pub const VERTEX_SINT32: u32 = 8;
+pub const VERTEX_FLOAT16X4: u32 = 9;
+pub const VERTEX_FLOAT32X2: u32 = 10;
+pub const VERTEX_FLOAT32X3: u32 = 11;
+pub const VERTEX_FLOAT32X4: u32 = 12;
+
+pub const INDEX_UINT16: u32 = 1;
+pub const INDEX_UINT32: u32 = 2;
+
+pub const LOAD: u32 = 1;
+pub const CLEAR: u32 = 2;
+
+pub const STORE: u32 = 1;
+pub const STORE_DISCARD: u32 = 2;
+
+/// A limit that is asked for, by its name `MAX_..` or `MIN_..`.
+#[repr(C)]
+#[derive(Clone, Copy, Debug, Default)]
+pub struct Limit {
+    pub name: u32,
+    pub value: u64,
+}
+
+/// How large a texture or a copy is. `depth` stands for array layers too.
+#[repr(C)]
+#[derive(Clone, Copy, Debug, Default)]
+pub struct Extent {
+    pub width: u32,
+    pub height: u32,
+    pub depth: u32,
+}
+
+/// Where in a texture a copy begins. `z` is the slice, or the array layer.
+#[repr(C)]
+#[derive(Clone, Copy, Debug, Default)]
+pub struct Origin {
+    pub x: u32,
+    pub y: u32,
+    pub z: u32,
+}
+
+/// usage: MAP_READ 1, MAP_WRITE 2, COPY_SRC 4, COPY_DST 8, INDEX 16, VERTEX 32, UNIFORM 64, STORAGE 128, INDIRECT 256, QUERY_RESOLVE 512.
+#[repr(C)]
+#[derive(Clone, Copy, Debug, Default)]
+pub struct BufferDesc {
+    pub size: u64,
+    pub usage: u32,
+    pub mapped: u32,
+}
+
+/// usage: COPY_SRC 1, COPY_DST 2, TEXTURE_BINDING 4, STORAGE_BINDING 8, RENDER_ATTACHMENT 16.
+#[repr(C)]
+#[derive(Clone, Copy, Debug, Default)]
+pub struct TextureDesc {
+    pub size: Extent,
+    pub usage: u32,
+    pub format: u32,
+    pub dim: u32,
+    pub mips: u32,
+    pub samples: u32,
+}
+
+/// mips and layers may be NONE, and dim 0.
+#[repr(C)]
+#[derive(Clone, Copy, Debug, Default)]
+pub struct ViewDesc {
+    pub mips: u64,
+    pub layers: u64,
+    pub dim: u32,
+    pub aspect: u32,
+    pub base_mip: u32,
+    pub base_layer: u32,
+}
+
+/// What a binding holds. Of the fields only those of its kind are looked at.
+#[repr(C)]
+#[derive(Clone, Copy, Debug, Default)]
+pub struct Binding {
+    pub min_size: u64,
+    pub kind: u32,
+    pub dynamic: u32,
+    pub sampler: u32,
+    pub sample: u32,
+    pub dim: u32,
+    pub multi: u32,
+    pub access: u32,
+    pub format: u32,
+}
+
+/// visibility: vertex 1, fragment 2, compute 4.
+#[repr(C)]
+#[derive(Clone, Copy, Debug, Default)]
+pub struct LayoutEntry {
+    pub binding: u32,
+    pub visibility: u32,
+    pub holds: Binding,
+}
+
+/// What a shader of a stage uses of a group.
+#[repr(C)]
+#[derive(Clone, Copy, Debug, Default)]
+pub struct IfaceEntry {
+    pub group: u32,
+    pub binding: u32,
+    pub stage: u32,
+    pub holds: Binding,
+}
+
+/// Of a buffer offset and size count, and size may be NONE.
+#[repr(C)]
+#[derive(Clone, Copy, Debug, Default)]
+pub struct GroupEntry {
+    pub object: u64,
+    pub offset: u64,
+    pub size: u64,
+    pub binding: u32,
+    pub bound: u32,
+}
+
+/// A vertex buffer that a render pipeline reads.
+#[repr(C)]
+#[derive(Clone, Copy, Debug, Default)]
+pub struct VertexBuffer {
+    pub stride: u32,
+    pub step: u32,
+}
+
+/// An attribute of the vertex buffer with the index `buffer` in its list. Those of one buffer stand in order.
+#[repr(C)]
+#[derive(Clone, Copy, Debug, Default)]
+pub struct VertexAttribute {
+    pub buffer: u32,
+    pub format: u32,
+    pub offset: u32,
+    pub location: u32,
+}
+
+/// layout may be NONE: the pipeline derives its layout itself. depth_format may be 0: there is no depth, and depth_write and stencil_write are not looked at.
+#[repr(C)]
+#[derive(Clone, Copy, Debug, Default)]
+pub struct RenderDesc {
+    pub layout: u64,
+    pub samples: u32,
+    pub depth_format: u32,
+    pub depth_write: u32,
+    pub stencil_write: u32,
+}
+
+/// To what a bundle draws, beside its colors. depth_format may be 0.
+#[repr(C)]
+#[derive(Clone, Copy, Debug, Default)]
+pub struct BundleDesc {
+    pub samples: u32,
+    pub depth_format: u32,
+    pub depth_read_only: u32,
+    pub stencil_read_only: u32,
+}
+
+/// A color attachment. view may be NONE: the slot is left out, and nothing else is looked at. depth_slice and resolve may be NONE.
+#[repr(C)]
+#[derive(Clone, Copy, Debug, Default)]
+pub struct Color {
+    pub view: u64,
+    pub depth_slice: u64,
+    pub resolve: u64,
+    pub load: u32,
+    pub store: u32,
+}
+
+/// The depth and stencil attachment. view may be NONE: there is none, and nothing else is looked at. The load and store operations may be 0.
+#[repr(C)]
+#[derive(Clone, Copy, Debug, Default)]
+pub struct Depth {
+    pub view: u64,
+    pub depth_load: u32,
+    pub depth_store: u32,
+    pub depth_read_only: u32,
+    pub stencil_load: u32,
+    pub stencil_store: u32,
+    pub stencil_read_only: u32,
+}
+
+/// How texels lie in bytes. bytes_per_row and rows_per_image may be NONE.
+#[repr(C)]
+#[derive(Clone, Copy, Debug, Default)]
+pub struct TexelLayout {
+    pub offset: u64,
+    pub bytes_per_row: u64,
+    pub rows_per_image: u64,
+}
+
+/// Where in a texture a copy begins.
+#[repr(C)]
+#[derive(Clone, Copy, Debug, Default)]
+pub struct Spot {
+    pub texture: u64,
+    pub origin: Origin,
+    pub mip: u32,
+    pub aspect: u32,
+}
+
+/// A copy of bytes.
+#[repr(C)]
+#[derive(Clone, Copy, Debug, Default)]
+pub struct BufferCopy {
+    pub source: u64,
+    pub source_offset: u64,
+    pub target: u64,
+    pub target_offset: u64,
+    pub size: u64,
+}
+
+/// A copy between a buffer and a texture, in either direction.
+#[repr(C)]
+#[derive(Clone, Copy, Debug, Default)]
+pub struct TexelCopy {
+    pub buffer: u64,
+    pub layout: TexelLayout,
+    pub spot: Spot,
+    pub size: Extent,
+}
+
+/// A copy of all aspects between textures.
+#[repr(C)]
+#[derive(Clone, Copy, Debug, Default)]
+pub struct TextureCopy {
+    pub source: u64,
+    pub target: u64,
+    pub source_origin: Origin,
+    pub target_origin: Origin,
+    pub source_mip: u32,
+    pub target_mip: u32,
+    pub size: Extent,
+}
+
+/// A write of texels, from data_size bytes of data.
+#[repr(C)]
+#[derive(Clone, Copy, Debug, Default)]
+pub struct TextureWrite {
+    pub layout: TexelLayout,
+    pub spot: Spot,
+    pub size: Extent,
+    pub data_size: u64,
+}

@@ -1,0 +1,93 @@
+//! What types promise of a device, and what it answers to a caller that is wrong.
+
+use std::sync::{Arc, Mutex};
+use std::thread;
+use wethlorn::*;
+
+const ME: u32 = 0;
+const DESC: BufferDesc = BufferDesc {
+    size: 64,
+    usage: 8,
+    mapped: 0,
+};
+
+#[test]
+fn a_device_moves_between_threads() {
+    let device = Arc::new(Mutex::new(Device::open(1 << 20, &[]).unwrap()));
+    let callers: Vec<_> = (0..4)
+        .map(|who| {
+            let device = Arc::clone(&device);
+            thread::spawn(move || {
+                (0..100)
+                    .map(|_| device.lock().unwrap().create_buffer(who, &DESC).unwrap().object().unwrap())
+                    .collect()
+            })
+        })
+        .collect();
+    let mut numbers: Vec<u64> = callers
+        .into_iter()
+        .flat_map(|it| -> Vec<u64> { it.join().unwrap() })
+        .collect();
+    numbers.sort_unstable();
+    assert!(numbers.iter().copied().eq(0..400));
+}
+
+#[test]
+fn a_number_that_names_nothing_is_an_error_and_no_entry() {
+    let mut device = Device::open(1024, &[]).unwrap();
+    assert_eq!(device.destroy(ME, 0), Err(Error::NoObject));
+    let made = device.create_buffer(ME, &DESC).unwrap();
+    assert_eq!((made.entry, made.object()), (Some(0), Some(0)));
+    assert_eq!(device.drop_object(ME, 0).unwrap().entry, Some(1));
+    assert_eq!(device.next_item(), Some(Item::Release(0)));
+    assert_eq!(device.next_item(), None);
+    assert_eq!(device.destroy(ME, 0), Err(Error::NoObject));
+    assert_eq!(device.create_buffer(ME, &DESC).unwrap().entry, Some(2));
+}
+
+#[test]
+fn a_number_of_another_kind_is_a_fault() {
+    let mut device = Device::open(1024, &[]).unwrap();
+    let buffer = device.create_buffer(ME, &DESC).unwrap().object().unwrap();
+    let reply = device.submit(ME, &[buffer]).unwrap();
+    assert_eq!(
+        reply.fault.map(|fault| (fault.kind, fault.scope)),
+        Some((FaultKind::Validation, None))
+    );
+}
+
+#[test]
+fn an_error_scope_receives_a_fault() {
+    let mut device = Device::open(1024, &[]).unwrap();
+    device.push_error_scope(ME, FILTER_VALIDATION).unwrap();
+    let made = device.create_buffer(ME, &BufferDesc { usage: 0, ..DESC }).unwrap();
+    assert_eq!(
+        made.fault,
+        Some(Fault {
+            kind: FaultKind::Validation,
+            rule: 100,
+            scope: Some(0)
+        })
+    );
+    let popped = device.pop_error_scope(ME).unwrap();
+    assert_eq!((popped.answer, popped.settles), (Answer::Promised(2), 1));
+    let how = How::Error {
+        kind: FaultKind::Validation,
+        rule: 100,
+    };
+    assert_eq!(device.next_settlement(), Some(Settlement { promise: 2, how }));
+    assert_eq!(device.next_settlement(), None);
+}
+
+#[test]
+fn values_out_of_range_are_errors() {
+    let mut device = Device::open(1024, &[]).unwrap();
+    assert_eq!(device.push_error_scope(ME, 0), Err(Error::BadValue));
+    let encoder = device.create_encoder(ME).unwrap().object().unwrap();
+    assert_eq!(device.end(ME, encoder, 3), Err(Error::NoPass));
+    let limits = [Limit {
+        name: MAX_BUFFER_SIZE,
+        value: u64::MAX,
+    }];
+    assert_eq!(Device::open(1024, &limits).err(), Some(Error::BadValue));
+}
