@@ -1,5 +1,6 @@
 //! Tests of what reads and writes, of the printed text, of names, and of the top call, in a crate of their own, so that those crates are not
-//! proved a second time with tests of their own.
+//! proved a second time with tests of their own. It is a program that does nothing: of a library the gate sums up all that it stands on, by each
+//! way down to that, which takes minutes where the top call is below.
 #![tactic(auto)]
 
 #[cfg(test)]
@@ -12,3 +13,5 @@ mod print;
 mod sources;
 #[cfg(test)]
 mod top;
+
+fn main() {}
