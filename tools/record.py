@@ -101,12 +101,12 @@ class Visit:
 
 
 def recorded(page, named, frames=FRAMES, seconds=SECONDS):
-    """What a browser recorded of a page."""
-    path = browser.found(named)
-    if path is None:
-        raise ends.End(ends.UNREAD, f"none of {', '.join(browser.NAMES)} is installed; another one is named by --browser, and `wgsim record --one-file` is for browsers of any kind")
+    """What a browser recorded of a page. A page that cannot be had is told before a browser is looked for."""
     asked = {"frames": frames, "seconds": seconds, "idle": IDLE, "hand": HAND}
     with tempfile.TemporaryDirectory(prefix="wgsim-record-", ignore_cleanup_errors=True) as folder, served(page) as address:
+        path = browser.found(named)
+        if path is None:
+            raise ends.End(ends.UNREAD, f"none of {', '.join(browser.NAMES)} is installed; another one is named by --browser, and `wgsim record --one-file` is for browsers of any kind")
         try:
             with browser.opened(path, os.path.join(folder, "profile")) as browsing:
                 visit = Visit(browsing, address, asked)
