@@ -321,10 +321,11 @@ def attached_twice(world, begin):
     random = world.random
     items = attached(begin)
     item, key = random.choice(items)
-    texture, mip = named(world.views, item[key]).texture, named(world.views, item[key]).of[1]["baseMip"]
+    view = named(world.views, item[key])
+    part = view.of[1] if hasattr(view, "of") else {"baseMip": 0}
     again = item[key]
     if random.random() < 0.6:
-        again = wide_view(world, texture, mip, named(world.views, item[key]).of[1].get("baseLayer", 0), random.random() < 0.4)
+        again = wide_view(world, view.texture, part["baseMip"], part.get("baseLayer", 0), random.random() < 0.4)
     colors = [color for color in begin["colors"] if color is not None and color is not item]
     if key == "resolve" and len(begin["colors"]) < MOST_COLORS and random.random() < 0.5:
         begin["colors"].append({"view": view_like(world, item["view"]), "resolve": again, "load": "clear", "store": "store"})
