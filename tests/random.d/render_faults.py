@@ -280,14 +280,14 @@ def wrong_loads(world, begin):
     load, store, read_only = f"{aspect}Load", f"{aspect}Store", f"{aspect}ReadOnly"
     kind = random.randrange(4)
     if kind == 0 and load in depth:
-        depth.pop(random.choice([load, store]))
+        depth.pop(random.choice([load, store]), None)
     elif kind == 1 and load in depth:
         depth.pop(load)
-        depth.pop(store)
+        depth.pop(store, None)
     elif load in depth:
         depth[read_only] = True
         if random.random() < 0.6:
-            depth.pop(random.choice([load, store]))
+            depth.pop(random.choice([load, store]), None)
     else:
         given = {load: random.choice(LOADS), store: random.choice(STORES)}
         depth.update(random.choice([given, given, {load: "load"}, {store: "store"}]))
