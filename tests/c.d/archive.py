@@ -6,6 +6,7 @@ them as they are, by the toolchain's own `rattle build`, and the crate itself is
 """
 
 import hashlib
+import os
 import pathlib
 import shutil
 import subprocess
@@ -78,7 +79,7 @@ def build():
     for name in below("wg_c"):
         words += ["-L", f"dependency={library(name).parent}"]
     words += ["--antt-project", f"{kit()}/rattle/logic/antt-project.json", "--logic-built", f"{kit()}/logic_built", "--links", "wg_c="]
-    words += ["--jobs", "2", "--toolchain", f"{kit()}/toolchain", "--backend", "llvm", "-o", str(ARCHIVE)]
+    words += ["--jobs", str(min(4, len(os.sched_getaffinity(0)))), "--toolchain", f"{kit()}/toolchain", "--backend", "llvm", "-o", str(ARCHIVE)]
     ARCHIVE.parent.mkdir(exist_ok=True)
     ran = subprocess.run(words, cwd=CRATE, stdin=subprocess.DEVNULL, stdout=subprocess.PIPE, stderr=subprocess.STDOUT, text=True, errors="replace")
     return ran.stdout if ran.returncode else None
