@@ -10,19 +10,19 @@ ghost use Rattle.wg_access.specs.Done.{done_by_encoder, done_by_pass, done_of};
 use crate::deeds::encoder_deed;
 use crate::touching::{all_in_scope, deed_of, touches_in_scope, uses_of};
 use std::alloc::Global;
+use wg_cbtrack::CbTrack;
 use wg_scopes::clash_in;
 use wg_types::NoMemory;
 use wg_types::commands::Command;
-use wg_types::items::Items;
 use wg_types::parts::Part;
-use wg_types::steps::{Deed, Deeds, StepName, Touch};
+use wg_types::steps::{Deed, StepName, Touch};
 
-/// The finished steps, in order, and the least clashing part of the first usage scope that has one
-/// (WebGPU, "Usage Scope Validation").
+/// The finished steps, in order, in a tracker that finds what they add to a trace, and the least clashing
+/// part of the first usage scope that has one (WebGPU, "Usage Scope Validation").
 #[derive(Drop)]
 pub struct Done {
     pub clash: Option<Part>,
-    pub deeds: Deeds,
+    pub deeds: CbTrack,
 }
 
 /// The first of two parts.
@@ -64,7 +64,7 @@ impl Done {
     {
         Done {
             clash: None,
-            deeds: Items::new(alloc),
+            deeds: CbTrack::new(alloc),
         }
     }
 
@@ -75,7 +75,7 @@ impl Done {
     {
         let deed = deed_of(alloc, name, touches)?;
         let found = scope_clash(alloc, &deed, touches)?;
-        self.deeds.push(deed)?;
+        self.deeds.note(&deed)?;
         self.clash = first_part(self.clash, found);
         Ok(())
     }
@@ -94,12 +94,10 @@ impl Done {
         if verdict.is_some() {
             return Ok(());
         }
-        match encoder_deed(alloc, command)? {
-            Some(deed) => {
-                self.deeds.push(deed)?;
-                return Ok(());
-            }
-            None => return Ok(()),
-        }
+        let Some(deed) = encoder_deed(alloc, command)? else {
+            return Ok(());
+        };
+        self.deeds.note(&deed)?;
+        Ok(())
     }
 }

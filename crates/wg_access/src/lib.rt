@@ -1,5 +1,5 @@
-//! What commands do, as deeds, and the steps of queue writes, host accesses and deeds, with uses and
-//! accesses as they are printed; what bundles touch; usage scopes.
+//! What commands do, as deeds, and the steps of queue writes and host accesses, with uses and accesses as
+//! they are printed; what bundles touch; usage scopes.
 #![tactic(auto)]
 
 mod bundled;
@@ -8,15 +8,10 @@ mod done;
 mod touches;
 mod touching;
 
-ghost use Rattle.std.specs.Prelude.{◌≡◌, ℕ, List, Some, Option, map, slice_get, IfOk, IfSome};
-ghost use Rattle.wg_types.specs.Commands.{Command};
-ghost use Rattle.wg_types.specs.declared.commands.On.{On};
-ghost use Rattle.wg_types.specs.declared.render.TargetInfo.{TargetInfo};
-ghost use Rattle.wg_orders.specs.Steps.{Step};
-ghost use Rattle.wg_model.specs.Touches.{placed, touching};
+ghost use Rattle.std.specs.Prelude.{◌≡◌, Some, IfOk, IfSome};
+ghost use Rattle.wg_model.specs.Touches.{touching};
 ghost use Rattle.wg_model.specs.Recorded.{write_step, host_usage, host_kind, host_name, host_touches, host_step};
 ghost use Rattle.wg_model.specs.StepLaws.{IsOwnStep};
-ghost use Rattle.wg_model.specs.Walk.{DeedsOf};
 ghost use Rattle.wg_access.specs.Ranges.{IsInRange};
 
 pub use bundled::{bundle_touch, bundle_touches};
@@ -30,7 +25,7 @@ use wg_types::NoMemory;
 use wg_types::items::Items;
 use wg_types::mappings::{MapMode, Mapping};
 use wg_types::parts::{Cells, Kind};
-use wg_types::steps::{Deed, QueueWrite, Step, StepName, StepPlace, Steps, Touches};
+use wg_types::steps::{Deed, QueueWrite, Step, StepName, StepPlace, Touches};
 use wg_types::usages::Usages;
 
 /// The step that touches these, of which there is one.
@@ -53,41 +48,6 @@ fn one_step(
         uses,
         accesses,
     }))
-}
-
-/// One deed at a place, copied.
-fn copied(place: StepPlace, deed: &Deed) -> Result<Step, NoMemory>
-    ensures { IfOk result (λ step. step ≡ placed place deed.now) }
-{
-    let uses = deed.uses.clone()?;
-    let accesses = deed.accesses.clone()?;
-    Ok(Step {
-        place,
-        name: deed.name,
-        uses,
-        accesses,
-    })
-}
-
-/// All deeds at a place, copied.
-fn all_copied(alloc: Global, deeds: &[Deed], place: StepPlace) -> Result<Steps, NoMemory>
-    ensures { IfOk result (λ steps. steps ≡ map (placed place) deeds.now) }
-{
-    let mut steps = Vec::with_capacity(alloc, deeds.len())?;
-    for deed in deeds {
-        steps.push(copied(place, deed)?)?;
-    }
-    Ok(Items::from_vec(steps))
-}
-
-/// What was done, as steps at a place, in order.
-pub fn steps(alloc: Global, deeds: &[Deed], place: StepPlace) -> Result<Steps, NoMemory>
-    ensures steps { IfOk result (λ steps. steps ≡ map (placed place) deeds.now) }
-    // Where recorded commands did it, each is as the table of uses has it, as the theorem on orders asks.
-    ensures declared { (device : ℕ) (targets : Option TargetInfo) (commands : List (On × Command)) → deeds.now ≡ DeedsOf device targets commands → IfOk result (λ steps. (k : ℕ) (s : Step) → slice_get steps k ≡ Some s → IsOwnStep s) }
-{
-    let steps = all_copied(alloc, deeds, place)?;
-    Ok(steps)
 }
 
 /// The step of a queue write, if it makes one.

@@ -1,6 +1,6 @@
 use bitflags::Flags;
 use std::alloc::Global;
-use wg_tracker::Tracker;
+use wg_cbtrack::Tracker;
 use wg_types::NoMemory;
 use wg_types::items::Items;
 use wg_types::parts::{Cells, Kind, PartRun};
@@ -40,19 +40,10 @@ fn step(
     })
 }
 
-/// The groups of which one has this one step.
-fn groups(alloc: Global, step: Step) -> Result<Vec<Items<Step>>, NoMemory> {
-    let mut steps = Items::new(alloc);
-    steps.push(step)?;
-    let mut groups = Vec::new(alloc);
-    groups.push(steps)?;
-    Ok(groups)
-}
-
-/// Prepares a step, and applies it.
+/// Plans a step, and applies it.
 fn added(tracker: &mut Tracker, alloc: Global, step: Step) -> Result<Vec<Item>, NoMemory> {
-    let prepared = tracker.prepare(groups(alloc, step)?)?;
-    Ok(tracker.apply(prepared))
+    let plan = tracker.add_step(alloc, tracker.plan(alloc, OP), step)?;
+    Ok(tracker.apply(plan))
 }
 
 /// Whether an item is this barrier.

@@ -1,3 +1,5 @@
+pub mod Clearing
+pub mod Needs
 pub mod Rowed
 pub mod Split
 pub mod Joins
@@ -7,4 +9,5 @@ pub mod Tracked
 pub mod Nexts
 pub mod Leaving
 pub mod Whole
+pub mod Planned
 pub mod Seeing

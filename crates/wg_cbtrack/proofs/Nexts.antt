@@ -8,7 +8,7 @@ use Rattle.wg_rows.specs.Uses.{Kind, Write, Usages, same_kind, row_reads, row_wr
 use Rattle.wg_rows.specs.Sets.{UseRow, sets}
 use Rattle.wg_orders.specs.Steps.{Step, StepPlace, reads, writes, unsets}
 use Rattle.wg_orders.specs.Trace.{clear_of, cells_of, needs}
-use Rattle.wg_tracker.specs.Cleared.{uses_of, written}
+use Rattle.wg_cbtrack.specs.Cleared.{uses_of, written}
 use Rattle.wg_cbtrack.specs.declared.kept.Kept.{Kept}
 use Rattle.wg_cbtrack.specs.Group.{placed, placed_all, left, left_cells, clear_steps}
 use Rattle.wg_cbtrack.specs.Join.{inner_changes, opens, used_after}
@@ -19,7 +19,7 @@ use Rattle.wg_rows.proofs.Told.{accesses_printed}
 use Rattle.wg_orders.proofs.Built.{step_read_among}
 use Rattle.wg_orders.proofs.Clears.{has_cell, write_rows, clear_writes, clear_unsets}
 use Rattle.wg_init.proofs.UnsetCells.{filter_has, write_has, write_fit, alike_at_cells}
-use Rattle.wg_tracker.proofs.Clearing.{clear_uses, none_cleared, written_more, needs_more}
+use Rattle.wg_cbtrack.proofs.Clearing.{clear_uses, none_cleared, written_more, needs_more}
 use Rattle.wg_cbtrack.proofs.Split.{left_more}
 use Rattle.wg_cbtrack.proofs.Items.{kept_more, steps_more}
 

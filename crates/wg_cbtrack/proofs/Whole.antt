@@ -7,7 +7,7 @@ use Rattle.wg_rows.specs.Sets.{UseRow}
 use Rattle.wg_orders.specs.Steps.{Step, StepPlace}
 use Rattle.wg_orders.specs.Trace.{Item, steps_of, add_group}
 use Rattle.wg_bars.specs.Kept.{HasRoom}
-use Rattle.wg_tracker.specs.Stands.{TrackerValue, Stands}
+use Rattle.wg_cbtrack.specs.Stands.{TrackerValue, Stands}
 use Rattle.wg_cbtrack.specs.declared.draft.Draft.{Draft}
 use Rattle.wg_cbtrack.specs.declared.kept.Kept.{Kept}
 use Rattle.wg_cbtrack.specs.Group.{placed, placed_all, left_cells, clear_steps}

@@ -1,3 +1,5 @@
+pub mod Stands
+pub mod Cleared
 pub mod Leaves
 pub mod Group
 pub mod Join
@@ -7,3 +9,4 @@ pub mod Adds
 pub mod Next
 pub mod Seen
 pub mod Plans
+pub mod Ready

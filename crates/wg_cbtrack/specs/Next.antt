@@ -6,7 +6,7 @@ use Rattle.wg_rows.specs.Runs.{Cells, Cell, cell_spot, cell_sort}
 use Rattle.wg_rows.specs.Rows.{Apart, has_value}
 use Rattle.wg_rows.specs.Uses.{Kind, Write, same_kind, row_reads, row_writes, row_unsets}
 use Rattle.wg_rows.specs.Sets.{UseRow, sets}
-use Rattle.wg_tracker.specs.Cleared.{uses_of}
+use Rattle.wg_cbtrack.specs.Cleared.{uses_of}
 use Rattle.wg_cbtrack.specs.declared.kept.Kept.{Kept}
 use Rattle.wg_cbtrack.specs.Leaves.{AreTidy}
 use Rattle.wg_cbtrack.specs.Join.{inner_changes, opens, used_after}

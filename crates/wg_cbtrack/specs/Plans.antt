@@ -2,7 +2,7 @@
 use Rattle.std.specs.Prelude.{ℕ, ◌≡◌, ◌⊎◌, []}
 use Rattle.wg_orders.specs.Steps.{StepPlace}
 use Rattle.wg_bars.specs.Kept.{HasRoom}
-use Rattle.wg_tracker.specs.Stands.{TrackerValue}
+use Rattle.wg_cbtrack.specs.Stands.{TrackerValue}
 use Rattle.wg_cbtrack.specs.declared.draft.Draft.{Draft}
 
 -- The numbers of objects for which there is room.

@@ -6,7 +6,7 @@ use Rattle.wg_rows.specs.Uses.{Kind, row_reads, row_writes, row_unsets}
 use Rattle.wg_rows.specs.Sets.{UseRow}
 use Rattle.wg_orders.specs.Steps.{Step, StepPlace}
 use Rattle.wg_orders.specs.Trace.{needs}
-use Rattle.wg_tracker.specs.Cleared.{written}
+use Rattle.wg_cbtrack.specs.Cleared.{written}
 use Rattle.wg_cbtrack.specs.declared.kept.Kept.{Kept}
 use Rattle.wg_cbtrack.specs.declared.kept.Rows.{Rows}
 use Rattle.wg_cbtrack.specs.Leaves.{AreTidy}

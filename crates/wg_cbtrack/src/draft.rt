@@ -4,7 +4,7 @@ ghost use Rattle.std.specs.Prelude.{◌≡◌, [], ◌∷◌, List, IfOk};
 ghost use Rattle.wg_orders.specs.Steps.{Step};
 ghost use Rattle.wg_orders.specs.Trace.{Item, add_step, add_clear, to_clear, add_group};
 ghost use Rattle.wg_types.specs.declared.steps.Deed.{Deed};
-ghost use Rattle.wg_tracker.specs.Cleared.{AreNeeded, uses_of};
+ghost use Rattle.wg_cbtrack.specs.Cleared.{AreNeeded, uses_of};
 ghost use Rattle.wg_cbtrack.specs.Adds.{now_of, HasAdded};
 ghost use Rattle.wg_cbtrack.specs.Group.{placed_all};
 ghost use Rattle.wg_cbtrack.specs.Track.{IsTrack};

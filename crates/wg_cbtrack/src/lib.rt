@@ -2,6 +2,8 @@
 //! trace.
 #![tactic(auto)]
 
+ghost use Rattle.wg_cbtrack.specs.Stands.{FreesKeep};
+
 mod cells;
 mod cuts;
 mod draft;
@@ -11,7 +13,14 @@ mod noting;
 pub mod plan;
 mod seen;
 pub mod track;
+pub mod tracker;
 
 pub use plan::Plan;
 pub use track::{CbTrack, Ready};
+pub use tracker::Tracker;
 pub use wg_entry::NoMemory;
+
+/// Two states that stand for a trace stand for it with the release of objects at its end.
+pub fn releases()
+    ensures { FreesKeep }
+{}

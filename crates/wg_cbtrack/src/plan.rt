@@ -1,7 +1,7 @@
 //! What command buffers are to add to a trace.
 ghost use Rattle.std.specs.Prelude.{◌≡◌, List, [], IfOk};
 ghost use Rattle.wg_orders.specs.Trace.{Item, steps_of, add_group};
-ghost use Rattle.wg_tracker.specs.Stands.{Stands, IsSound};
+ghost use Rattle.wg_cbtrack.specs.Stands.{Stands, IsSound};
 ghost use Rattle.wg_cbtrack.specs.Adds.{now_of, HasAdded};
 ghost use Rattle.wg_cbtrack.specs.Group.{placed_all};
 ghost use Rattle.wg_cbtrack.specs.Plans.{Reaches};

@@ -12,12 +12,13 @@ ghost use Rattle.wg_cbtrack.specs.Seen.{AreStarts, AreEnds};
 
 use crate::draft::Track;
 use crate::kept::{Kept, Rows};
-use crate::noting::{After, step_after};
+use crate::noting::{After, copy_of, step_after};
 use std::alloc::Global;
 use std::marker::Model;
 use wg_entry::NoMemory;
+use wg_types::items::Items;
 use wg_types::parts::{Cells, PartRun};
-use wg_types::steps::Deed;
+use wg_types::steps::{Deed, Deeds};
 use wg_types::usages::Usages;
 
 /// What is found of the steps of a command buffer, outside any trace. It is seen as the list of what was
@@ -124,6 +125,19 @@ impl CbTrack {
             row_reads c (as_reads result.now) ≡ needs (placed_all place self.now) c }
     {
         self.rows.needs.as_slice()
+    }
+
+    /// What was noted, in order, copied.
+    pub fn noted(&self) -> Result<Deeds, NoMemory>
+        ensures { IfOk result (λ deeds. deeds ≡ self.now) }
+    {
+        let mut deeds = Items::new(self.alloc);
+        for step in &self.kept {
+            if step.is_noted {
+                deeds.push(copy_of(self.alloc, &step.deed)?)?;
+            }
+        }
+        Ok(deeds)
     }
 
     /// Notes a step.

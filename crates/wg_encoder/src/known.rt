@@ -1,5 +1,5 @@
 //! What is known of kept commands.
-ghost use Rattle.std.specs.Prelude.{◌≡◌, ◌∷◌, [], ℕ, List, Option, Some, reverse, nat_lt, IfOk, OnOk, OnErr};
+ghost use Rattle.std.specs.Prelude.{◌≡◌, ◌∷◌, [], ℕ, List, Option, Some, reverse, nat_lt, MatchOption, IfOk, OnOk, OnErr};
 ghost use Rattle.wg_types.specs.Commands.{Command};
 ghost use Rattle.wg_types.specs.declared.commands.On.{On};
 ghost use Rattle.wg_types.specs.declared.render.TargetInfo.{TargetInfo};
@@ -12,12 +12,12 @@ use crate::bundle::BundleState;
 use crate::targets::Targets;
 use crate::walk::{Walk, note};
 use std::alloc::Global;
+use wg_cbtrack::CbTrack;
 use wg_types::NoMemory;
 use wg_types::bundles::BundleTouch;
 use wg_types::commands::{Command, On};
 use wg_types::items::Items;
 use wg_types::parts::Part;
-use wg_types::steps::Deed;
 
 /// What is known of the kept commands of an encoder, or of a bundle encoder.
 #[derive(Drop)]
@@ -40,18 +40,19 @@ fn clash(walk: &Walk) -> Option<Part>
     walk.done.clash
 }
 
-/// What the commands of an encoder do, in order, where there is neither a verdict nor an open pass.
+/// The tracker of what the commands of an encoder do, where there is neither a verdict nor an open pass.
+/// Else they do nothing.
 #[tactic(auto, using(crate::proofs::WalkLemmas::deeds_are))]
-fn done(walk: &Walk) -> &[Deed]
-    ensures { (device : ℕ) (kept : Kept) → IsWalkOf device kept walk.now → result.now ≡ encoder_deeds device kept }
+fn track(walk: &Walk) -> Option<&CbTrack>
+    ensures { (device : ℕ) (kept : Kept) → IsWalkOf device kept walk.now → MatchOption result (encoder_deeds device kept ≡ []) (λ track. track.now ≡ encoder_deeds device kept) }
 {
     if walk.verdict.is_some() {
-        return &[];
+        return None;
     }
     if walk.opened.is_some() {
-        return &[];
+        return None;
     }
-    walk.done.deeds.as_slice()
+    Some(&walk.done.deeds)
 }
 
 impl Known {
@@ -106,13 +107,14 @@ impl Known {
         }
     }
 
-    /// What the commands do, in order. Those of a bundle encoder do nothing.
-    pub fn done(&self) -> &[Deed]
-        ensures { (device : ℕ) (targets : Option TargetInfo) (commands : List (On × Command)) → IsKnownOf device targets (reverse commands) self.now → result.now ≡ DeedsOf device targets commands }
+    /// The tracker of what the commands do, or none where they do nothing. Those of a bundle encoder do
+    /// nothing.
+    pub fn track(&self) -> Option<&CbTrack>
+        ensures { (device : ℕ) (targets : Option TargetInfo) (commands : List (On × Command)) → IsKnownOf device targets (reverse commands) self.now → MatchOption result (DeedsOf device targets commands ≡ []) (λ track. track.now ≡ DeedsOf device targets commands) }
     {
         match self {
-            Known::Encoder(walk) => return done(walk),
-            Known::Bundle(_) => return &[],
+            Known::Encoder(walk) => return track(walk),
+            Known::Bundle(_) => return None,
         }
     }
 

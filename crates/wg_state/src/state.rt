@@ -1,5 +1,5 @@
 //! A history with all that is kept beside it.
-ghost use Rattle.std.specs.Prelude.{◌≡◌, true, ◌+◌, ◌-◌, ◌^◌, ◌<◌, ◌≤◌, ◌∷◌, ◌++◌, [], map, filter, nat_le, is_some, not, length, reverse, vec_len, vec_capacity, OnOk, IfOk, Some, None, ◌||◌, ◌==◌, if◌then◌else◌, false};
+ghost use Rattle.std.specs.Prelude.{◌≡◌, true, ◌+◌, ◌-◌, ◌^◌, ◌<◌, ◌≤◌, ◌∷◌, ◌++◌, [], map, filter, nat_le, is_some, not, length, reverse, vec_len, vec_capacity, OnOk, IfOk, Some, None, ◌||◌, ◌==◌, if◌then◌else◌, false, MatchOption};
 ghost use Rattle.wg_orders.specs.Trace.{free};
 ghost use Rattle.wg_history.specs.Operations.{issued, completed, last_use};
 ghost use Rattle.wg_model.specs.ErrorScopes.{deliver, pop_how};
@@ -29,6 +29,7 @@ use crate::settlements;
 use crate::uses::{Used, uses_left};
 use std::alloc::Global;
 use std::marker::Model;
+use wg_cbtrack::CbTrack;
 use wg_errors::Errors;
 use wg_history::NoMemory;
 use wg_history::events::{Entry, Event, Setup};
@@ -38,7 +39,7 @@ use wg_queue::Queue;
 use wg_types::handles::{Info, ObjRef};
 use wg_types::mappings::{Mapping, PendingMap};
 use wg_types::replies::{Caught, FaultKind, How, Reply, Settlements};
-use wg_types::steps::{Deed, Item};
+use wg_types::steps::Item;
 
 /// What is kept beside a history.
 #[derive(Drop)]
@@ -169,13 +170,14 @@ impl State {
         uses_left(alloc, &self.recordings, buffers)
     }
 
-    /// What the commands of a command buffer do, a step each, if that may still be submitted.
+    /// The tracker of what the commands of a command buffer do, if that may still be submitted, or none
+    /// where they do nothing.
     #[tactic(auto, using(crate::proofs::Recorded::reads_deeds))]
-    pub fn deeds_at(&self, number: u64) -> &[Deed]
+    pub fn track_at(&self, number: u64) -> Option<&CbTrack>
         requires { is_spent self.now.setup (reverse self.now.history) number ≡ false }
-        ensures { result.now ≡ deeds_at (reverse self.now.history) number }
+        ensures { MatchOption result (deeds_at (reverse self.now.history) number ≡ []) (λ track. track.now ≡ deeds_at (reverse self.now.history) number) }
     {
-        self.recordings.deeds(number)
+        self.recordings.track(number)
     }
 
     /// The entries, with the objects that they made.

@@ -1,12 +1,12 @@
 //! Each call that takes memory, once. What steps commands and writes make is for the scripts of tests/cases.
 use std::alloc::Global;
 use std::sync::Arc;
-use wg_access::{Done, steps, write_step};
+use wg_access::{Done, write_step};
 use wg_types::NoMemory;
 use wg_types::commands::Command;
 use wg_types::handles::{BufferInfo, Handle, Info, ObjRef};
 use wg_types::parts::{Cells, Kind, Part, PartRun};
-use wg_types::steps::{QueueWrite, Step, StepName, StepPlace};
+use wg_types::steps::{Deed, QueueWrite, StepName, StepPlace};
 use wg_types::usages::Usages;
 
 /// A buffer of 64 bytes that is copied from and to.
@@ -41,16 +41,16 @@ fn copy(alloc: Global) -> Result<Command, NoMemory> {
     })
 }
 
-/// Whether there is one step, which is that of the copy.
-fn is_copy(steps: &[Step]) -> bool {
+/// Whether one thing was done, which is the copy.
+fn is_copy(deeds: &[Deed]) -> bool {
     let uses = [(part(3), Usages::COPY_DST), (part(5), Usages::COPY_SRC)];
     let accesses = [
         (bytes(3, 8, 20), Kind::Write),
         (bytes(5, 4, 16), Kind::Read),
     ];
-    match steps {
-        [step] => step.uses.as_slice() == uses.as_slice()
-            && step.accesses.as_slice() == accesses.as_slice(),
+    match deeds {
+        [deed] => deed.uses.as_slice() == uses.as_slice()
+            && deed.accesses.as_slice() == accesses.as_slice(),
         _ => false,
     }
 }
@@ -60,7 +60,7 @@ fn copied(alloc: Global) -> Result<bool, NoMemory> {
     let copy = copy(alloc)?;
     let mut done = Done::new(alloc);
     done.add_command(alloc, None, &copy)?;
-    let made = steps(alloc, done.deeds.as_slice(), StepPlace::Op(4))?;
+    let made = done.deeds.noted()?;
     Ok(is_copy(made.as_slice()))
 }
 
@@ -101,7 +101,8 @@ fn dispatched(alloc: Global) -> Result<(Option<Part>, usize), NoMemory> {
     ];
     let mut done = Done::new(alloc);
     done.add(alloc, StepName::Dispatch, touches.as_slice())?;
-    Ok((done.clash, done.deeds.as_slice().len()))
+    let deeds = done.deeds.noted()?;
+    Ok((done.clash, deeds.as_slice().len()))
 }
 
 #[test]

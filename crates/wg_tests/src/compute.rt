@@ -160,7 +160,8 @@ fn of_pass(alloc: Global) -> Result<((bool, bool), bool), NoMemory> {
     let mut set = ComputeState::new();
     let mut done = Done::new(alloc);
     dispatched(&mut set, &mut done, alloc)?;
-    Ok((are(done.deeds.as_slice()), done.clash.is_none()))
+    let deeds = done.deeds.noted()?;
+    Ok((are(deeds.as_slice()), done.clash.is_none()))
 }
 
 #[test]

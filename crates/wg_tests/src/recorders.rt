@@ -2,7 +2,7 @@
 use std::alloc::Global;
 use std::process::Abort;
 use std::sync::Arc;
-use wg_encoder::{Noted, Recorder};
+use wg_encoder::{Noted, Recorder, Recording};
 use wg_types::NoMemory;
 use wg_types::commands::{Command, On};
 use wg_types::handles::{BufferInfo, Handle, Info, ObjRef};
@@ -85,27 +85,35 @@ fn objects_are_of_the_device_and_kind(rt: HostRuntime) {
     assert!(rt; (foreign, encoder) == (broken, broken));
 }
 
+/// How many parts the steps of a recording use.
+fn used(recording: &Recording) -> usize {
+    match recording.track() {
+        Some(track) => track.starts().len(),
+        None => 0,
+    }
+}
+
 /// What is told of what is taken and put back: whether a pass is open, whether a group is, how many commands
-/// were kept, and how many deeds are done.
+/// were kept, and how many parts their steps use.
 fn put_back(recorder: &mut Recorder) -> (bool, bool, usize, usize) {
     let recording = recorder.take();
     let open = (recording.open_pass(), recording.open_group());
     let kept = recording.commands().len();
-    let done = recording.done().len();
+    let used = used(&recording);
     recorder.put_back(recording);
-    (open.0, open.1, kept, done)
+    (open.0, open.1, kept, used)
 }
 
-/// What is told of what is taken for good: its verdict, how many commands were kept and how many deeds are
-/// done, and whether no usage scope has a clash.
+/// What is told of what is taken for good: its verdict, how many commands were kept and how many parts their
+/// steps use, and whether no usage scope has a clash.
 fn taken(recorder: &mut Recorder, alloc: Global) -> (Option<u16>, usize, usize, bool) {
     let recording = recorder.take();
     let kept = recording.commands().len();
-    let done = recording.done().len();
+    let used = used(&recording);
     (
         recording.verdict(),
         kept,
-        done,
+        used,
         matches!(recording.scopes(alloc), Ok(None)),
     )
 }

@@ -223,7 +223,8 @@ fn is_pass(deed: &Deed) -> [bool; 3] {
 fn of_pass(alloc: Global) -> Result<(bool, [bool; 3], bool), NoMemory> {
     let mut done = Done::new(alloc);
     let started = made(&mut done, alloc)?;
-    let deed = match done.deeds.as_slice() {
+    let deeds = done.deeds.noted()?;
+    let deed = match deeds.as_slice() {
         [deed] => is_pass(deed),
         _ => [false; 3],
     };

@@ -3,7 +3,7 @@ use Rattle.wg_orders.specs.Steps.{StepPlace}
 use Rattle.wg_orders.specs.Trace.{add_group}
 use Rattle.wg_bars.specs.Last.{LastRows}
 use Rattle.wg_init.specs.Rows.{SetRows}
-use Rattle.wg_tracker.specs.Stands.{TrackerValue}
+use Rattle.wg_cbtrack.specs.Stands.{TrackerValue}
 use Rattle.wg_cbtrack.specs.declared.draft.Draft.{Draft}
 use Rattle.wg_cbtrack.specs.Adds.{HasAdded}
 use Rattle.wg_cbtrack.specs.Group.{placed_all}

@@ -1,6 +1,6 @@
 use Rattle.std.proofs.Common.{◌≡◌, ap, sym, subst}
 use Rattle.wg_orders.specs.Trace.{steps_of}
-use Rattle.wg_tracker.specs.Stands.{TrackerValue}
+use Rattle.wg_cbtrack.specs.Stands.{TrackerValue}
 use Rattle.wg_cbtrack.specs.declared.draft.Draft.{Draft}
 use Rattle.wg_cbtrack.specs.Adds.{now_of, HasAdded}
 use Rattle.wg_cbtrack.specs.Plans.{PlanValue}

@@ -1,4 +1,0 @@
-pub mod Stands
-pub mod Ready
-pub mod Cleared
-pub mod Adds
