@@ -1,3 +1,4 @@
 pub mod RefLemmas
 pub mod WordLemmas
 pub mod WantedLemmas
+pub mod Beginnings

@@ -1,6 +1,7 @@
 //! Render pipelines, and what render passes begin with.
 ghost use Rattle.std.specs.Prelude.{◌≡◌, ◌++◌, IfOk, OnOk, map, option_map};
 ghost use Rattle.std.specs.List.{flat_map};
+ghost use Rattle.wg_types.specs.Added.{BeginsWith};
 ghost use Rattle.wg_types.specs.Refs.{first_of, maybe_wanted};
 ghost use Rattle.wg_types.specs.Render.{color_named, depth_named, targets_named, begin_named, map_color, map_depth, map_begin};
 
@@ -103,7 +104,8 @@ impl<R> RenderBeginOf<R> {
 
     /// Gathers what there is of the views and of the query set, in the same order.
     pub fn gather<T, G: Gather<R, T>>(&self, gather: &G, found: &mut Vec<T>) -> Result<(), NoMemory>
-        ensures { OnOk result (found.new.items ≡ found.old.items ++ flat_map (G.gathers gather.now) (begin_named self.now)) }
+        ensures gathered { OnOk result (found.new.items ≡ found.old.items ++ flat_map (G.gathers gather.now) (begin_named self.now)) }
+        ensures begins { BeginsWith found.new.items found.old.items }
     {
         gather_begun(
             gather,
@@ -203,13 +205,14 @@ fn first_begun<R, E: Drop, A: Ask<R, E>>(
 }
 
 /// Gathers what there is of the views of a color attachment, if there is one.
-#[tactic(auto, using(crate::proofs::RefLemmas::flat_joined))]
+#[tactic(auto, using(crate::proofs::RefLemmas::flat_joined, crate::proofs::Beginnings::begins_self, crate::proofs::Beginnings::begins_then))]
 fn gather_color<R, T, G: Gather<R, T>>(
     gather: &G,
     found: &mut Vec<T>,
     color: &Option<ColorTargetOf<R>>,
 ) -> Result<(), NoMemory>
-    ensures { OnOk result (found.new.items ≡ found.old.items ++ flat_map (G.gathers gather.now) (color_named color.now)) }
+    ensures gathered { OnOk result (found.new.items ≡ found.old.items ++ flat_map (G.gathers gather.now) (color_named color.now)) }
+    ensures begins { BeginsWith found.new.items found.old.items }
 {
     match color {
         Some(target) => {
@@ -221,13 +224,14 @@ fn gather_color<R, T, G: Gather<R, T>>(
 }
 
 /// Gathers what there is of the views of color attachments.
-#[tactic(auto, using(crate::proofs::RefLemmas::flat_joined))]
+#[tactic(auto, using(crate::proofs::RefLemmas::flat_joined, crate::proofs::Beginnings::begins_self))]
 fn gather_colors<R, T, G: Gather<R, T>>(
     gather: &G,
     found: &mut Vec<T>,
     colors: &[Option<ColorTargetOf<R>>],
 ) -> Result<(), NoMemory>
-    ensures { OnOk result (found.new.items ≡ found.old.items ++ flat_map (G.gathers gather.now) (flat_map color_named colors.now)) }
+    ensures gathered { OnOk result (found.new.items ≡ found.old.items ++ flat_map (G.gathers gather.now) (flat_map color_named colors.now)) }
+    ensures begins { BeginsWith found.new.items found.old.items }
 {
     for color in colors {
         gather_color(gather, found, color)?;
@@ -236,12 +240,14 @@ fn gather_colors<R, T, G: Gather<R, T>>(
 }
 
 /// Gathers what there is of the view of a depth attachment, if there is one.
+#[tactic(auto, using(crate::proofs::Beginnings::begins_self))]
 fn gather_depth<R, T, G: Gather<R, T>>(
     gather: &G,
     found: &mut Vec<T>,
     depth: &Option<DepthTargetOf<R>>,
 ) -> Result<(), NoMemory>
-    ensures { OnOk result (found.new.items ≡ found.old.items ++ flat_map (G.gathers gather.now) (depth_named depth.now)) }
+    ensures gathered { OnOk result (found.new.items ≡ found.old.items ++ flat_map (G.gathers gather.now) (depth_named depth.now)) }
+    ensures begins { BeginsWith found.new.items found.old.items }
 {
     match depth {
         Some(target) => refs::gather_one(gather, found, &target.view, Wanted::View),
@@ -250,21 +256,22 @@ fn gather_depth<R, T, G: Gather<R, T>>(
 }
 
 /// Gathers what there is of the views of all attachments.
-#[tactic(auto, using(crate::proofs::RefLemmas::flat_joined))]
+#[tactic(auto, using(crate::proofs::RefLemmas::flat_joined, crate::proofs::Beginnings::begins_then))]
 fn gather_targets<R, T, G: Gather<R, T>>(
     gather: &G,
     found: &mut Vec<T>,
     colors: &[Option<ColorTargetOf<R>>],
     depth: &Option<DepthTargetOf<R>>,
 ) -> Result<(), NoMemory>
-    ensures { OnOk result (found.new.items ≡ found.old.items ++ flat_map (G.gathers gather.now) (flat_map color_named colors.now ++ depth_named depth.now)) }
+    ensures gathered { OnOk result (found.new.items ≡ found.old.items ++ flat_map (G.gathers gather.now) (flat_map color_named colors.now ++ depth_named depth.now)) }
+    ensures begins { BeginsWith found.new.items found.old.items }
 {
     gather_colors(gather, found, colors)?;
     gather_depth(gather, found, depth)
 }
 
 /// Gathers what there is of the views of all attachments, and then of the query set, if there is one.
-#[tactic(auto, using(crate::proofs::RefLemmas::flat_joined))]
+#[tactic(auto, using(crate::proofs::RefLemmas::flat_joined, crate::proofs::Beginnings::begins_then))]
 fn gather_begun<R, T, G: Gather<R, T>>(
     gather: &G,
     found: &mut Vec<T>,
@@ -272,7 +279,8 @@ fn gather_begun<R, T, G: Gather<R, T>>(
     depth: &Option<DepthTargetOf<R>>,
     queries: &Option<R>,
 ) -> Result<(), NoMemory>
-    ensures { OnOk result (found.new.items ≡ found.old.items ++ flat_map (G.gathers gather.now) ((flat_map color_named colors.now ++ depth_named depth.now) ++ maybe_wanted Wanted.Queries queries.now)) }
+    ensures gathered { OnOk result (found.new.items ≡ found.old.items ++ flat_map (G.gathers gather.now) ((flat_map color_named colors.now ++ depth_named depth.now) ++ maybe_wanted Wanted.Queries queries.now)) }
+    ensures begins { BeginsWith found.new.items found.old.items }
 {
     gather_targets(gather, found, colors, depth)?;
     refs::gather_maybe(gather, found, queries, Wanted::Queries)

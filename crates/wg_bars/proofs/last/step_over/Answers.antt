@@ -16,7 +16,7 @@ returns-clause-bars c = λ trace sorted keeps.
     let set_slice = c.as_slice-2.ensures.value in
     let change_slice = c.as_slice-3.ensures.value in
     let changed : c.as_slice-3.result.now ≡ all_changes (with_notes c.args.kept.now c.args.fresh) (sets c.args.step.now.uses) = cc in
-    c.in_ok-push_bars.ensures ∙ ap (λ rows. c.args.items.now.items ++ map bar rows) changed ∙ ap (λ bars. c.args.items.now.items ++ bars) (bars_are (with_notes c.args.kept.now c.args.fresh) trace c.args.step.now sorted keeps)
+    c.in_ok-push_bars.ensures.bars ∙ ap (λ rows. c.args.items.now.items ++ map bar rows) changed ∙ ap (λ bars. c.args.items.now.items ++ bars) (bars_are (with_notes c.args.kept.now c.args.fresh) trace c.args.step.now sorted keeps)
 
 pub returns-clause-noted : goal.returns-clause-noted
 returns-clause-noted c =
