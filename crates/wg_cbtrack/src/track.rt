@@ -6,6 +6,7 @@ ghost use Rattle.wg_rows.specs.Uses.{row_reads};
 ghost use Rattle.wg_orders.specs.Steps.{StepPlace};
 ghost use Rattle.wg_orders.specs.Trace.{needs};
 ghost use Rattle.wg_cbtrack.specs.Group.{placed_all};
+ghost use Rattle.wg_cbtrack.specs.Items.{noted};
 ghost use Rattle.wg_cbtrack.specs.Leaves.{as_reads};
 ghost use Rattle.wg_cbtrack.specs.Track.{IsTrack};
 ghost use Rattle.wg_cbtrack.specs.Seen.{AreStarts, AreEnds};
@@ -73,6 +74,19 @@ fn append_reserved(to: &mut Vec<Kept>, mut from: Vec<Kept>)
     let _ = to.append(&mut from);
 }
 
+/// What was noted of what is kept, copied.
+fn noted_of(alloc: Global, kept: &[Kept]) -> Result<Deeds, NoMemory>
+    ensures { IfOk result (λ deeds. deeds ≡ noted kept.now) }
+{
+    let mut deeds = Items::new(alloc);
+    for step in kept {
+        if step.is_noted {
+            deeds.push(copy_of(alloc, &step.deed)?)?;
+        }
+    }
+    Ok(deeds)
+}
+
 impl CbTrack {
     /// Nothing is noted. It takes no memory.
     pub fn new(alloc: Global) -> CbTrack
@@ -131,13 +145,7 @@ impl CbTrack {
     pub fn noted(&self) -> Result<Deeds, NoMemory>
         ensures { IfOk result (λ deeds. deeds ≡ self.now) }
     {
-        let mut deeds = Items::new(self.alloc);
-        for step in &self.kept {
-            if step.is_noted {
-                deeds.push(copy_of(self.alloc, &step.deed)?)?;
-            }
-        }
-        Ok(deeds)
+        noted_of(self.alloc, self.kept.as_slice())
     }
 
     /// Notes a step.
