@@ -1,3 +1,6 @@
+pub mod Owning
+pub mod Local
+pub mod Nearby
 pub mod Rowed
 pub mod Split
 pub mod Joins
