@@ -24,7 +24,7 @@ cell_clips (Slices a b x y) lo hi l m h = (refl, refl, refl)
 cell_clips (Queries a x y) lo hi l m h = (refl, refl, refl)
 
 -- Rows of which no two cover one spot pass a test there where their value does.
-any_loose : (spot : Spot) (test : Kind → Bool) (rows : List (Cells × Kind)) → Loose cell_sort rows → any_row (λ run. covers_spot cell_sort run spot) test rows ≡ option_map_or test (value_at cell_sort spot rows) false
+pub any_loose : (spot : Spot) (test : Kind → Bool) (rows : List (Cells × Kind)) → Loose cell_sort rows → any_row (λ run. covers_spot cell_sort run spot) test rows ≡ option_map_or test (value_at cell_sort spot rows) false
 any_loose spot test [] a = refl
 any_loose spot test (x ∷ xs) a = by_cover (covers_spot cell_sort x.0 spot) refl (any_loose spot test xs a.2)
   where
@@ -45,11 +45,11 @@ quiet (Some Both) e = absurd (true≢false e)
 quiet (Some Drop) e = absurd (true≢false e)
 quiet (Some ReadDrop) e = absurd (true≢false e)
 
-writes_loose : (c : Cell) (rows : List (Cells × Kind)) → Loose cell_sort rows → row_writes c rows ≡ option_map_or kind_writes (value_at cell_sort (cell_spot c) rows) false
+pub writes_loose : (c : Cell) (rows : List (Cells × Kind)) → Loose cell_sort rows → row_writes c rows ≡ option_map_or kind_writes (value_at cell_sort (cell_spot c) rows) false
 unfolding covers
 writes_loose c rows a = any_loose (cell_spot c) kind_writes rows a
 
-unsets_loose : (c : Cell) (rows : List (Cells × Kind)) → Loose cell_sort rows → row_unsets c rows ≡ option_map_or kind_unsets (value_at cell_sort (cell_spot c) rows) false
+pub unsets_loose : (c : Cell) (rows : List (Cells × Kind)) → Loose cell_sort rows → row_unsets c rows ≡ option_map_or kind_unsets (value_at cell_sort (cell_spot c) rows) false
 unfolding covers
 unsets_loose c [] a = refl
 unsets_loose c (x ∷ xs) a = by_cover (covers_spot cell_sort x.0 (cell_spot c)) refl (unsets_loose c xs a.2) (writes_loose c xs a.2)

@@ -1,5 +1,9 @@
 pub mod Clearing
 pub mod Needs
+pub mod Owning
+pub mod Local
+pub mod Nearby
+pub mod OfRuns
 pub mod Rowed
 pub mod Split
 pub mod Joins

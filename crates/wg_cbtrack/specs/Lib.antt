@@ -6,6 +6,8 @@ pub mod Join
 pub mod Items
 pub mod Track
 pub mod Adds
+pub mod Owners
+pub mod Near
 pub mod Next
 pub mod Seen
 pub mod Plans

@@ -1,10 +1,11 @@
 -- What one more noted step makes of a tracker.
-use Rattle.std.specs.Prelude.{◌≡◌, Bool, true, false, not, ◌&&◌, ◌||◌, List, [], ◌∷◌, ◌++◌, if◌then◌else◌}
+use Rattle.std.specs.Prelude.{ℕ, ◌≡◌, Bool, true, false, not, ◌&&◌, ◌||◌, List, [], ◌∷◌, ◌++◌, if◌then◌else◌}
 use Rattle.wg_types.specs.declared.steps.Deed.{Deed}
 use Rattle.wg_types.specs.declared.steps.StepName.TheVariants.{Clear}
-use Rattle.wg_rows.specs.Runs.{Cells, Cell, cell_spot, cell_sort}
+use Rattle.wg_rows.specs.Runs.{Cells, Cell, cell_spot, cell_sort, part_sort}
 use Rattle.wg_rows.specs.Rows.{Apart, has_value}
-use Rattle.wg_rows.specs.Uses.{Kind, Write, same_kind, row_reads, row_writes, row_unsets}
+use Rattle.wg_rows.specs.Uses.{Kind, Write, same_kind, same_set, row_reads, row_writes, row_unsets}
+use Rattle.wg_rows.specs.Cut.{put_all}
 use Rattle.wg_rows.specs.Sets.{UseRow, sets}
 use Rattle.wg_cbtrack.specs.Cleared.{uses_of}
 use Rattle.wg_cbtrack.specs.declared.kept.Kept.{Kept}
@@ -12,7 +13,8 @@ use Rattle.wg_cbtrack.specs.Leaves.{AreTidy}
 use Rattle.wg_cbtrack.specs.Join.{inner_changes, opens, used_after}
 use Rattle.wg_cbtrack.specs.Items.{noted}
 use Rattle.wg_cbtrack.specs.declared.kept.Rows.{Rows}
-use Rattle.wg_cbtrack.specs.Track.{IsTrack, Holds}
+use Rattle.wg_cbtrack.specs.Track.{Holds}
+use Rattle.wg_cbtrack.specs.Near.{AreOrdered, AreAllExchanged}
 
 -- a clear inside, of rows of cells
 abbrev pub clear_deed : List (Cells × Kind) → Deed
@@ -54,10 +56,24 @@ pub record AreCells (asked leaves accesses found asked_after leaves_after : List
   pub unsets : (c : Cell) → row_unsets c leaves_after ≡ (if row_writes c accesses then row_unsets c accesses else (if row_reads c accesses && row_unsets c leaves then false else row_unsets c leaves))
   pub tidy : AreTidy asked_after leaves_after
 
--- What follows a tracker that keeps these rows: what more is kept, and the rows after one more step.
-abbrev pub Follows : List UseRow → List (Cells × Kind) → List (Cells × Kind) → Deed → List Kept → List UseRow → List (Cells × Kind) → List (Cells × Kind) → Type 0
-Follows ends wants leaves deed more ends_after wants_after leaves_after = (deeds : List Deed) (held : List Kept) → IsTrack deeds held ends wants leaves → deeds ≡ noted held → IsTrack (noted (held ++ more)) (held ++ more) ends_after wants_after leaves_after × (noted (held ++ more) ≡ deeds ++ deed ∷ [])
+-- One more step over rows: the clear inside before it, what more is kept, and the rows after it.
+pub record IsStep (ends : List UseRow) (wants leaves : List (Cells × Kind)) (deed : Deed) (more : List Kept) (ends_after : List UseRow) (wants_after leaves_after : List (Cells × Kind)) : Type 0 where
+  pub clear : List (Cells × Kind)
+  pub cells : AreTidy wants leaves → AreCells wants leaves deed.accesses clear wants_after leaves_after
+  pub kept : AreMore ends clear deed more ends_after
 
--- The same of all that a tracker holds.
-abbrev pub FollowsAll : Rows → Deed → List Kept → Rows → Type 0
-FollowsAll rows deed more later = (deeds : List Deed) (held : List Kept) → Holds deeds held rows → deeds ≡ noted held → Holds (noted (held ++ more)) (held ++ more) later × (noted (held ++ more) ≡ deeds ++ deed ∷ [])
+-- The uses of one more step over the first and the last sets.
+pub record IsSeen (first last uses first_after last_after : List UseRow) : Type 0 where
+  pub starts : first_after ≡ put_all part_sort same_set (opens first (sets uses)) first
+  pub ends : last_after ≡ used_after (sets uses) last
+
+-- With other rows in place of those of some objects, rows are all that a tracker holds of deeds.
+abbrev pub HoldsAfter : List Deed → List Kept → List ℕ → Rows → Rows → Type 0
+HoldsAfter deeds held os near rows = (later : Rows) → AreAllExchanged os near rows later → Holds deeds held later
+
+-- What follows all that a tracker holds: what more is kept for one more step, the objects that it touches, and their
+-- rows after it.
+pub record FollowsNear (rows : Rows) (deed : Deed) (more : List Kept) (os : List ℕ) (near : Rows) : Type 0 where
+  pub ordered : (deeds : List Deed) (held : List Kept) → Holds deeds held rows → AreOrdered near
+  pub grows : (deeds : List Deed) (held : List Kept) → Holds deeds held rows → deeds ≡ noted held → noted (held ++ more) ≡ deeds ++ deed ∷ []
+  pub holds : (deeds : List Deed) (held : List Kept) → Holds deeds held rows → deeds ≡ noted held → HoldsAfter (noted (held ++ more)) (held ++ more) os near rows

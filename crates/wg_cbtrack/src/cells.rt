@@ -1,7 +1,9 @@
 //! The cells of one more noted step.
-ghost use Rattle.std.specs.Prelude.{◌≡◌, [], IfOk, map};
-ghost use Rattle.wg_rows.specs.Cut.{choose};
-ghost use Rattle.wg_rows.specs.Uses.{Kind, Read};
+ghost use Rattle.std.specs.Prelude.{◌≡◌, List, [], IfOk, OnOk, IsTrue, map};
+ghost use Rattle.wg_rows.specs.Cut.{choose, put_all};
+ghost use Rattle.wg_rows.specs.Rows.{Apart};
+ghost use Rattle.wg_rows.specs.Runs.{cell_sort};
+ghost use Rattle.wg_rows.specs.Uses.{Kind, Read, same_kind};
 ghost use Rattle.wg_cbtrack.specs.Leaves.{
   left_kind,
   left_after,
@@ -13,11 +15,12 @@ ghost use Rattle.wg_cbtrack.specs.Leaves.{
 };
 ghost use Rattle.wg_cbtrack.specs.Next.{AreCells};
 
+use crate::about::about_cells;
 use crate::cuts::{gaps, inside, overwrite};
 use std::alloc::Global;
 use wg_entry::NoMemory;
 use wg_rows::cell_runs::{cell_hi, cell_lo, reads, unsets, writes};
-use wg_rows::rows::put_all;
+use wg_rows::rows::{are_apart, put_all};
 use wg_types::parts::{Cells, Kind};
 
 /// The cells that a clear inside sets, those that are wanted from before all steps, and what is left of
@@ -73,15 +76,36 @@ fn cleared(alloc: Global, rows: &[(Cells, Kind)]) -> Result<Vec<(Cells, Kind)>, 
 fn unset_pieces(
     alloc: Global,
     leaves: &[(Cells, Kind)],
+    are_printed: bool,
     run: Cells,
 ) -> Result<Vec<(Cells, Kind)>, NoMemory>
+    requires { IsTrue are_printed → Apart cell_sort leaves.now }
     ensures { IfOk result (λ v. v.items ≡ unset_pieces leaves.now run) }
 {
-    let found = inside(alloc, leaves, run)?;
+    let found = inside(alloc, about_cells(leaves, are_printed, run), run)?;
     cleared(alloc, found.as_slice())
 }
 
+/// Adds what of a run is left unset, as it is cleared, at the end of others that are yet to be put in
+/// printed form.
+#[tactic(auto, using(wg_rows::proofs::Chained::put_all_more))]
+fn push_unset(
+    found: &mut Vec<(Cells, Kind)>,
+    leaves: &[(Cells, Kind)],
+    are_printed: bool,
+    run: Cells,
+) -> Result<(), NoMemory>
+    requires { IsTrue are_printed → Apart cell_sort leaves.now }
+    ensures { OnOk result ((rows : List (Cells × Kind)) → put_all cell_sort same_kind found.new.items rows
+        ≡ put_all cell_sort same_kind (unset_pieces leaves.now run) (put_all cell_sort same_kind found.old.items rows)) }
+{
+    let more = unset_pieces(*found.allocator(), leaves, are_printed, run)?;
+    found.extend_from_slice(more.as_slice())?;
+    Ok(())
+}
+
 /// What accesses read of the cells that are left unset: the accesses of the clear inside before them.
+#[tactic(auto, using(crate::proofs::OfRuns::cells_printed))]
 fn clear_of(
     alloc: Global,
     leaves: &[(Cells, Kind)],
@@ -89,20 +113,40 @@ fn clear_of(
 ) -> Result<Vec<(Cells, Kind)>, NoMemory>
     ensures { IfOk result (λ v. v.items ≡ with_pieces (unset_pieces leaves.now) accesses.now []) }
 {
-    let mut out = Vec::new(alloc);
+    let are_printed = are_apart(leaves);
+    let mut found = Vec::new(alloc);
     let mut i = accesses.len();
     while i > 0 {
         i -= 1;
         let access = accesses[i];
         if reads(access.1) && cell_lo(access.0) < cell_hi(access.0) {
-            let more = unset_pieces(alloc, leaves, access.0)?;
-            out = put_all(alloc, out, more.as_slice())?;
+            push_unset(&mut found, leaves, are_printed, access.0)?;
         }
     }
-    Ok(out)
+    put_all(alloc, Vec::new(alloc), found.as_slice())
+}
+
+/// Adds what of a run is not written, as it is read, at the end of others that are yet to be put in printed
+/// form.
+#[tactic(auto, using(wg_rows::proofs::Chained::put_all_more))]
+fn push_unwritten(
+    found: &mut Vec<(Cells, Kind)>,
+    leaves: &[(Cells, Kind)],
+    are_printed: bool,
+    run: Cells,
+) -> Result<(), NoMemory>
+    requires { IsTrue are_printed → Apart cell_sort leaves.now }
+    ensures { OnOk result ((rows : List (Cells × Kind)) → put_all cell_sort same_kind found.new.items rows
+        ≡ put_all cell_sort same_kind (unwritten_pieces leaves.now run) (put_all cell_sort same_kind found.old.items rows)) }
+{
+    let rows = about_cells(leaves, are_printed, run);
+    let more = gaps(*found.allocator(), (run, Kind::Read), rows)?;
+    found.extend_from_slice(more.as_slice())?;
+    Ok(())
 }
 
 /// What is wanted from before all steps, with what accesses read and no step before them writes.
+#[tactic(auto, using(crate::proofs::OfRuns::cells_printed))]
 fn wanted_after(
     alloc: Global,
     wants: Vec<(Cells, Kind)>,
@@ -111,17 +155,17 @@ fn wanted_after(
 ) -> Result<Vec<(Cells, Kind)>, NoMemory>
     ensures { IfOk result (λ v. v.items ≡ with_pieces (unwritten_pieces leaves.now) accesses.now wants.items) }
 {
-    let mut out = wants;
+    let are_printed = are_apart(leaves);
+    let mut found = Vec::new(alloc);
     let mut i = accesses.len();
     while i > 0 {
         i -= 1;
         let access = accesses[i];
         if reads(access.1) && cell_lo(access.0) < cell_hi(access.0) {
-            let more = gaps(alloc, (access.0, Kind::Read), leaves)?;
-            out = put_all(alloc, out, more.as_slice())?;
+            push_unwritten(&mut found, leaves, are_printed, access.0)?;
         }
     }
-    Ok(out)
+    put_all(alloc, wants, found.as_slice())
 }
 
 /// The cells of one more step that accesses these.

@@ -4,12 +4,15 @@
 
 ghost use Rattle.wg_cbtrack.specs.Stands.{FreesKeep};
 
+mod about;
 mod cells;
 mod cuts;
 mod draft;
 mod join;
 mod kept;
+mod near;
 mod noting;
+mod owners;
 pub mod plan;
 mod seen;
 pub mod track;

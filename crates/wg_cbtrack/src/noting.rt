@@ -1,11 +1,14 @@
 //! What one more noted step makes of a tracker.
 ghost use Rattle.std.specs.Prelude.{◌≡◌, IfOk};
-ghost use Rattle.wg_cbtrack.specs.Next.{IsKept, AreMore, Follows, FollowsAll};
+ghost use Rattle.wg_cbtrack.specs.Next.{IsKept, AreMore, IsStep, FollowsNear};
+ghost use Rattle.wg_cbtrack.specs.Near.{AreOrdered};
 
 use crate::cells::{CellsAfter, cells_after};
 use crate::draft::uses_of;
 use crate::join::{inner_changes, opens, used_after};
 use crate::kept::{Kept, Rows};
+use crate::near::near_rows;
+use crate::owners::objects_of;
 use crate::seen::{Seen, see};
 use std::alloc::Global;
 use wg_entry::NoMemory;
@@ -118,7 +121,7 @@ fn find_next(
     leaves: &[(Cells, Kind)],
     deed: &Deed,
 ) -> Result<Next, NoMemory>
-    ensures { IfOk result (λ next. Follows ends.now wants.now leaves.now deed.now next.kept.items next.ends.items next.wants.items next.leaves.items) }
+    ensures { IfOk result (λ next. IsStep ends.now wants.now leaves.now deed.now next.kept.items next.ends.items next.wants.items next.leaves.items) }
 {
     let step = copy_of(alloc, deed)?;
     let cells = cells_after(alloc, wants, leaves, deed.accesses.as_slice())?;
@@ -141,28 +144,33 @@ fn find_next(
     })
 }
 
-/// What more is kept for one more step, and all that is found of the steps with it.
+/// What more is kept for one more step, the objects that it uses or accesses, and their rows after it.
 #[derive(Drop)]
 pub struct After {
     pub kept: Vec<Kept>,
-    pub rows: Rows,
+    pub objects: Vec<u64>,
+    pub near: Rows,
 }
 
-/// What one more step makes of what a tracker holds. It changes nothing.
+/// What one more step makes of what a tracker holds. It changes nothing, and looks at the rows of the
+/// objects that the step uses or accesses alone.
 pub fn step_after(alloc: Global, rows: &Rows, deed: &Deed) -> Result<After, NoMemory>
-    ensures { IfOk result (λ after. FollowsAll rows.now deed.now after.kept.items after.rows) }
+    requires { AreOrdered rows.now }
+    ensures { IfOk result (λ after. FollowsNear rows.now deed.now after.kept.items after.objects.items after.near) }
 {
+    let objects = objects_of(alloc, deed.uses.as_slice(), deed.accesses.as_slice())?;
+    let near = near_rows(alloc, rows, objects.as_slice())?;
     let next = find_next(
         alloc,
-        rows.ends.as_slice(),
-        rows.wants.as_slice(),
-        rows.leaves.as_slice(),
+        near.ends.as_slice(),
+        near.wants.as_slice(),
+        near.leaves.as_slice(),
         deed,
     )?;
     let seen = see(
         alloc,
-        rows.starts.as_slice(),
-        rows.last.as_slice(),
+        near.starts.as_slice(),
+        near.last.as_slice(),
         deed.uses.as_slice(),
     )?;
     let Next {
@@ -175,7 +183,8 @@ pub fn step_after(alloc: Global, rows: &Rows, deed: &Deed) -> Result<After, NoMe
     let needs = cells_of(alloc, wants.as_slice())?;
     Ok(After {
         kept,
-        rows: Rows {
+        objects,
+        near: Rows {
             ends,
             wants,
             leaves,

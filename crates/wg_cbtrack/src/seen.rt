@@ -1,7 +1,6 @@
 //! The uses of noted steps: of each part the set of its first and of its last step.
-ghost use Rattle.std.specs.Prelude.{◌≡◌, List, [], ◌∷◌, ◌++◌, IfOk};
-ghost use Rattle.wg_types.specs.declared.steps.Deed.{Deed};
-ghost use Rattle.wg_cbtrack.specs.Seen.{AreSeen};
+ghost use Rattle.std.specs.Prelude.{IfOk};
+ghost use Rattle.wg_cbtrack.specs.Next.{IsSeen};
 
 use crate::join::{opens, used_after};
 use std::alloc::Global;
@@ -25,8 +24,7 @@ pub fn see(
     ends: &[(PartRun, Usages)],
     uses: &[(PartRun, Usages)],
 ) -> Result<Seen, NoMemory>
-    ensures { IfOk result (λ seen. (deeds : List Deed) (d : Deed) → d.uses ≡ uses.now →
-        AreSeen deeds starts.now ends.now → AreSeen (deeds ++ d ∷ []) seen.starts.items seen.ends.items) }
+    ensures { IfOk result (λ seen. IsSeen starts.now ends.now uses.now seen.starts.items seen.ends.items) }
 {
     let uses = sets(alloc, uses)?;
     let first = opens(alloc, starts, uses.as_slice())?;

@@ -13,6 +13,7 @@ ghost use Rattle.wg_cbtrack.specs.Seen.{AreStarts, AreEnds};
 
 use crate::draft::Track;
 use crate::kept::{Kept, Rows};
+use crate::near::{exchange_all, make_room};
 use crate::noting::{After, copy_of, step_after};
 use std::alloc::Global;
 use std::marker::Model;
@@ -51,19 +52,22 @@ pub struct Ready {
     kept: Vec<Kept>,
     rows: Rows,
     more: Vec<Kept>,
-    later: Rows,
+    objects: Vec<u64>,
+    near: Rows,
 }
 
 impl Model for Ready {
     ghost use Rattle.std.specs.Prelude.{◌≤◌, ◌+◌, ◌++◌, vec_len, vec_capacity};
     ghost use Rattle.wg_cbtrack.specs.Track.{Holds, ReadyValue};
+    ghost use Rattle.wg_cbtrack.specs.Near.{AreOrdered, HasRoom};
+    ghost use Rattle.wg_cbtrack.specs.Next.{HoldsAfter};
     ghost use Rattle.wg_cbtrack.specs.Items.{noted};
 
     ghost Value = { ReadyValue };
 
     ghost view = { λ r. record { before = noted r.kept.items; after = noted (r.kept.items ++ r.more.items) } };
 
-    ghost invariant = { λ r. Holds (noted r.kept.items) r.kept.items r.rows × Holds (noted (r.kept.items ++ r.more.items)) (r.kept.items ++ r.more.items) r.later × (vec_len r.kept + vec_len r.more ≤ vec_capacity r.kept) };
+    ghost invariant = { λ r. Holds (noted r.kept.items) r.kept.items r.rows × HoldsAfter (noted (r.kept.items ++ r.more.items)) (r.kept.items ++ r.more.items) r.objects.items r.near r.rows × AreOrdered r.near × HasRoom r.rows r.near × (vec_len r.kept + vec_len r.more ≤ vec_capacity r.kept) };
 }
 
 /// Adds what is kept at the end, in room that there is.
@@ -154,9 +158,14 @@ impl CbTrack {
         ensures unchanged { OnErr result (self.new ≡ self.old) }
     {
         let after = step_after(self.alloc, &self.rows, deed)?;
-        let After { mut kept, rows } = after;
+        let After {
+            mut kept,
+            objects,
+            near,
+        } = after;
+        make_room(&mut self.rows, &near)?;
         self.kept.append(&mut kept)?;
-        self.rows = rows;
+        exchange_all(&mut self.rows, objects.as_slice(), &near);
         Ok(())
     }
 
@@ -170,24 +179,29 @@ impl CbTrack {
         let CbTrack {
             alloc,
             mut kept,
-            rows,
+            mut rows,
         } = self;
         let Ok(after) = step_after(alloc, &rows, deed) else {
             return Err(CbTrack { alloc, kept, rows });
         };
         let After {
             kept: more,
-            rows: later,
+            objects,
+            near,
         } = after;
         if kept.reserve(more.len()).is_err() {
             return Err(CbTrack { alloc, kept, rows });
         }
+        let Ok(()) = make_room(&mut rows, &near) else {
+            return Err(CbTrack { alloc, kept, rows });
+        };
         Ok(Ready {
             alloc,
             kept,
             rows,
             more,
-            later,
+            objects,
+            near,
         })
     }
 }
@@ -200,16 +214,14 @@ impl Ready {
         let Ready {
             alloc,
             mut kept,
+            mut rows,
             more,
-            later,
-            ..
+            objects,
+            near,
         } = self;
         append_reserved(&mut kept, more);
-        CbTrack {
-            alloc,
-            kept,
-            rows: later,
-        }
+        exchange_all(&mut rows, objects.as_slice(), &near);
+        CbTrack { alloc, kept, rows }
     }
 
     /// The tracker without the step.

@@ -1,16 +1,15 @@
-use Rattle.std.proofs.Common.{◌∙◌, [], ◌∷◌, ◌++◌, map, ap, sym, subst}
-use Rattle.wg_cbtrack.specs.Seen.{AreSeen}
-use Rattle.wg_cbtrack.proofs.Whole.{tracks_with, seen_with}
+use Rattle.std.proofs.Common.{◌∙◌, ℕ, List, map, ap, subst}
+use Rattle.wg_cbtrack.specs.Near.{AreNear}
+use Rattle.wg_cbtrack.specs.Next.{IsStep, IsSeen}
+use Rattle.wg_cbtrack.proofs.Nearby.{AreUses, AreAccesses, step_with, seen_over, follows_near}
 use Rattle.wg_cbtrack.proofs.noting.step_after.Goals as goal
 
 pub returns : goal.returns
-returns c = λ deeds held h e.
-    let found = c.in_ok-next.ensures deeds held (tracks_with deeds held c.args.rows.now.ends.items c.args.rows.now.wants.items c.args.rows.now.leaves.items c.as_slice.result.now c.as_slice-2.result.now c.as_slice-3.result.now (sym c.as_slice.ensures.value) (sym c.as_slice-2.ensures.value) (sym c.as_slice-3.ensures.value) h.track) e in
-    let seen : AreSeen (deeds ++ c.args.deed.now ∷ []) c.in_ok-seen.seen.starts.items c.in_ok-seen.seen.ends.items = c.in_ok-seen.ensures deeds c.args.deed.now (sym c.as_slice-6.ensures) (seen_with deeds c.args.rows.now.starts.items c.args.rows.now.last.items c.as_slice-4.result.now c.as_slice-5.result.now (sym c.as_slice-4.ensures.value) (sym c.as_slice-5.ensures.value) h.seen) in (
-      record {
-        track = found.0;
-        seen = subst (λ ds. AreSeen ds c.in_ok-seen.seen.starts.items c.in_ok-seen.seen.ends.items) (sym found.1) seen;
-        needs = c.in_ok-needs.ensures ∙ ap (map (λ row. row.0)) c.as_slice-7.ensures.value;
-      },
-      found.1,
-    )
+returns c =
+    let os : List ℕ = c.in_ok-objects.objects.items in
+    let us : AreUses os c.args.deed.now.uses = subst (AreUses os) c.as_slice.ensures c.in_ok-objects.ensures.rows in
+    let xs : AreAccesses os c.args.deed.now.accesses = subst (AreAccesses os) c.as_slice-2.ensures c.in_ok-objects.ensures.others in
+    let are : AreNear os c.args.rows.now c.in_ok-near.near = subst (λ os. AreNear os c.args.rows.now c.in_ok-near.near) c.as_slice-3.ensures.value c.in_ok-near.ensures in
+    let step : IsStep c.in_ok-near.near.ends.items c.in_ok-near.near.wants.items c.in_ok-near.near.leaves.items c.args.deed.now c.in_ok-next.next.kept.items c.in_ok-next.next.ends.items c.in_ok-next.next.wants.items c.in_ok-next.next.leaves.items = step_with c.as_slice-4.result.now c.as_slice-5.result.now c.as_slice-6.result.now c.in_ok-near.near.ends.items c.in_ok-near.near.wants.items c.in_ok-near.near.leaves.items c.args.deed.now c.in_ok-next.next.kept.items c.in_ok-next.next.ends.items c.in_ok-next.next.wants.items c.in_ok-next.next.leaves.items c.as_slice-4.ensures.value c.as_slice-5.ensures.value c.as_slice-6.ensures.value c.in_ok-next.ensures in
+    let seen : IsSeen c.in_ok-near.near.starts.items c.in_ok-near.near.last.items c.args.deed.now.uses c.in_ok-seen.seen.starts.items c.in_ok-seen.seen.ends.items = seen_over c.as_slice-7.result.now c.as_slice-8.result.now c.as_slice-9.result.now c.in_ok-near.near.starts.items c.in_ok-near.near.last.items c.args.deed.now.uses c.in_ok-seen.seen.starts.items c.in_ok-seen.seen.ends.items c.as_slice-7.ensures.value c.as_slice-8.ensures.value c.as_slice-9.ensures c.in_ok-seen.ensures in
+    follows_near c.args.rows.now c.in_ok-near.near _ c.args.deed.now c.in_ok-next.next.kept.items os us xs are step seen (c.in_ok-needs.ensures ∙ ap (map (λ row. row.0)) c.as_slice-10.ensures.value)

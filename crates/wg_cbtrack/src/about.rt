@@ -1,0 +1,89 @@
+//! The rows that a run can meet: those of its object, where rows are in printed form.
+ghost use Rattle.std.specs.Prelude.{◌≡◌, ◌∷◌, ◌++◌, [], true, IsTrue, IfOk, OnOk};
+ghost use Rattle.wg_rows.specs.Cut.{inside, gaps, put_all};
+ghost use Rattle.wg_rows.specs.Rows.{Apart};
+ghost use Rattle.std.specs.List.{flat_map};
+ghost use Rattle.wg_rows.specs.Runs.{PartRun, part_sort, cell_sort};
+ghost use Rattle.wg_rows.specs.Uses.{Kind, Usages, same_set};
+
+use crate::near::{cells_object, part_object};
+use crate::owners::rows_of;
+use std::alloc::Global;
+use wg_entry::NoMemory;
+use wg_rows::rows::{gaps, put_all};
+use wg_types::parts::{Cells, Kind, PartRun};
+use wg_types::usages::Usages;
+
+/// The rows among which those of a run's parts are, if rows are in printed form, or else all rows.
+#[tactic(auto, using(crate::proofs::OfRuns::parts_ordered, crate::proofs::OfRuns::inside_parts, crate::proofs::OfRuns::gaps_parts))]
+pub fn about_parts(
+    rows: &[(PartRun, Usages)],
+    are_printed: bool,
+    run: PartRun,
+) -> &[(PartRun, Usages)]
+    requires { IsTrue are_printed → Apart part_sort rows.now }
+    ensures inside { inside part_sort run result.now ≡ inside part_sort run rows.now }
+    ensures gaps { (v : Usages) → gaps part_sort ((run, v) ∷ []) result.now ≡ gaps part_sort ((run, v) ∷ []) rows.now }
+{
+    if are_printed {
+        return rows_of(rows, part_object(run));
+    }
+    rows
+}
+
+/// The rows among which those of a run's cells are, if rows are in printed form, or else all rows.
+#[tactic(auto, using(crate::proofs::OfRuns::cells_ordered, crate::proofs::OfRuns::inside_cells, crate::proofs::OfRuns::gaps_cells))]
+pub fn about_cells(rows: &[(Cells, Kind)], are_printed: bool, run: Cells) -> &[(Cells, Kind)]
+    requires { IsTrue are_printed → Apart cell_sort rows.now }
+    ensures inside { inside cell_sort run result.now ≡ inside cell_sort run rows.now }
+    ensures gaps { (v : Kind) → gaps cell_sort ((run, v) ∷ []) result.now ≡ gaps cell_sort ((run, v) ∷ []) rows.now }
+{
+    if are_printed {
+        return rows_of(rows, cells_object(run));
+    }
+    rows
+}
+
+/// Adds at the end what is left of a row where uses are, which are in printed form.
+fn push_left(
+    out: &mut Vec<(PartRun, Usages)>,
+    row: (PartRun, Usages),
+    uses: &[(PartRun, Usages)],
+) -> Result<(), NoMemory>
+    requires { Apart part_sort uses.now }
+    ensures { OnOk result (out.new.items ≡ out.old.items ++ gaps part_sort (row ∷ []) uses.now) }
+{
+    let left = gaps(*out.allocator(), row, about_parts(uses, true, row.0))?;
+    out.extend_from_slice(left.as_slice())?;
+    Ok(())
+}
+
+/// What is left of rows where uses are, which are in printed form.
+fn without(
+    alloc: Global,
+    rows: &[(PartRun, Usages)],
+    uses: &[(PartRun, Usages)],
+) -> Result<Vec<(PartRun, Usages)>, NoMemory>
+    requires { Apart part_sort uses.now }
+    ensures { IfOk result (λ v. v.items ≡ flat_map (λ (u : PartRun × Usages). gaps part_sort (u ∷ []) uses.now) rows.now) }
+{
+    let mut out = Vec::with_capacity(alloc, rows.len())?;
+    for row in rows {
+        push_left(&mut out, *row, uses)?;
+    }
+    Ok(out)
+}
+
+/// Rows with uses in place of what was there, which are in printed form.
+pub fn put_over(
+    alloc: Global,
+    rows: &[(PartRun, Usages)],
+    uses: &[(PartRun, Usages)],
+) -> Result<Vec<(PartRun, Usages)>, NoMemory>
+    requires { Apart part_sort uses.now }
+    ensures { IfOk result (λ v. v.items ≡ put_all part_sort same_set uses.now (gaps part_sort rows.now uses.now)) }
+{
+    let rest = without(alloc, rows, uses)?;
+    let all = put_all(alloc, rest, uses)?;
+    Ok(all)
+}
