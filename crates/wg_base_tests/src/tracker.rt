@@ -26,23 +26,24 @@ fn items<T: Copy + Drop>(alloc: Global, rows: &[T]) -> Result<Items<T>, NoMemory
     Ok(held)
 }
 
-fn step(
+/// Plans a step, and applies it.
+fn added(
+    tracker: &mut Tracker,
     alloc: Global,
     name: StepName,
     uses: &[(PartRun, Usages)],
     accesses: &[(Cells, Kind)],
-) -> Result<Step, NoMemory> {
-    Ok(Step {
+) -> Result<Vec<Item>, NoMemory> {
+    let uses = items(alloc, uses)?;
+    let accesses = items(alloc, accesses)?;
+    let begun = tracker.plan(alloc, OP);
+    let step = Step {
         place: OP,
         name,
-        uses: items(alloc, uses)?,
-        accesses: items(alloc, accesses)?,
-    })
-}
-
-/// Plans a step, and applies it.
-fn added(tracker: &mut Tracker, alloc: Global, step: Step) -> Result<Vec<Item>, NoMemory> {
-    let plan = tracker.add_step(alloc, tracker.plan(alloc, OP), step)?;
+        uses,
+        accesses,
+    };
+    let plan = tracker.add_step(alloc, begun, step)?;
     Ok(tracker.apply(plan))
 }
 
@@ -76,8 +77,7 @@ fn is_step(
 fn written(tracker: &mut Tracker, alloc: Global) -> Result<bool, NoMemory> {
     let uses = [(buffer(0), Usages::COPY_DST)];
     let accesses = [(bytes(0, 0, 4), Kind::Write)];
-    let write = step(alloc, StepName::WriteBuffer, &uses, &accesses)?;
-    let items = added(tracker, alloc, write)?;
+    let items = added(tracker, alloc, StepName::WriteBuffer, &uses, &accesses)?;
     Ok(match items.as_slice() {
         [only] => is_step(only, StepName::WriteBuffer, &uses, &accesses),
         _ => false,
@@ -91,8 +91,13 @@ fn copied(tracker: &mut Tracker, alloc: Global) -> Result<[bool; 4], NoMemory> {
         (bytes(0, 0, 16), Kind::Read),
         (bytes(1, 0, 16), Kind::Write),
     ];
-    let copy = step(alloc, StepName::CopyBufferToBuffer, &uses, &accesses)?;
-    let items = added(tracker, alloc, copy)?;
+    let items = added(
+        tracker,
+        alloc,
+        StepName::CopyBufferToBuffer,
+        &uses,
+        &accesses,
+    )?;
     let cleared = [(buffer(0), Usages::CLEAR)];
     let rest = [(bytes(0, 4, 16), Kind::Write)];
     Ok(match items.as_slice() {
