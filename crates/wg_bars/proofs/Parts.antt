@@ -2,16 +2,11 @@
 use Rattle.std.proofs.Common.{◌≡◌, ℕ, ◌<◌, ◌≤◌, List, [], ◌∷◌, Bool, true, false, Option, Some, None, refl, ap, ap₂, sym, ◌∙◌, arith, if◌then◌else◌, nat_le, nat_lt, ◌==◌}
 use Rattle.std.proofs.lemmas.Bool.{and_parts, leb-true, ltb-true}
 use Rattle.wg_rows.specs.Runs.{aspect_number, PartRun, BufferPart, LayerParts, QueryPart, Part, Buffer, Subresource, QuerySet, part_sort, part_line, part_spot, is_texture, run_object, object_of}
-use Rattle.wg_rows.specs.Rows.{in_range, list_eq, Sort, Spot, covers_spot}
+use Rattle.wg_rows.specs.Rows.{line_object, in_range, list_eq, Sort, Spot, covers_spot}
 use Rattle.wg_rows.specs.Cut.{value_at}
 use Rattle.wg_bars.specs.Changes.{is_texture_run}
 use Rattle.wg_rows.proofs.Put.{list_eq_true}
 pub use Rattle.wg_rows.proofs.Sets.{part_clips, covered, part_at, some_part, same_at_parts}
-
--- the object and the sort of a line
-abbrev pub line_object : List ℕ → ℕ
-line_object [] = 0
-line_object (x ∷ xs) = x
 
 abbrev pub second_is : ℕ → List ℕ → Bool
 second_is n [] = false

@@ -2,7 +2,7 @@
 use Rattle.std.proofs.Common.{◌≡◌, ℕ, List, [], ◌∷◌, length, map, Bool, true, false, Option, Some, None, refl, ap, ap₂, sym, ◌∙◌, if◌then◌else◌, flat_map, subst}
 use Rattle.std.specs.Option.{option_or, option_and_then, option_map_or}
 use Rattle.std.proofs.lemmas.Bool.{lt-ltb}
-use Rattle.wg_rows.specs.Rows.{Spot, covers_spot, Apart}
+use Rattle.wg_rows.specs.Rows.{line_object, Spot, covers_spot, Apart}
 use Rattle.wg_rows.specs.Cut.{value_at, inside, gaps, choose, overwrite}
 use Rattle.wg_rows.specs.Runs.{PartRun, Part, part_sort, part_spot, part_lo, part_hi, is_texture, is_full, object_of}
 use Rattle.wg_rows.specs.Uses.{Usages, same_set, Change, same_change}
@@ -16,7 +16,7 @@ use Rattle.wg_cbtrack.specs.Join.{fold, inner_changes, opens, joined_changes, Ke
 use Rattle.wg_rows.proofs.Told.{uses_tell, changes_tell}
 use Rattle.wg_rows.proofs.Printed.{Tells}
 use Rattle.wg_rows.proofs.Values.{inside_value, Loose, apart_loose, inside_loose, choose_value, choose_loose, AreFree, all_put, gaps_are, printed_by_values, overwrite_value, overwrite_apart}
-use Rattle.wg_bars.proofs.Parts.{line_object, second_is, part_object_is, part_texture_is}
+use Rattle.wg_bars.proofs.Parts.{second_is, part_object_is, part_texture_is}
 use Rattle.wg_rows.proofs.Sets.{part_clips, same_at_parts, alone, sets_are}
 use Rattle.wg_orders.proofs.Sound.{steps_added}
 use Rattle.wg_orders.proofs.Steps.{last_set_more}

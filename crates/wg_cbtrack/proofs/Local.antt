@@ -3,12 +3,12 @@ use Rattle.std.proofs.Common.{◌≡◌, ℕ, ◌<◌, ◌≤◌, List, [], ◌�
 use Rattle.std.specs.List.{filter}
 use Rattle.std.specs.Option.{option_map_or}
 use Rattle.std.proofs.lemmas.Bool.{and_parts, or_cases, or_left, cases_order, lt-ltb, ltb-true}
-use Rattle.wg_rows.specs.Rows.{Sort, Spot, list_eq, list_before, in_range, covers_spot, EachRow, After, Apart}
+use Rattle.wg_rows.specs.Rows.{line_object, Sort, Spot, list_eq, list_before, in_range, covers_spot, EachRow, After, Apart}
 use Rattle.wg_rows.specs.Cut.{value_at, left_of, right_of, cut_row, cut, inside_row, inside, gaps}
 use Rattle.wg_rows.proofs.Put.{list_eq_true}
 use Rattle.wg_rows.proofs.Printed.{Tells, rows_unique, covers_from}
 use Rattle.wg_rows.proofs.Values.{Loose, apart_loose, has_at}
-use Rattle.wg_cbtrack.specs.Owners.{line_object, among, rows_of, rows_among, Ordered, AreExchanged}
+use Rattle.wg_cbtrack.specs.Owners.{among, rows_of, rows_among, Ordered, AreExchanged}
 use Rattle.wg_cbtrack.proofs.Owning.{kept, dropped, each_filter, each_append, first_of}
 
 -- the object of a row

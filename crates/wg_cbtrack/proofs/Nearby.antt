@@ -5,7 +5,7 @@ use Rattle.std.proofs.lemmas.Bool.{and_parts}
 use Rattle.wg_types.specs.declared.steps.Deed.{Deed}
 use Rattle.wg_types.specs.declared.steps.StepPlace.TheVariants.{Host}
 use Rattle.wg_rows.specs.Runs.{PartRun, BufferPart, LayerParts, QueryPart, Part, Buffer, Subresource, QuerySet, part_sort, part_line, part_lo, part_spot, run_part, covers_part, Cells, Bytes, Layers, Slices, Queries, Cell, Byte, Texels, Slice, Query, cell_sort, cell_line, cell_lo, cell_spot, covers}
-use Rattle.wg_rows.specs.Rows.{Sort, Spot, covers_spot, EachRow, Apart, any_row, has_value, printed}
+use Rattle.wg_rows.specs.Rows.{line_object, Sort, Spot, covers_spot, EachRow, Apart, any_row, has_value, printed}
 use Rattle.wg_rows.specs.Cut.{value_at, inside, gaps, choose, put_all}
 use Rattle.wg_rows.specs.Uses.{Usages, Kind, Read, Write, same_set, same_kind, same_change, clear_usage, kind_reads, kind_writes, kind_unsets, row_reads, row_writes, row_unsets, row_set, with_usage}
 use Rattle.wg_rows.specs.Sets.{UseRow, sets}
@@ -19,8 +19,8 @@ use Rattle.wg_rows.proofs.Values.{Loose, apart_loose, AreFree, all_put, has_at}
 use Rattle.wg_rows.proofs.Sets.{sets_are}
 use Rattle.wg_cbtrack.specs.declared.kept.Kept.{Kept}
 use Rattle.wg_cbtrack.specs.declared.kept.Rows.{Rows}
-use Rattle.wg_cbtrack.specs.Owners.{line_object, among, rows_among, Ordered, AreExchanged}
-use Rattle.wg_cbtrack.specs.Near.{use_object, access_object, cells_object, AreOrdered, AreNear, SameRows, AreAllExchanged}
+use Rattle.wg_cbtrack.specs.Owners.{among, rows_among, Ordered, AreExchanged}
+use Rattle.wg_cbtrack.specs.Near.{use_object, access_object, cells_object, AreOrdered, AreNear, AreSameRows, AreAllExchanged}
 use Rattle.wg_cbtrack.specs.Leaves.{AreTidy}
 use Rattle.wg_cbtrack.specs.Join.{fold, inner_changes, opens, used_after}
 use Rattle.wg_cbtrack.specs.Items.{AreKept, noted}
@@ -401,7 +401,7 @@ holds_ordered deeds held rows h = record {
 }
 
 -- It is the same, whatever room there is.
-pub holds_same : (deeds : List Deed) (held : List Kept) (rows after : Rows) → SameRows rows after → Holds deeds held rows → Holds deeds held after
+pub holds_same : (deeds : List Deed) (held : List Kept) (rows after : Rows) → AreSameRows rows after → Holds deeds held rows → Holds deeds held after
 holds_same deeds held rows after same h = record {
   track = tracks_with deeds held rows.ends.items rows.wants.items rows.leaves.items after.ends.items after.wants.items after.leaves.items (sym same.ends) (sym same.wants) (sym same.leaves) h.track;
   seen = seen_with deeds rows.starts.items rows.last.items after.starts.items after.last.items (sym same.starts) (sym same.last) h.seen;
@@ -411,7 +411,7 @@ holds_same deeds held rows after same h = record {
 over_same : {T : Type 0} (object : T → ℕ) (os : List ℕ) (mine rows now after : List T) → now ≡ rows → AreExchanged object os mine now after → AreExchanged object os mine rows after
 over_same object os mine rows now after e h = subst (λ xs. AreExchanged object os mine xs after) e h
 
-pub later_same : (deeds : List Deed) (held : List Kept) (os : List ℕ) (near rows now : Rows) → SameRows rows now → HoldsAfter deeds held os near rows → HoldsAfter deeds held os near now
+pub later_same : (deeds : List Deed) (held : List Kept) (os : List ℕ) (near rows now : Rows) → AreSameRows rows now → HoldsAfter deeds held os near rows → HoldsAfter deeds held os near now
 later_same deeds held os near rows now same h = λ later x. h later (record {
   ends = over_same use_object os near.ends.items rows.ends.items now.ends.items later.ends.items same.ends x.ends;
   wants = over_same access_object os near.wants.items rows.wants.items now.wants.items later.wants.items same.wants x.wants;

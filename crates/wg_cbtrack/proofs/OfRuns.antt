@@ -3,7 +3,7 @@ use Rattle.std.proofs.Common.{◌≡◌, ℕ, List, [], ◌∷◌, ◌++◌, Boo
 use Rattle.std.specs.List.{flat_map}
 use Rattle.std.specs.Option.{option_or, option_map_or}
 use Rattle.std.proofs.lemmas.Bool.{eq-eqb, or_left}
-use Rattle.wg_rows.specs.Rows.{Sort, Spot, Apart}
+use Rattle.wg_rows.specs.Rows.{line_object, Sort, Spot, Apart}
 use Rattle.wg_rows.specs.Order.{are_apart}
 use Rattle.wg_rows.specs.Cut.{value_at, cut, cut_row, inside, gaps, put_all}
 use Rattle.wg_rows.specs.Runs.{PartRun, Cells, Bytes, Layers, Slices, Queries, part_sort, cell_sort, part_line, cell_line}
@@ -13,7 +13,7 @@ use Rattle.wg_rows.proofs.Told.{uses_tell, accesses_tell}
 use Rattle.wg_rows.proofs.Order.{apart_told}
 use Rattle.wg_rows.proofs.Sets.{part_clips}
 use Rattle.wg_rows.proofs.Values.{apart_loose, all_put, GapsAre, gaps_are, AreFree}
-use Rattle.wg_cbtrack.specs.Owners.{line_object, among, rows_of, rows_among, Ordered}
+use Rattle.wg_cbtrack.specs.Owners.{among, rows_of, rows_among, Ordered}
 use Rattle.wg_cbtrack.specs.Near.{use_object, access_object}
 use Rattle.wg_cbtrack.specs.Join.{used_after}
 use Rattle.wg_cbtrack.proofs.Local.{Keeps, of_row, apart_ordered, inside_among, gaps_among, same_values}

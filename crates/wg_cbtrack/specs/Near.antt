@@ -3,8 +3,9 @@ use Rattle.std.specs.Prelude.{ℕ, ◌≡◌, ◌+◌, ◌≤◌, List, length, 
 use Rattle.wg_rows.specs.Runs.{Cells, part_line, cell_line}
 use Rattle.wg_rows.specs.Uses.{Kind}
 use Rattle.wg_rows.specs.Sets.{UseRow}
+use Rattle.wg_rows.specs.Rows.{line_object}
 use Rattle.wg_cbtrack.specs.declared.kept.Rows.{Rows}
-use Rattle.wg_cbtrack.specs.Owners.{line_object, rows_among, Ordered, AreExchanged}
+use Rattle.wg_cbtrack.specs.Owners.{rows_among, Ordered, AreExchanged}
 
 -- the object of a use, of cells and of an access
 abbrev pub use_object : UseRow → ℕ
@@ -34,7 +35,7 @@ pub record AreNear (os : List ℕ) (rows near : Rows) : Type 0 where
   pub last : near.last.items ≡ rows_among use_object os rows.last.items
 
 -- There is room for other rows beside those that are there.
-pub record HasRoom (rows near : Rows) : Type 0 where
+pub record FitsBeside (rows near : Rows) : Type 0 where
   pub ends : vec_len rows.ends + length near.ends.items ≤ vec_capacity rows.ends
   pub wants : vec_len rows.wants + length near.wants.items ≤ vec_capacity rows.wants
   pub leaves : vec_len rows.leaves + length near.leaves.items ≤ vec_capacity rows.leaves
@@ -43,7 +44,7 @@ pub record HasRoom (rows near : Rows) : Type 0 where
   pub needs : vec_len rows.needs + length near.needs.items ≤ vec_capacity rows.needs
 
 -- Rows are the same, whatever room there is beside them.
-pub record SameRows (rows after : Rows) : Type 0 where
+pub record AreSameRows (rows after : Rows) : Type 0 where
   pub ends : after.ends.items ≡ rows.ends.items
   pub wants : after.wants.items ≡ rows.wants.items
   pub leaves : after.leaves.items ≡ rows.leaves.items

@@ -3,11 +3,6 @@ use Rattle.std.specs.Prelude.{ℕ, ◌<◌, ◌≤◌, Bool, false, ◌||◌, �
 use Rattle.std.specs.List.{filter}
 use Rattle.wg_rows.specs.Rows.{EachRow}
 
--- the object of a line
-abbrev pub line_object : List ℕ → ℕ
-line_object [] = 0
-line_object (x ∷ xs) = x
-
 -- whether an object is among others
 abbrev pub among : List ℕ → ℕ → Bool
 among [] o = false

@@ -1,9 +1,10 @@
 //! The rows of a tracker that a note touches: those of the objects that its step uses or accesses. They
-//! are found, and others are put in place of them, without a look at the rows of other objects.
+//! are found by halving, and others are put in place of them, so that few rows of other objects are looked at.
 ghost use Rattle.std.specs.Prelude.{◌≡◌, IfOk, OnOk};
 ghost use Rattle.wg_rows.specs.Runs.{part_line, cell_line};
-ghost use Rattle.wg_cbtrack.specs.Owners.{line_object, Rising};
-ghost use Rattle.wg_cbtrack.specs.Near.{use_object, access_object, cells_object, AreOrdered, AreNear, HasRoom, SameRows, AreAllExchanged};
+ghost use Rattle.wg_rows.specs.Rows.{line_object};
+ghost use Rattle.wg_cbtrack.specs.Owners.{Rising};
+ghost use Rattle.wg_cbtrack.specs.Near.{use_object, access_object, cells_object, AreOrdered, AreNear, FitsBeside, AreSameRows, AreAllExchanged};
 
 use crate::kept::Rows;
 use crate::owners::{Owned, exchange, rows_among};
@@ -77,8 +78,8 @@ pub fn near_rows(alloc: Global, rows: &Rows, objects: &[u64]) -> Result<Rows, No
 
 /// Takes room for other rows beside those that are there.
 pub fn make_room(rows: &mut Rows, near: &Rows) -> Result<(), NoMemory>
-    ensures same { SameRows rows.old rows.new }
-    ensures room { OnOk result (HasRoom rows.new near.now) }
+    ensures same { AreSameRows rows.old rows.new }
+    ensures room { OnOk result (FitsBeside rows.new near.now) }
 {
     rows.ends.reserve(near.ends.len())?;
     rows.wants.reserve(near.wants.len())?;
@@ -93,7 +94,7 @@ pub fn make_room(rows: &mut Rows, near: &Rows) -> Result<(), NoMemory>
 pub fn exchange_all(rows: &mut Rows, objects: &[u64], near: &Rows)
     requires ordered { AreOrdered rows.old }
     requires ordered_near { AreOrdered near.now }
-    requires room { HasRoom rows.old near.now }
+    requires room { FitsBeside rows.old near.now }
     ensures { AreAllExchanged objects.now near.now rows.old rows.new }
 {
     exchange(&mut rows.ends, objects, near.ends.as_slice());

@@ -59,7 +59,7 @@ pub struct Ready {
 impl Model for Ready {
     ghost use Rattle.std.specs.Prelude.{◌≤◌, ◌+◌, ◌++◌, vec_len, vec_capacity};
     ghost use Rattle.wg_cbtrack.specs.Track.{Holds, ReadyValue};
-    ghost use Rattle.wg_cbtrack.specs.Near.{AreOrdered, HasRoom};
+    ghost use Rattle.wg_cbtrack.specs.Near.{AreOrdered, FitsBeside};
     ghost use Rattle.wg_cbtrack.specs.Next.{HoldsAfter};
     ghost use Rattle.wg_cbtrack.specs.Items.{noted};
 
@@ -67,7 +67,7 @@ impl Model for Ready {
 
     ghost view = { λ r. record { before = noted r.kept.items; after = noted (r.kept.items ++ r.more.items) } };
 
-    ghost invariant = { λ r. Holds (noted r.kept.items) r.kept.items r.rows × HoldsAfter (noted (r.kept.items ++ r.more.items)) (r.kept.items ++ r.more.items) r.objects.items r.near r.rows × AreOrdered r.near × HasRoom r.rows r.near × (vec_len r.kept + vec_len r.more ≤ vec_capacity r.kept) };
+    ghost invariant = { λ r. Holds (noted r.kept.items) r.kept.items r.rows × HoldsAfter (noted (r.kept.items ++ r.more.items)) (r.kept.items ++ r.more.items) r.objects.items r.near r.rows × AreOrdered r.near × FitsBeside r.rows r.near × (vec_len r.kept + vec_len r.more ≤ vec_capacity r.kept) };
 }
 
 /// Adds what is kept at the end, in room that there is.

@@ -5,11 +5,11 @@ use Rattle.std.proofs.lemmas.Bool.Decides.{nat_tests}
 use Rattle.wg_rows.specs.Runs.{Cells, Bytes, Layers, Slices, Queries, Cell, cell_sort, cell_line, cell_lo, cell_hi, cell_spot, covers}
 use Rattle.wg_rows.specs.Uses.{Kind, kind_writes, kind_unsets, row_writes, row_unsets}
 use Rattle.wg_orders.specs.Steps.{Step, writes, unsets}
-use Rattle.wg_rows.specs.Rows.{list_eq, Spot, in_range, covers_spot}
+use Rattle.wg_rows.specs.Rows.{line_object, list_eq, Spot, in_range, covers_spot}
 use Rattle.wg_orders.specs.Trace.{is_unset}
 use Rattle.wg_num.specs.Runs.{Runs, in_run, is_in, insert_run, remove_run, with_run, cut_runs}
 use Rattle.wg_bars.specs.Kept.{rows_in}
-use Rattle.wg_init.specs.Rows.{row_line, row_of, row_object, SetRow, SetRows, runs_in, line_object, set_at, KeepsSet}
+use Rattle.wg_init.specs.Rows.{row_line, row_of, row_object, SetRow, SetRows, runs_in, set_at, KeepsSet}
 use Rattle.wg_init.specs.Effects.{effect, with_effect, is_full, changes_at, rows_after, IsAfter, IsNoted}
 use Rattle.wg_rows.proofs.Put.{list_eq_true, list_eq_refl}
 use Rattle.wg_orders.proofs.Steps.{is_unset_more}

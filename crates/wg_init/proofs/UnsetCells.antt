@@ -5,11 +5,11 @@ use Rattle.wg_rows.specs.Runs.{Cells, Bytes, Layers, Slices, Queries, Cell, Byte
 use Rattle.wg_rows.specs.Uses.{Kind, Write, kind_reads, same_kind, printed_accesses}
 use Rattle.wg_orders.specs.Steps.{Step, reads, writes}
 use Rattle.wg_orders.specs.Trace.{Item, is_unset, steps_of, needs, cells_of, to_clear}
-use Rattle.wg_rows.specs.Rows.{list_eq, Spot, in_range, covers_spot, put, EachRow, Apart, any_row, has_value, Alike, Fits, AllFit}
+use Rattle.wg_rows.specs.Rows.{line_object, list_eq, Spot, in_range, covers_spot, put, EachRow, Apart, any_row, has_value, Alike, Fits, AllFit}
 use Rattle.wg_rows.specs.Cut.{put_all}
 use Rattle.wg_num.specs.Runs.{Runs, in_run, is_in, AreApart, full_run, missing_runs}
 use Rattle.wg_bars.specs.Kept.{rows_in}
-use Rattle.wg_init.specs.Rows.{row_of, row_object, SetRows, runs_in, line_object, set_at, KeepsSet, RunsApart}
+use Rattle.wg_init.specs.Rows.{row_of, row_object, SetRows, runs_in, set_at, KeepsSet, RunsApart}
 use Rattle.wg_init.specs.Effects.{is_full}
 use Rattle.wg_init.specs.Unset.{written, cells_at, unset_in, unset_rows}
 use Rattle.wg_rows.proofs.Put.{any, Each_value, put_const, put_any, list_eq_true}

@@ -3,7 +3,7 @@ use Rattle.std.specs.Prelude.{ℕ, ◌≡◌, Bool, not, List, [], ◌∷◌, if
 use Rattle.wg_init.specs.declared.cell_row.CellRow.{CellRow}
 use Rattle.wg_init.specs.declared.cell_row.CellRow.TheVariants.{Buffer as BufferRow, Queries as QueryRow, Layers as LayerRow, Slices as SliceRow}
 use Rattle.wg_num.specs.Runs.{Runs, is_in, AreApart}
-use Rattle.wg_rows.specs.Rows.{list_eq, Spot}
+use Rattle.wg_rows.specs.Rows.{line_object, list_eq, Spot}
 use Rattle.wg_rows.specs.Runs.{aspect_number, Cells, Bytes, Layers, Slices, Queries, Cell, cell_spot}
 use Rattle.wg_orders.specs.Steps.{Step}
 use Rattle.wg_orders.specs.Trace.{is_unset}
@@ -40,11 +40,6 @@ SetRows = List (List SetRow)
 abbrev pub runs_in : List SetRow → List ℕ → Runs
 runs_in [] line = []
 runs_in (x ∷ xs) line = if list_eq (row_line x.0) line then x.1 else runs_in xs line
-
--- the object of a line
-abbrev pub line_object : List ℕ → ℕ
-line_object [] = 0
-line_object (x ∷ xs) = x
 
 -- whether the cell at a spot is kept
 abbrev pub set_at : SetRows → Spot → Bool
