@@ -4,21 +4,40 @@
 A trace is a list of items, as `model.trace_text` reads them.
 """
 
+import bisect
 import itertools
 
 from model.steps import READING, WRITING
 
+# All cells of a run are tried where they are at most so many: a line may name nearly 2^53 of them.
+MOST_TRIED = 1_000
+
 
 def cells_of(items):
-    """Each cell that a step of a small trace accesses, with the kind by each step that does."""
-    found, number = {}, -1
+    """Each cell that is tried of those that a step of a small trace accesses, with the kind by each step that does."""
+    found, number, places = {}, -1, places_of(items)
     for item in items:
         if item[0] == "step":
             number += 1
             for kind, (*owner, low, high) in item[1]:
-                for place in range(low, high):
+                for place in places[bisect.bisect_left(places, low):bisect.bisect_left(places, high)]:
                     found.setdefault((*owner, place), {})[number] = kind
     return found
+
+
+def places_of(items):
+    """The places of the cells that are tried, in order: all of each run that is no longer than is tried, and the places on both sides of the ends
+    of every run of accesses and of barriers. Between these a cell is as the one before it: the same steps access it, and it has the same barriers."""
+    runs = runs_of(items)
+    found = {place for low, high in runs if high - low <= MOST_TRIED for place in range(low, high)}
+    found.update(place for run in runs for end in run for place in (end - 1, end))
+    return sorted(found)
+
+
+def runs_of(items):
+    """The runs of cells that steps access, and those of layers that barriers stand on."""
+    accessed = [cells[-2:] for item in items if item[0] == "step" for _, cells in item[1]]
+    return accessed + [item[1][-2:] for item in items if item[0] == "bar" and item[1][0] == "t"]
 
 
 def bars_of(items, cell):
