@@ -108,7 +108,7 @@ def line_of(line):
 
 
 def number_of(text, most=GREATEST_WHOLE):
-    if NUMBER.fullmatch(text) is None or int(text) > most:
+    if NUMBER.fullmatch(text) is None or len(text) > len(str(most)) or int(text) > most:
         raise NoForm(text)
     return int(text)
 

@@ -115,8 +115,8 @@ def attached_view(world, spot, **wanted):
 def parts_of(spot):
     thing, mip, layer = spot
     if thing.call["dim"] == "3d":
-        return {("t", thing.name, "color", mip, 0)}
-    return {("t", thing.name, aspect, mip, layer) for aspect in ASPECTS_OF.get(thing.call["format"], ["color"])}
+        return [("t", thing.name, "color", mip, 0)]
+    return [("t", thing.name, aspect, mip, layer) for aspect in ASPECTS_OF.get(thing.call["format"], ["color"])]
 
 
 def begin(world, encoder, name):
