@@ -10,6 +10,7 @@ use std::alloc::Global;
 use std::marker::Model;
 use wg_history::Refused;
 use wg_history::events::{Event, Setup};
+use wg_state::Spent;
 use wg_turn::Logged;
 use wg_types::limits::Limits;
 use wg_types::replies::{Reply, Verb};
@@ -97,24 +98,29 @@ impl Logged for LoggedCore {
 
     type Reply = Reply;
 
+    type Left = Spent;
+
     ghost setup = { λ logged. logged.setup };
 
     ghost history = { λ logged. logged.history };
 
     ghost legal = { Run };
 
-    fn act(&mut self, who: u32, call: Event) -> Result<Reply, Refused<Event>> {
+    fn act(&mut self, who: u32, call: Event) -> Result<(Reply, Spent), Refused<Event>> {
         if self.lines.reserve(1).is_err() {
             return Err(Refused { call });
         }
         let verb = call.verb();
-        let (reply, copy) = self.core.step_for_log(who, call, &mut self.items)?;
+        let mut spent = Spent::new(*self.items.allocator());
+        let (reply, copy) = self
+            .core
+            .step_for_log(who, call, &mut self.items, &mut spent)?;
         self.lines.push_reserved(Line {
             who,
             verb,
             reply: copy,
         });
-        Ok(reply)
+        Ok((reply, spent))
     }
 
     ghost own_legal = { λ logged. logged.run };

@@ -4,7 +4,8 @@ ghost use Rattle.wg_state.specs.Recordings.{any_spent};
 ghost use Rattle.std.specs.List.{list_any};
 ghost use Rattle.wg_model.specs.Rules.{first_unmet};
 ghost use Rattle.wg_core.specs.Plans.{use_rules, ending_rules, IsMapInRange};
-ghost use Rattle.wg_state.specs.Uses.{uses_of, is_sort, is_used_as};
+ghost use Rattle.wg_encoder.specs.Uses.{is_sort, is_used_as};
+ghost use Rattle.wg_state.specs.Uses.{uses_of};
 ghost use Rattle.wg_history.specs.Objects.{is_own, is_command_buffer, made_info};
 ghost use Rattle.wg_model.specs.Commands.{no_texture, query_bytes};
 ghost use Rattle.wg_access.specs.Ranges.{IsInRange};
@@ -25,11 +26,11 @@ use wg_formats::texture_bytes;
 use wg_history::NoMemory;
 use wg_history::events::Event;
 use wg_queries::check_create as check_queries;
-use wg_state::{State, Used};
+use wg_state::State;
 use wg_textures::{check_create as check_texture, check_view};
 use wg_types::handles::{BufferInfo, Info, ObjRef, QueriesInfo};
 use wg_types::render::TargetInfo;
-use wg_types::steps::Sort;
+use wg_types::steps::{Sort, Used};
 use wg_types::textures::{DataLayout, TextureInfo, TextureSpot, ViewDesc};
 
 /// The first unmet rule of a createBuffer (WebGPU, "Buffer Creation"): rule 13, where the budget has no

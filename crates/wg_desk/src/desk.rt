@@ -21,7 +21,7 @@ use crate::seats::{
 use std::alloc::Global;
 use std::marker::Model;
 use wg_calls::{event_asked, finish_event, finished_info, info_asked};
-use wg_core::{Core, Event, Refused};
+use wg_core::{Core, Event, Refused, Spent};
 use wg_encoder::{Noted, Recorder, Recording};
 use wg_entry::NoMemory;
 use wg_types::commands::{CommandOf, On};
@@ -146,7 +146,9 @@ impl Desk {
         let Ok(coming) = prepare(self.alloc, reference, info) else {
             return Err(Refused { call: event });
         };
-        let reply = self.core.step(who, event, items)?;
+        let mut spent = Spent::new(self.alloc);
+        let reply = self.core.step(who, event, items, &mut spent)?;
+        drop(spent);
         let made = seat_from(self.serial, coming, reply.answer);
         add(&mut self.seats, made);
         Ok(reply)

@@ -6,17 +6,17 @@ use Rattle.wg_history.specs.declared.events.Setup.{Setup}
 use Rattle.wg_history.specs.declared.events.Event.{Event}
 use Rattle.wg_history.specs.Entries.{Entry}
 use Rattle.wg_history.specs.Answers.{Run}
-use Rattle.wg_core.specs.Cores.{CoreValue}
+use Rattle.wg_core.specs.Cores.{CoreValue, SpentValue}
 use Rattle.wg_turn.specs.declared.lock.TurnLock.{TurnLock}
 use Rattle.wg_turn.specs.declared.lock.Pass.{Pass}
 use Rattle.wg_turn.specs.Entries.{entry, EndsWith}
 use Rattle.wg_turn.specs.Passes.{IsPassOf, IsSound, front_of, own_of, number_of, calls_of, opened_with}
 
 abbrev pub Lock : Type 0
-Lock = TurnLock CoreValue Setup Event Reply
+Lock = TurnLock CoreValue Setup Event Reply SpentValue
 
 abbrev pub DevicePass : Type 0
-DevicePass = Pass CoreValue Setup Event Reply
+DevicePass = Pass CoreValue Setup Event Reply SpentValue
 
 abbrev pub history_of : CoreValue → List Entry
 history_of core = core.history

@@ -8,6 +8,7 @@ use Rattle.wg_types.specs.declared.render.TargetInfo.{TargetInfo}
 use Rattle.wg_model.specs.Walk.{begins}
 use Rattle.wg_encoder.specs.Recorders.{targets_left}
 use Rattle.wg_encoder.specs.Walked.{IsKnownOf}
+use Rattle.wg_encoder.specs.Naming.{AreNamedOnce}
 use Rattle.wg_encoder.specs.declared.kept.Kept.{Kept}
 
 -- the kept commands, in order: none as long as there is no place for them
@@ -19,6 +20,11 @@ commands_of (Some kept) = kept.value.commands.items
 abbrev pub IsKeptOf : ℕ → Option TargetInfo → Option (Box Kept Global) → Type 0
 IsKeptOf device targets None = Unit {0}
 IsKeptOf device targets (Some kept) = IsKnownOf device targets (reverse kept.value.commands.items) kept.value.known
+
+-- What is kept of what these name is each of it once.
+abbrev pub IsNaming : Option (Box Kept Global) → Type 0
+IsNaming None = Unit {0}
+IsNaming (Some kept) = AreNamedOnce kept.value.commands.items kept.value.naming
 
 -- How often a recorder was taken, and how many passes were begun on it, fit its targets and its commands.
 pub record IsRecorder (targets : Option TargetInfo) (commands : List (On × Command)) (takes passes : ℕ) : Type 0 where

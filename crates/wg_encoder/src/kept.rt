@@ -1,19 +1,22 @@
 //! What a recorder keeps.
 ghost use Rattle.std.specs.Prelude.{◌≡◌, ◌∷◌, ◌<◌, ◌++◌, [], ℕ, true, is_some, vec_len, vec_capacity, reverse, IfOk, OnOk, OnErr};
 ghost use Rattle.wg_encoder.specs.Walked.{IsKnownOf};
-ghost use Rattle.wg_encoder.specs.Kept.{commands_of, IsKeptOf};
+ghost use Rattle.wg_encoder.specs.Kept.{commands_of, IsKeptOf, IsNaming};
+ghost use Rattle.wg_encoder.specs.Naming.{AreNamedOnce, IsNamedBy, HasRoomFor, AreSameNames};
 
 use crate::known::Known;
+use crate::naming::{Named, Naming};
 use crate::targets::Targets;
 use std::alloc::Global;
 use wg_types::NoMemory;
 use wg_types::commands::{Command, On};
 
-/// The kept commands in order, each with what it stands on, and what is known of them.
+/// The kept commands in order, each with what it stands on, what is known of them, and what they name.
 #[derive(Drop)]
 pub struct Kept {
     pub commands: Vec<(On, Command)>,
     pub known: Known,
+    pub naming: Naming,
 }
 
 impl Kept {
@@ -21,15 +24,17 @@ impl Kept {
     fn new(alloc: Global, targets: &Targets) -> Result<Kept, NoMemory>
         ensures none { IfOk result (λ kept. kept.commands.items ≡ []) }
         ensures known { (device : ℕ) → IfOk result (λ kept. IsKnownOf device targets.now [] kept.known) }
+        ensures naming { IfOk result (λ kept. AreNamedOnce [] kept.naming) }
     {
         let known = Known::new(alloc, targets)?;
         Ok(Kept {
             commands: Vec::new(alloc),
             known,
+            naming: Naming::new(alloc),
         })
     }
 
-    /// Makes room for a command and notes it: all of keeping it that may fail.
+    /// Makes room for a command and notes it, and finds what it names: all of keeping it that may fail.
     fn prepare(
         &mut self,
         alloc: Global,
@@ -37,14 +42,18 @@ impl Kept {
         targets: &Targets,
         on: On,
         command: &Command,
-    ) -> Result<(), NoMemory>
+    ) -> Result<Named, NoMemory>
         requires { IsKnownOf device targets.now (reverse self.old.commands.items) self.old.known }
         ensures same { self.new.commands.items ≡ self.old.commands.items }
+        ensures same_names { AreSameNames self.old.naming self.new.naming }
+        ensures named { IfOk result (λ named. IsNamedBy command.now named) }
+        ensures names_room { IfOk result (λ named. HasRoomFor self.new.naming named) }
         ensures room { OnOk result (vec_len self.new.commands < vec_capacity self.new.commands) }
         ensures ok { OnOk result (IsKnownOf device targets.now ((on, command.now) ∷ reverse self.old.commands.items) self.new.known) }
         ensures err { OnErr result (self.new.known ≡ self.old.known) }
     {
         self.commands.reserve(1)?;
+        let named = self.naming.prepare(alloc, command)?;
         self.known.note(
             alloc,
             device,
@@ -52,7 +61,8 @@ impl Kept {
             self.commands.as_slice(),
             on,
             command,
-        )
+        )?;
+        Ok(named)
     }
 
     /// Adds a command.
@@ -64,15 +74,21 @@ impl Kept {
         on: On,
         command: Command,
     ) -> Result<(), NoMemory>
-        requires { IsKnownOf device targets.now (reverse self.old.commands.items) self.old.known }
+        requires known { IsKnownOf device targets.now (reverse self.old.commands.items) self.old.known }
+        requires naming { AreNamedOnce self.old.commands.items self.old.naming }
         ensures known { IsKnownOf device targets.now (reverse self.new.commands.items) self.new.known }
+        ensures naming { AreNamedOnce self.new.commands.items self.new.naming }
         ensures ok { OnOk result (self.new.commands.items ≡ self.old.commands.items ++ (on, command) ∷ []) }
         ensures err { OnErr result (self.new.commands.items ≡ self.old.commands.items) }
     {
-        if let Err(error) = self.prepare(alloc, device, targets, on, &command) {
-            drop(command);
-            return Err(error);
-        }
+        let named = match self.prepare(alloc, device, targets, on, &command) {
+            Ok(named) => named,
+            Err(error) => {
+                drop(command);
+                return Err(error);
+            }
+        };
+        self.naming.add(&named);
         self.commands.push_reserved((on, command));
         Ok(())
     }
@@ -83,6 +99,7 @@ fn make(kept: &mut Option<Box<Kept>>, alloc: Global, targets: &Targets) -> Resul
     ensures some { OnOk result (is_some kept.new ≡ true) }
     ensures same { commands_of kept.new ≡ commands_of kept.old }
     ensures kept { (device : ℕ) → IsKeptOf device targets.now kept.old → IsKeptOf device targets.now kept.new }
+    ensures naming { IsNaming kept.old → IsNaming kept.new }
 {
     if kept.is_some() {
         return Ok(());
@@ -101,8 +118,10 @@ pub fn keep(
     on: On,
     command: Command,
 ) -> Result<(), NoMemory>
-    requires { IsKeptOf device targets.now kept.old }
+    requires kept { IsKeptOf device targets.now kept.old }
+    requires naming { IsNaming kept.old }
     ensures kept { IsKeptOf device targets.now kept.new }
+    ensures naming { IsNaming kept.new }
     ensures ok { OnOk result (commands_of kept.new ≡ commands_of kept.old ++ (on, command) ∷ []) }
     ensures err { OnErr result (commands_of kept.new ≡ commands_of kept.old) }
 {

@@ -1,26 +1,30 @@
 -- The recordings of command buffers that may still be submitted.
-use Rattle.std.specs.Prelude.{◌≡◌, ℕ, Bool, true, false, ◌||◌, ◌==◌, nat_eq, List, [], ◌∷◌, ◌++◌, Option, Some, None, option_and_then, if◌then◌else◌}
+use Rattle.std.specs.Prelude.{◌≡◌, ℕ, ◌+◌, Bool, ◌||◌, ◌==◌, nat_eq, List, [], Option, Some, None, option_and_then, option_to_list, length, if◌then◌else◌}
 use Rattle.std.specs.List.{list_any, flat_map}
 use Rattle.std.specs.Map.{lookup}
 use Rattle.std.specs.Option.{option_map_or}
 use Rattle.wg_types.specs.declared.commands.On.{On}
 use Rattle.wg_types.specs.Commands.{Command}
 use Rattle.wg_types.specs.declared.steps.Deed.{Deed}
+use Rattle.wg_types.specs.declared.steps.Used.{Used}
 use Rattle.wg_types.specs.declared.handles.ObjRef.{ObjRef}
 use Rattle.wg_model.specs.Walk.{DeedsOf}
 use Rattle.wg_encoder.specs.Recorders.{RecordingValue}
+use Rattle.wg_encoder.specs.Uses.{used_once}
 use Rattle.wg_history.specs.declared.events.Setup.{Setup}
 use Rattle.wg_history.specs.declared.events.Event.{Event}
-use Rattle.wg_history.specs.Entries.{recording_in, Past}
+use Rattle.wg_history.specs.Entries.{recording_in, submitted, effects_of, Past}
 use Rattle.wg_history.specs.Objects.{maker}
 use Rattle.wg_history.specs.Rules.{drops, is_dropped, consumes, is_consumed}
-use Rattle.wg_state.specs.declared.uses.Used.{Used}
-use Rattle.wg_state.specs.Uses.{uses_within}
 
 -- the recordings that are kept, each with the number of its command buffer, and for how many more there is room
 pub record RecordingsValue : Type 0 where
   pub kept : List (ℕ × RecordingValue)
   pub spare : ℕ
+
+-- for how many more recordings that are given back there is room
+pub record SpentValue : Type 0 where
+  pub room : ℕ
 
 -- what is kept of object n
 abbrev pub kept_at : List (ℕ × RecordingValue) → ℕ → Option RecordingValue
@@ -76,6 +80,10 @@ pub record Keeps (number : ℕ) (more : Option RecordingValue) (old new : List (
 abbrev pub spends : Setup → Past → Event → ℕ → Bool
 spends setup past event n = consumes setup past event n || drops (is_dropped setup past n) setup past event n
 
+-- how many recordings an entry of this event spends at most: those that it lists, and one that it drops
+abbrev pub most_spent : Event → ℕ
+most_spent event = length (submitted event) + length (option_to_list (effects_of event).dropped)
+
 -- what the command buffers of a list use, of those whose recordings are kept
 abbrev pub uses_left : List (ℕ × RecordingValue) → List ObjRef → List Used
-uses_left kept buffers = flat_map (λ buffer. uses_within (commands_of (kept_at kept buffer.number))) buffers
+uses_left kept buffers = flat_map (λ buffer. used_once (commands_of (kept_at kept buffer.number))) buffers

@@ -12,7 +12,6 @@ mod recordings;
 mod scopes;
 mod settlements;
 mod state;
-mod uses;
 
 pub use book::{Book, is_made_valid};
 pub use look::{
@@ -21,6 +20,6 @@ pub use look::{
     texture_or_none_at,
 };
 pub use notes::op_of;
+pub use recordings::Spent;
 pub use state::State;
-pub use uses::Used;
 pub use wg_life::{Made, Resource};

@@ -10,11 +10,11 @@ ghost use Rattle.wg_state.specs.Rows.{noted, marked, drop_marked, is_listed_as, 
 
 use crate::book::Book;
 use crate::look;
-use crate::uses::Used;
 use wg_history::events::{Entry, Event, Setup};
 use wg_life::{Life, Made};
 use wg_types::handles::ObjRef;
 use wg_types::replies::Answer;
+use wg_types::steps::Used;
 
 /// Adds the object that an event makes, if it makes one.
 pub fn grow(made: Option<Made>, life: &mut Life)

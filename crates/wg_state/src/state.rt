@@ -15,7 +15,7 @@ ghost use Rattle.wg_life.specs.Lives.{live_count};
 ghost use Rattle.wg_state.specs.States.{IsKept};
 ghost use Rattle.wg_state.specs.Waits.{map_waits};
 ghost use Rattle.wg_state.specs.Uses.{uses_of};
-ghost use Rattle.wg_state.specs.Recordings.{any_spent, is_spent};
+ghost use Rattle.wg_state.specs.Recordings.{any_spent, is_spent, most_spent};
 ghost use Rattle.wg_history.specs.Objects.{deeds_at};
 
 use crate::book::Book;
@@ -23,10 +23,9 @@ use crate::mappings::{is_mapping, note_maps};
 use crate::names::{self, links_of};
 use crate::notes::{grow, note_entry};
 use crate::queues::note_queue;
-use crate::recordings::{Recordings, forget_spent, keep};
+use crate::recordings::{Recordings, Spent, forget_spent, keep};
 use crate::scopes::note_errors;
 use crate::settlements;
-use crate::uses::{Used, uses_left};
 use std::alloc::Global;
 use std::marker::Model;
 use wg_cbtrack::CbTrack;
@@ -39,7 +38,7 @@ use wg_queue::Queue;
 use wg_types::handles::{Info, ObjRef};
 use wg_types::mappings::{Mapping, PendingMap};
 use wg_types::replies::{Caught, FaultKind, How, Reply, Settlements};
-use wg_types::steps::Item;
+use wg_types::steps::{Item, Used};
 
 /// What is kept beside a history.
 #[derive(Drop)]
@@ -161,13 +160,14 @@ impl State {
         self.book.len()
     }
 
-    /// The resources that the commands of command buffers name, of which each may still be submitted.
+    /// The resources that the commands of command buffers use, of which each may still be submitted. Each command
+    /// buffer has every resource once.
     #[tactic(auto, using(crate::proofs::Recorded::reads_uses))]
     pub fn uses_of(&self, alloc: Global, buffers: &[ObjRef]) -> Result<Vec<Used>, NoMemory>
         requires { any_spent self.now.setup (reverse self.now.history) buffers.now ≡ false }
         ensures { IfOk result (λ uses. uses.items ≡ uses_of (reverse self.now.history) buffers.now) }
     {
-        uses_left(alloc, &self.recordings, buffers)
+        self.recordings.uses_left(alloc, buffers)
     }
 
     /// The tracker of what the commands of a command buffer do, if that may still be submitted, or none
@@ -385,7 +385,7 @@ impl State {
 
     /// Adds an entry, which makes this object, of which this is known, if it makes one, and of which the
     /// operation uses these, and its releases to a trace, in room that there is for all that is live and
-    /// one more, and gives its reply.
+    /// one more, and gives its reply. The recordings that it spends are handed out, in room that there is.
     #[tactic(auto, using(crate::proofs::Recorded::left_next, crate::proofs::LifeLemmas::drops_are))]
     pub fn add(
         &mut self,
@@ -394,6 +394,7 @@ impl State {
         made: Option<Made>,
         uses: &[Used],
         trace: &mut Vec<Item>,
+        spent: &mut Spent,
     ) -> Reply
         requires answers { entry.reply ≡ reply_to self.old.setup (reverse self.old.history) entry.event }
         requires used { AreUsed (reverse self.old.history) entry.reply.answer entry.event uses.now }
@@ -403,6 +404,7 @@ impl State {
         requires links { links_of made < self.old.room }
         requires small { length self.old.history + 1 < 2 ^ 64 }
         requires room { vec_len trace.old + (self.old.live + 1) ≤ vec_capacity trace.old }
+        requires spent { most_spent entry.event ≤ spent.old.room }
         ensures setup { self.new.setup ≡ self.old.setup }
         ensures history { self.new.history ≡ self.old.history ++ entry ∷ [] }
         ensures reply { result ≡ entry.reply }
@@ -414,6 +416,7 @@ impl State {
             &self.kept.life,
             &entry.event,
             &mut self.recordings,
+            spent,
         );
         note(
             self.setup,

@@ -3,8 +3,7 @@
 ghost use Rattle.std.specs.Prelude.{◌≡◌, ◌+◌, ◌<◌, ◌≤◌};
 ghost use Rattle.wg_turn.specs.Passes.{IsPassOf, calls_of, number_of};
 
-use crate::queries::is_step;
-use crate::recorders::note;
+use crate::queries::{is_step, note};
 use crate::threads::opened;
 use std::alloc::Global;
 use std::process::Abort;

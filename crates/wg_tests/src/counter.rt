@@ -23,6 +23,8 @@ impl Logged for Counter {
 
     type Reply = u64;
 
+    type Left = ();
+
     ghost setup = { λ s. s.start };
 
     ghost history = { λ s. s.log.items };
@@ -31,7 +33,7 @@ impl Logged for Counter {
 
     ghost own_legal = { λ s. s.replayed };
 
-    fn act(&mut self, who: u32, call: u64) -> Result<u64, Refused<u64>> {
+    fn act(&mut self, who: u32, call: u64) -> Result<(u64, ()), Refused<u64>> {
         if self.log.len() >= self.limit || self.log.reserve(1).is_err() {
             return Err(Refused { call });
         }
@@ -42,6 +44,6 @@ impl Logged for Counter {
             event: call,
             reply,
         });
-        Ok(reply)
+        Ok((reply, ()))
     }
 }

@@ -42,7 +42,7 @@ pub(crate) fn ask(
     fault: Option<Fault>,
 ) -> bool {
     match core.act(0, event) {
-        Ok(reply) => {
+        Ok((reply, _)) => {
             reply.answer == answer && reply.fault == fault && reply.settled.as_slice().is_empty()
         }
         Err(_) => false,

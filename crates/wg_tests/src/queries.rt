@@ -1,11 +1,10 @@
 //! A query set from its making to the trace, which clears, writes and reads its queries.
 use crate::events::{ask, ask_made, finish, made, own, submit};
-use crate::recorders::note;
 use std::alloc::Global;
 use std::process::Abort;
 use std::sync::Arc;
 use wg_core::{Event, LoggedCore};
-use wg_encoder::{Recorder, Recording};
+use wg_encoder::{Noted, Recorder, Recording};
 use wg_limits::default_limits;
 use wg_render::{ColorTarget, RenderBegin};
 use wg_types::NoMemory;
@@ -63,6 +62,19 @@ fn make(core: &mut LoggedCore) -> [bool; 5] {
         ask(core, buffer, made(3, true), None),
         ask(core, Event::CreateEncoder, made(4, true), None),
     ]
+}
+
+/// Records a command. The pass that it stands on has to be begun.
+pub(crate) fn note(
+    rt: &impl Abort,
+    recorder: &mut Recorder,
+    on: On,
+    command: Command,
+) -> Result<Noted, NoMemory> {
+    if let On::Pass(pass) = on {
+        assert!(rt; pass < recorder.passes());
+    }
+    recorder.record(on, command)
 }
 
 /// A valid object of this number.

@@ -1,7 +1,7 @@
 //! A device's state without a log, of which each call's items are taken out.
 use crate::events::own;
 use std::alloc::Global;
-use wg_core::{Core, Event};
+use wg_core::{Core, Event, Spent};
 use wg_limits::default_limits;
 use wg_types::handles::BufferInfo;
 use wg_types::steps::{Item, Sort, StepName};
@@ -11,7 +11,8 @@ use wg_types::steps::{Item, Sort, StepName};
 /// How many items come of an event, which are taken out; none without memory.
 fn items_of(core: &mut Core, items: &mut Vec<Item>, event: Event) -> Option<usize> {
     items.clear();
-    match core.step(0, event, items) {
+    let mut spent = Spent::new(*items.allocator());
+    match core.step(0, event, items, &mut spent) {
         Ok(_) => Some(items.len()),
         Err(_) => None,
     }

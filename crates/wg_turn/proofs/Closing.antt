@@ -30,18 +30,18 @@ module _ {S E : Type 0} (who : E → ℕ) (stands : S → S → List E → Type 
       let two = total_two width s.views id j v u ne at e in let sum = r.widths in absurd (omega arith))
       r.placed
 
-module _ {S U C R : Type 0} (lock : TurnLock S U C R) where
-  are_own : (n : ℕ) (ps : List (Pass S U C R)) (log : List (Entry C R)) → Owns who_of n (map own_of ps) log → AreOwn n ps log
+module _ {S U C R L : Type 0} (lock : TurnLock S U C R L) where
+  are_own : (n : ℕ) (ps : List (Pass S U C R L)) (log : List (Entry C R)) → Owns who_of n (map own_of ps) log → AreOwn n ps log
   are_own n [] log h = tt
   are_own n (p ∷ ps) log h = (h.0, are_own (suc n) ps log h.1)
 
-  fronts_begin : (history : S → List (Entry C R)) (ps : List (Pass S U C R)) (since log whole : List (Entry C R)) → HasSeen ps since → IsPrefix since log → whole ≡ history (opened_with lock) ++ log → FrontsBegin history lock ps whole
+  fronts_begin : (history : S → List (Entry C R)) (ps : List (Pass S U C R L)) (since log whole : List (Entry C R)) → HasSeen ps since → IsPrefix since log → whole ≡ history (opened_with lock) ++ log → FrontsBegin history lock ps whole
   fronts_begin history [] since log whole h p is = tt
   fronts_begin history (q ∷ ps) since log whole h p is =
       let base : List (Entry C R) = history (opened_with lock) in let seen : List (Entry C R) = seen_since q in
       (subst (IsPrefix (base ++ seen)) (sym is) (prefix_under base seen log (prefix_trans seen since log h.0 p)), fronts_begin history ps since log whole h.1 p is)
 
-  pub whole_of : (setup : S → U) (history : S → List (Entry C R)) (legal : U → List (Entry C R) → Type 0) (ps : List (Pass S U C R)) (seat : Seat (Option S) (View S (Entry C R))) → IsGathered lock 0 ps seat
+  pub whole_of : (setup : S → U) (history : S → List (Entry C R)) (legal : U → List (Entry C R) → Type 0) (ps : List (Pass S U C R L)) (seat : Seat (Option S) (View S (Entry C R))) → IsGathered lock 0 ps seat
       → length ps ≡ lock.table.shared.key.callers → 0 < lock.table.shared.key.callers → (ws : List ℕ) (xs : List (Option S))
       → Final (Seen (Kept who_of (Stands setup history) (Lawful setup history legal) (opened_with lock) lock.table.shared.key.callers) seat.id seat.me.0) ws xs → (entries : ℕ) (found : Option S) → get_elem? ws 2 ≡ some entries
       → get_elem? xs 0 ≡ some found → (state : S) × (found ≡ Some state) × (setup state ≡ setup (opened_with lock)) × IsWhole history lock ps state entries

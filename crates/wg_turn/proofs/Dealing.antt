@@ -21,7 +21,7 @@ module _ {S E : Type 0} where
   pub deal_others : (y : S) (crew n k m : ℕ) (v : View S E) → v ≡ first_view y crew n (replicate k []) → k ≡ suc m → undealt v ≡ first_view y crew (n + 1) (replicate m [])
   deal_others y crew n k m v e more = ap undealt e ∙ ap (λ (j : ℕ). undealt (first_view y crew n (replicate j []))) more
 
-module _ {S U C R : Type 0} (lock : TurnLock S U C R) where
+module _ {S U C R L : Type 0} (lock : TurnLock S U C R L) where
   pub fresh_one : (n : ℕ) (seat : Seat (Option S) (View S (Entry C R))) → seat.table_id ≡ lock.table.shared.table_id → seat.me ≡ (first_view (opened_with lock) lock.callers n ([] ∷ []), []) → IsFresh lock n record { seat = seat; number = n; calls = 0 }
   fresh_one n seat of e = (
     record { of = of; carries = ap (λ m. m.1) e; opened = ap (λ m. m.0.opening) e; crew = ap (λ m. m.0.callers) e; idle = ap (λ m. m.0.stage) e; numbered = ap (λ m. m.0.number) e; called = ap (λ m. m.0.calls) e; one = ap (λ m. length m.0.owns) e },
@@ -31,11 +31,11 @@ module _ {S U C R : Type 0} (lock : TurnLock S U C R) where
     ap (λ m. head_of m.0.owns) e,
   )
 
-  pub fresh_more : (n m : ℕ) (ps : List (Pass S U C R)) (p : Pass S U C R) → n + length ps ≡ m → AreFresh lock n ps → IsFresh lock m p → AreFresh lock n (ps ++ p ∷ [])
+  pub fresh_more : (n m : ℕ) (ps : List (Pass S U C R L)) (p : Pass S U C R L) → n + length ps ≡ m → AreFresh lock n ps → IsFresh lock m p → AreFresh lock n (ps ++ p ∷ [])
   fresh_more n m [] p is a b = (subst (λ (k : ℕ). IsFresh lock k p) (let e : m ≡ n = omega arith in e) b, tt)
   fresh_more n m (q ∷ ps) p is a b = (a.0, fresh_more (suc n) m ps p (omega arith) a.1 b)
 
-  pub fresh_sound : (history : S → List (Entry C R)) (setup : S → U) (legal : U → List (Entry C R) → Type 0) → legal (setup (opened_with lock)) (history (opened_with lock)) → (n : ℕ) (ps : List (Pass S U C R)) → AreFresh lock n ps
+  pub fresh_sound : (history : S → List (Entry C R)) (setup : S → U) (legal : U → List (Entry C R) → Type 0) → legal (setup (opened_with lock)) (history (opened_with lock)) → (n : ℕ) (ps : List (Pass S U C R L)) → AreFresh lock n ps
       → AreSound history setup legal lock ps
   fresh_sound history setup legal lawful n [] h = tt
   fresh_sound history setup legal lawful n (p ∷ ps) h = let y = opened_with lock in let since = h.0.3 in (
@@ -47,6 +47,6 @@ module _ {S U C R : Type 0} (lock : TurnLock S U C R) where
     fresh_sound history setup legal lawful (suc n) ps h.1,
   )
 
-  pub fresh_fronts : (history : S → List (Entry C R)) (whole : List (Entry C R)) → history (opened_with lock) ≡ whole → (n : ℕ) (ps : List (Pass S U C R)) → AreFresh lock n ps → FrontsAre history lock ps whole
+  pub fresh_fronts : (history : S → List (Entry C R)) (whole : List (Entry C R)) → history (opened_with lock) ≡ whole → (n : ℕ) (ps : List (Pass S U C R L)) → AreFresh lock n ps → FrontsAre history lock ps whole
   fresh_fronts history whole is n [] h = tt
   fresh_fronts history whole is n (p ∷ ps) h = (ap (λ (l : List (Entry C R)). history (opened_with lock) ++ l) h.0.3 ∙ append-nil (history (opened_with lock)) ∙ is, fresh_fronts history whole is (suc n) ps h.1)

@@ -15,19 +15,19 @@ one_list [] e = absurd (omega arith)
 one_list (o ∷ []) e = refl
 one_list (o ∷ p ∷ os) e = absurd (omega arith)
 
-module _ {S U C R : Type 0} (lock : TurnLock S U C R) where
-  pub in_order_at : (n m : ℕ) (ps : List (Pass S U C R)) (p : Pass S U C R) (rest : List (Pass S U C R)) → n + length ps ≡ m → AreInOrder lock n (ps ++ p ∷ rest) → IsPassOf lock p × (p.number ≡ m)
+module _ {S U C R L : Type 0} (lock : TurnLock S U C R L) where
+  pub in_order_at : (n m : ℕ) (ps : List (Pass S U C R L)) (p : Pass S U C R L) (rest : List (Pass S U C R L)) → n + length ps ≡ m → AreInOrder lock n (ps ++ p ∷ rest) → IsPassOf lock p × (p.number ≡ m)
   in_order_at n m [] p rest is h = (h.0, h.1 ∙ (let e : n ≡ m = omega arith in e))
   in_order_at n m (q ∷ ps) p rest is h = in_order_at (suc n) m ps p rest (omega arith) h.2
 
-  pub gathered_one : (n : ℕ) (p : Pass S U C R) → IsPassOf lock p → p.number ≡ n → IsGathered lock n (p ∷ []) p.seat
+  pub gathered_one : (n : ℕ) (p : Pass S U C R L) → IsPassOf lock p → p.number ≡ n → IsGathered lock n (p ∷ []) p.seat
   gathered_one n p r is = record { of = r.of; carries = r.carries; opened = r.opened; idle = r.idle; numbered = r.numbered ∙ is; owns = one_list p.seat.me.0.owns r.one; seen = (prefix_self (seen_since p), tt) }
 
-  seen_more : (ps : List (Pass S U C R)) (xs ys : List (Entry C R)) → IsPrefix xs ys → HasSeen ps xs → HasSeen ps ys
+  seen_more : (ps : List (Pass S U C R L)) (xs ys : List (Entry C R)) → IsPrefix xs ys → HasSeen ps xs → HasSeen ps ys
   seen_more [] xs ys p h = tt
   seen_more (q ∷ ps) xs ys p h = (prefix_trans (seen_since q) xs ys h.0 p, seen_more ps xs ys p h.1)
 
-  pub gathered_more : (n : ℕ) (p : Pass S U C R) (ps : List (Pass S U C R)) (others seat : Seat (Option S) (View S (Entry C R))) → IsPassOf lock p → p.number ≡ n → IsGathered lock (n + 1) ps others
+  pub gathered_more : (n : ℕ) (p : Pass S U C R L) (ps : List (Pass S U C R L)) (others seat : Seat (Option S) (View S (Entry C R))) → IsPassOf lock p → p.number ≡ n → IsGathered lock (n + 1) ps others
       → seat.table_id ≡ p.seat.table_id → seat.me.1 ≡ p.seat.me.1 → seat.me.0.stage ≡ Idle → seat.me.0.opening ≡ p.seat.me.0.opening → seat.me.0.number ≡ p.seat.me.0.number
       → seat.me.0.owns ≡ p.seat.me.0.owns ++ others.me.0.owns → IsPrefix p.seat.me.0.since seat.me.0.since → IsPrefix others.me.0.since seat.me.0.since → IsGathered lock n (p ∷ ps) seat
   gathered_more n p ps others seat r is h of carries idle opened number owns here there = record {

@@ -28,7 +28,7 @@ module _ {S U C R : Type 0} (setup : S → U) (history : S → List (Entry C R))
   abbrev pub Lawful : (U → List (Entry C R) → Type 0) → S → List (Entry C R) → Type 0
   Lawful legal y log = legal (setup y) (history y ++ log)
 
-  -- what a call of a number, answered in this way, makes of the state x
-  abbrev pub Answers : ℕ → C → S → S → Result R (Refused C) → Type 0
-  Answers n call x y answer = (setup y ≡ setup x) × IfOk answer (λ r. history y ≡ history x ++ entry n call r ∷ [])
+  -- what a call of a number, answered in this way, makes of the state x; with the answer comes what is to be dropped
+  abbrev pub Answers : {L : Type 0} → ℕ → C → S → S → Result (R × L) (Refused C) → Type 0
+  Answers n call x y answer = (setup y ≡ setup x) × IfOk answer (λ r. history y ≡ history x ++ entry n call r.0 ∷ [])
       × IfErr answer (λ refused. (history y ≡ history x) × (refused.call ≡ call))

@@ -72,7 +72,7 @@ fn act_in<S: Logged>(
     slot: &mut Option<S>,
     number: u32,
     call: S::Call,
-) -> Result<S::Reply, Refused<S::Call>>
+) -> Result<(S::Reply, S::Left), Refused<S::Call>>
     requires { IsSome slot.old }
     ensures { (x : S) → slot.old ≡ Some x → (y : S) × (slot.new ≡ Some y)
         × Answers S.setup S.history number call x y result }
@@ -185,7 +185,8 @@ impl<S: Logged> TurnLock<S> {
         self.table.shared.fetch_add::<Count<N>>(seat, COUNT, 1);
     }
 
-    /// Calls the state that the seat has taken, where it lies, counts the entry, and passes the turn on.
+    /// Calls the state that the seat has taken, where it lies, counts the entry, and passes the turn on. What the call
+    /// is done with is dropped after that.
     fn turn(
         &self,
         seat: &mut Seat<Option<S>, View<S, Entry<S::Call, S::Reply>>>,
@@ -207,9 +208,10 @@ impl<S: Logged> TurnLock<S> {
     {
         let asked = Snapshot::of(&call);
         match act_in(seat.slot_mut(&self.table.shared, 0), number, call) {
-            Ok(reply) => {
+            Ok((reply, left)) => {
                 self.count::<Brand>(seat, number, &asked, &reply);
                 self.leave(seat);
+                drop(left);
                 Ok(reply)
             }
             Err(refused) => {

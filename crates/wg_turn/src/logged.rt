@@ -16,6 +16,9 @@ pub trait Logged: Drop {
     /// What it answers.
     type Reply;
 
+    /// What a call is done with, and may be long in the dropping: that is left until the turn has passed on.
+    type Left: Drop;
+
     ghost setup: { Self → Self.Setup };
 
     ghost history: { Self → List (Entry Self.Call Self.Reply) };
@@ -23,9 +26,13 @@ pub trait Logged: Drop {
     ghost legal: { Self.Setup → List (Entry Self.Call Self.Reply) → Type 0 };
 
     /// Answers a call, or hands it back where there is no memory.
-    fn act(&mut self, who: u32, call: Self::Call) -> Result<Self::Reply, Refused<Self::Call>>
+    fn act(
+        &mut self,
+        who: u32,
+        call: Self::Call,
+    ) -> Result<(Self::Reply, Self::Left), Refused<Self::Call>>
         ensures setup { setup self.new ≡ setup self.old }
-        ensures done { IfOk result (λ r. history self.new ≡ history self.old ++ entry who call r ∷ []) }
+        ensures done { IfOk result (λ r. history self.new ≡ history self.old ++ entry who call r.0 ∷ []) }
         ensures refused { IfErr result (λ e.
             (history self.new ≡ history self.old) × (e.call ≡ call)) };
 

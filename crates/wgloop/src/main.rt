@@ -8,7 +8,7 @@ use std::alloc::Global;
 use std::env;
 use std::process::ExitCode;
 use std::sync::Arc;
-use wg_core::{Core, Event, NoMemory};
+use wg_core::{Core, Event, NoMemory, Spent};
 use wg_encoder::{Recorder, Recording};
 use wg_limits::default_limits;
 use wg_types::commands::{Command, On};
@@ -40,7 +40,8 @@ fn object(number: u64) -> ObjRef {
 /// Asks the device, and counts what it hands out.
 fn ask(driven: &mut Driven, event: Event) -> Result<Reply, NoMemory> {
     driven.items.clear();
-    let Ok(reply) = driven.core.step(0, event, &mut driven.items) else {
+    let mut spent = Spent::new(driven.alloc);
+    let Ok(reply) = driven.core.step(0, event, &mut driven.items, &mut spent) else {
         return Err(NoMemory);
     };
     driven.handed = driven.handed.wrapping_add(driven.items.len() as u64);

@@ -2,8 +2,8 @@ use Rattle.std.proofs.Common.{◌≡◌, ◌++◌, take}
 use Rattle.std.specs.List.{flat_map}
 use Rattle.wg_types.specs.Added.{BeginsWith}
 use Rattle.wg_types.specs.declared.bundles.BundleTouch.{BundleTouch}
-use Rattle.wg_state.specs.Uses.{cells_uses}
-use Rattle.wg_state.proofs.uses.push_touches.Given as goal
+use Rattle.wg_encoder.specs.Uses.{cells_uses}
+use Rattle.wg_encoder.proofs.uses.push_touches.Given as goal
 
 abbrev pub invariant-loop-touch : goal.invariant-loop-touch
 invariant-loop-touch l =

@@ -1,5 +1,5 @@
-//! The resources that command buffers use.
-ghost use Rattle.std.specs.Prelude.{◌≡◌, ◌∷◌, ◌++◌, [], OnOk, IfOk};
+//! The resources that a command uses.
+ghost use Rattle.std.specs.Prelude.{◌≡◌, ◌∷◌, ◌++◌, [], OnOk};
 ghost use Rattle.wg_types.specs.Added.{BeginsWith};
 ghost use Rattle.wg_types.specs.Commands.{named};
 ghost use Rattle.std.specs.Prelude.{option_to_list};
@@ -9,28 +9,18 @@ ghost use Rattle.wg_types.specs.declared.bundles.BundleTouch.{BundleTouch as Bun
 ghost use Rattle.wg_model.specs.Bound.{known_group};
 ghost use Rattle.wg_model.specs.Attachments.{attached_view};
 ghost use Rattle.wg_model.specs.Bundles.{known_bundle};
-ghost use Rattle.wg_state.specs.Uses.{resource_uses, group_uses, view_uses, cells_uses, bundle_uses, uses_as, uses_in, uses_within};
-ghost use Rattle.wg_state.specs.Recordings.{uses_left};
+ghost use Rattle.wg_encoder.specs.Uses.{resource_uses, group_uses, view_uses, cells_uses, bundle_uses, uses_as, uses_in};
 
-use crate::recordings::Recordings;
-use std::alloc::Global;
 use wg_formats::known_bundle;
-use wg_history::NoMemory;
+use wg_types::NoMemory;
 use wg_types::bindings::{BoundEntry, BoundResource};
 use wg_types::bundles::BundleTouch;
-use wg_types::commands::{Command, On};
-use wg_types::handles::{Handle, Info, ObjRef};
+use wg_types::commands::Command;
+use wg_types::handles::{Handle, Info};
 use wg_types::parts::Cells;
 use wg_types::refs::Gather;
-use wg_types::steps::Sort;
+use wg_types::steps::{Sort, Used};
 use wg_types::wanted::Wanted;
-
-/// A resource that an operation uses: its number, and as what it is wanted.
-#[derive(Clone, Copy)]
-pub struct Used {
-    pub number: u64,
-    pub sort: Sort,
-}
 
 /// Adds a resource to a list.
 #[tactic(auto, using(wg_types::proofs::Beginnings::begins_one, wg_types::proofs::Beginnings::begins_same))]
@@ -200,33 +190,8 @@ impl Gather<Handle, Used> for Resources {
 }
 
 /// Adds the resources of the objects that a command names to a list.
-fn push_named(uses: &mut Vec<Used>, command: &Command) -> Result<(), NoMemory>
+pub fn push_uses(uses: &mut Vec<Used>, command: &Command) -> Result<(), NoMemory>
     ensures { OnOk result (uses.new.items ≡ uses.old.items ++ uses_in (named command.now)) }
 {
     command.gather(&Resources, uses)
-}
-
-/// Adds the resource that recorded commands name to a list.
-fn push_recorded(uses: &mut Vec<Used>, commands: &[(On, Command)]) -> Result<(), NoMemory>
-    ensures { OnOk result (uses.new.items ≡ uses.old.items ++ uses_within commands.now) }
-{
-    for kept in commands {
-        push_named(uses, &kept.1)?;
-    }
-    Ok(())
-}
-
-/// The resources that the commands of command buffers name.
-pub fn uses_left(
-    alloc: Global,
-    recordings: &Recordings,
-    buffers: &[ObjRef],
-) -> Result<Vec<Used>, NoMemory>
-    ensures { IfOk result (λ uses. uses.items ≡ uses_left recordings.now.kept buffers.now) }
-{
-    let mut uses = Vec::new(alloc);
-    for buffer in buffers {
-        push_recorded(&mut uses, recordings.commands(buffer.number))?;
-    }
-    Ok(uses)
 }

@@ -27,7 +27,7 @@ fn opened(alloc: Global) -> Recorder {
 }
 
 /// Records a command. The pass that it stands on has to be begun.
-pub(crate) fn note(rt: &impl Abort, recorder: &mut Recorder, on: On, command: Command) -> Answer {
+fn note(rt: &impl Abort, recorder: &mut Recorder, on: On, command: Command) -> Answer {
     if let On::Pass(pass) = on {
         assert!(rt; pass < recorder.passes());
     }
@@ -231,4 +231,33 @@ fn of_open_pass(rt: &impl Abort, alloc: Global) -> Result<([Answer; 2], Told), N
 fn an_open_pass_leaves_nothing_done(rt: HostRuntime) {
     let told = ((true, false, 2, 0), KEPT, (None, 3, 1, true));
     assert!(rt; of_open_pass(&rt, rt.alloc()) == Ok(([KEPT, KEPT], told)));
+}
+
+/// A buffer of device 1.
+fn buffer(alloc: Global, number: u64) -> Result<Handle, NoMemory> {
+    let reference = ObjRef { device: 1, number };
+    Ok(Handle::new(reference, true, Arc::new(alloc, BUFFER)?))
+}
+
+/// How many resources the commands of a recorder use, and how many objects they name.
+fn named(recorder: &mut Recorder) -> (usize, usize) {
+    let recording = recorder.take();
+    (recording.uses().len(), recording.named().len())
+}
+
+/// Both, of two copies from one buffer to another.
+fn of_copies(rt: &impl Abort, alloc: Global) -> Result<(usize, usize), NoMemory> {
+    let source = buffer(alloc, 1)?;
+    let target = buffer(alloc, 2)?;
+    let source_again = source.share()?;
+    let target_again = target.share()?;
+    let mut recorder = opened(alloc);
+    let _ = note_copy(rt, &mut recorder, source, target);
+    let _ = note_copy(rt, &mut recorder, source_again, target_again);
+    Ok(named(&mut recorder))
+}
+
+#[test]
+fn what_is_named_twice_stands_once(rt: HostRuntime) {
+    assert!(rt; of_copies(&rt, rt.alloc()) == Ok((2, 2)));
 }

@@ -1,0 +1,30 @@
+-- What a recorder keeps of what its commands name.
+use Rattle.std.specs.Prelude.{◌≡◌, ◌≤◌, List, map, length}
+use Rattle.indexmap.specs.IndexSet.{spare}
+use Rattle.wg_types.specs.Handles.{HandleValue}
+use Rattle.wg_types.specs.declared.commands.On.{On}
+use Rattle.wg_types.specs.Commands.{Command, named}
+use Rattle.wg_types.specs.declared.wanted.Wanted.{Wanted}
+use Rattle.wg_encoder.specs.Uses.{uses_in, used_once, named_once}
+use Rattle.wg_encoder.specs.declared.naming.Naming.{Naming}
+use Rattle.wg_encoder.specs.declared.naming.Named.{Named}
+
+-- These are the resources and the objects of a command.
+pub record IsNamedBy (command : Command) (one : Named) : Type 0 where
+  pub uses : one.uses.items ≡ uses_in (named command)
+  pub objects : one.objects.items ≡ map (λ (object : HandleValue × Wanted). object.0.reference.number) (named command)
+
+-- There is room for so many more.
+pub record HasRoomFor (naming : Naming) (one : Named) : Type 0 where
+  pub uses : length one.uses.items ≤ spare naming.uses
+  pub objects : length one.objects.items ≤ spare naming.objects
+
+-- The same is kept, whatever room there is beside it.
+pub record AreSameNames (old new : Naming) : Type 0 where
+  pub uses : new.uses.keys ≡ old.uses.keys
+  pub objects : new.objects.keys ≡ old.objects.keys
+
+-- What is kept is what commands name, each once.
+pub record AreNamedOnce (commands : List (On × Command)) (naming : Naming) : Type 0 where
+  pub uses : naming.uses.keys ≡ used_once commands
+  pub objects : naming.objects.keys ≡ named_once commands

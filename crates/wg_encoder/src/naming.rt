@@ -1,0 +1,107 @@
+//! What kept commands name.
+ghost use Rattle.std.specs.Prelude.{◌≡◌, ◌∷◌, ◌++◌, ◌≤◌, [], List, map, length, OnOk, IfOk};
+ghost use Rattle.indexmap.specs.IndexSet.{insert_all, spare};
+ghost use Rattle.wg_types.specs.declared.commands.On.{On as OnOf};
+ghost use Rattle.wg_types.specs.Commands.{Command as CommandOf, named};
+ghost use Rattle.wg_encoder.specs.Naming.{IsNamedBy, HasRoomFor, AreSameNames, AreNamedOnce};
+
+use crate::uses::push_uses;
+use indexmap::IndexSet;
+use std::alloc::Global;
+use std::hash::Hash;
+use wg_types::NoMemory;
+use wg_types::commands::Command;
+use wg_types::handles::Handle;
+use wg_types::refs::Gather;
+use wg_types::steps::Used;
+use wg_types::wanted::Wanted;
+
+/// The resources that commands use, and the numbers of the objects that they name. Each is there once, in the
+/// order in which they first came.
+#[derive(Drop)]
+pub struct Naming {
+    pub uses: IndexSet<Used>,
+    pub objects: IndexSet<u64>,
+}
+
+/// The resources that one command uses, and the numbers of the objects that it names.
+#[derive(Drop)]
+pub struct Named {
+    pub uses: Vec<Used>,
+    pub objects: Vec<u64>,
+}
+
+/// The number of each object.
+#[derive(Drop)]
+struct Numbers;
+
+impl Gather<Handle, u64> for Numbers {
+    ghost gathers = { λ _ object. object.0.reference.number ∷ [] };
+
+    #[tactic(auto, using(wg_types::proofs::Beginnings::begins_one, wg_types::proofs::Beginnings::begins_same))]
+    fn gather(
+        &self,
+        found: &mut Vec<u64>,
+        object: &Handle,
+        _wanted: Wanted,
+    ) -> Result<(), NoMemory> {
+        found.push(object.reference().number)?;
+        Ok(())
+    }
+}
+
+/// Adds the numbers of the objects that a command names to a list.
+#[tactic(auto, using(std::proofs::lemmas::List::Concat::flat_map_single))]
+fn push_numbers(numbers: &mut Vec<u64>, command: &Command) -> Result<(), NoMemory>
+    ensures { OnOk result (numbers.new.items ≡ numbers.old.items ++ map (λ object. object.0.reference.number) (named command.now)) }
+{
+    command.gather(&Numbers, numbers)
+}
+
+/// Adds each of a list that is not there, in room that there is for all.
+fn add_each<T: Copy + Eq + Hash>(set: &mut IndexSet<T>, items: &[T])
+    requires { length items.now ≤ spare set.old }
+    ensures { set.new.keys ≡ insert_all T.eq set.old.keys items.now }
+{
+    for item in items {
+        let Ok(_) = set.insert(*item) else {
+            unreachable!();
+        };
+    }
+}
+
+impl Naming {
+    /// Nothing is named.
+    pub fn new(alloc: Global) -> Naming
+        ensures { AreNamedOnce [] result }
+    {
+        Naming {
+            uses: IndexSet::new(alloc),
+            objects: IndexSet::new(alloc),
+        }
+    }
+
+    /// What a command names, for which it makes room.
+    pub fn prepare(&mut self, alloc: Global, command: &Command) -> Result<Named, NoMemory>
+        ensures same { AreSameNames self.old self.new }
+        ensures named { IfOk result (λ named. IsNamedBy command.now named) }
+        ensures room { IfOk result (λ named. HasRoomFor self.new named) }
+    {
+        let mut uses = Vec::new(alloc);
+        push_uses(&mut uses, command)?;
+        let mut objects = Vec::new(alloc);
+        push_numbers(&mut objects, command)?;
+        self.uses.reserve(uses.len())?;
+        self.objects.reserve(objects.len())?;
+        Ok(Named { uses, objects })
+    }
+
+    /// Adds what a command names, in room that there is.
+    pub fn add(&mut self, named: &Named)
+        requires { HasRoomFor self.old named.now }
+        ensures { (commands : List (OnOf × CommandOf)) (on : OnOf) (command : CommandOf) → AreNamedOnce commands self.old → IsNamedBy command named.now → AreNamedOnce (commands ++ (on, command) ∷ []) self.new }
+    {
+        add_each(&mut self.uses, named.uses.as_slice());
+        add_each(&mut self.objects, named.objects.as_slice());
+    }
+}
