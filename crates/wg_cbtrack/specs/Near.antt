@@ -11,9 +11,11 @@ use Rattle.wg_cbtrack.specs.Owners.{rows_among, Ordered, AreExchanged}
 abbrev pub use_object : UseRow → ℕ
 use_object row = line_object (part_line row.0)
 
+-- the object of a run of cells
 abbrev pub cells_object : Cells → ℕ
 cells_object run = line_object (cell_line run)
 
+-- the object of an access
 abbrev pub access_object : Cells × Kind → ℕ
 access_object row = cells_object row.0
 

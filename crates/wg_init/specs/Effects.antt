@@ -34,6 +34,7 @@ rows_after object (x ∷ xs) rows = rows_after object xs (if changes_at object x
 abbrev pub IsAfter : SetRows → List (Cells × Kind) → SetRows → Type 0
 IsAfter kept xs noted = (object : ℕ) → rows_in noted object ≡ rows_after object xs (rows_in kept object)
 
+-- Rows are those after a step: they are after its accesses.
 abbrev pub IsNoted : SetRows → Step → SetRows → Type 0
 IsNoted kept step noted = IsAfter kept step.accesses noted
 

@@ -6,6 +6,7 @@ use Rattle.wg_rows.specs.Cut.{cut, inside, gaps, choose, put_all}
 use Rattle.wg_rows.specs.Runs.{PartRun, Part, part_line, part_sort, is_full}
 use Rattle.wg_rows.specs.Uses.{Usages, same_set, row_set}
 
+-- a row of a use: a run of parts with the set of usages of each
 abbrev pub UseRow : Type 0
 UseRow = PartRun × Usages
 

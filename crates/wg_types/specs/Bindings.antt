@@ -13,14 +13,17 @@ resource_named (Buffer buffer offset size) = (buffer, wanted.Buffer)
 resource_named (View view) = (view, wanted.View)
 resource_named (Sampler sampler) = (sampler, wanted.Sampler)
 
+-- the objects of all entries of a bind group, in their order, each with what it has to be
 abbrev pub entries_named : {R : Type 0} → List (GroupEntryOf R) → List (R × Wanted)
 entries_named entries = map (λ entry. resource_named entry.resource) entries
 
+-- what an entry binds, with another object in place of its own
 abbrev pub map_resource : {R S : Type 0} → (R → S) → ResourceOf R → ResourceOf S
 map_resource f (Buffer buffer offset size) = Buffer (f buffer) offset size
 map_resource f (View view) = View (f view)
 map_resource f (Sampler sampler) = Sampler (f sampler)
 
+-- an entry with another object
 abbrev pub map_entry : {R S : Type 0} → (R → S) → GroupEntryOf R → GroupEntryOf S
 map_entry f entry = record { binding = entry.binding; resource = map_resource f entry.resource }
 

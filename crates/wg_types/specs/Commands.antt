@@ -101,6 +101,7 @@ kind_begun_by brackets.PushGroup = None
 kind_begun_by brackets.PopGroup = None
 kind_begun_by brackets.Neither = None
 
+-- the kind of the pass that a command begins, if it begins one
 abbrev pub kind_begun : {R : Type 0} → CommandOf R → Option Kind
 kind_begun command = kind_begun_by (bracket command)
 
@@ -113,6 +114,7 @@ begins_pass_by brackets.PushGroup = false
 begins_pass_by brackets.PopGroup = false
 begins_pass_by brackets.Neither = false
 
+-- whether a command begins a pass
 abbrev pub is_begin : {R : Type 0} → CommandOf R → Bool
 is_begin command = begins_pass_by (bracket command)
 
@@ -125,6 +127,7 @@ ends_pass_by brackets.PushGroup = false
 ends_pass_by brackets.PopGroup = false
 ends_pass_by brackets.Neither = false
 
+-- whether a command ends a pass
 abbrev pub is_end : {R : Type 0} → CommandOf R → Bool
 is_end command = ends_pass_by (bracket command)
 
@@ -159,6 +162,7 @@ pub data Act (R : Type 0) : Type 0 where
   executes : (bundles : List R) → Act R
   neither : Act R
 
+-- what a command is to render passes: it begins one with these attachments, executes these bundles, or neither
 abbrev pub act : {R : Type 0} → CommandOf R → Act R
 act BeginComputePass = neither
 act (BeginRenderPass begin) = begins begin
@@ -194,6 +198,7 @@ begin_in (occludes call) = None
 begin_in (executes bundles) = None
 begin_in neither = None
 
+-- the attachments with which a command begins a render pass, if it begins one
 abbrev pub render_begun : {R : Type 0} → CommandOf R → Option (RenderBeginOf R)
 render_begun command = begin_in (act command)
 

@@ -8,10 +8,12 @@ use Rattle.wg_types.specs.declared.render.ColorTargetOf.{ColorTargetOf}
 use Rattle.wg_types.specs.declared.render.DepthTargetOf.{DepthTargetOf}
 use Rattle.wg_types.specs.declared.render.RenderBeginOf.{RenderBeginOf}
 
+-- the views that a color attachment names: its own, and that to which it resolves, if any
 abbrev pub color_named : {R : Type 0} → Option (ColorTargetOf R) → List (R × Wanted)
 color_named None = []
 color_named (Some target) = (target.view, wanted.View) ∷ maybe_wanted wanted.View target.resolve
 
+-- the view that a depth attachment names
 abbrev pub depth_named : {R : Type 0} → Option (DepthTargetOf R) → List (R × Wanted)
 depth_named None = []
 depth_named (Some target) = (target.view, wanted.View) ∷ []
@@ -29,6 +31,7 @@ begin_named begin = targets_named begin ++ maybe_wanted wanted.Queries begin.que
 abbrev pub map_color : {R S : Type 0} → (R → S) → ColorTargetOf R → ColorTargetOf S
 map_color f target = record { view = f target.view; depth_slice = target.depth_slice; resolve = option_map f target.resolve; load = target.load; store = target.store }
 
+-- a depth attachment with another view
 abbrev pub map_depth : {R S : Type 0} → (R → S) → DepthTargetOf R → DepthTargetOf S
 map_depth f target =
     record {
@@ -41,5 +44,6 @@ map_depth f target =
       stencil_read_only = target.stencil_read_only;
     }
 
+-- the begin of a render pass with other views and another query set
 abbrev pub map_begin : {R S : Type 0} → (R → S) → RenderBeginOf R → RenderBeginOf S
 map_begin f begin = record { colors = map (option_map (map_color f)) begin.colors; depth = option_map (map_depth f) begin.depth; queries = option_map f begin.queries }
