@@ -54,6 +54,7 @@ plain (StorageTexture access format dim) = StorageTexture access format dim
 abbrev pub entry_used : IfaceEntry → LayoutEntry
 entry_used used = record { binding = used.binding; visibility = stage_bit used.stage; kind = plain used.kind }
 
+-- a derived entry that one more stage sees
 abbrev pub entry_shared : LayoutEntry → IfaceEntry → LayoutEntry
 entry_shared entry used = record entry { visibility = bit_or entry.visibility (stage_bit used.stage) }
 
@@ -68,6 +69,7 @@ with_use (entry ∷ entries) used =
 abbrev pub entries_used : ℕ → List IfaceEntry → List LayoutEntry
 entries_used group iface = fold with_use [] (filter (λ (used : IfaceEntry). used.group == group) iface)
 
+-- the layout that the uses of a group derive, exclusive to none and got of none
 abbrev pub layout_used : List IfaceEntry → ℕ → GroupLayoutInfo
 layout_used iface group = record { entries = entries_used group iface; exclusive = None; pipeline = None }
 

@@ -105,13 +105,16 @@ pub record Place : Type 0 where
   pub moved : ℕ
   pub resource : BoundResource
 
+-- what a group binds by one entry of its layout, moved by its dynamic offset
 abbrev pub place_of : List LayoutEntry → List ℕ → LayoutEntry → BoundResource → Place
 place_of layout offsets asked resource = record { asked = asked; moved = moved_by layout offsets asked; resource = resource }
 
+-- what a group binds by one of its entries, if the layout has that binding
 abbrev pub entry_places : List LayoutEntry → List ℕ → BoundEntry → List Place
 entry_places layout offsets bound =
     option_map_or (λ (asked : LayoutEntry). place_of layout offsets asked bound.resource ∷ []) (entry_of layout bound.binding) []
 
+-- all that a group binds that is set with some offsets
 abbrev pub places_in : GroupInfo → List ℕ → List Place
 places_in group offsets = flat_map (entry_places group.layout_info.entries offsets) group.entries
 
@@ -121,6 +124,7 @@ moved_range_fits moved (BoundBuffer buffer known offset size) = nat_le (offset +
 moved_range_fits moved (BoundView view known) = true
 moved_range_fits moved (BoundSampler sampler known) = true
 
+-- whether a range that is bound, moved by its offset, ends within its buffer
 abbrev pub place_fits : Place → Bool
 place_fits place = moved_range_fits place.moved place.resource
 
@@ -128,6 +132,8 @@ place_fits place = moved_range_fits place.moved place.resource
 abbrev pub most_groups : ℕ
 most_groups = 4
 
+-- the rules of a group that is set with some offsets: 326 there is one for each dynamic entry; 327 each is a multiple of
+-- 256; 328 each range, moved, fits its buffer
 abbrev pub offset_rules : Option GroupInfo → List ℕ → List Rule
 offset_rules None offsets = []
 offset_rules (Some group) offsets =
@@ -167,6 +173,7 @@ abbrev pub set_places : Option BoundGroup → List Place
 set_places None = []
 set_places (Some bound) = option_map_or (λ (known : GroupInfo). places_in known bound.offsets) (known_group bound.group) []
 
+-- what is bound at an index, where the pipeline's layout has an entry there
 abbrev pub index_places : GroupLayoutInfo → Option BoundGroup → List Place
 index_places layout group = if has_entries layout then set_places group else []
 
@@ -207,22 +214,26 @@ buffer_touch Uniform = (constant_usage, Read)
 buffer_touch Storage = (storage_usage, Both)
 buffer_touch ReadOnlyStorage = (storage_read_usage, Read)
 
+-- how a storage texture is used and accessed, by its access
 abbrev pub access_touch : StorageAccess → Usages × Kind
 access_touch ReadOnly = (storage_read_usage, Read)
 access_touch WriteOnly = (storage_usage, Both)
 access_touch ReadWrite = (storage_usage, Both)
 
+-- how what is bound is used and accessed, by its kind
 abbrev pub kind_touch : BindingKind → Usages × Kind
 kind_touch (Buffer binding dynamic min_size) = buffer_touch binding
 kind_touch (Sampler sampler_type) = (constant_usage, Read)
 kind_touch (Texture sample dim multi) = (constant_usage, Read)
 kind_touch (StorageTexture access format dim) = access_touch access
 
+-- the cells of what is bound: the range of a buffer, moved, or those of a view; a sampler has none
 abbrev pub resource_cells : ℕ → BoundResource → List Cells
 resource_cells moved (BoundBuffer buffer known offset size) = Bytes buffer.number (offset + moved) (offset + moved + size) ∷ []
 resource_cells moved (BoundView view known) = view_cells known
 resource_cells moved (BoundSampler sampler known) = []
 
+-- what a place touches: its cells, by the kind that its entry asks for
 abbrev pub place_touches : Place → List Touch
 place_touches place = map (λ (cells : Cells). (cells, kind_touch place.asked.kind)) (resource_cells place.moved place.resource)
 

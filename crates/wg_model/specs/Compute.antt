@@ -27,6 +27,7 @@ dispatching_rules set (draw_indexed indices instances first_index first_instance
 dispatching_rules set (draw_indirect buffer offset) = []
 dispatching_rules set (draw_indexed_indirect buffer offset) = []
 
+-- the rules of a dispatch, by what a command is to its pass
 abbrev pub dispatch_rules_by : Settings → Act HandleValue → List Rule
 dispatch_rules_by set (begins begin) = []
 dispatch_rules_by set (sets setting) = []
@@ -35,6 +36,7 @@ dispatch_rules_by set (occludes call) = []
 dispatch_rules_by set (executes bundles) = []
 dispatch_rules_by set neither = []
 
+-- the rules of a command that dispatches, over what is set; other commands have none
 abbrev pub dispatch_rules : Settings → Command → List Rule
 dispatch_rules set command = dispatch_rules_by set (act command)
 
@@ -55,6 +57,7 @@ dispatching_does set (draw_indexed indices instances first_index first_instance)
 dispatching_does set (draw_indirect buffer offset) = None
 dispatching_does set (draw_indexed_indirect buffer offset) = None
 
+-- what a dispatch does, by what a command is to its pass
 abbrev pub compute_does_by : Settings → Act HandleValue → Option Doing
 compute_does_by set (begins begin) = None
 compute_does_by set (sets setting) = None

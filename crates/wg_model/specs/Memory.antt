@@ -17,6 +17,7 @@ abbrev pub levels_bytes : TextureInfo → ℕ → ℕ
 levels_bytes info zero = 0
 levels_bytes info (suc mip) = levels_bytes info mip + level_bytes info mip
 
+-- the bytes of all mip levels of a texture
 unfoldable pub texture_bytes : TextureInfo → ℕ
 texture_bytes info = levels_bytes info info.mips
 

@@ -15,6 +15,7 @@ use Rattle.wg_model.specs.Rules.{Rule}
 use Rattle.wg_model.specs.Layouts.{vertex_stage, fragment_stage, compute_stage, is_seen_by}
 use Rattle.wg_model.specs.Equality.{same_bool, same_sampler, same_sample, same_view_dim, same_access, same_buffer_binding}
 
+-- the bit of a stage
 abbrev pub stage_bit : Stage → ℕ
 stage_bit Vertex = vertex_stage
 stage_bit Fragment = fragment_stage

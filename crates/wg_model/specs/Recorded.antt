@@ -32,9 +32,11 @@ use Rattle.wg_model.specs.Bundles.{known_bundle, buffer_in, texture_in, query_se
 use Rattle.wg_model.specs.Attachments.{attached_view}
 use Rattle.wg_model.specs.Walk.{DeedsOf}
 
+-- the step of a write to a buffer
 abbrev pub write_buffer_step : StepPlace → ℕ → ℕ → ℕ → Step
 write_buffer_step place object offset size = touching place name.WriteBuffer (range_touches object offset size)
 
+-- the step of a write to a texture
 abbrev pub write_texture_step : StepPlace → ℕ → TextureInfo → TextureSpot → List ℕ → Step
 write_texture_step place object info spot size = touching place name.WriteTexture (copied_to object info spot size)
 
@@ -47,18 +49,22 @@ write_step place (TextureWrite texture info spot layout size) =
 -- Host accesses (WebGPU, "Buffer Mapping"): what a map for reading gives the caller is read; what is mapped for writing goes
 -- back whole, with what the caller left as it was.
 
+-- how a host access uses its buffer: as host-read, or as host-write
 abbrev pub host_usage : MapMode → Usages
 host_usage ReadMode = record { 0 = 1024 }
 host_usage WriteMode = record { 0 = 2048 }
 
+-- how a host access accesses its bytes: it reads them, or reads and writes them
 abbrev pub host_kind : MapMode → Kind
 host_kind ReadMode = Read
 host_kind WriteMode = Both
 
+-- the name of the step of a host access
 abbrev pub host_name : MapMode → StepName
 host_name ReadMode = name.HostRead
 host_name WriteMode = name.HostWrite
 
+-- what a host access touches: the range of the mapping
 abbrev pub host_touches : ℕ → Mapping → List Touch
 host_touches buffer m = (Bytes buffer m.lo m.hi, (host_usage m.mode, host_kind m.mode)) ∷ []
 
@@ -141,6 +147,7 @@ buffers_by bound_resources object = in_group bound_buffer (known_group object)
 buffers_by bundled_resources object = in_bundle buffer_in (known_bundle object)
 buffers_by no_resource object = []
 
+-- the buffers that are reached through an object, by what is wanted of it
 abbrev pub buffers_as : Wanted → HandleValue → List ℕ
 buffers_as asked object = buffers_by (reaching asked) object
 
@@ -154,6 +161,7 @@ textures_by bound_resources object = in_group bound_texture (known_group object)
 textures_by bundled_resources object = in_bundle texture_in (known_bundle object)
 textures_by no_resource object = []
 
+-- the textures that are reached through an object, by what is wanted of it
 abbrev pub textures_as : Wanted → HandleValue → List ℕ
 textures_as asked object = textures_by (reaching asked) object
 
@@ -167,9 +175,11 @@ query_sets_by bound_resources object = []
 query_sets_by bundled_resources object = in_bundle query_set_in (known_bundle object)
 query_sets_by no_resource object = []
 
+-- the query sets that are reached through an object, by what is wanted of it
 abbrev pub query_sets_as : Wanted → HandleValue → List ℕ
 query_sets_as asked object = query_sets_by (reaching asked) object
 
+-- the numbers that are reached through objects, one object after another
 abbrev pub numbers_by : (Wanted → HandleValue → List ℕ) → List (HandleValue × Wanted) → List ℕ
 numbers_by which [] = []
 numbers_by which (object ∷ objects) = which object.1 object.0 ++ numbers_by which objects
@@ -198,6 +208,7 @@ any_named names test commands = list_any (λ kept. list_any test (names kept.1))
 abbrev pub names_by : (Wanted → HandleValue → List ℕ) → (ℕ → Bool) → HandleValue × Wanted → Bool
 names_by which test object = list_any test (which object.1 object.0)
 
+-- whether a resource that is reached through an object passes the test
 abbrev pub names_resource : (ℕ → Bool) → HandleValue × Wanted → Bool
 names_resource test object = names_by buffers_as test object || (names_by textures_as test object || names_by query_sets_as test object)
 
@@ -205,6 +216,7 @@ names_resource test object = names_by buffers_as test object || (names_by textur
 abbrev pub any_object : (HandleValue × Wanted → Bool) → List (On × Command) → Bool
 any_object holds commands = list_any (λ kept. list_any holds (named kept.1)) commands
 
+-- whether a resource that recorded commands name passes the test
 abbrev pub any_resource : (ℕ → Bool) → List (On × Command) → Bool
 any_resource test commands = any_named resources test commands
 

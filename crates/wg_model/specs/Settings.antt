@@ -25,6 +25,7 @@ depth_by depth brackets.PushGroup = depth + 1
 depth_by depth brackets.PopGroup = depth - 1
 depth_by depth brackets.Neither = depth
 
+-- how many debug groups are open after a command, of so many before
 abbrev pub depth_after : ℕ → Command → ℕ
 depth_after depth command = depth_by depth (bracket command)
 
@@ -40,6 +41,7 @@ setting_pipeline (set_group index group offsets) = None
 setting_pipeline (set_vertex_buffer slot buffer offset size) = None
 setting_pipeline (set_index_buffer buffer format offset size) = None
 
+-- the pipeline that a command sets, by what it is to its pass
 abbrev pub pipeline_given_by : Act HandleValue → Option HandleValue
 pipeline_given_by (begins begin) = None
 pipeline_given_by (sets setting) = setting_pipeline setting
@@ -61,6 +63,7 @@ unsets_by (occludes call) = false
 unsets_by (executes bundles) = true
 unsets_by neither = false
 
+-- whether a command unsets all that is set: bundles that are executed do
 abbrev pub unsets : Command → Bool
 unsets command = unsets_by (act command)
 
@@ -81,6 +84,7 @@ setting_group (set_group index group offsets) = Some (index, record { group = gr
 setting_group (set_vertex_buffer slot buffer offset size) = None
 setting_group (set_index_buffer buffer format offset size) = None
 
+-- the group that a command sets, with its index and offsets, by what it is to its pass
 abbrev pub group_given_by : Act HandleValue → Option (ℕ × BoundGroup)
 group_given_by (begins begin) = None
 group_given_by (sets setting) = setting_group setting
@@ -108,6 +112,7 @@ pub record Settings : Type 0 where
   pub groups : List (Option BoundGroup)
   pub depth : ℕ
 
+-- what is set after commands of a pass, and how many of its debug groups are open
 abbrev pub settings : List Command → Settings
 settings earlier = record { pipeline = pipeline_set earlier; groups = groups_set earlier; depth = debug_depth earlier }
 
@@ -116,6 +121,7 @@ abbrev pub pipeline_layouts : Option HandleValue → List GroupLayoutInfo
 pipeline_layouts None = []
 pipeline_layouts (Some pipeline) = layouts_in pipeline.info
 
+-- the layouts of the groups of the pipeline that is set
 abbrev pub layouts_set : Settings → List GroupLayoutInfo
 layouts_set set = pipeline_layouts set.pipeline
 
@@ -132,6 +138,7 @@ end_rules_by depth brackets.PushGroup = []
 end_rules_by depth brackets.PopGroup = []
 end_rules_by depth brackets.Neither = []
 
+-- the rule of the end of a pass: 310 no debug group of it is open
 abbrev pub end_rules : ℕ → Command → List Rule
 end_rules depth command = end_rules_by depth (bracket command)
 

@@ -35,6 +35,7 @@ attribute_room limits buffer = if buffer.stride == 0 then limits.max_vertex_buff
 abbrev pub attribute_fits : ℕ → VertexAttribute → Bool
 attribute_fits room attribute = nat_le (attribute_end attribute) room && attribute.offset % min 4 (vertex_bytes attribute.format) == 0
 
+-- whether each attribute of a vertex buffer fits it
 abbrev pub attributes_fit : Limits → VertexBuffer → Bool
 attributes_fit limits buffer = list_all (attribute_fits (attribute_room limits buffer)) buffer.attributes
 
@@ -68,5 +69,6 @@ abbrev pub ranges_serve : List VertexBuffer → List (Option ℕ) → ℕ → Op
 ranges_serve [] ranges slot vertices instances = true
 ranges_serve (buffer ∷ buffers) ranges slot vertices instances = bytes_serve buffer (unwrap_or (slice_index_or ranges slot None) 0) (counted_by_step buffer.step vertices instances) && ranges_serve buffers ranges (slot + 1) vertices instances
 
+-- whether the ranges that are set at the slots of vertex buffers serve a draw
 unfoldable pub draw_fits : List VertexBuffer → List (Option ℕ) → Option ℕ → ℕ → Bool
 draw_fits buffers ranges vertices instances = ranges_serve buffers ranges 0 vertices instances

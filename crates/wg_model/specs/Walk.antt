@@ -59,6 +59,7 @@ rule_by device begin brackets.PushGroup earlier command = None
 rule_by device begin brackets.PopGroup earlier command = None
 rule_by device begin brackets.Neither earlier command = None
 
+-- the first unmet rule of a command of a pass, after the earlier ones
 abbrev pub rule_in : ℕ → Command → List Command → Command → Option ℕ
 rule_in device begin earlier command = rule_by device (begin_of begin) (bracket begin) earlier command
 
@@ -86,11 +87,13 @@ does_by begin brackets.PushGroup earlier command = None
 does_by begin brackets.PopGroup earlier command = None
 does_by begin brackets.Neither earlier command = None
 
+-- what a command of a pass does, after the earlier ones
 abbrev pub pass_does : Command → List Command → Command → Option Doing
 pass_does begin earlier command = does_by (begin_of begin) (bracket begin) earlier command
 
 -- The encoder.
 
+-- whether a command on an encoder begins a pass
 abbrev pub begins_pass : On → Command → Bool
 begins_pass Encoder command = is_begin command
 begins_pass (Pass number) command = false
@@ -115,6 +118,7 @@ abbrev pub pass_begun : Option PassSoFar → ℕ → Command → Option PassSoFa
 pass_begun (Some pass) number command = Some pass
 pass_begun None number command = if is_begin command then Some (record { number = number; begin = command; earlier = [] }) else None
 
+-- the open pass after one more command, if one is open
 abbrev pub open_after : Option PassSoFar → ℕ → On → Command → Option PassSoFar
 open_after opened number Encoder command = pass_begun opened number command
 open_after opened number (Pass pass) command = if is_open opened pass then pass_after opened command else opened
@@ -139,10 +143,12 @@ abbrev pub depth_free : ℕ → Option PassSoFar → Command → ℕ
 depth_free depth None command = depth_after depth command
 depth_free depth (Some pass) command = depth
 
+-- how many debug groups of the encoder itself are open after one more command
 abbrev pub depth_on : ℕ → Option PassSoFar → On → Command → ℕ
 depth_on depth opened Encoder command = depth_free depth opened command
 depth_on depth opened (Pass pass) command = depth
 
+-- how many debug groups of the encoder itself are open
 abbrev pub encoder_depth : Kept → ℕ
 encoder_depth [] = 0
 encoder_depth (kept ∷ older) = depth_on (encoder_depth older) (open_pass older) kept.0 kept.1
@@ -174,6 +180,7 @@ verdict device (kept ∷ older) = option_or (verdict device older) (given device
 abbrev pub bundled : List (On × Command) → List Command
 bundled commands = map (λ (kept : On × Command). kept.1) (reverse commands)
 
+-- the rule that invalidated the encoder or bundle encoder of a recording first, if one did
 abbrev pub Verdict : ℕ → Option TargetInfo → List (On × Command) → Option ℕ
 Verdict device None commands = verdict device (reverse commands)
 Verdict device (Some targets) commands = bundle_verdict device targets (bundled commands)
@@ -188,13 +195,16 @@ abbrev pub does_within : Option PassSoFar → Command → Option Doing
 does_within None command = None
 does_within (Some pass) command = pass_does pass.begin pass.earlier command
 
+-- what a command on a pass does, which on a pass that is not the open one is nothing
 abbrev pub does_in_pass : Option PassSoFar → ℕ → Command → Option Doing
 does_in_pass opened pass command = if is_open opened pass then does_within opened command else None
 
+-- what a command does on what it stands
 abbrev pub does_at : Option PassSoFar → On → Command → Option Doing
 does_at opened Encoder command = encoder_does command
 does_at opened (Pass pass) command = does_in_pass opened pass command
 
+-- what the kept commands do, in order
 abbrev pub doings : Kept → List Doing
 doings [] = []
 doings (kept ∷ older) = doings older ++ option_to_list (does_at (open_pass older) kept.0 kept.1)
@@ -208,6 +218,7 @@ abbrev pub scopes_at : Option PassSoFar → On → Command → List (List Use)
 scopes_at opened Encoder command = []
 scopes_at opened (Pass pass) command = map scope_in (option_to_list (does_in_pass opened pass command))
 
+-- the usage scopes that the kept commands complete, in order
 abbrev pub usage_scopes : Kept → List (List Use)
 usage_scopes [] = []
 usage_scopes (kept ∷ older) = usage_scopes older ++ scopes_at (open_pass older) kept.0 kept.1
@@ -216,9 +227,11 @@ usage_scopes (kept ∷ older) = usage_scopes older ++ scopes_at (open_pass older
 abbrev pub encoder_scopes : ℕ → Kept → List (List Use)
 encoder_scopes device kept = if is_none (verdict device kept) && is_none (open_pass kept) then usage_scopes kept else []
 
+-- the usage scope of a bundle: all that its commands touch, where no rule is unmet, and else none
 abbrev pub bundle_scopes : ℕ → TargetInfo → List Command → List (List Use)
 bundle_scopes device targets earlier = if is_none (bundle_verdict device targets earlier) then scope_in (name.RenderPass, (bundle_set targets earlier).touches) ∷ [] else []
 
+-- the usage scopes of a recording, in order
 abbrev pub ScopesOf : ℕ → Option TargetInfo → List (On × Command) → List (List Use)
 ScopesOf device None commands = encoder_scopes device (reverse commands)
 ScopesOf device (Some targets) commands = bundle_scopes device targets (bundled commands)
@@ -227,6 +240,7 @@ ScopesOf device (Some targets) commands = bundle_scopes device targets (bundled 
 abbrev pub encoder_deeds : ℕ → Kept → List Deed
 encoder_deeds device kept = if is_none (verdict device kept) && is_none (open_pass kept) then deeds kept else []
 
+-- what the commands of a recording do, in order; of a bundle encoder's nothing
 abbrev pub DeedsOf : ℕ → Option TargetInfo → List (On × Command) → List Deed
 DeedsOf device None commands = encoder_deeds device (reverse commands)
 DeedsOf device (Some targets) commands = []
@@ -239,6 +253,7 @@ touched_within device targets earlier = if is_none (bundle_verdict device target
 abbrev pub no_targets : TargetInfo
 no_targets = record { colors = []; depth = None; samples = 1; depth_read_only = false; stencil_read_only = false }
 
+-- what is known of the bundle that a recording makes; of an encoder's, one without targets that touches nothing
 abbrev pub bundle_of : ℕ → Option TargetInfo → List (On × Command) → BundleInfo
 bundle_of device None commands = record { targets = no_targets; named = references_within commands; touches = [] }
 bundle_of device (Some targets) commands =
