@@ -81,8 +81,9 @@ touches_within (Some bundle) = map bundle_touch bundle.touches
 abbrev pub executed_touches : List HandleValue → List Touch
 executed_touches bundles = flat_map (λ bundle. touches_within (known_bundle bundle)) bundles
 
--- What is known of the touches of a bundle: for each way of use those of that way, in printed form. A part that is used has a run
--- without cells, so that it counts as used also where none of its cells is accessed.
+-- What is known of the touches of a bundle: for each way of use those of that way, in printed form. A buffer that is used has a
+-- run without bytes, so that it counts as used also where none of them is accessed; of a texture a layer or slice that is used
+-- is accessed as well.
 
 -- whether a touch is used and accessed as one of the four ways of use has it
 abbrev pub is_used_so : BundleUse → Touch → Bool
@@ -118,8 +119,7 @@ bundle_touches touches = touched_so Input touches ++ (touched_so Constant touche
 abbrev pub references_within : List (On × Command) → List ObjRef
 references_within commands = flat_map (λ (kept : On × Command). map (λ (object : HandleValue × Wanted). object.0.reference) (named kept.1)) commands
 
--- the resources that a bundle uses, which are those that its commands name: the buffers, the textures, and the query sets, of
--- which there are none
+-- the buffer of some cells, if they are of one
 abbrev pub buffer_in : Cells → List ℕ
 buffer_in (Bytes object lo hi) = object ∷ []
 buffer_in (Layers object aspect mip lo hi) = []

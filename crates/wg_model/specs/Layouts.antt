@@ -62,7 +62,7 @@ may_write (Sampler sampler_type) = false
 may_write (Texture sample dim multi) = false
 may_write (StorageTexture access format dim) = is_written access
 
--- whether a sample type is float, which a filter may take
+-- whether a sample type is float
 abbrev pub is_float : SampleType → Bool
 is_float Float = true
 is_float _ = false

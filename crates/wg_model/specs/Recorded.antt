@@ -151,7 +151,7 @@ buffers_by no_resource object = []
 abbrev pub buffers_as : Wanted → HandleValue → List ℕ
 buffers_as asked object = buffers_by (reaching asked) object
 
--- likewise of the textures
+-- the numbers of the textures that are reached
 abbrev pub textures_by : Reaching → HandleValue → List ℕ
 textures_by own_buffer object = []
 textures_by own_texture object = object.reference.number ∷ []
@@ -165,7 +165,7 @@ textures_by no_resource object = []
 abbrev pub textures_as : Wanted → HandleValue → List ℕ
 textures_as asked object = textures_by (reaching asked) object
 
--- and of the query sets
+-- the numbers of the query sets that are reached
 abbrev pub query_sets_by : Reaching → HandleValue → List ℕ
 query_sets_by own_buffer object = []
 query_sets_by own_texture object = []
@@ -184,19 +184,21 @@ abbrev pub numbers_by : (Wanted → HandleValue → List ℕ) → List (HandleVa
 numbers_by which [] = []
 numbers_by which (object ∷ objects) = which object.1 object.0 ++ numbers_by which objects
 
--- the numbers of the buffers that a command names, directly, through a view or through a group, whether or not a step comes of it
+-- the numbers of the buffers that a command names, itself, through a bind group or through a bundle, whether or not a step comes
+-- of it
 abbrev pub buffers_of : Command → List ℕ
 buffers_of command = numbers_by buffers_as (named command)
 
--- likewise of the textures
+-- the numbers of the textures that a command names, itself, through a view that it attaches, through a view in a bind group, or
+-- through a bundle, whether or not a step comes of it
 abbrev pub textures_of : Command → List ℕ
 textures_of command = numbers_by textures_as (named command)
 
--- and of the query sets
+-- the numbers of the query sets that a command names, itself or through a bundle, of which none uses any
 abbrev pub query_sets_of : Command → List ℕ
 query_sets_of command = numbers_by query_sets_as (named command)
 
--- and of all resources
+-- the numbers of all resources that a command names: buffers, textures and query sets
 abbrev pub resources : Command → List ℕ
 resources command = buffers_of command ++ (textures_of command ++ query_sets_of command)
 
