@@ -30,6 +30,7 @@ pub record CanvasValue : Type 0 where
   pub height : ℕ
   pub stage : Stage
 
+-- the format of textures that a format of canvases is
 abbrev pub format_of : CanvasFormat → Format
 format_of format.Rgba8unorm = Rgba8Unorm
 format_of format.Bgra8unorm = Bgra8Unorm
@@ -41,6 +42,7 @@ texture_at Unset = None
 texture_at (Empty setting) = None
 texture_at (Filled setting texture) = Some texture
 
+-- the current texture of a canvas, if it has one
 abbrev pub texture_of : CanvasValue → Option HandleValue
 texture_of canvas = texture_at canvas.stage
 
@@ -50,6 +52,7 @@ setting_at Unset = None
 setting_at (Empty setting) = Some setting
 setting_at (Filled setting texture) = Some setting
 
+-- the format and usage with which a canvas is configured, if it is
 abbrev pub setting_of : CanvasValue → Option Setting
 setting_of canvas = setting_at canvas.stage
 
@@ -69,6 +72,7 @@ asked_at canvas Unset = None
 asked_at canvas (Empty setting) = Some (CreateTexture (info_of canvas setting))
 asked_at canvas (Filled setting texture) = None
 
+-- what a call for the current texture asks of the maker, if anything
 abbrev pub texture_asked : CanvasValue → Option (RequestOf HandleValue)
 texture_asked canvas = asked_at canvas canvas.stage
 
@@ -80,9 +84,11 @@ expired_at Unset = Unset
 expired_at (Empty setting) = Empty setting
 expired_at (Filled setting texture) = Empty setting
 
+-- a canvas without its current texture
 abbrev pub expired : CanvasValue → CanvasValue
 expired canvas = record canvas { stage = expired_at canvas.stage }
 
+-- a canvas that is configured with a format and a usage, without a current texture
 abbrev pub configured : CanvasValue → CanvasFormat → ℕ → CanvasValue
 configured canvas format usage = record canvas { stage = Empty (record { format = format; usage = usage }) }
 
@@ -92,6 +98,7 @@ filled_at Unset texture = Unset
 filled_at (Empty setting) texture = Filled setting texture
 filled_at (Filled setting old) texture = Filled setting old
 
+-- a canvas with this current texture, where it is configured and has none
 abbrev pub filled : CanvasValue → HandleValue → CanvasValue
 filled canvas texture = record canvas { stage = filled_at canvas.stage texture }
 
@@ -104,6 +111,7 @@ IsAnswered stage NotConfigured = stage ≡ Unset
 IsAnswered stage Same = (setting : Setting) × (texture : HandleValue) × (stage ≡ Filled setting texture)
 IsAnswered stage (Made reply) = (setting : Setting) × (stage ≡ Empty setting)
 
+-- the reply that a call for the current texture got, if it asked
 abbrev pub reply_in : Current → Option Reply
 reply_in NotConfigured = None
 reply_in Same = None
@@ -123,6 +131,7 @@ HasTexture (Filled setting texture) = kind_of texture.info ≡ OfTexture
 
 -- ---- any call of a canvas
 
+-- what a call of a canvas asks of the maker, if anything
 abbrev pub act_asked : CanvasValue → CanvasCall → Option (RequestOf HandleValue)
 act_asked canvas (Configure format usage) = expiry_asked canvas
 act_asked canvas AskCurrent = texture_asked canvas
@@ -133,6 +142,7 @@ abbrev pub texture_made : ℕ → RequestOf HandleValue → Answer → Option Ha
 texture_made device (CreateTexture known) (AnswerMade number valid) = Some (record { reference = record { device = device; number = number }; valid = valid; info = TextureInfoOf known })
 texture_made device _ _ = None
 
+-- the handle of the texture that was asked for and made, if one was
 abbrev pub made_if : ℕ → Option (RequestOf HandleValue) → Option Reply → Option HandleValue
 made_if device (Some request) (Some reply) = texture_made device request reply.answer
 made_if device _ _ = None
@@ -146,6 +156,7 @@ abbrev pub filled_if : CanvasValue → Option HandleValue → CanvasValue
 filled_if canvas None = canvas
 filled_if canvas (Some texture) = filled canvas texture
 
+-- a canvas after a call of it, which made this
 abbrev pub acted : CanvasValue → CanvasCall → Option HandleValue → CanvasValue
 acted canvas (Configure format usage) made = configured canvas format usage
 acted canvas AskCurrent made = filled_if canvas made

@@ -11,15 +11,19 @@ pub record CountsValue : Type 0 where
   pub spare : ℕ
   pub room : ℕ
 
+-- the holds of object n that are no objects, or 0
 abbrev pub own_at : List ℕ → ℕ → ℕ
 own_at own n = slice_index_or own n 0
 
+-- the objects to which object n refers, or none
 abbrev pub refers_in : List (List ℕ) → ℕ → List ℕ
 refers_in refers n = slice_index_or refers n []
 
+-- object n as a plain object: held by itself where it has a hold that is no object
 abbrev pub node_at : List ℕ → List (List ℕ) → ℕ → Node
 node_at own refers n = record { held = nat_lt 0 (own_at own n); refers = refers_in refers n }
 
+-- the first n objects as plain objects
 abbrev pub counted_below : List ℕ → List (List ℕ) → ℕ → List Node
 counted_below own refers zero = []
 counted_below own refers (suc n) = counted_below own refers n ++ node_at own refers n ∷ []
@@ -28,6 +32,7 @@ counted_below own refers (suc n) = counted_below own refers n ++ node_at own ref
 unfoldable pub is_counted : List ℕ → List (List ℕ) → ℕ → Bool
 is_counted own refers n = is_held_among (counted_below own refers (length own)) n
 
+-- whether object n is held by counts
 abbrev pub is_held : CountsValue → ℕ → Bool
 is_held v n = is_counted v.own v.refers n
 
@@ -35,6 +40,7 @@ is_held v n = is_counted v.own v.refers n
 abbrev pub one_more : ℕ → ℕ → ℕ → ℕ
 one_more k n holds = if k == n then holds + 1 else holds
 
+-- the holds of each object after one of object k less
 abbrev pub one_less : ℕ → ℕ → ℕ → ℕ
 one_less k n holds = if k == n then holds - 1 else holds
 

@@ -51,6 +51,7 @@ on_ended (Pass pass) targets commands = pass_ended targets commands pass
 abbrev pub is_late : RecorderValue → On → Bool
 is_late recorder on = has_taken recorder || on_ended on recorder.targets recorder.commands
 
+-- how a recorder noted a command: kept, or late
 abbrev pub noted : Bool → Noted
 noted true = Late
 noted false = Kept
@@ -71,6 +72,7 @@ IsBegunOn (Pass pass) passes = pass < passes
 abbrev pub most_takes : ℕ
 most_takes = 18446744073709551615
 
+-- the count of takes after one more
 abbrev pub after_take : ℕ → ℕ
 after_take takes = if nat_lt takes most_takes then takes + 1 else takes
 
@@ -87,6 +89,7 @@ pub record IsTakenAt (takes passes : ℕ) (targets : Option TargetInfo) (command
   pub later : nat_lt 1 takes ≡ true → commands ≡ []
   pub later_left : nat_lt 1 takes ≡ true → targets ≡ targets_left targets
 
+-- A recording is what the last take of a recorder gave: of its device, at its takes.
 abbrev pub IsTakenFrom : RecordingValue → RecorderValue → Type 0
 IsTakenFrom recording recorder =
     (recording.device ≡ recorder.device) × IsTakenAt recorder.takes recorder.passes recording.targets recording.commands

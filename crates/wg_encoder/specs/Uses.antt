@@ -62,6 +62,7 @@ uses_reached bound_resources object = group_uses (known_group object)
 uses_reached bundled_resources object = bundle_uses (known_bundle object)
 uses_reached no_resource object = []
 
+-- the resources that are reached through an object, each as what it is used, by what is wanted of the object
 abbrev pub uses_as : Wanted → HandleValue → List Used
 uses_as asked object = uses_reached (reaching asked) object
 
@@ -69,9 +70,11 @@ uses_as asked object = uses_reached (reaching asked) object
 abbrev pub uses_in : List (HandleValue × Wanted) → List Used
 uses_in objects = flat_map (λ (object : HandleValue × Wanted). uses_as object.1 object.0) objects
 
+-- the resources that recorded commands use, each as what it is used, as they come
 abbrev pub uses_within : List (On × Command) → List Used
 uses_within commands = flat_map (λ kept. uses_in (named kept.1)) commands
 
+-- whether two sorts of resources are the same
 abbrev pub is_sort : Sort → Sort → Bool
 is_sort Buffer Buffer = true
 is_sort Buffer Texture = false

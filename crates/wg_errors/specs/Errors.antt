@@ -2,6 +2,7 @@
 use Rattle.std.specs.Prelude.{ℕ, Bool, List}
 use Rattle.wg_types.specs.declared.replies.Scope.{Scope}
 
+-- what is kept of errors: whether the device is lost, and the open error scopes
 pub record ErrorsValue : Type 0 where
   -- whether the device is lost
   pub lost : Bool

@@ -12,6 +12,7 @@ pub record Holdings : Type 0 where
   pub names : List (List ℕ)
   pub refers : List (List ℕ)
 
+-- holdings of no object
 abbrev pub no_holdings : Holdings
 no_holdings = record { marks = []; names = []; refers = [] }
 
@@ -22,15 +23,19 @@ pub record HoldersValue : Type 0 where
   pub spare : ℕ
   pub room : ℕ
 
+-- the mark of a new object, an encoder or not
 abbrev pub new_mark : Bool → Mark
 new_mark encoder = record { encoder = encoder; ended = false; consumed = false; dropped = None }
 
+-- the mark of no object
 abbrev pub no_mark : Mark
 no_mark = new_mark false
 
+-- the mark of object n
 abbrev pub mark_at : List Mark → ℕ → Mark
 mark_at marks n = slice_index_or marks n no_mark
 
+-- the list of object n among lists, or an empty one
 abbrev pub list_at : List (List ℕ) → ℕ → List ℕ
 list_at lists n = slice_index_or lists n []
 
@@ -59,9 +64,11 @@ is_held h n = is_held_in (holds_at h) (length h.marks) n
 abbrev pub with_made : Bool → Links → Holdings → Holdings
 with_made encoder links h = record { marks = h.marks ++ new_mark encoder ∷ []; names = h.names ++ links.names ∷ []; refers = h.refers ++ links.refers ∷ [] }
 
+-- a mark, ended where that is said
 abbrev pub with_ended : Bool → Mark → Mark
 with_ended b mark = record mark { ended = b || mark.ended }
 
+-- a mark, consumed where that is said
 abbrev pub with_consumed : Bool → Mark → Mark
 with_consumed b mark = record mark { consumed = b || mark.consumed }
 

@@ -15,6 +15,7 @@ pub record Notes (note : ℕ → Mark → Mark) (old new : List Mark) : Type 0 w
 
 -- Numbers.
 
+-- the sum of a function over the numbers below n
 abbrev pub sum_below : (ℕ → ℕ) → ℕ → ℕ
 sum_below f zero = 0
 sum_below f (suc m) = sum_below f m + f m
@@ -55,9 +56,11 @@ pub record IsOwned (marks : List Mark) (names : List (List ℕ)) (awaited : List
 
 -- Encoders.
 
+-- whether an object is an encoder that is open
 abbrev pub is_open_at : List Mark → ℕ → Bool
 is_open_at marks e = is_open (mark_at marks e)
 
+-- whether the first of a list of encoders is open, if it has one
 abbrev pub starts_open : List Mark → List ℕ → Bool
 starts_open marks [] = true
 starts_open marks (e ∷ opened) = is_open_at marks e
@@ -87,6 +90,7 @@ abbrev pub InOrder : List Mark → ℕ → List Awaited → Type 0
 InOrder marks low [] = Unit {0}
 InOrder marks low (wait ∷ awaited) = (low ≤ wait.made) × ((mark_at marks wait.number).dropped ≡ Some wait.made) × InOrder marks wait.made awaited
 
+-- whether the first of what waits is awaited by an encoder that is open, if there is one
 abbrev pub starts_awaited : List ℕ → List Awaited → Bool
 starts_awaited opened [] = true
 starts_awaited opened (wait ∷ awaited) = first_below opened wait.made

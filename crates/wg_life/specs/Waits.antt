@@ -27,6 +27,7 @@ pub record IsGone (rows : List Row) (h : Holdings) (gone : List Bool) : Type 0 w
 abbrev pub waits : Row → Bool → Bool
 waits row gone = is_some row.resource && gone && not row.released
 
+-- whether object n is a resource that is gone and not released
 abbrev pub is_waiting : List Row → List Bool → ℕ → Bool
 is_waiting rows gone n = waits (row_at rows n) (gone_at gone n)
 
@@ -64,9 +65,11 @@ with_number n (m ∷ ms) = if nat_lt n m then n ∷ m ∷ ms else m ∷ with_num
 abbrev pub is_early : ℕ → Wait → Bool
 is_early done wait = nat_le wait.last done
 
+-- how many of what waits are due, where the operations up to this one are complete
 abbrev pub early : ℕ → List Wait → ℕ
 early done listed = length (filter (is_early done) listed)
 
+-- whether the first of what waits is not due, if there is one
 abbrev pub starts_late : ℕ → List Wait → Bool
 starts_late done [] = true
 starts_late done (wait ∷ listed) = not (is_early done wait)
@@ -100,5 +103,6 @@ pub record IsReleasing (done : ℕ) (first rows : List Row) (gone : List Bool) (
   pub due_len : length due ≡ length (picked (is_taken_out first rows gone) (length first))
   pub due_are : (n : ℕ) → times n due ≡ times n (picked (is_taken_out first rows gone) (length first))
 
+-- object n with its sort of resource, if it is one
 abbrev pub sort_at : List Row → ℕ → List (ℕ × Sort)
 sort_at rows n = option_to_list (option_map (λ (sort : Sort). (n, sort)) (sort_of (row_at rows n)))

@@ -194,7 +194,7 @@ buffers_of command = numbers_by buffers_as (named command)
 abbrev pub textures_of : Command → List ℕ
 textures_of command = numbers_by textures_as (named command)
 
--- the numbers of the query sets that a command names, itself or through a bundle, of which none uses any
+-- the numbers of the query sets that a command names, itself or through a bundle
 abbrev pub query_sets_of : Command → List ℕ
 query_sets_of command = numbers_by query_sets_as (named command)
 

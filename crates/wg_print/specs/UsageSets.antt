@@ -19,5 +19,6 @@ chosen_words set words = map (λ w. w.1) (filter (λ w. bit_and set w.0 == w.0) 
 unfoldable pub words_text : ℕ → List (ℕ × List ℕ) → List ℕ
 words_text set words = join_with_byte 43 (chosen_words set words)
 
+-- the words of a set of usages, as they are printed
 unfoldable pub usages_text : Usages → List ℕ
 usages_text set = words_text set.0 usage_words
