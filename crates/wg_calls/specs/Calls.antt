@@ -106,10 +106,12 @@ recording_of recorder = record { device = recorder.device; targets = recorder.ta
 -- The end of an encoder with what its recorder hands over, which is that of a bundle encoder where it has targets, and what is known
 -- of that which it makes.
 
+-- the event that ends an encoder or a bundle encoder with a recording
 abbrev pub finish_event : Option TargetInfo → ObjRef → RecordingValue → Event
 finish_event None encoder recording = event.Finish encoder recording
 finish_event (Some targets) encoder recording = event.FinishBundle encoder recording
 
+-- what is known of what an end makes: a command buffer, or the bundle of a recording
 abbrev pub finished_info : Option TargetInfo → RecordingValue → Info
 finished_info None recording = info.CommandBuffer
 finished_info (Some targets) recording = info.Bundle (bundle_of recording.device recording.targets recording.commands)
@@ -118,6 +120,7 @@ finished_info (Some targets) recording = info.Bundle (bundle_of recording.device
 abbrev pub finish_of : ObjRef → RecorderValue → Event
 finish_of encoder recorder = finish_event recorder.targets encoder (recording_of recorder)
 
+-- what is known of what an end makes of a recorder
 abbrev pub known_of_finish : RecorderValue → Info
 known_of_finish recorder = finished_info recorder.targets (recording_of recorder)
 

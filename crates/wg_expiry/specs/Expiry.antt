@@ -22,6 +22,7 @@ abbrev pub DestroyExpires : Type 0
 DestroyExpires = (setup : Setup) (past : Past) (entry : Entry) (object : ObjRef) → entry.event ≡ Destroy object
     → is_own setup past has_memory object ≡ true → is_dropped setup past object.number ≡ false → is_destroyed setup (entry ∷ past) object.number ≡ true
 
+-- What is destroyed stays destroyed.
 abbrev pub StaysExpired : Type 0
 StaysExpired = (setup : Setup) (newer past : Past) (n : ℕ) → is_destroyed setup past n ≡ true → is_destroyed setup (newer ++ past) n ≡ true
 
@@ -33,6 +34,7 @@ submit_before setup past buffers = listed_rules setup past buffers
     ∷ ((192, not (any_used buffers_of (is_busy setup past) past buffers))
     ∷ [])))
 
+-- the rules of a writeTexture that come before that of a destroyed texture
 abbrev pub write_before : Setup → Past → ObjRef → TextureSpot → DataLayout → List ℕ → ℕ → List Rule
 write_before setup past texture spot layout size data_size =
     (10, is_own setup past is_texture_info texture)
@@ -58,6 +60,8 @@ WriteIsPlain = (setup : Setup) (past : Past) (texture : ObjRef) (spot : TextureS
     → is_destroyed setup past texture.number ≡ true
     → (reply_to setup past (WriteTexture texture spot layout size data_size)).answer ≡ Plain
 
+-- A writeTexture of a destroyed texture that meets all earlier rules, on a device that is not lost, has a fault of rule
+-- 210.
 abbrev pub WriteIsRefused : Type 0
 WriteIsRefused = (setup : Setup) (past : Past) (texture : ObjRef) (spot : TextureSpot) (layout : DataLayout) (size : List ℕ) (data_size : ℕ)
     → is_destroyed setup past texture.number ≡ true

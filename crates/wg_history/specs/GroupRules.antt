@@ -45,6 +45,7 @@ create_pipeline_layout_rule setup past layouts =
 abbrev pub group_named : ObjRef → List (GroupEntryOf ObjRef) → List (ObjRef × Wanted)
 group_named layout entries = (layout, wanted.GroupLayout) ∷ entries_named entries
 
+-- the first unmet rule of a createBindGroup: those on the objects that it names, and then its own
 unfoldable pub create_bind_group_rule : Setup → Past → ObjRef → List (GroupEntryOf ObjRef) → Option ℕ
 create_bind_group_rule setup past layout entries =
     first_unmet (named_rules setup past (group_named layout entries)

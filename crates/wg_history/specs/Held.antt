@@ -46,6 +46,7 @@ refers_of (Bundle info) = map (λ (object : ObjRef). object.number) info.named
 abbrev pub refers_made : Event → List ℕ
 refers_made event = option_map_or refers_of (info_made unknown event) []
 
+-- the objects to which object n refers, if it is valid, and else none
 abbrev pub refers_at : Past → ℕ → List ℕ
 refers_at past n = if is_valid past n then option_map_or (λ entry. refers_made entry.event) (maker past n) [] else []
 

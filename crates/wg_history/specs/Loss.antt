@@ -23,10 +23,12 @@ abbrev pub caught : Option Fault → List Scope → List Scope
 caught None scopes = scopes
 caught (Some fault) scopes = caught_in fault.caught (record { kind = fault.kind; rule = fault.rule }) scopes
 
+-- the open error scopes after a push, if there is one
 abbrev pub pushed_on : Option Filter → List Scope → List Scope
 pushed_on None scopes = scopes
 pushed_on (Some filter) scopes = scopes ++ record { filter = filter; first = None } ∷ []
 
+-- the open error scopes after a pop, if the event is one
 abbrev pub popped_off : Form → Bool → List Scope → List Scope
 popped_off (Promising ForError) lost scopes = popped lost scopes
 popped_off (Promising ForWork) lost scopes = scopes
@@ -94,6 +96,7 @@ abbrev pub is_of : ℕ → Awaited → Bool
 is_of n (mapping buffer last m) = buffer == n
 is_of n (work ops) = false
 
+-- whether a promise that waits is of a map of buffer n
 abbrev pub is_map_of : ℕ → Wait → Bool
 is_map_of n wait = is_of n wait.awaited
 

@@ -48,9 +48,11 @@ dropped_at setup (entry ∷ older) n =
     if drops (is_some (dropped_at setup older n)) setup older entry.event n then Some (count older)
     else dropped_at setup older n
 
+-- whether object n was dropped
 abbrev pub is_dropped : Setup → Past → ℕ → Bool
 is_dropped setup past n = is_some (dropped_at setup past n)
 
+-- the first unmet rule of a drop
 unfoldable pub drop_rule : Setup → Past → ObjRef → Option ℕ
 drop_rule setup past object = first_unmet (drop_list (is_dropped setup past object.number) setup past object)
 
@@ -63,6 +65,7 @@ create_view_list setup past texture desc =
     ∷ ((12, is_valid past texture.number)
     ∷ create_view_rules (texture_or_none_at past texture.number) desc))
 
+-- the first unmet rule of a createView
 unfoldable pub create_view_rule : Setup → Past → ObjRef → ViewDesc → Option ℕ
 create_view_rule setup past texture desc = first_unmet (create_view_list setup past texture desc)
 
@@ -93,12 +96,15 @@ unmaps setup past event n =
 abbrev pub mapped_whole : Answer → BufferInfo → Option Mapping
 mapped_whole answer info = if info.mapped && is_made_valid answer then Some (record { mode = WriteMode; lo = 0; hi = info.size }) else None
 
+-- how a new buffer is mapped: for writing and whole, where it is valid and mapped at creation
 abbrev pub mapped_with : Answer → Option Info → Option Mapping
 mapped_with answer known = option_and_then (mapped_whole answer) (option_and_then as_buffer known)
 
+-- how the buffer is mapped that an entry makes, if it makes one
 abbrev pub mapped_made : Entry → Option Mapping
 mapped_made entry = mapped_with entry.reply.answer (info_made unknown entry.event)
 
+-- whether a settlement is that of a map that is mapped
 abbrev pub is_mapped_how : How → Bool
 is_mapped_how Mapped = true
 is_mapped_how Done = false
@@ -147,6 +153,7 @@ map_async_list setup past buffer mode offset size =
     ∷ (map_rules (unwrap_or (buffer_at past buffer.number) no_buffer) mode offset size
     ++ (225, not (is_busy setup past buffer.number)) ∷ [])))
 
+-- the first unmet rule of a mapAsync
 unfoldable pub map_async_rule : Setup → Past → ObjRef → ℕ → ℕ → ℕ → Option ℕ
 map_async_rule setup past buffer mode offset size = first_unmet (map_async_list setup past buffer mode offset size)
 
@@ -160,6 +167,7 @@ write_buffer_list setup past buffer offset size =
     ∷ (write_buffer_rules (unwrap_or (buffer_at past buffer.number) no_buffer) offset size
     ++ (203, not (is_busy setup past buffer.number)) ∷ [])))
 
+-- the first unmet rule of a writeBuffer
 unfoldable pub write_buffer_rule : Setup → Past → ObjRef → ℕ → ℕ → Option ℕ
 write_buffer_rule setup past buffer offset size = first_unmet (write_buffer_list setup past buffer offset size)
 
@@ -173,6 +181,7 @@ write_texture_list setup past texture spot layout size data_size =
     ∷ (write_texture_rules (texture_or_none_at past texture.number) spot layout size data_size
     ++ (210, not (is_destroyed setup past texture.number)) ∷ [])))
 
+-- the first unmet rule of a writeTexture
 unfoldable pub write_texture_rule : Setup → Past → ObjRef → TextureSpot → DataLayout → List ℕ → ℕ → Option ℕ
 write_texture_rule setup past texture spot layout size data_size = first_unmet (write_texture_list setup past texture spot layout size data_size)
 
@@ -203,6 +212,7 @@ any_barred setup past encoder commands = list_any (λ kept. list_any (is_barred 
 abbrev pub ends_encoder : Setup → Past → Event → ℕ → Bool
 ends_encoder setup past event n = option_map_or (λ encoder. encoder.number == n && is_own setup past takes_commands encoder) (effects_of event).ended false
 
+-- whether a finish or finishBundle named the encoder n of this device, accepted or not
 abbrev pub has_finished : Setup → Past → ℕ → Bool
 has_finished setup [] n = false
 has_finished setup (entry ∷ older) n = ends_encoder setup older entry.event n || has_finished setup older n
@@ -249,6 +259,7 @@ finish_bundle_rule setup past encoder recording =
 abbrev pub consumes : Setup → Past → Event → ℕ → Bool
 consumes setup past event n = list_any (λ buffer. buffer.number == n && is_own setup past is_command_buffer buffer) (submitted event)
 
+-- whether a submit listed the command buffer n of this device, accepted or not
 abbrev pub is_consumed : Setup → Past → ℕ → Bool
 is_consumed setup [] n = false
 is_consumed setup (entry ∷ older) n = consumes setup older entry.event n || is_consumed setup older n
@@ -286,5 +297,6 @@ together_rules setup past buffers =
 abbrev pub submit_list : Setup → Past → List ObjRef → List Rule
 submit_list setup past buffers = listed_rules setup past buffers ++ together_rules setup past buffers
 
+-- the first unmet rule of a submit
 unfoldable pub submit_rule : Setup → Past → List ObjRef → Option ℕ
 submit_rule setup past buffers = first_unmet (submit_list setup past buffers)

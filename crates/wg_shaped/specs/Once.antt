@@ -31,6 +31,7 @@ abbrev pub IsFairInfo : Option BundleInfo → Type 0
 IsFairInfo None = Unit {0}
 IsFairInfo (Some bundle) = EachRow (λ touch. is_scoped touch.cells ≡ true) bundle.touches
 
+-- A handle tells of a bundle that touches no queries, and views with a dimension of their textures.
 abbrev pub IsFairBundle : HandleValue → Type 0
 IsFairBundle bundle = IsFairInfo (known_bundle bundle)
 

@@ -29,6 +29,7 @@ IsWithinLimits limits (Texture info) = (within_limits limits info.dim info.size 
 IsWithinLimits limits (Queries info) = info.count ≤ limits.max_queries_per_set
 IsWithinLimits limits _ = Unit {0}
 
+-- In a run each valid object is within the limits of the device.
 abbrev pub ObjectsAreWithinLimits : Type 0
 ObjectsAreWithinLimits =
     (setup : Setup) (history : List Entry) (n : ℕ) (info : Info)
@@ -42,6 +43,7 @@ abbrev pub IsMappedWithin : Limits → Option Mapping → Type 0
 IsMappedWithin limits None = Unit {0}
 IsMappedWithin limits (Some m) = m.hi ≤ limits.max_buffer_size
 
+-- In a run what is mapped of a buffer is within the limits of the device.
 abbrev pub MappingsAreWithinLimits : Type 0
 MappingsAreWithinLimits = (setup : Setup) (history : List Entry) (n : ℕ) → Run setup history → IsMappedWithin setup.limits (mapped_at setup (reverse history) n)
 

@@ -40,12 +40,15 @@ IsPlaceWithin most (Host entry) = entry < most
 abbrev pub IsPartWithin : ℕ → PartRun → Type 0
 IsPartWithin most run = run_object run < most
 
+-- The object of a run of cells has a number below a bound.
 abbrev pub AreCellsWithin : ℕ → Cells → Type 0
 AreCellsWithin most run = run_object (run_part run) < most
 
+-- The number of an object is below a bound.
 abbrev pub IsObjectWithin : ℕ → ℕ → Type 0
 IsObjectWithin most number = number < most
 
+-- All objects of an item, and its place, are below a bound.
 abbrev pub IsItemWithin : ℕ → Item → Type 0
 IsItemWithin most = ItemHas (IsPlaceWithin most) (IsPartWithin most) (AreCellsWithin most) (IsObjectWithin most)
 
@@ -60,18 +63,22 @@ IsSmallRange (BufferPart object) = Unit {0}
 IsSmallRange (QueryPart object) = Unit {0}
 IsSmallRange (LayerParts object aspect mip lo hi) = (mip ≤ most_32) × (hi ≤ most_32)
 
+-- The numbers of a run of cells, but for its object, are ones that the reader of traces takes.
 abbrev pub HaveSmallRange : Cells → Type 0
 HaveSmallRange (Bytes object lo hi) = hi ≤ most_53
 HaveSmallRange (Queries object lo hi) = hi ≤ most_32
 HaveSmallRange (Layers object aspect mip lo hi) = (mip ≤ most_32) × (hi ≤ most_32)
 HaveSmallRange (Slices object mip lo hi) = (mip ≤ most_32) × (hi ≤ most_32)
 
+-- Nothing is asked of a place.
 abbrev pub IsAnyPlace : StepPlace → Type 0
 IsAnyPlace place = Unit {0}
 
+-- Nothing is asked of an object's number.
 abbrev pub IsAnyObject : ℕ → Type 0
 IsAnyObject number = Unit {0}
 
+-- All ranges of a step have numbers that the reader of traces takes.
 abbrev pub HasSmallRanges : Step → Type 0
 HasSmallRanges = StepHas IsAnyPlace IsSmallRange HaveSmallRange
 

@@ -30,9 +30,11 @@ pub record SpentValue : Type 0 where
 abbrev pub kept_at : List (ℕ × RecordingValue) → ℕ → Option RecordingValue
 kept_at kept n = lookup (nat_eq n) kept
 
+-- the commands of a recording, or none where there is none
 abbrev pub commands_of : Option RecordingValue → List (On × Command)
 commands_of o = option_map_or (λ (recording : RecordingValue). recording.commands) o []
 
+-- what the commands of a recording do, or nothing where there is none
 abbrev pub deeds_of : Option RecordingValue → List Deed
 deeds_of o = option_map_or (λ (recording : RecordingValue). DeedsOf recording.device recording.targets recording.commands) o []
 
@@ -48,6 +50,7 @@ is_spent setup past n = is_consumed setup past n || is_dropped setup past n
 abbrev pub any_spent : Setup → Past → List ObjRef → Bool
 any_spent setup past buffers = list_any (λ buffer. is_spent setup past buffer.number) buffers
 
+-- a recording, or none where it is forgotten
 abbrev pub forgotten : Bool → Option RecordingValue → Option RecordingValue
 forgotten b recording = if b then None else recording
 
