@@ -8,6 +8,7 @@ abbrev pub reader_text : Option ℕ → List ℕ
 reader_text None = codes "end"
 reader_text (Some step) = decimal step
 
+-- the line of a clash
 abbrev pub clash_text : Clash → List ℕ
 clash_text clash = codes "differs " ++ reader_text clash.reader ++ codes " " ++ decimal clash.writer ++ codes " " ++ cells_text clash.cell ++ codes "\n"
 

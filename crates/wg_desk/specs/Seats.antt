@@ -39,6 +39,7 @@ found_at seats n = unwrap_or (handle_at seats n) no_object
 abbrev pub is_missing : List Seat → ℕ × Wanted → Bool
 is_missing seats used = is_none (handle_at seats used.0)
 
+-- whether some number that a call names has no handle
 abbrev pub any_missing : List Seat → List (ℕ × Wanted) → Bool
 any_missing seats useds = list_any (is_missing seats) useds
 
@@ -67,6 +68,7 @@ changed_at seats n change = option_map_or (λ seat. slice_set seats n (change se
 abbrev pub recorded_in : On → Command → Seat → Seat
 recorded_in on command seat = record { handle = seat.handle; recorder = option_map (λ recorder. recorded recorder on command) seat.recorder }
 
+-- the seats after a command on the recorder of a number
 abbrev pub recorded_at : List Seat → ℕ → On → Command → List Seat
 recorded_at seats n on command = changed_at seats n (recorded_in on command)
 
@@ -74,6 +76,7 @@ recorded_at seats n on command = changed_at seats n (recorded_in on command)
 abbrev pub closed : Seat → Seat
 closed seat = record { handle = seat.handle; recorder = None }
 
+-- the seats without the recorder of a number
 abbrev pub closed_at : List Seat → ℕ → List Seat
 closed_at seats n = changed_at seats n closed
 
@@ -81,6 +84,7 @@ closed_at seats n = changed_at seats n closed
 abbrev pub reopened : RecorderValue → Seat → Seat
 reopened recorder seat = record { handle = seat.handle; recorder = Some recorder }
 
+-- the seats with this recorder at a number
 abbrev pub reopened_at : List Seat → ℕ → RecorderValue → List Seat
 reopened_at seats n recorder = changed_at seats n (reopened recorder)
 
@@ -88,6 +92,7 @@ reopened_at seats n recorder = changed_at seats n (reopened recorder)
 abbrev pub emptied : Seat → Seat
 emptied seat = record { handle = None; recorder = None }
 
+-- the seats without the object of a number
 abbrev pub emptied_at : List Seat → ℕ → List Seat
 emptied_at seats n = changed_at seats n emptied
 

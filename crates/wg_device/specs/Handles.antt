@@ -28,6 +28,7 @@ AreGenuine setup history handles = All (λ used. IsGenuine setup history used.0)
 abbrev pub IsGenuineIn : Lock → DevicePass → HandleValue → Type 0
 IsGenuineIn lock pass handle = IsGenuine (setup_of lock) (front_in lock pass) handle
 
+-- All handles that are named are genuine in what a pass has seen.
 abbrev pub AreGenuineIn : Lock → DevicePass → List (HandleValue × Wanted) → Type 0
 AreGenuineIn lock pass handles = AreGenuine (setup_of lock) (front_in lock pass) handles
 

@@ -15,6 +15,7 @@ use Rattle.wg_gen.specs.declared.draws.Spot.{Spot}
 abbrev pub next : ℕ → ℕ
 next state = (state * 1103515245 + 12345) % 2147483648
 
+-- the number that is drawn of a state
 abbrev pub drawn : ℕ → ℕ
 drawn state = next state / 65536
 
@@ -22,6 +23,7 @@ drawn state = next state / 65536
 abbrev pub spot_by : ℕ → ℕ → ℕ → Spot
 spot_by first second third = record { source = first % 8; target = (first % 8 + 1 + second % 7) % 8; offset = 4 * (third % 256) }
 
+-- where an iteration writes and copies, by the state of its draws
 abbrev pub spot_at : ℕ → Spot
 spot_at state = spot_by (drawn state) (drawn (next state)) (drawn (next (next state)))
 
@@ -40,9 +42,11 @@ eight = 0 ∷ 1 ∷ 2 ∷ 3 ∷ 4 ∷ 5 ∷ 6 ∷ 7 ∷ []
 abbrev pub buffer_info : BufferInfo
 buffer_info = record { size = 4096; usage = 12; mapped = false }
 
+-- the call that makes the buffer of a slot
 abbrev pub creation : ℕ → BoundCall
 creation slot = Ask (CreateBuffer buffer_info) (Some slot)
 
+-- the call that destroys the buffer of a slot
 abbrev pub destruction : ℕ → BoundCall
 destruction slot = Ask (Destroy slot) None
 
@@ -75,6 +79,8 @@ lanes_from count lane (suc lanes) = lane_of count lane ∷ lanes_from count (suc
 abbrev pub ending : ℕ → List BoundCall
 ending iterations_made = Ask (Complete (2 * iterations_made)) None ∷ map destruction eight
 
+-- the phases of the generated script: buffers are made, the lanes go through their iterations, and the buffers are
+-- destroyed
 abbrev pub phases_of : ℕ → ℕ → List (List (List BoundCall))
 phases_of count lanes = (map creation eight ∷ []) ∷ lanes_from count 0 lanes ∷ (ending (count * lanes) ∷ []) ∷ []
 

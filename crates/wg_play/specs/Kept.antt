@@ -29,6 +29,7 @@ Each OfObject OfTexture (object.Shown texture) = OfTexture texture
 abbrev pub IsKept : Setup → Past → Object → Type 0
 IsKept setup past what = Each (λ handle. is_genuine setup past handle ≡ true) (IsKeptIn setup past) what
 
+-- The handles of all objects are genuine in a past.
 abbrev pub AreKept : Setup → Past → List Object → Type 0
 AreKept setup past objects = All (IsKept setup past) objects
 

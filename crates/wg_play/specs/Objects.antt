@@ -30,9 +30,11 @@ handle_in (object.Pass encoder number) = unknown
 handle_in (object.Canvas canvas) = unknown
 handle_in (object.Shown texture) = unwrap_or texture unknown
 
+-- the handle at a place, or one of no object
 abbrev pub handle_at : List Object → ℕ → HandleValue
 handle_at objects place = option_map_or handle_in (slice_get objects place) unknown
 
+-- the object that stands at a place
 abbrev pub reference_at : List Object → ℕ → ObjRef
 reference_at objects place = (handle_at objects place).reference
 
@@ -43,9 +45,11 @@ recorder_in (object.Pass encoder number) = None
 recorder_in (object.Canvas canvas) = None
 recorder_in (object.Shown texture) = None
 
+-- the recorder at a place, if there is one
 abbrev pub recorder_at : List Object → ℕ → Option RecorderValue
 recorder_at objects place = option_and_then recorder_in (slice_get objects place)
 
+-- an object with its recorder changed, if it has one
 abbrev pub changed : Object → (RecorderValue → RecorderValue) → Object
 changed (object.Made handle recorder) change = object.Made handle (option_map change recorder)
 changed (object.Pass encoder number) change = object.Pass encoder number
@@ -63,6 +67,7 @@ stand_in place (object.Pass encoder number) = record { encoder = encoder; on = P
 stand_in place (object.Canvas canvas) = record { encoder = place; on = Encoder }
 stand_in place (object.Shown texture) = record { encoder = place; on = Encoder }
 
+-- on what a recording call stands that names a place
 abbrev pub stand_at : List Object → ℕ → Stand
 stand_at objects place = option_map_or (stand_in place) (slice_get objects place) (record { encoder = place; on = Encoder })
 
@@ -75,12 +80,15 @@ is_begun (Pass number) passes = nat_lt number passes
 abbrev pub is_late_by : On → RecorderValue → Bool
 is_late_by on recorder = not (is_begun on recorder.passes) || is_late recorder on
 
+-- whether what a recording call stands on has ended
 abbrev pub is_late_on : List Object → Stand → Bool
 is_late_on objects stand = option_map_or (is_late_by stand.on) (recorder_at objects stand.encoder) true
 
+-- a recorder after a command, if that stands on a pass that was begun
 abbrev pub recorded_by : On → Command → RecorderValue → RecorderValue
 recorded_by on command recorder = if is_begun on recorder.passes then recorded recorder on command else recorder
 
+-- the objects of a lane after a command that stands there
 abbrev pub recorded_on : List Object → Stand → Command → List Object
 recorded_on objects stand command = with_recorder objects stand.encoder (recorded_by stand.on command)
 

@@ -14,6 +14,7 @@ use Rattle.wg_play.specs.Turns.{made_by, AllGive, all_after, phase_by}
 abbrev pub setup_with : ℕ → Limits → Setup
 setup_with budget limits = record { serial = 1; budget = budget; limits = limits }
 
+-- what the device of a script is opened with
 abbrev pub setup_of : Script → Setup
 setup_of script = setup_with script.budget script.limits
 

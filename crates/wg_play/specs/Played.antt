@@ -41,12 +41,15 @@ pub record PlayedPhase : Type 0 where
   pub entries : List Entry
   pub lanes : List (List PlayedCall)
 
+-- the calls of what a lane has played
 abbrev pub calls_in : List PlayedCall → List BoundCall
 calls_in calls = map (λ call. call.0) calls
 
+-- the entries that the calls of a lane have made
 abbrev pub entries_in : List PlayedCall → List Entry
 entries_in calls = flat_map (λ call. option_to_list call.1) calls
 
+-- the calls of what the lanes of a phase have played
 abbrev pub lanes_in : PlayedPhase → List (List BoundCall)
 lanes_in phase = map calls_in phase.lanes
 
@@ -60,6 +63,7 @@ IsInterleaved phase = (n : ℕ) → made_by n phase.entries ≡ entries_in (get_
 abbrev pub with_answer : PlayedCall → Answered
 with_answer call = (call.0, option_map_or (λ (entry : Entry). entry.reply.answer) call.1 no_answer)
 
+-- the calls that lanes have played, with their answers
 abbrev pub answered_lanes : List (List PlayedCall) → List (List Answered)
 answered_lanes lanes = map (λ calls. map with_answer calls) lanes
 
@@ -67,6 +71,7 @@ answered_lanes lanes = map (λ calls. map with_answer calls) lanes
 abbrev pub objects_next : ℕ → List Object → List (List PlayedCall) → List Object
 objects_next serial objects lanes = gathered objects (ended_from serial objects (length objects) (answered_lanes lanes))
 
+-- the objects after some phases
 abbrev pub objects_after : ℕ → List Object → List PlayedPhase → List Object
 objects_after serial objects [] = objects
 objects_after serial objects (phase ∷ phases) = objects_after serial (objects_next serial objects phase.lanes) phases
@@ -104,6 +109,7 @@ pub record IsAskedAs (sight : Sight) (request : RequestOf ℕ) (found : Option E
   pub event : entry.event ≡ event_sent sight request
   pub verb : verb_of entry.event ≡ verb_of (event_asked (request_seen sight request))
 
+-- A call was played as what it is: its command was recorded, its event was made, or what its canvas asks was.
 abbrev pub IsPlayedAs : Sight → List BoundCall → BoundCall → Option Entry → Type 0
 IsPlayedAs sight before (Record on command made) found = IsRecordedAs sight before on found
 IsPlayedAs sight before (Ask request made) found = IsAskedAs sight request found

@@ -84,10 +84,12 @@ Tells lock hub [] hub_after after = (hub_after ≡ hub) × (after ≡ [])
 Tells lock hub (p ∷ ps) hub_after after = (mid : DevicePass) × (q : DevicePass) × (rest : List DevicePass) × (after ≡ q ∷ rest)
     × HaveMet lock hub p mid q × Tells lock mid ps hub_after rest
 
+-- All passes are of this device.
 abbrev pub ArePassesOf : Lock → List DevicePass → Type 0
 ArePassesOf lock [] = Unit {0}
 ArePassesOf lock (p ∷ ps) = IsPassOf lock p × ArePassesOf lock ps
 
+-- All passes are sound in this device.
 abbrev pub AreSoundIn : Lock → List DevicePass → Type 0
 AreSoundIn lock [] = Unit {0}
 AreSoundIn lock (p ∷ ps) = IsSoundIn lock p × AreSoundIn lock ps
@@ -99,6 +101,7 @@ MetAt lock front (p ∷ ps) (q ∷ qs) = IsPassOf lock q × IsSamePass p q × Is
     × IsPrefix (front_in lock p) front × MetAt lock front ps qs
 MetAt lock front _ _ = ⊥
 
+-- All passes have met, and see one history.
 abbrev pub HaveAllMet : Lock → List DevicePass → List DevicePass → Type 0
 HaveAllMet lock old new = (front : List Entry) × MetAt lock front old new
 

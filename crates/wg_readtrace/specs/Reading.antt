@@ -20,9 +20,11 @@ use Rattle.wg_readtrace.specs.Given.{is_given}
 abbrev pub is_text_byte : ℕ → Bool
 is_text_byte b = (b == 10) || (nat_le 32 b && nat_le b 126)
 
+-- whether some bytes end with the end of a line
 abbrev pub ends_line : List ℕ → Bool
 ends_line bs = slice_index_or bs (length bs - 1) 0 == 10
 
+-- lines with one more byte at the beginning of the first
 abbrev pub with_first : ℕ → List (List ℕ) → List (List ℕ)
 with_first b [] = (b ∷ []) ∷ []
 with_first b (line ∷ lines) = (b ∷ line) ∷ lines
@@ -42,18 +44,22 @@ abbrev pub is_bar : Line → Bool
 is_bar (Bar part from to) = true
 is_bar _ = false
 
+-- whether a line is that of a step
 abbrev pub is_step : Line → Bool
 is_step (Step number place name) = true
 is_step _ = false
 
+-- whether a line is that of a use
 abbrev pub is_use : Line → Bool
 is_use (Use part set) = true
 is_use _ = false
 
+-- whether a line is that of an access
 abbrev pub is_acc : Line → Bool
 is_acc (Acc kind cells) = true
 is_acc _ = false
 
+-- whether a line is the end of the trace
 abbrev pub is_end : Line → Bool
 is_end End = true
 is_end _ = false
@@ -108,14 +114,17 @@ judged n is_last last steps rows (Some line) =
     if not (may_stand last steps line) then Err (3, n)
     else (if is_last && not (is_end line) then Err (3, n) else (if gives_again rows line then Err (4, n) else Ok line))
 
+-- whether no line is left
 abbrev pub is_none_left : List (List ℕ) → Bool
 is_none_left [] = true
 is_none_left (line ∷ lines) = false
 
+-- a line before those that were read, or the first refusal
 abbrev pub onto : Line → Result (List Line) (ℕ × ℕ) → Result (List Line) (ℕ × ℕ)
 onto line (Ok lines) = Ok (line ∷ lines)
 onto line (Err e) = Err e
 
+-- more lines behind one that was read, or its refusal
 abbrev pub then_read : (Line → Result (List Line) (ℕ × ℕ)) → Result Line (ℕ × ℕ) → Result (List Line) (ℕ × ℕ)
 then_read more (Ok line) = onto line (more line)
 then_read more (Err e) = Err e
@@ -161,6 +170,7 @@ items_of (Acc kind cells ∷ lines) = items_of lines
 items_of (Free object sort ∷ lines) = item.Free object sort ∷ items_of lines
 items_of (End ∷ lines) = items_of lines
 
+-- the items of lines that were read, or the first refusal
 abbrev pub as_items : Result (List Line) (ℕ × ℕ) → Result (List Item) (ℕ × ℕ)
 as_items (Ok lines) = Ok (items_of lines)
 as_items (Err e) = Err e

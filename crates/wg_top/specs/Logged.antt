@@ -19,9 +19,11 @@ logged_text lines trace = trace_behind (history_text (map line_told lines)) trac
 abbrev pub issued : Line → Bool
 issued line = is_queued line.reply.answer
 
+-- whether an entry has a fault
 abbrev pub faulted : Line → Bool
 faulted line = is_some line.reply.fault
 
+-- what is counted of entries that were logged and of a trace
 abbrev pub logged_counts : List Line → List Item → Counts
 logged_counts lines trace = record { entries = length lines; ops = count_by issued lines; faults = count_by faulted lines; frees = count_by is_free trace }
 
