@@ -102,7 +102,7 @@ abbrev pub last_of : List Item → ℕ → Option Item
 last_of items zero = None
 last_of items (suc n) = slice_get items n
 
--- the next settlement was told
+-- The next settlement was told, and nothing else changed.
 pub record HasToldNext (old new : InnerValue) (out : ToldSettlement) : Type 0 where
   pub desk : new.desk ≡ old.desk
   pub items : new.items ≡ old.items

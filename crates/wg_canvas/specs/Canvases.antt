@@ -62,11 +62,11 @@ info_of canvas setting = record { size = canvas.width ∷ (canvas.height ∷ (1 
 
 -- ---- what a call asks
 
--- of a present and of a configure: to destroy the current texture, if there is one
+-- what a present or a configure asks: to destroy the current texture, if there is one
 abbrev pub expiry_asked : CanvasValue → Option (RequestOf HandleValue)
 expiry_asked canvas = option_map Destroy (texture_of canvas)
 
--- of a canvas that is configured and has no current texture: to make one
+-- what a call for the current texture asks of a canvas that is configured and has none: to make one
 abbrev pub asked_at : CanvasValue → Stage → Option (RequestOf HandleValue)
 asked_at canvas Unset = None
 asked_at canvas (Empty setting) = Some (CreateTexture (info_of canvas setting))
@@ -78,7 +78,7 @@ texture_asked canvas = asked_at canvas canvas.stage
 
 -- ---- what becomes of it
 
--- once its current texture was destroyed
+-- what a canvas is once its current texture was destroyed
 abbrev pub expired_at : Stage → Stage
 expired_at Unset = Unset
 expired_at (Empty setting) = Empty setting
@@ -92,7 +92,7 @@ expired canvas = record canvas { stage = expired_at canvas.stage }
 abbrev pub configured : CanvasValue → CanvasFormat → ℕ → CanvasValue
 configured canvas format usage = record canvas { stage = Empty (record { format = format; usage = usage }) }
 
--- once a texture was made for it, which is then current
+-- what a canvas is once a texture was made for it, which is then current
 abbrev pub filled_at : Stage → HandleValue → Stage
 filled_at Unset texture = Unset
 filled_at (Empty setting) texture = Filled setting texture

@@ -8,7 +8,7 @@ abbrev pub among : List ℕ → ℕ → Bool
 among [] o = false
 among (p ∷ ps) o = (o == p) || among ps o
 
--- the rows of an object, those of lesser ones, and those of greater ones
+-- the rows of an object
 abbrev pub rows_of : {T : Type 0} → (T → ℕ) → ℕ → List T → List T
 rows_of object o rows = filter (λ x. object x == o) rows
 

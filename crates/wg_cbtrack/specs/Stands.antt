@@ -5,7 +5,7 @@ use Rattle.wg_orders.specs.Trace.{Item, Sort, steps_of, free}
 use Rattle.wg_bars.specs.Last.{LastRows, AreSorted, KeepsLast}
 use Rattle.wg_init.specs.Rows.{SetRows, KeepsSet, RunsApart}
 
--- The last set of each part, and the cells that are set.
+-- what is kept of a tracker: the last set of each part, and the cells that are set
 pub record TrackerValue : Type 0 where
   pub last : LastRows
   pub cells : SetRows

@@ -25,7 +25,7 @@ abbrev pub row_cell : Key → List (Cells × Kind) → Option Cells
 row_cell k [] = None
 row_cell k (row ∷ rows) = option_or (cell_in row.0 k) (row_cell k rows)
 
--- the same among the rows of a step, behind n steps
+-- the first cell that stands at a key among the accesses of a step, behind n steps
 abbrev pub cell_from : ℕ → ℕ → Key → List Item → Option Cells
 cell_from n step k [] = None
 cell_from n step k (Bar parts from to ∷ items) = cell_from n step k items

@@ -107,7 +107,7 @@ digest_at n [] = nothing
 digest_at n (Known digest ∷ entries) = joined digest (digest_at n entries)
 digest_at n (Run v ∷ entries) = if in_range v.lo v.hi n then joined (deed_digest v.deed) (digest_at n entries) else digest_at n entries
 
--- the same behind what was told before
+-- what entries tell of a segment behind what was told before
 abbrev pub digest_onto : ℕ → Digest → List Entry → Digest
 digest_onto n digest [] = digest
 digest_onto n digest (Known other ∷ entries) = digest_onto n (joined digest other) entries

@@ -36,7 +36,7 @@ is_counted own refers n = is_held_among (counted_below own refers (length own)) 
 abbrev pub is_held : CountsValue → ℕ → Bool
 is_held v n = is_counted v.own v.refers n
 
--- the holds after one of object k more, and after one less
+-- the holds of each object after one of object k more
 abbrev pub one_more : ℕ → ℕ → ℕ → ℕ
 one_more k n holds = if k == n then holds + 1 else holds
 

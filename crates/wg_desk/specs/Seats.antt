@@ -52,7 +52,7 @@ abbrev pub is_beyond : On → ℕ → Bool
 is_beyond Encoder passes = false
 is_beyond (Pass pass) passes = not (nat_lt pass passes)
 
--- the same of the encoder of a number, which is open
+-- whether a command stands on a pass that was not begun on the encoder of a number, which is open
 abbrev pub is_unbegun : List Seat → ℕ → On → Bool
 is_unbegun seats n on = option_map_or (λ recorder. is_beyond on recorder.passes) (recorder_at seats n) false
 
@@ -64,7 +64,7 @@ is_late_at seats n on = option_map_or (λ recorder. is_late recorder on) (record
 abbrev pub changed_at : List Seat → ℕ → (Seat → Seat) → List Seat
 changed_at seats n change = option_map_or (λ seat. slice_set seats n (change seat)) (slice_get seats n) seats
 
--- with a command on its recorder
+-- a seat with a command on its recorder
 abbrev pub recorded_in : On → Command → Seat → Seat
 recorded_in on command seat = record { handle = seat.handle; recorder = option_map (λ recorder. recorded recorder on command) seat.recorder }
 
@@ -72,7 +72,7 @@ recorded_in on command seat = record { handle = seat.handle; recorder = option_m
 abbrev pub recorded_at : List Seat → ℕ → On → Command → List Seat
 recorded_at seats n on command = changed_at seats n (recorded_in on command)
 
--- with its recorder taken out
+-- a seat with its recorder taken out
 abbrev pub closed : Seat → Seat
 closed seat = record { handle = seat.handle; recorder = None }
 
@@ -80,7 +80,7 @@ closed seat = record { handle = seat.handle; recorder = None }
 abbrev pub closed_at : List Seat → ℕ → List Seat
 closed_at seats n = changed_at seats n closed
 
--- with a recorder put in
+-- a seat with a recorder put in
 abbrev pub reopened : RecorderValue → Seat → Seat
 reopened recorder seat = record { handle = seat.handle; recorder = Some recorder }
 
@@ -88,7 +88,7 @@ reopened recorder seat = record { handle = seat.handle; recorder = Some recorder
 abbrev pub reopened_at : List Seat → ℕ → RecorderValue → List Seat
 reopened_at seats n recorder = changed_at seats n (reopened recorder)
 
--- with nothing kept there
+-- a seat with nothing kept there
 abbrev pub emptied : Seat → Seat
 emptied seat = record { handle = None; recorder = None }
 

@@ -98,6 +98,6 @@ same_used x y = x.number == y.number && is_sort x.sort y.sort
 abbrev pub used_once : List (On × Command) → List Used
 used_once commands = each_once same_used (uses_within commands)
 
--- and the numbers of the objects that they name
+-- the numbers of the objects that recorded commands name, each once, as they first come
 abbrev pub named_once : List (On × Command) → List ℕ
 named_once commands = each_once nat_eq (names_within commands)

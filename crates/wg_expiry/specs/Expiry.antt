@@ -42,19 +42,19 @@ write_before setup past texture spot layout size data_size =
     ∷ ((12, is_valid past texture.number)
     ∷ write_texture_rules (texture_or_none_at past texture.number) spot layout size data_size))
 
--- Once an object is destroyed, a submit of command buffers that use it answers Plain;
+-- Once an object is destroyed, a submit of command buffers that use it answers Plain.
 abbrev pub SubmitIsPlain : Type 0
 SubmitIsPlain = (setup : Setup) (past : Past) (buffers : List ObjRef) (n : ℕ)
     → is_destroyed setup past n ≡ true → submit_uses past buffers n ≡ true → (reply_to setup past (Submit buffers)).answer ≡ Plain
 
--- and where the device is not lost and no earlier rule is unmet, its fault is of rule 193. A destroyed buffer that they use would
--- have rule 192 unmet; a texture or a query set has this one unmet.
+-- A submit of command buffers that use a destroyed object has a fault of rule 193, where the device is not lost and no earlier
+-- rule is unmet: a destroyed buffer has rule 192 unmet, a texture or a query set this one.
 abbrev pub SubmitIsRefused : Type 0
 SubmitIsRefused = (setup : Setup) (past : Past) (buffers : List ObjRef) (n : ℕ)
     → is_destroyed setup past n ≡ true → submit_uses past buffers n ≡ true
     → first_unmet (submit_before setup past buffers) ≡ None → is_lost past ≡ false → (reply_to setup past (Submit buffers)).fault ≡ Some (fault_of past 193)
 
--- So does a writeTexture of it, with rule 210.
+-- A writeTexture of a destroyed texture answers Plain.
 abbrev pub WriteIsPlain : Type 0
 WriteIsPlain = (setup : Setup) (past : Past) (texture : ObjRef) (spot : TextureSpot) (layout : DataLayout) (size : List ℕ) (data_size : ℕ)
     → is_destroyed setup past texture.number ≡ true

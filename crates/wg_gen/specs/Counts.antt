@@ -41,6 +41,6 @@ pub record Counts : Type 0 where
 abbrev pub counts_of : List Entry → List Item → Counts
 counts_of history trace = record { entries = length history; ops = count_by is_issue history; faults = count_by is_fault history; frees = count_by is_free trace }
 
--- of a history on a device that was opened so
+-- what is counted of a history on a device that was opened so
 abbrev pub counts_in : Setup → List Entry → Counts
 counts_in setup history = counts_of history (Trace setup history)

@@ -27,7 +27,7 @@ spot_by first second third = record { source = first % 8; target = (first % 8 + 
 abbrev pub spot_at : ℕ → Spot
 spot_at state = spot_by (drawn state) (drawn (next state)) (drawn (next (next state)))
 
--- so many of them, one after another, from a state on
+-- where so many iterations write and copy, one after another, from a state on
 abbrev pub spots : ℕ → ℕ → List Spot
 spots zero state = []
 spots (suc count) state = spot_at state ∷ spots count (next (next (next state)))
@@ -70,7 +70,7 @@ iterations slot (spot ∷ more) = iteration slot spot ++ iterations (slot + 2) m
 abbrev pub lane_of : ℕ → ℕ → List BoundCall
 lane_of count lane = iterations (8 + 2 * (lane * count)) (spots count (lane + 1))
 
--- so many lanes, from one of them on
+-- so many lanes of iterations, from one of them on
 abbrev pub lanes_from : ℕ → ℕ → ℕ → List (List BoundCall)
 lanes_from count lane zero = []
 lanes_from count lane (suc lanes) = lane_of count lane ∷ lanes_from count (suc lane) lanes

@@ -227,8 +227,8 @@ encoder_rules setup past kind encoder =
     ∷ ((180, not (has_finished setup past encoder.number))
     ∷ [])))
 
--- and those after them: 183 no debug group of the encoder is open; 11 each handle that a command names is genuine, and its object
--- was not dropped before the encoder was made; 184 every usage scope is compatible.
+-- the rules of a recording that is ended: 183 no debug group of the encoder is open; 11 each handle that a command names is
+-- genuine, and its object was not dropped before the encoder was made; 184 every usage scope is compatible
 abbrev pub kept_rules : Setup → Past → ℕ → RecordingValue → List Rule
 kept_rules setup past encoder recording =
     (183, open_depth recording.targets recording.commands == 0)
@@ -236,7 +236,7 @@ kept_rules setup past encoder recording =
     ∷ ((184, is_none (first_clash (ScopesOf recording.device recording.targets recording.commands)))
     ∷ []))
 
--- of finish first 182 no pass is open
+-- the rules of the recording of a finish: 182 no pass is open, and then those of any recording that is ended
 abbrev pub recording_rules : Setup → Past → ℕ → RecordingValue → List Rule
 recording_rules setup past encoder recording = (182, not (has_open_pass recording.targets recording.commands)) ∷ kept_rules setup past encoder recording
 
@@ -283,8 +283,8 @@ listed_rules setup past (buffer ∷ buffers) =
 abbrev pub any_used : (Command → List ℕ) → (ℕ → Bool) → Past → List ObjRef → Bool
 any_used names test past buffers = list_any (λ buffer. any_named names test (commands_at past buffer.number)) buffers
 
--- and those on all of them: 190 none was consumed; 191 none is named twice; 192 no buffer that they use is mapped, pending or
--- destroyed; 193 no texture or query set that they use is destroyed.
+-- the rules of a submit on all of its command buffers: 190 none was consumed; 191 none is named twice; 192 no buffer that they
+-- use is mapped, pending or destroyed; 193 no texture or query set that they use is destroyed
 abbrev pub together_rules : Setup → Past → List ObjRef → List Rule
 together_rules setup past buffers =
     (190, not (list_any (λ buffer. is_consumed setup past buffer.number) buffers))

@@ -16,7 +16,8 @@ pub record Holdings : Type 0 where
 abbrev pub no_holdings : Holdings
 no_holdings = record { marks = []; names = []; refers = [] }
 
--- with which objects fell since that list was cleared, and for how many more objects and holds there is room
+-- what is kept of holders: the holdings, which objects fell since that list was cleared, and for how many more objects and
+-- holds there is room
 pub record HoldersValue : Type 0 where
   pub holdings : Holdings
   pub fallen : List ℕ
@@ -60,7 +61,7 @@ holds_at h n = record {
 unfoldable pub is_held : Holdings → ℕ → Bool
 is_held h n = is_held_in (holds_at h) (length h.marks) n
 
--- with one object more
+-- holdings with one object more
 abbrev pub with_made : Bool → Links → Holdings → Holdings
 with_made encoder links h = record { marks = h.marks ++ new_mark encoder ∷ []; names = h.names ++ links.names ∷ []; refers = h.refers ++ links.refers ∷ [] }
 

@@ -102,7 +102,7 @@ pub record Drops (marks : List Mark) (awaited : List Awaited) : Type 0 where
   pub once : (n : ℕ) → waits awaited n ≤ 1
   pub are_listed : (n : ℕ) → is_awaited_at marks n ≡ true → 0 < waits awaited n
 
--- Both lists, with nothing at their fronts that is over.
+-- The lists of open encoders and of what waits for them are in order, with nothing at their fronts that is over.
 pub record IsTidy (marks : List Mark) (opened : List ℕ) (awaited : List Awaited) : Type 0 where
   pub opens : Opens marks opened
   pub open_first : starts_open marks opened ≡ true

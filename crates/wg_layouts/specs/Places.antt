@@ -25,7 +25,7 @@ places_from layouts groups from = layouts_places (drop from layouts) groups from
 abbrev pub places_behind : Behind → List Place
 places_behind behind = places_from behind.layouts.now behind.groups.now behind.from
 
--- the same, and what the groups behind it bind
+-- what a group binds from one of its entries on, and what the groups behind it bind
 abbrev pub places_after : SetGroup → ℕ → Behind → List Place
 places_after set next behind = set_places_from set next ++ places_behind behind
 

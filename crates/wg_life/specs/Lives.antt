@@ -48,7 +48,7 @@ with_release b row = record row { released = b || row.released }
 abbrev pub is_gone : Row → Bool → Bool
 is_gone row held = row.destroyed || not held
 
--- It is due where it is a resource, is gone, and every operation that uses it is complete.
+-- The object of a row is due where it is a resource, is gone, and every operation that uses it is complete.
 abbrev pub is_due_row : ℕ → Row → Bool → Bool
 is_due_row done row held = is_some row.resource && is_gone row held && nat_le row.last done
 
@@ -87,7 +87,7 @@ abbrev pub live_bytes : List Row → ℕ
 live_bytes [] = 0
 live_bytes (row ∷ rows) = live_of row + live_bytes rows
 
--- and how many such resources there are
+-- whether a row is of a resource that is not released
 abbrev pub is_live : Row → Bool
 is_live row = is_some row.resource && not row.released
 
@@ -96,6 +96,6 @@ abbrev pub live_count : List Row → ℕ
 live_count [] = 0
 live_count (row ∷ rows) = (if is_live row then 1 else 0) + live_count rows
 
--- with one object more
+-- holdings with one object more
 abbrev pub with_object : Made → Holdings → Holdings
 with_object made h = with_made made.encoder made.links h

@@ -35,7 +35,7 @@ is_waiting rows gone n = waits (row_at rows n) (gone_at gone n)
 abbrev pub will_wait : Row → Bool → Bool
 will_wait row gone = is_some row.resource && not gone && not row.released
 
--- It is due where every operation that uses it is complete.
+-- A row whose object is gone, or not, is due where it is a resource and every operation that uses it is complete.
 abbrev pub is_due_where : ℕ → Bool → Row → Bool
 is_due_where done gone row = is_some row.resource && gone && nat_le row.last done
 

@@ -85,11 +85,11 @@ left_with None None = Nothing
 abbrev pub left_of : MapsValue → ℕ → Unmapped
 left_of maps buffer = left_with (pending_of maps.pending buffer) (table.get maps.mapped buffer)
 
--- without those of a buffer
+-- pending maps without those of a buffer
 abbrev pub without : List PendingMap → ℕ → List PendingMap
 without pending buffer = filter (λ wait. not (wait.buffer == buffer)) pending
 
--- with one more, which comes before those of later promises
+-- pending maps with one more, which comes before those of later promises
 abbrev pub with_map : List PendingMap → PendingMap → List PendingMap
 with_map [] new = new ∷ []
 with_map (wait ∷ later) new = if nat_lt new.promise wait.promise then new ∷ wait ∷ later else wait ∷ with_map later new
@@ -115,7 +115,7 @@ map_done wait = record { buffer = wait.buffer; promise = wait.promise; mode = wa
 abbrev pub due_maps : ℕ → List PendingMap → List PendingMap
 due_maps completed pending = filter (is_due completed) pending
 
--- those that wait on
+-- the pending maps that wait on after a completion
 abbrev pub still_pending : ℕ → List PendingMap → List PendingMap
 still_pending completed pending = filter (λ wait. not (is_due completed wait)) pending
 
@@ -132,7 +132,7 @@ is_buffer_due completed buffer pending = list_any (λ wait. is_due completed wai
 abbrev pub still_pending_of : ℕ → List PendingMap → ℕ → Option PendingMap
 still_pending_of completed pending buffer = if is_buffer_due completed buffer pending then None else pending_of pending buffer
 
--- with the maps mapped that are due
+-- what is kept of maps after a completion, with those mapped that are due
 abbrev pub settled_up_to : ℕ → MapsValue → MapsValue
 settled_up_to completed maps = record maps { pending = still_pending completed maps.pending; mapped = with_due completed maps.pending maps.mapped }
 

@@ -67,7 +67,7 @@ view_in (info.Bundle known) = None
 abbrev pub attached_view : HandleValue → Option ViewInfo
 attached_view handle = if handle.valid then view_in handle.info else None
 
--- the same where rules 10 and 12 have found a valid view
+-- what is known of a view that is attached, where rules 10 and 12 have found a valid one, and else a view of nothing
 abbrev pub attachment_of : HandleValue → ViewInfo
 attachment_of handle = unwrap_or (attached_view handle) no_view
 
@@ -164,7 +164,7 @@ depth_ops_fit target =
     ops_fit (has_depth (row (depth_view target).texture_info.format).aspects && not target.depth_read_only) target.depth_load target.depth_store
     && ops_fit (has_stencil (row (depth_view target).texture_info.format).aspects && not target.stencil_read_only) target.stencil_load target.stencil_store
 
--- the extent of the mip level of a view: a view has the width and the height of its first level
+-- the width of a view: that of its first mip level
 abbrev pub view_width : ViewInfo → ℕ
 view_width view = width (extent view.texture_info view.base_mip)
 
@@ -180,7 +180,7 @@ same_extent a b = view_width a == view_width b && view_height a == view_height b
 abbrev pub are_alike : ViewInfo → ViewInfo → Bool
 are_alike a b = same_extent a b && a.texture_info.samples == b.texture_info.samples
 
--- whether all views are
+-- whether all views are of one extent and one count of samples
 abbrev pub all_alike : List ViewInfo → Bool
 all_alike [] = true
 all_alike (view ∷ views) = list_all (are_alike view) views
@@ -236,7 +236,7 @@ begin_rules begin =
     ∷ ((307, list_all resolve_fits (colors_given begin))
     ∷ []))))))))
 
--- what the begin of a pass begins with, which for what begins no render pass is nothing
+-- the begin of a pass with no attachments
 abbrev pub no_begin : RenderBegin
 no_begin = record { colors = []; depth = None; queries = None }
 
@@ -248,7 +248,7 @@ begin_of command = unwrap_or (render_begun command) no_begin
 abbrev pub begun_rules : Command → List Rule
 begun_rules command = option_map_or begin_rules (render_begun command) []
 
--- To what a pass draws: the formats of its attachments, and their count of samples, which all of them have.
+-- the count of samples to which a pass draws: that of the first view, which all of them have
 abbrev pub samples_of : List ViewInfo → ℕ
 samples_of [] = 1
 samples_of (view ∷ views) = view.texture_info.samples

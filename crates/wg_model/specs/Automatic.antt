@@ -106,7 +106,7 @@ layouts_meet limits layouts = list_all (λ (layout : GroupLayoutInfo). entries_m
 unfoldable pub automatic_rules : Limits → List IfaceEntry → List Rule
 automatic_rules limits iface = (167, kinds_agree iface) ∷ ((168, groups_fit iface && layouts_meet limits (automatic_layouts iface)) ∷ [])
 
--- the same where a pipeline is made with no layout, and nothing where it is made with one
+-- the rules of the layouts that a pipeline derives where it is made with no layout, and none where it is made with one
 abbrev pub derived_rules : {R : Type 0} → Limits → Option R → List IfaceEntry → List Rule
 derived_rules limits None iface = automatic_rules limits iface
 derived_rules limits (Some layout) iface = []

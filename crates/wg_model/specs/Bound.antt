@@ -91,11 +91,11 @@ owner_of handle = if is_automatic handle.info then Some handle.reference.number 
 abbrev pub dynamics : List LayoutEntry → ℕ
 dynamics entries = count_by (λ (entry : LayoutEntry). is_dynamic entry.kind) entries
 
--- and how many of these have lesser numbers than this: offsets are dealt out by ascending binding
+-- how many of a layout's dynamic bindings have lesser numbers than this: offsets are dealt out by ascending binding
 abbrev pub dynamics_before : List LayoutEntry → ℕ → ℕ
 dynamics_before entries binding = count_by (λ (entry : LayoutEntry). is_dynamic entry.kind && nat_lt entry.binding binding) entries
 
--- by how much what is bound is moved
+-- by how much the range of an entry is moved: by its offset, if it is dynamic
 abbrev pub moved_by : List LayoutEntry → List ℕ → LayoutEntry → ℕ
 moved_by layout offsets asked = if is_dynamic asked.kind then slice_index_or offsets (dynamics_before layout asked.binding) 0 else 0
 
@@ -163,7 +163,7 @@ layout_fits owner layout group =
     not (has_entries layout)
     || option_map_or (λ (known : GroupInfo). equivalent_for owner layout known.layout_info) (info_set group) false
 
--- the same of each layout, the first of which has this index
+-- whether each layout of a pipeline that has an entry has an equivalent group at its index, the first of which is given
 abbrev pub layouts_fit : Option ℕ → List GroupLayoutInfo → List (Option BoundGroup) → ℕ → Bool
 layouts_fit owner [] groups index = true
 layouts_fit owner (layout ∷ layouts) groups index = layout_fits owner layout (slice_index_or groups index None) && layouts_fit owner layouts groups (index + 1)

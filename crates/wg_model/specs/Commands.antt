@@ -52,7 +52,7 @@ abbrev pub is_texture_info : Info → Bool
 is_texture_info (Texture info) = true
 is_texture_info _ = false
 
--- likewise for what is known of a texture
+-- what is known of a texture of nothing, which stands for what is none
 abbrev pub no_texture : TextureInfo
 no_texture = record { size = 0 ∷ (0 ∷ (0 ∷ [])); usage = 0; format = R8Unorm; dim = Two; mips = 0; samples = 0 }
 
@@ -70,7 +70,7 @@ abbrev pub is_queries : Info → Bool
 is_queries (Queries info) = true
 is_queries _ = false
 
--- likewise for what is known of a query set
+-- what is known of a set of no queries, which stands for what is none
 abbrev pub no_queries : QueriesInfo
 no_queries = record { count = 0 }
 

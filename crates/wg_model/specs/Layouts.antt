@@ -30,7 +30,7 @@ fragment_stage = 2
 abbrev pub compute_stage : ℕ
 compute_stage = 4
 
--- all of them
+-- the bits of all stages
 abbrev pub stages : ℕ
 stages = 7
 

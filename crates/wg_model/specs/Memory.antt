@@ -12,7 +12,7 @@ use Rattle.wg_model.specs.Textures.{extent}
 abbrev pub level_bytes : TextureInfo → ℕ → ℕ
 level_bytes info mip = width (extent info mip) * height (extent info mip) * depth (extent info mip) * info.samples * (row info.format).bytes
 
--- those of the first mip levels
+-- the bytes of the first mip levels of a texture
 abbrev pub levels_bytes : TextureInfo → ℕ → ℕ
 levels_bytes info zero = 0
 levels_bytes info (suc mip) = levels_bytes info mip + level_bytes info mip

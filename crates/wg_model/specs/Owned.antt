@@ -24,7 +24,8 @@ OthersAreRefused = (owner : Option ℕ) (other : ℕ) (layouts : List GroupLayou
     → IsOfOther other layouts groups index → same_owner owner (Some other) ≡ false
     → first_unmet (bound_rules owner layouts groups) ≡ Some 341
 
--- So it is where another pipeline is set, automatic or not.
+-- A dispatch or draw has rule 341 first unmet where the group that is set is of a layout exclusive to another pipeline than
+-- the one that is set, automatic or not.
 abbrev pub OthersDoNotRun : Type 0
 OthersDoNotRun = (set : Settings) (pipeline : HandleValue) (other index : ℕ)
     → set.pipeline ≡ Some pipeline → IsOfOther other (layouts_in pipeline.info) set.groups index → (pipeline.reference.number == other) ≡ false

@@ -110,7 +110,7 @@ pub data Reaching : Type 0 where
   bundled_resources : Reaching
   no_resource : Reaching
 
--- the same by what is wanted of the object
+-- what resources are reached through an object, by what is wanted of it
 abbrev pub reaching : Wanted → Reaching
 reaching wanted.Buffer = own_buffer
 reaching wanted.Texture = own_texture

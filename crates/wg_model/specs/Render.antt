@@ -90,7 +90,7 @@ abbrev pub vertex_set : List Command → ℕ → Option ℕ
 vertex_set [] at = None
 vertex_set (command ∷ earlier) at = if unsets command then None else slot_after (vertex_given command) at (vertex_set earlier at)
 
--- by slot
+-- the sizes of the vertex buffers that are set, by slot
 abbrev pub ranges_set : List Command → List (Option ℕ)
 ranges_set earlier =
     vertex_set earlier 0
@@ -147,7 +147,7 @@ setting_touches (set_group index group offsets) = []
 setting_touches (set_vertex_buffer slot buffer offset size) = input_touch buffer offset (size_or_rest buffer offset size) ∷ []
 setting_touches (set_index_buffer buffer format offset size) = input_touch buffer offset (size_or_rest buffer offset size) ∷ []
 
--- and so is the buffer of an indirect draw
+-- what an indirect draw touches: the bytes that it reads of its buffer
 abbrev pub running_touches : Running HandleValue → List Touch
 running_touches (dispatch x y z) = []
 running_touches (dispatch_indirect buffer offset) = []
@@ -205,7 +205,7 @@ drawing_set targets queries first earlier = record {
 abbrev pub render_set : RenderBegin → List Command → RenderSet
 render_set begin earlier = drawing_set (targets_of begin) (set_of_pass begin.queries) (targets_touches begin) earlier
 
--- Likewise what is set in a bundle, which has targets, but neither attachments nor queries.
+-- what is set in a bundle, which has targets, but neither attachments nor queries
 abbrev pub bundle_set : TargetInfo → List Command → RenderSet
 bundle_set targets earlier = drawing_set targets None [] earlier
 
@@ -346,7 +346,7 @@ setting_rules (set_group index group offsets) = []
 setting_rules (set_vertex_buffer slot buffer offset size) = vertex_rules slot buffer offset (size_or_rest buffer offset size)
 setting_rules (set_index_buffer buffer format offset size) = index_rules buffer format offset (size_or_rest buffer offset size)
 
--- and of what draws
+-- the rules of a draw, by what is drawn
 abbrev pub running_rules : RenderSet → Running HandleValue → List Rule
 running_rules render (dispatch x y z) = []
 running_rules render (dispatch_indirect buffer offset) = []

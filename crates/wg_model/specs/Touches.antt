@@ -72,7 +72,7 @@ has_cells row = nat_lt (cell_lo row.0) (cell_hi row.0)
 abbrev pub Doing : Type 0
 Doing = StepName × List Touch
 
--- its uses as they come
+-- the uses of what is done in a step, as they come
 abbrev pub uses_in : Doing → List UseRow
 uses_in doing = map use_of doing.1
 
@@ -91,8 +91,8 @@ in_scope touch = is_scoped touch.0
 abbrev pub scope_in : Doing → List UseRow
 scope_in doing = map use_of (filter in_scope doing.1)
 
--- The same as it is printed: it uses each part by the union of what its touches use it as, one row for the parts that are used
--- alike. Where a touch has no cell its part is used and nothing is accessed.
+-- What is done in a step as it is printed: it uses each part by the union of what its touches use it as, one row for the parts
+-- that are used alike; where a touch has no cell its part is used and nothing is accessed.
 unfoldable pub deed_of : Doing → Deed
 deed_of doing =
     record {
@@ -216,7 +216,7 @@ texture_to_texture_does source from target to size =
 abbrev pub clear_does : HandleValue → ℕ → ℕ → Option Doing
 clear_does buffer offset size = unless (size == 0) (name.ClearBuffer, range_touches buffer.reference.number offset size)
 
--- and so makes a resolve of no queries
+-- what a resolveQuerySet does, which of no query is nothing
 abbrev pub resolve_set_does : HandleValue → ℕ → ℕ → HandleValue → ℕ → Option Doing
 resolve_set_does queries first count buffer offset =
     unless (count == 0) (name.ResolveQuerySet, resolve_set_touches queries.reference.number first count buffer.reference.number offset)

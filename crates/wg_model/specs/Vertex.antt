@@ -64,7 +64,8 @@ abbrev pub bytes_serve : VertexBuffer → ℕ → Option ℕ → Bool
 bytes_serve buffer bytes None = true
 bytes_serve buffer bytes (Some count) = (count == 0) || nat_le ((count - 1) * buffer.stride + last_end buffer.attributes) bytes
 
--- the same of each buffer, the first of which has this slot; where no range is set there are no bytes
+-- whether the range at each slot serves the vertex buffer of that slot, the first of which is given; where no range is set
+-- there are no bytes
 abbrev pub ranges_serve : List VertexBuffer → List (Option ℕ) → ℕ → Option ℕ → ℕ → Bool
 ranges_serve [] ranges slot vertices instances = true
 ranges_serve (buffer ∷ buffers) ranges slot vertices instances = bytes_serve buffer (unwrap_or (slice_index_or ranges slot None) 0) (counted_by_step buffer.step vertices instances) && ranges_serve buffers ranges (slot + 1) vertices instances

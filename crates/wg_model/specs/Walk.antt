@@ -45,12 +45,12 @@ abbrev pub compute_rule : ℕ → Settings → Command → Option ℕ
 compute_rule device set command =
     option_or (first_unmet (common_rules device (named_on kind.ComputePass command))) (first_unmet (compute_rules set command))
 
--- and of a command of a render pass
+-- the first unmet rule of a command of a render pass, over what is set
 abbrev pub render_rule : ℕ → RenderSet → Command → Option ℕ
 render_rule device set command =
     option_or (first_unmet (common_rules device (named_on kind.RenderPass command))) (first_unmet (render_rules set command))
 
--- the same after the earlier commands; only a begin begins a pass
+-- the first unmet rule of a command of a pass after the earlier ones, by how the pass was begun
 abbrev pub rule_by : ℕ → RenderBegin → Bracket → List Command → Command → Option ℕ
 rule_by device begin brackets.BeginComputePass earlier command = compute_rule device (settings earlier) command
 rule_by device begin brackets.BeginRenderPass earlier command = render_rule device (render_set begin earlier) command
@@ -209,7 +209,7 @@ abbrev pub doings : Kept → List Doing
 doings [] = []
 doings (kept ∷ older) = doings older ++ option_to_list (does_at (open_pass older) kept.0 kept.1)
 
--- the same as it is printed, without a place
+-- what the kept commands do as it is printed, without a place
 abbrev pub deeds : Kept → List Deed
 deeds kept = map deed_of (doings kept)
 

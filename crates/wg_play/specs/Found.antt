@@ -88,7 +88,7 @@ pub record IsOpenFor (encoder : ObjRef) (found : Option RecorderValue) : Type 0 
   pub is : found ≡ Some recorder
   pub open_for : recorder.encoder ≡ Some encoder
 
--- and that is one of an encoder of this kind
+-- A recorder is open for an encoder of this kind.
 pub record IsOpenAs (kind : Kind) (encoder : ObjRef) (found : Option RecorderValue) : Type 0 where
   pub is_open : IsOpenFor encoder found
   pub kind_is : recorder_kind is_open.recorder ≡ kind
@@ -198,7 +198,7 @@ ended_from serial others first (calls ∷ lanes) =
 abbrev pub phase_of : List (List Answered) → List (List BoundCall)
 phase_of lanes = map (λ calls. map (λ c. c.0) calls) lanes
 
--- And after a phase all that was made up to then stands at its slot with its kind, for the phases after it.
+-- After a phase all that was made up to then stands at its slot with its kind, for the phases after it.
 abbrev pub GatheredIsHeld : Type 0
 GatheredIsHeld = (earlier later : List (List (List BoundCall))) (lanes : List (List Answered))
     → IsBound (earlier ++ phase_of lanes ∷ later)

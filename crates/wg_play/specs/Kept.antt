@@ -37,7 +37,7 @@ AreKept setup past objects = All (IsKept setup past) objects
 abbrev pub SeesGenuine : Setup → Past → Sight → Type 0
 SeesGenuine setup past sight = AreKept setup past sight.others × AreKept setup past sight.own
 
--- and what all lanes see
+-- What all lanes see is genuine in a past.
 abbrev pub LanesSee : Setup → Past → List Lane → Type 0
 LanesSee setup past lanes = All (λ lane. SeesGenuine setup past lane.sight) lanes
 

@@ -82,7 +82,7 @@ abbrev pub finish_by : Option RecorderValue → Event → Event
 finish_by None other = other
 finish_by (Some recorder) other = option_map_or (λ encoder. finish_of encoder recorder) recorder.encoder other
 
--- and what is known of that which it makes, likewise
+-- what is known of what a call makes, where it ends a recorder that of the recorder
 abbrev pub finish_known : Option RecorderValue → Option Info → Option Info
 finish_known None other = other
 finish_known (Some recorder) other = option_map_or (λ encoder. Some (known_of_finish recorder)) recorder.encoder other

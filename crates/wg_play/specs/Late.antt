@@ -53,7 +53,7 @@ IsAnswered call = Answers call.0 call.1
 abbrev pub after_call : ℕ → Sight → Answered → Sight
 after_call serial sight call = unwrap_or (kept sight call.0) (answered_by serial sight call.0 call.1)
 
--- and after calls, one after another
+-- what the lane sees after calls, one after another
 abbrev pub after_calls : ℕ → Sight → List Answered → Sight
 after_calls serial sight [] = sight
 after_calls serial sight (call ∷ calls) = after_calls serial (after_call serial sight call) calls

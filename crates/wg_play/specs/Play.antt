@@ -23,7 +23,7 @@ abbrev pub most_lanes : ℕ → List (List (List BoundCall)) → ℕ
 most_lanes n [] = n
 most_lanes n (lanes ∷ phases) = most_lanes (if nat_lt n (length lanes) then length lanes else n) phases
 
--- it has as many callers as the largest phase has lanes, and at least one
+-- how many callers the device of a script has: as many as the largest phase has lanes, and at least one
 abbrev pub callers_for : List (List (List BoundCall)) → ℕ
 callers_for phases = most_lanes 1 phases
 

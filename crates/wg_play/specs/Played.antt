@@ -53,7 +53,7 @@ entries_in calls = flat_map (λ call. option_to_list call.1) calls
 abbrev pub lanes_in : PlayedPhase → List (List BoundCall)
 lanes_in phase = map calls_in phase.lanes
 
--- of each number the entries of a phase are those of its lane's calls, in order; a number that no lane has is nobody's
+-- In a phase the entries of each number are those of its lane's calls, in order; a number that no lane has is nobody's.
 abbrev pub IsInterleaved : PlayedPhase → Type 0
 IsInterleaved phase = (n : ℕ) → made_by n phase.entries ≡ entries_in (get_or phase.lanes n [])
 
@@ -93,7 +93,7 @@ seen_calls earlier before = flat_map (λ phase. flat_map (λ calls. calls) phase
 abbrev pub is_late_after : Sight → List BoundCall → ℕ → Bool
 is_late_after sight before on = list_any (finishes (encoder_of before on)) before || has_pass_ended sight.own (stand_seen sight on)
 
--- It became an entry exactly where it is late, and is then the event that its encoder gets.
+-- A recording call became an entry exactly where it is late, and is then the event that its encoder gets.
 pub record IsRecordedAs (sight : Sight) (before : List BoundCall) (on : ℕ) (found : Option Entry) : Type 0 where
   pub late : is_some found ≡ is_late_after sight before on
   pub event : (entry : Entry) → found ≡ Some entry → entry.event ≡ Late (reference_at sight.own (stand_seen sight on).encoder)
@@ -198,7 +198,7 @@ abbrev pub PlayInterleaves : Type 0
 PlayInterleaves = (setup : Setup) (phases : List (List (List BoundCall))) (numbers : List ℕ) (history : List Entry) → Play setup phases numbers ≡ Some history
     → (callers_of history ≡ numbers) × Run setup history × Interleaves setup phases [] history
 
--- And where the names of the script are bound, each call is played as what it is. The device's serial is not 0, as which a slot
+-- Where the names of the script are bound, each call is played as what it is; the device's serial is not 0, as which a slot
 -- counts that stands for no object.
 abbrev pub PlayGoesThrough : Type 0
 PlayGoesThrough = (setup : Setup) → setup.serial ≢ 0 → (phases : List (List (List BoundCall))) (numbers : List ℕ) (history : List Entry)

@@ -24,7 +24,7 @@ pub record HasAsked (serial : ℕ) (event : Event) (known : Option Info) (handle
   pub event_is : entry.event ≡ event
   pub handle_is : handle ≡ handle_known serial known entry.reply.answer
 
--- so it was with a pass of a device, between two moments
+-- An event was asked with a pass of a device, between two moments, and its handle is that of what it made.
 abbrev pub HasAskedBy : Lock → Event → Option Info → Option HandleValue → DevicePass → DevicePass → Type 0
 HasAskedBy lock event known handle old new = HasAsked (setup_of lock).serial event known handle (own_of old) (own_of new)
 
@@ -46,11 +46,11 @@ abbrev pub HasPlayed : ℕ → Sight → Sight → BoundCall → List Entry → 
 HasPlayed serial sight sight_after call made made_after =
     HasSent serial sight sight_after call made made_after ⊎ HasKept sight sight_after call made made_after
 
--- so it was with a pass of a device, by a lane that saw the one and then the other
+-- A call was played with a pass of a device, by a lane that saw the one and then the other.
 abbrev pub HasPlayedBy : Lock → Seen → Seen → BoundCall → DevicePass → DevicePass → Type 0
 HasPlayedBy lock seen seen_after call old new = HasPlayed (setup_of lock).serial (sight_of seen) (sight_of seen_after) call (own_of old) (own_of new)
 
--- from one moment to another a pass saw more, and its own entries grew by those that take the one lane to the other
+-- From one moment to another a pass saw more, and its own entries grew by those that take the one lane to the other.
 pub record Moves (serial : ℕ) (lock : Lock) (lane lane_after : Lane) (old new : DevicePass) : Type 0 where
   pub entries : List Entry
   pub grown : own_of new ≡ own_of old ++ entries

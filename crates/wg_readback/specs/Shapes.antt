@@ -40,7 +40,7 @@ pub record IsFilledStep (step : Step) : Type 0 where
   pub uses : EachRow IsShapedUse step.uses
   pub accesses : EachRow IsShapedAccess step.accesses
 
--- and gives no cell twice.
+-- A step gives no cell twice.
 abbrev pub IsOnceStep : Step → Type 0
 IsOnceStep step = (c : Cell) → OneCovers c step.accesses
 
@@ -61,7 +61,7 @@ GoOn (Bar part from to ∷ items) = Unit {0}
 GoOn (StepItem step ∷ items) = Unit {0}
 GoOn (Free object sort ∷ items) = ⊥
 
--- behind each barrier stands a barrier or a step
+-- Behind each barrier stands a barrier or a step.
 abbrev pub BarsLead : List Item → Type 0
 BarsLead [] = Unit {0}
 BarsLead (Bar part from to ∷ items) = GoOn items × BarsLead items

@@ -152,7 +152,7 @@ uses_in (Use part set ∷ lines) = (part, set) ∷ uses_in lines
 uses_in (Acc kind cells ∷ lines) = uses_in lines
 uses_in (_ ∷ lines) = []
 
--- and its accesses those of the `acc` lines.
+-- the accesses of a step: those of its `acc` lines
 abbrev pub accesses_in : List Line → List (Cells × Kind)
 accesses_in [] = []
 accesses_in (Use part set ∷ lines) = accesses_in lines

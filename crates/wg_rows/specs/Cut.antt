@@ -7,7 +7,7 @@ abbrev pub value_at : {R V : Type 0} → Sort R → Spot → List (R × V) → O
 value_at sort spot [] = None
 value_at sort spot (x ∷ xs) = if covers_spot sort x.0 spot then Some x.1 else value_at sort spot xs
 
--- what of a row lies before a run of its line, and behind it
+-- what of a row lies before a run of its line
 abbrev pub left_of : {R V : Type 0} → Sort R → R → R × V → List (R × V)
 left_of sort r x = if nat_lt (sort.lo x.0) (sort.lo r) then (sort.widen x.0 (sort.lo x.0) (min (sort.hi x.0) (sort.lo r)), x.1) ∷ [] else []
 
@@ -33,7 +33,7 @@ abbrev pub inside : {R V : Type 0} → Sort R → R → List (R × V) → List (
 inside sort r [] = []
 inside sort r (x ∷ xs) = inside_row sort r x ++ inside sort r xs
 
--- what is left of rows where other rows are
+-- what is left of rows where no other rows are
 abbrev pub gaps : {R V W : Type 0} → Sort R → List (R × W) → List (R × V) → List (R × W)
 gaps sort left [] = left
 gaps sort left (x ∷ xs) = gaps sort (cut sort x.0 left) xs

@@ -149,7 +149,7 @@ run_part (Layers object aspect mip lo hi) = LayerParts object aspect mip lo hi
 run_part (Slices object mip lo hi) = LayerParts object Color mip 0 1
 run_part (Queries object lo hi) = QueryPart object
 
--- the object of a part, and of a run of parts
+-- the object of a part
 abbrev pub object_of : Part → ℕ
 object_of (Buffer object) = object
 object_of (Subresource object aspect mip layer) = object

@@ -49,7 +49,7 @@ RecordedAreOnce =
     → first_clash (ScopesOf device targets commands) ≡ None
     → EachRow IsOnceStep (StepsOf place device targets commands)
 
--- So no step of a history gives a cell twice whose replies are the right ones: a recording is accepted only if its scopes are
--- compatible, and what its handles tell is as it was made.
+-- No step of a run gives a cell twice: a recording is accepted only if its scopes are compatible, and what its handles tell is
+-- as it was made.
 abbrev pub HistoryIsOnce : Type 0
 HistoryIsOnce = (setup : Setup) (history : List Entry) → Run setup history → EachRow IsOnceStep (Steps setup history)

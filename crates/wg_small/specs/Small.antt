@@ -25,7 +25,7 @@ pub record StepHas (place : StepPlace → Type 0) (part : PartRun → Type 0) (c
   pub uses : EachRow (λ (row : PartRun × Usages). part row.0) step.uses
   pub accesses : EachRow (λ (row : Cells × Kind). cells row.0) step.accesses
 
--- The same of an item; of a release it is said of the number of its object.
+-- What is said of the places, parts, cells and objects of an item; of a release it is said of the number of its object.
 abbrev pub ItemHas : (StepPlace → Type 0) → (PartRun → Type 0) → (Cells → Type 0) → (ℕ → Type 0) → Item → Type 0
 ItemHas place part cells object (Bar run from to) = part run
 ItemHas place part cells object (StepItem step) = StepHas place part cells step
@@ -82,11 +82,11 @@ IsAnyObject number = Unit {0}
 abbrev pub HasSmallRanges : Step → Type 0
 HasSmallRanges = StepHas IsAnyPlace IsSmallRange HaveSmallRange
 
--- the same of an item
+-- All ranges of an item have numbers that the reader of traces takes.
 abbrev pub HoldsSmallRanges : Item → Type 0
 HoldsSmallRanges = ItemHas IsAnyPlace IsSmallRange HaveSmallRange IsAnyObject
 
--- They are small in the trace of a history, in its barriers and clears too, where they are in its steps.
+-- Ranges are small in the trace of a history, in its barriers and clears too, where they are in its steps.
 abbrev pub RangesOfSteps : Type 0
 RangesOfSteps = (setup : Setup) (history : List Entry) → EachRow HasSmallRanges (Steps setup history) → EachRow HoldsSmallRanges (Trace setup history)
 

@@ -54,15 +54,15 @@ any_spent setup past buffers = list_any (λ buffer. is_spent setup past buffer.n
 abbrev pub forgotten : Bool → Option RecordingValue → Option RecordingValue
 forgotten b recording = if b then None else recording
 
--- what is left of the recording of object n
+-- what is left of the recording of object n, of which nothing is once it is spent
 abbrev pub left_at : Setup → Past → ℕ → Option RecordingValue
 left_at setup past n = forgotten (is_spent setup past n) (recording_at past n)
 
--- Of each object that is kept which is left of its recording.
+-- Of each object just that recording is kept which is left of it.
 pub record AreLeft (setup : Setup) (past : Past) (kept : List (ℕ × RecordingValue)) : Type 0 where
   pub each : (n : ℕ) → kept_at kept n ≡ left_at setup past n
 
--- The same is kept of each object.
+-- Two keep the same recording of each object.
 pub record SameKept (old new : List (ℕ × RecordingValue)) : Type 0 where
   pub each : (n : ℕ) → kept_at new n ≡ kept_at old n
 

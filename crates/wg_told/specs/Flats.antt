@@ -115,7 +115,7 @@ layout_entry_of e = option_map (λ held. record { binding = e.binding; visibilit
 abbrev pub used_of : Stage → FlatIfaceEntry → Option IfaceEntry
 used_of stage e = option_map (λ held. record { group = e.group; binding = e.binding; stage = stage; kind = held }) (binding_of e.holds)
 
--- of a compute pipeline, whose stage is not looked at, and of a render pipeline
+-- the entry of a compute pipeline's interface that a flat one is, whose stage is not looked at, if its values are ones
 abbrev pub compute_iface_of : FlatIfaceEntry → Option IfaceEntry
 compute_iface_of e = used_of Compute e
 

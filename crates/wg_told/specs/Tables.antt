@@ -37,7 +37,7 @@ abbrev pub nth : {T : Type 0} → List T → ℕ → Option T
 nth table zero = None
 nth table (suc n) = slice_get table n
 
--- the same of a value that may be left out
+-- the value of a number, of which 0 is a value that is left out, if the number is one
 abbrev pub maybe_nth : {T : Type 0} → List T → ℕ → Option (Option T)
 maybe_nth table zero = Some None
 maybe_nth table (suc n) = option_map Some (slice_get table n)
@@ -90,7 +90,7 @@ sampler_kinds = Filtering ∷ NonFiltering ∷ Comparison ∷ []
 abbrev pub storage_accesses : List StorageAccess
 storage_accesses = ReadOnly ∷ WriteOnly ∷ ReadWrite ∷ []
 
--- of a render pipeline
+-- the stages of a render pipeline, in the order of their numbers
 abbrev pub render_stages : List Stage
 render_stages = stage.Vertex ∷ stage.Fragment ∷ []
 

@@ -22,6 +22,6 @@ more_text (Some lanes) trace = []
 abbrev pub counted_text : Option ℕ → List Entry → List Item → List ℕ
 counted_text lanes history trace = counts_text (counts_of history trace) ++ more_text lanes trace ++ codes "\n"
 
--- of a history on a device that was opened so
+-- the line of a history on a device that was opened so
 abbrev pub line_of : Option ℕ → Setup → List Entry → List ℕ
 line_of lanes setup history = counted_text lanes history (Trace setup history)

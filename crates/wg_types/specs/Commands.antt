@@ -229,7 +229,7 @@ named (BeginOcclusionQuery index) = []
 named EndOcclusionQuery = []
 named (ExecuteBundles bundles) = all_wanted wanted.Bundle bundles
 
--- the same in a call on something of a kind, where a pipeline has to be one of such passes
+-- the objects that a command on something of a kind names, where a pipeline has to be one of such passes
 abbrev pub named_on : {R : Type 0} → Kind → CommandOf R → List (R × Wanted)
 named_on place command = map (λ object. (object.0, within place object.1)) (named command)
 

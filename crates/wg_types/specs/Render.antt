@@ -23,11 +23,11 @@ depth_named (Some target) = (target.view, wanted.View) ∷ []
 abbrev pub targets_named : {R : Type 0} → RenderBeginOf R → List (R × Wanted)
 targets_named begin = flat_map color_named begin.colors ++ depth_named begin.depth
 
--- and then the query set
+-- the objects that the begin of a render pass names: the views that it attaches, and then its query set
 abbrev pub begin_named : {R : Type 0} → RenderBeginOf R → List (R × Wanted)
 begin_named begin = targets_named begin ++ maybe_wanted wanted.Queries begin.queries
 
--- the same with other objects
+-- a color attachment with other views
 abbrev pub map_color : {R S : Type 0} → (R → S) → ColorTargetOf R → ColorTargetOf S
 map_color f target = record { view = f target.view; depth_slice = target.depth_slice; resolve = option_map f target.resolve; load = target.load; store = target.store }
 
