@@ -24,7 +24,7 @@ Over (Some a) new closed opened = MatchOption new ⊥ (λ b. opened a b)
 abbrev pub IsShut : {A : Type 0} → Option InnerValue → A → A → ℕ → Type 0
 IsShut new before after status = (status ≡ 3) × (new ≡ None) × (after ≡ before)
 
--- a call that was not made: why, and that nothing has changed
+-- A call was not made: why, and that nothing has changed.
 pub record IsRefused (cause : Type 0) (old new : InnerValue) (before after : ToldReply) : Type 0 where
   pub because : cause
   pub same : IsAsBefore old new
@@ -113,7 +113,7 @@ Closes (Some a) new status = (status ≡ 0) × (new ≡ None)
 
 -- Drains.
 
--- the next item was told, or all were and the list is emptied
+-- The next item was told, or all were and the list is emptied.
 abbrev pub TellsItem : ToldItem → ToldItem → ℕ → InnerValue → InnerValue → Type 0
 TellsItem before after status old new =
     MatchOption (slice_get old.items old.told) ((status ≡ 6) × (new ≡ record old { items = []; told = 0 }) × (after ≡ before))
@@ -144,7 +144,7 @@ ItemUse at old new before after status = Over old new (IsShut new before after s
 abbrev pub ItemAccess : ℕ → Option InnerValue → Option InnerValue → ToldAccess → ToldAccess → ℕ → Type 0
 ItemAccess at old new before after status = Over old new (IsShut new before after status) (Tells (access_at at) before after status)
 
--- the next settlement was told, or none is left
+-- The next settlement was told, or none is left.
 abbrev pub TellsSettlement : ToldSettlement → ToldSettlement → ℕ → InnerValue → InnerValue → Type 0
 TellsSettlement before after status old new =
     MatchBool (nat_eq status 0) (HasToldNext old new after) ((status ≡ 6) × (old.settled ≡ []) × (new ≡ old) × (after ≡ before))

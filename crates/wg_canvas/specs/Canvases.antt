@@ -24,7 +24,7 @@ use Rattle.wg_canvas.specs.declared.canvas.Stage.TheVariants.{Unset, Empty, Fill
 use Rattle.wg_canvas.specs.declared.canvas.Current.{Current}
 use Rattle.wg_canvas.specs.declared.canvas.Current.TheVariants.{NotConfigured, Same, Made}
 
--- A canvas has a fixed extent. It is not configured; or it is, with a format and a usage, and has no current texture, or has one.
+-- a canvas: its fixed extent, and whether it is configured, with a format and a usage, and has a current texture
 pub record CanvasValue : Type 0 where
   pub width : ℕ
   pub height : ℕ

@@ -7,7 +7,7 @@ use Rattle.wg_rows.specs.Rows.{line_object}
 use Rattle.wg_cbtrack.specs.declared.kept.Rows.{Rows}
 use Rattle.wg_cbtrack.specs.Owners.{rows_among, Ordered, AreExchanged}
 
--- the object of a use, of cells and of an access
+-- the object of a use
 abbrev pub use_object : UseRow → ℕ
 use_object row = line_object (part_line row.0)
 

@@ -22,7 +22,7 @@ doings c trace = record { reads = reads_at c (steps_of trace); writes = writes_a
 abbrev pub access : Cell → Step → ℕ → ℕ → Access
 access c s n e = record { place = n; reads = reads s c; writes = writes s c; epoch = e }
 
--- The accesses to a cell, behind n steps and e barriers.
+-- the accesses to a cell, behind n steps and e barriers
 abbrev pub story_from : Cell → ℕ → ℕ → List Item → List Access
 story_from c n e [] = []
 story_from c n e (Bar parts from to ∷ items) = if covers_part parts (part_of c) then story_from c n (suc e) items else story_from c n e items

@@ -16,8 +16,8 @@ use Rattle.wg_check.specs.declared.segments.Spotted.{Spotted}
 use Rattle.wg_check.specs.Stories.{writer_met}
 use Rattle.wg_check.specs.Segments.{story_at, touches, earlier}
 
--- A stretch of accesses with no barrier between them: whether a step writes, whether two do, the first reader, and the
--- first reader beside which another step of the stretch writes.
+-- The stretch of no access; a stretch of accesses with no barrier between them has whether a step writes, whether two do, the
+-- first reader, and the first reader beside which another step of the stretch writes.
 abbrev pub no_access : Stretch
 no_access = record { writes = false; many = false; first = None; met = None }
 
@@ -35,8 +35,9 @@ stretched x y =
       met = option_or (if y.writes then x.first else x.met) (if x.writes then y.first else y.met);
     }
 
--- A course of whole stretches: its least reader that clashes where the last stretch before it that writes does so once,
--- or never; the same where it does so by two steps; and whether its own last stretch that writes does so by two.
+-- The course of no stretch; a course of whole stretches has its least reader that clashes where the last stretch before it
+-- that writes does so once, or never; the same where it does so by two steps; and whether its own last stretch that writes
+-- does so by two.
 abbrev pub no_stretch : Course
 no_stretch = record { calm = None; alarmed = None; leaves = None }
 
@@ -66,7 +67,7 @@ followed x y =
       leaves = option_or y.leaves x.leaves;
     }
 
--- What deeds tell: one stretch, or with a barrier among them the first, those between, and the last.
+-- What no deed tells; what deeds tell is one stretch, or with a barrier among them the first, those between, and the last.
 abbrev pub nothing : Digest
 nothing = Open no_access
 

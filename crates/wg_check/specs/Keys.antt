@@ -7,7 +7,7 @@ use Rattle.wg_check.specs.declared.events.Deed.{Deed}
 use Rattle.wg_check.specs.declared.events.Deed.TheVariants.{Fence, Act}
 use Rattle.wg_check.specs.Segments.{Key, KeyEvent}
 
--- object, sort, aspect, mip level and place: bytes before queries before layers before slices
+-- a key: object, sort, aspect, mip level and place, with bytes before queries before layers before slices
 abbrev pub key : ℕ → ℕ → ℕ → ℕ → ℕ → Key
 key object sort aspect mip at = record { object = object; sort = sort; aspect = aspect; mip = mip; at = at }
 

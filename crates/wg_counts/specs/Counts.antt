@@ -2,8 +2,8 @@
 use Rattle.std.specs.Prelude.{◌≡◌, ℕ, zero, suc, ◌+◌, ◌-◌, Bool, true, not, ◌&&◌, ◌||◌, ◌==◌, nat_lt, List, [], ◌∷◌, ◌++◌, length, slice_index_or, if◌then◌else◌}
 use Rattle.wg_model.specs.Holding.{Node, is_among, is_held_among}
 
--- How many holds each object has that are no objects, and to which objects each refers, by number; which objects fell since
--- that list was cleared, in some order; for how many more objects, and for how many more holds, there is room.
+-- what is kept of counts: how many holds each object has that are no objects, to which objects each refers, by number, which
+-- objects fell since that list was cleared, in some order, and for how many more objects and holds there is room
 pub record CountsValue : Type 0 where
   pub own : List ℕ
   pub refers : List (List ℕ)

@@ -36,8 +36,8 @@ pub record GoBack (refers : ℕ → List ℕ) : Type 0 where
 pub record AreWithin (taken : ℕ) (counts : List ℕ) : Type 0 where
   pub each : (n : ℕ) → count_at counts n ≤ taken
 
--- The references of each object are kept while it is alive, and those of a list until they are gone through. What is listed is not
--- alive, and stands there once.
+-- The references of each object are kept while it is alive, and those of a list until they are gone through; what is listed is
+-- not alive, and stands there once.
 pub record ReferencesAreKept (referred : ℕ → List ℕ) (counts later : List ℕ) (refers : List (List ℕ)) : Type 0 where
   pub len : length refers ≡ length counts
   pub once : (n : ℕ) → times n later + (if is_alive counts n then 1 else 0) ≤ 1

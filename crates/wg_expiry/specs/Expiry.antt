@@ -26,7 +26,7 @@ DestroyExpires = (setup : Setup) (past : Past) (entry : Entry) (object : ObjRef)
 abbrev pub StaysExpired : Type 0
 StaysExpired = (setup : Setup) (newer past : Past) (n : ℕ) → is_destroyed setup past n ≡ true → is_destroyed setup (newer ++ past) n ≡ true
 
--- the rules of submit that go before 193, and those of writeTexture that go before 210
+-- the rules of a submit that come before 193
 abbrev pub submit_before : Setup → Past → List ObjRef → List Rule
 submit_before setup past buffers = listed_rules setup past buffers
     ++ ((190, not (list_any (λ (buffer : ObjRef). is_consumed setup past buffer.number) buffers))

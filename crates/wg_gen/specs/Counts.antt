@@ -30,7 +30,7 @@ abbrev pub is_clear_step : Item → Bool
 is_clear_step (StepItem step) = is_clear step
 is_clear_step _ = false
 
--- the entries of a history, the operations that were issued, the faults, and the releases
+-- what is counted: the entries of a history, the operations that were issued, the faults, and the releases
 pub record Counts : Type 0 where
   pub entries : ℕ
   pub ops : ℕ

@@ -11,7 +11,7 @@ use Rattle.wg_gen.specs.declared.draws.Spot.{Spot}
 
 -- ---- draws
 
--- A draw takes a state to the next one, and gives that divided by 65536, rounded down.
+-- the state after a draw, which gives that state divided by 65536, rounded down
 abbrev pub next : ℕ → ℕ
 next state = (state * 1103515245 + 12345) % 2147483648
 
@@ -38,7 +38,7 @@ spots (suc count) state = spot_at state ∷ spots count (next (next (next state)
 abbrev pub eight : List ℕ
 eight = 0 ∷ 1 ∷ 2 ∷ 3 ∷ 4 ∷ 5 ∷ 6 ∷ 7 ∷ []
 
--- each is copied from and to
+-- what each of the eight buffers is made with: it is copied from and to
 abbrev pub buffer_info : BufferInfo
 buffer_info = record { size = 4096; usage = 12; mapped = false }
 
@@ -75,7 +75,7 @@ abbrev pub lanes_from : ℕ → ℕ → ℕ → List (List BoundCall)
 lanes_from count lane zero = []
 lanes_from count lane (suc lanes) = lane_of count lane ∷ lanes_from count (suc lane) lanes
 
--- at the end all operations are complete, two an iteration, and the buffers are destroyed
+-- the calls at the end, by which all operations are complete, two an iteration, and the buffers are destroyed
 abbrev pub ending : ℕ → List BoundCall
 ending iterations_made = Ask (Complete (2 * iterations_made)) None ∷ map destruction eight
 

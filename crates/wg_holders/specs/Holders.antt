@@ -5,8 +5,8 @@ use Rattle.wg_counts.specs.Counts.{times}
 use Rattle.wg_holders.specs.declared.marks.Mark.{Mark}
 use Rattle.wg_holders.specs.declared.marks.Links.{Links}
 
--- what was noted of each object by number; the objects that a valid command buffer names, until it is consumed or dropped; those
--- to which a valid object refers
+-- who holds which objects: what was noted of each object by number, the objects that a valid command buffer names, until it is
+-- consumed or dropped, and those to which a valid object refers
 pub record Holdings : Type 0 where
   pub marks : List Mark
   pub names : List (List ℕ)

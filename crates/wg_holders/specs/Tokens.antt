@@ -8,7 +8,7 @@ use Rattle.wg_holders.specs.declared.marks.Mark.{Mark}
 use Rattle.wg_holders.specs.declared.tokens.Awaited.{Awaited}
 use Rattle.wg_holders.specs.Holders.{mark_at, list_at, is_open, is_unspent}
 
--- marks and what a note makes of them, by number
+-- Marks are what a note makes of marks before, by number.
 pub record Notes (note : ℕ → Mark → Mark) (old new : List Mark) : Type 0 where
   pub len : length new ≡ length old
   pub each : (n : ℕ) → n < length old → mark_at new n ≡ note n (mark_at old n)

@@ -30,7 +30,7 @@ abbrev pub rows_after : ℕ → List (Cells × Kind) → List SetRow → List Se
 rows_after object [] rows = rows
 rows_after object (x ∷ xs) rows = rows_after object xs (if changes_at object x then with_effect x.0 x.1 rows else rows)
 
--- Rows after accesses, and with a step noted.
+-- Rows are those after accesses.
 abbrev pub IsAfter : SetRows → List (Cells × Kind) → SetRows → Type 0
 IsAfter kept xs noted = (object : ℕ) → rows_in noted object ≡ rows_after object xs (rows_in kept object)
 

@@ -7,8 +7,8 @@ use Rattle.wg_life.specs.declared.rows.Resource.{Resource}
 use Rattle.wg_life.specs.declared.rows.Row.{Row}
 use Rattle.wg_life.specs.declared.rows.Made.{Made}
 
--- what is noted of the objects by number, who holds them, how many bytes resources may have, and for how many more objects and
--- holds there is room
+-- what is kept of lives: what is noted of the objects by number, who holds them, how many bytes resources may have, and for
+-- how many more objects and holds there is room
 pub record LifeValue : Type 0 where
   pub rows : List Row
   pub holdings : Holdings
@@ -56,7 +56,7 @@ is_due_row done row held = is_some row.resource && is_gone row held && nat_le ro
 abbrev pub is_due : LifeValue → ℕ → ℕ → Bool
 is_due v done n = is_due_row done (row_at v.rows n) (is_held v.holdings n)
 
--- rows and what a note makes of them, by number
+-- Rows are what a note makes of rows before, by number.
 pub record Notes (note : ℕ → Row → Row) (old new : List Row) : Type 0 where
   pub len : length new ≡ length old
   pub each : (n : ℕ) → n < length old → row_at new n ≡ note n (row_at old n)

@@ -23,7 +23,7 @@ pub record IsGone (rows : List Row) (h : Holdings) (gone : List Bool) : Type 0 w
   pub made : length h.marks ≡ length rows
   pub each : (n : ℕ) → n < length rows → gone_at gone n ≡ is_gone (row_at rows n) (is_held h n)
 
--- A resource waits for its release where it is gone and was not released.
+-- whether a row waits for its release: it is of a resource that is gone and was not released
 abbrev pub waits : Row → Bool → Bool
 waits row gone = is_some row.resource && gone && not row.released
 

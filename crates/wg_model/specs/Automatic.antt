@@ -50,7 +50,7 @@ plain (Sampler sampler_type) = Sampler sampler_type
 plain (Texture sample dim multi) = Texture sample dim multi
 plain (StorageTexture access format dim) = StorageTexture access format dim
 
--- the entry for what one stage uses, and an entry that the stage of a further use sees as well
+-- the entry for what one stage uses
 abbrev pub entry_used : IfaceEntry → LayoutEntry
 entry_used used = record { binding = used.binding; visibility = stage_bit used.stage; kind = plain used.kind }
 

@@ -18,7 +18,7 @@ most_workgroups = 65535
 abbrev pub count_rules : ℕ → ℕ → ℕ → List Rule
 count_rules x y z = (343, nat_le x most_workgroups && nat_le y most_workgroups && nat_le z most_workgroups) ∷ []
 
--- the rules of what dispatches: the pipeline and its groups are set, and what it is given
+-- the rules of what dispatches: those of the pipeline and its groups, and then those of its counts or of its buffer
 abbrev pub dispatching_rules : Settings → Running HandleValue → List Rule
 dispatching_rules set (dispatch x y z) = ready_rules set ++ count_rules x y z
 dispatching_rules set (dispatch_indirect buffer offset) = ready_rules set ++ indirect_rules buffer offset 12
@@ -48,7 +48,8 @@ compute_rules set command = debug_rules set.depth command ++ (end_rules set.dept
 abbrev pub dispatch_touches : Settings → List Touch
 dispatch_touches set = bound_touches (layouts_set set) set.groups
 
--- what is done where this is dispatched; an indirect dispatch reads its counts as well
+-- what a dispatch does over what is set: it touches what its pipeline's groups bind, and an indirect one reads its counts as
+-- well
 abbrev pub dispatching_does : Settings → Running HandleValue → Option Doing
 dispatching_does set (dispatch x y z) = Some (name.Dispatch, dispatch_touches set)
 dispatching_does set (dispatch_indirect buffer offset) = Some (name.Dispatch, dispatch_touches set ++ indirect_touch buffer offset 12 ∷ [])

@@ -25,7 +25,7 @@ use Rattle.wg_model.specs.Formats.{copied_aspect}
 use Rattle.wg_model.specs.Layouts.{is_uniform_binding}
 use Rattle.wg_model.specs.Equality.{same_bool, same_view_dim}
 
--- Usage bits that bindings ask for: of buffers UNIFORM 64 and STORAGE 128, of textures TEXTURE_BINDING 4.
+-- the usage UNIFORM of buffers
 abbrev pub uniform : ℕ
 uniform = 64
 

@@ -232,7 +232,8 @@ draws_to targets desc =
 abbrev pub spares : TargetInfo → DepthState → Bool
 spares targets depth = not (targets.depth_read_only && depth.depth_write) && not (targets.stencil_read_only && depth.stencil_write)
 
--- 320 targets, depth format and samples are those of the pass; 321 what the pass only reads the pipeline does not write
+-- the rules of a pipeline that is set: 320 targets, depth format and samples are those of the pass; 321 what the pass only
+-- reads the pipeline does not write
 abbrev pub pipeline_rules : TargetInfo → Option RenderDesc → List Rule
 pipeline_rules targets None = []
 pipeline_rules targets (Some desc) = (320, draws_to targets desc) ∷ ((321, option_map_or (spares targets) desc.depth true) ∷ [])
@@ -299,8 +300,7 @@ abbrev pub indices_fit : ℕ → ℕ → Option (IndexFormat × ℕ) → Bool
 indices_fit first indices None = false
 indices_fit first indices (Some index) = nat_le ((first + indices) * index_bytes index.0) index.1
 
--- Draws (WebGPU, "valid to draw" and "valid to draw indexed"): 350 each vertex buffer of the pipeline is set; 352 an index
--- buffer is set; 353 the indexes fit its range; 351 the vertices and instances fit the ranges of the vertex buffers
+-- rule 350: each vertex buffer of the pipeline is set (WebGPU, "valid to draw")
 abbrev pub vertex_buffers_rule : RenderSet → Rule
 vertex_buffers_rule render = (350, are_set (buffers_wanted render.set) render.ranges 0)
 

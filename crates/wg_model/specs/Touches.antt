@@ -113,7 +113,7 @@ step_of place doing = placed place (deed_of doing)
 abbrev pub touching : StepPlace → StepName → List Touch → Step
 touching place name touches = step_of place (name, touches)
 
--- copies read the cells that they copy from, and write those that they copy to
+-- cells that a copy is from, used as copy-src and read
 abbrev pub read_cells : Cells → Touch
 read_cells cells = (cells, (copy_src_usage, Read))
 
@@ -125,8 +125,8 @@ written_cells kind cells = (cells, (copy_dst_usage, kind))
 abbrev pub bytes_at : ℕ → ℕ → ℕ → Cells
 bytes_at object offset size = Bytes object offset (offset + size)
 
--- The cells that a copy is to are written where it covers all of each, and else read and written, since what it leaves
--- stays.
+-- how a copy accesses the cells of the texture that it is to: it writes them where it covers all of each, and else reads and
+-- writes them, since what it leaves stays
 abbrev pub target_kind : TextureInfo → TextureSpot → List ℕ → Kind
 target_kind info spot size = if covers_all info spot size then Write else Both
 
@@ -160,7 +160,7 @@ abbrev pub buffer_to_texture_touches : ℕ → DataLayout → ℕ → TextureInf
 buffer_to_texture_touches buffer layout texture info spot size =
     read_cells (bytes_at buffer layout.offset (layout_bytes layout (texel_to spot.aspect info.format) size)) ∷ copied_to texture info spot size
 
--- What copyTextureToBuffer touches: the range is copied to, and the cells are read.
+-- a range of a buffer that is copied to: it is written, or, where rows or images leave bytes between them, read and written
 abbrev pub range_written : ℕ → ℕ → ℕ → ℕ → List ℕ → Touch
 range_written buffer offset taken bytes size = written_cells (range_kind taken bytes size) (bytes_at buffer offset taken)
 
@@ -177,7 +177,7 @@ texture_to_buffer_touches buffer layout texture info spot size =
 abbrev pub texture_to_texture_touches : ℕ → TextureInfo → TextureSpot → ℕ → TextureInfo → TextureSpot → List ℕ → List Touch
 texture_to_texture_touches source from_info from target to_info to size = copied_from source from_info from size ++ copied_to target to_info to size
 
--- What resolveQuerySet touches: the queries are read, and their results are written.
+-- the queries that a resolve reads, used as query-read
 abbrev pub queries_read : ℕ → ℕ → ℕ → Touch
 queries_read queries first count = (Queries queries first (first + count), (query_read_usage, Read))
 
@@ -189,7 +189,7 @@ resolve_set_touches queries first count buffer offset = queries_read queries fir
 abbrev pub unless : Bool → Doing → Option Doing
 unless nothing doing = if nothing then None else Some doing
 
--- what copies and clears do; one of size 0 makes no step
+-- what a copyBufferToBuffer does, which of no byte is nothing
 abbrev pub buffer_to_buffer_does : HandleValue → ℕ → HandleValue → ℕ → ℕ → Option Doing
 buffer_to_buffer_does source source_offset target target_offset size =
     unless (size == 0) (name.CopyBufferToBuffer, buffer_to_buffer_touches source.reference.number source_offset target.reference.number target_offset size)

@@ -31,7 +31,8 @@ attribute_end attribute = attribute.offset + vertex_bytes attribute.format
 abbrev pub attribute_room : Limits → VertexBuffer → ℕ
 attribute_room limits buffer = if buffer.stride == 0 then limits.max_vertex_buffer_array_stride else buffer.stride
 
--- whether an attribute ends there at the most, and has an offset that is a multiple of the lesser of 4 and its bytes
+-- whether an attribute ends within the room of its buffer, and has an offset that is a multiple of the lesser of 4 and its
+-- bytes
 abbrev pub attribute_fits : ℕ → VertexAttribute → Bool
 attribute_fits room attribute = nat_le (attribute_end attribute) room && attribute.offset % min 4 (vertex_bytes attribute.format) == 0
 

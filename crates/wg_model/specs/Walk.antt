@@ -223,7 +223,7 @@ abbrev pub usage_scopes : Kept → List (List Use)
 usage_scopes [] = []
 usage_scopes (kept ∷ older) = usage_scopes older ++ scopes_at (open_pass older) kept.0 kept.1
 
--- the scopes of a recording that has no verdict and no open pass; all that is set in a bundle is one
+-- the usage scopes of an encoder's commands, where there is no verdict and no open pass, and else none
 abbrev pub encoder_scopes : ℕ → Kept → List (List Use)
 encoder_scopes device kept = if is_none (verdict device kept) && is_none (open_pass kept) then usage_scopes kept else []
 
@@ -236,7 +236,7 @@ abbrev pub ScopesOf : ℕ → Option TargetInfo → List (On × Command) → Lis
 ScopesOf device None commands = encoder_scopes device (reverse commands)
 ScopesOf device (Some targets) commands = bundle_scopes device targets (bundled commands)
 
--- what a recording does that has no verdict and no open pass; another does nothing, and neither does that of a bundle encoder
+-- what an encoder's commands do as it is printed, where there is no verdict and no open pass, and else nothing
 abbrev pub encoder_deeds : ℕ → Kept → List Deed
 encoder_deeds device kept = if is_none (verdict device kept) && is_none (open_pass kept) then deeds kept else []
 
@@ -249,7 +249,7 @@ DeedsOf device (Some targets) commands = []
 abbrev pub touched_within : ℕ → TargetInfo → List Command → List BundleTouch
 touched_within device targets earlier = if is_none (bundle_verdict device targets earlier) then bundle_touches (bundle_set targets earlier).touches else []
 
--- the targets of a recording that comes after the first of a bundle encoder, or of an encoder that is none
+-- the targets of nothing, as of a recording that comes after the first of a bundle encoder
 abbrev pub no_targets : TargetInfo
 no_targets = record { colors = []; depth = None; samples = 1; depth_read_only = false; stencil_read_only = false }
 

@@ -56,7 +56,7 @@ made_of (Record on command made) = made_as made (kind_begun command)
 made_of (Ask request made) = made_as made (kind_made request)
 made_of (Canvas call made) = made_as made (canvas_made call)
 
--- the rule that a test of a name found broken, and what it refuses
+-- the rule that a test of a name found broken, if it did
 abbrev pub broken : Result ⊤ ℕ → Option ℕ
 broken (Ok fine) = None
 broken (Err rule) = Some rule

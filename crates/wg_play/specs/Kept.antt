@@ -25,7 +25,7 @@ Each OfObject OfTexture (object.Pass encoder number) = Unit {0}
 Each OfObject OfTexture (object.Canvas canvas) = OfTexture (texture_of canvas)
 Each OfObject OfTexture (object.Shown texture) = OfTexture texture
 
--- the handle of an object is genuine in a past, and so is that of the texture of a canvas
+-- The handle of an object is genuine in a past, and so is that of the texture of a canvas.
 abbrev pub IsKept : Setup → Past → Object → Type 0
 IsKept setup past what = Each (λ handle. is_genuine setup past handle ≡ true) (IsKeptIn setup past) what
 

@@ -49,8 +49,7 @@ abbrev pub canvas_asks : Sight → CanvasOf ℕ → Option (RequestOf HandleValu
 canvas_asks sight (Create width height) = None
 canvas_asks sight (On canvas call) = asked_at sight.own (place_in sight canvas) call
 
--- What the lane sees after it, where the device made this for it, or nothing: a new canvas has the next slot, and so has the name that
--- a currentTexture makes, of the texture that is current then.
+-- a new canvas as an object, if a call gives it a name
 abbrev pub new_canvas : ℕ → ℕ → Option ℕ → List Object
 new_canvas width height made = option_map_or (λ slot. object.Canvas (record { width = width; height = height; stage = Unset }) ∷ []) made []
 

@@ -22,8 +22,7 @@ use Rattle.wg_play.specs.declared.objects.Stand.{Stand}
 abbrev pub unknown : HandleValue
 unknown = record { reference = record { device = 0; number = 0 }; valid = false; info = info.CommandBuffer }
 
--- What a call has made: an object as its caller holds it, with the recorder of an encoder; a pass, by the place of its
--- encoder and its number there; a canvas; or a name for the texture of one, if it has one.
+-- the handle of what a call has made: of a pass, or of a canvas without a texture, one of no object
 abbrev pub handle_in : Object → HandleValue
 handle_in (object.Made handle recorder) = handle
 handle_in (object.Pass encoder number) = unknown
@@ -60,7 +59,7 @@ changed (object.Shown texture) change = object.Shown texture
 abbrev pub with_recorder : List Object → ℕ → (RecorderValue → RecorderValue) → List Object
 with_recorder objects place change = option_map_or (λ x. slice_set objects place (changed x change)) (slice_get objects place) objects
 
--- where a recording call stands that names a place: on the encoder itself, or on a pass of one
+-- on what a recording call stands that names an object at a place: on the encoder itself, or on a pass of one
 abbrev pub stand_in : ℕ → Object → Stand
 stand_in place (object.Made handle recorder) = record { encoder = place; on = Encoder }
 stand_in place (object.Pass encoder number) = record { encoder = encoder; on = Pass number }

@@ -10,7 +10,7 @@ use Rattle.wg_play.specs.declared.objects.Object.{Object}
 use Rattle.wg_play.specs.Lanes.{Lane, next_event, after_reply, starts, gathered}
 use Rattle.wg_play.specs.Turns.{made_by, AllGive, all_after, phase_by}
 
--- The device has the serial 1, and the script's budget and limits.
+-- what a device of a budget and limits is opened with: the serial 1, and these
 abbrev pub setup_with : ℕ → Limits → Setup
 setup_with budget limits = record { serial = 1; budget = budget; limits = limits }
 

@@ -67,7 +67,7 @@ with_answer call = (call.0, option_map_or (λ (entry : Entry). entry.reply.answe
 abbrev pub answered_lanes : List (List PlayedCall) → List (List Answered)
 answered_lanes lanes = map (λ calls. map with_answer calls) lanes
 
--- what there is after a phase, and after phases one after another
+-- the objects after a phase
 abbrev pub objects_next : ℕ → List Object → List (List PlayedCall) → List Object
 objects_next serial objects lanes = gathered objects (ended_from serial objects (length objects) (answered_lanes lanes))
 
@@ -102,7 +102,7 @@ pub record IsRecordedAs (sight : Sight) (before : List BoundCall) (on : ℕ) (fo
 abbrev pub IsDrawnAs : Sight → CanvasOf ℕ → Option Entry → Type 0
 IsDrawnAs sight call found = option_map (λ (entry : Entry). entry.event) found ≡ option_map event_asked (canvas_asks sight call)
 
--- every other call became one, which is its event, and has the verb of the call
+-- A call of the device became one entry, which is its event, and has the verb of the call.
 pub record IsAskedAs (sight : Sight) (request : RequestOf ℕ) (found : Option Entry) : Type 0 where
   pub entry : Entry
   pub is : found ≡ Some entry

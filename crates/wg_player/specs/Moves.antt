@@ -94,7 +94,7 @@ abbrev pub AreSoundIn : Lock → List DevicePass → Type 0
 AreSoundIn lock [] = Unit {0}
 AreSoundIn lock (p ∷ ps) = IsSoundIn lock p × AreSoundIn lock ps
 
--- the passes have seen this and no more, which begins with what each had seen
+-- Passes have met where they have seen this and no more, which begins with what each had seen.
 abbrev pub MetAt : Lock → List Entry → List DevicePass → List DevicePass → Type 0
 MetAt lock front [] [] = Unit {0}
 MetAt lock front (p ∷ ps) (q ∷ qs) = IsPassOf lock q × IsSamePass p q × IsSoundIn lock q × (front_in lock q ≡ front)

@@ -16,7 +16,7 @@ use Rattle.wg_types.specs.declared.replies.How.TheVariants.{Mapped, Done, Aborte
 use Rattle.wg_types.specs.declared.replies.Settlement.{Settlement}
 use Rattle.wg_types.specs.declared.replies.Reply.{Reply}
 
--- the event: the word of its call, or that it came too late
+-- the word of an event, as it is printed: that of its call, or that it came too late
 abbrev pub verb_text : Verb → List ℕ
 verb_text (Call word) = word_text word
 verb_text Late = codes "late"

@@ -16,7 +16,7 @@ use Rattle.wg_types.specs.Words.{step_name_text}
 use Rattle.wg_print.specs.Parts.{access_kind_text, part_text, cells_text}
 use Rattle.wg_print.specs.UsageSets.{usages_text}
 
--- the operation, or the entry of a step on the host
+-- the place of a step, as it is printed: its operation, or the entry of a step on the host
 abbrev pub place_text : StepPlace → List ℕ
 place_text (Op number) = codes "op " ++ decimal number
 place_text (Host entry) = codes "host " ++ decimal entry
@@ -44,7 +44,7 @@ use_text use_of = codes "use " ++ part_text use_of.0 ++ codes " " ++ usages_text
 abbrev pub access_text : Cells × Kind → List ℕ
 access_text access = codes "acc " ++ access_kind_text access.1 ++ codes " " ++ cells_text access.0 ++ codes "\n"
 
--- the line of the step with this number, then a line for each use and each access
+-- the lines of a step: its own with its number, then one for each use and each access
 abbrev pub step_text : ℕ → Step → List ℕ
 step_text number step =
     codes "step " ++ decimal number ++ codes " " ++ place_text step.place ++ codes " " ++ step_name_text step.name ++ codes "\n"

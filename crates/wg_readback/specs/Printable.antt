@@ -17,7 +17,7 @@ use Rattle.wg_readtrace.specs.Forms.{most_32, most_53}
 use Rattle.wg_readtrace.specs.Reading.{is_text_byte, ends_line, lines_of}
 use Rattle.wg_readback.specs.Shapes.{IsShaped}
 
--- The numbers of parts and of cells are ones that the reader takes.
+-- The numbers of a run of parts are ones that the reader of traces takes.
 abbrev pub IsSmallPart : PartRun → Type 0
 IsSmallPart (Buffer object) = object ≤ most_53
 IsSmallPart (Queries object) = object ≤ most_53

@@ -10,7 +10,7 @@ use Rattle.wg_rows.specs.Rows.{EachRow}
 use Rattle.wg_rows.specs.Runs.{Cell, Cells, part_lo, part_hi, cell_lo, cell_hi}
 use Rattle.wg_rows.specs.Once.{OneCovers}
 
--- a set has a usage, and none but the thirteen that have words
+-- A set has a usage, and none but the thirteen that have words.
 abbrev pub IsSet : Usages → Type 0
 IsSet set = (0 < set.0) × (set.0 < 8192)
 
@@ -19,7 +19,7 @@ abbrev pub IsFrom : Option Usages → Type 0
 IsFrom None = Unit {0}
 IsFrom (Some set) = IsSet set
 
--- a run has a part, or a cell
+-- A run has a part.
 abbrev pub HasPart : PartRun → Type 0
 HasPart run = part_lo run < part_hi run
 

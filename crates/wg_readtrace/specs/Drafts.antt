@@ -65,7 +65,7 @@ Gives (Ok x) read = read ≡ Ok x
 Gives (Err (Bad rule line)) read = read ≡ Err (rule, line)
 Gives (Err NoMemory) read = Unit {0}
 
--- Rule 3 by cases: whether a line may stand behind another, and whether it may be the first.
+-- whether a line may stand behind another
 abbrev pub may_follow : Line → Line → Bool
 may_follow last (Bar part from to) = not (is_end last)
 may_follow last (Step number place name) = not (is_end last)

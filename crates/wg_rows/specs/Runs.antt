@@ -36,8 +36,8 @@ aspect_number Color = 0
 aspect_number Depth = 1
 aspect_number Stencil = 2
 
--- Lines, by object, sort (0 for buffers, 1 for query sets, 2 for textures, 3 for slices), aspect and mip level. A part
--- that is whole is the one place 0 of its line.
+-- the line of a run of parts: its object, sort (0 for buffers, 1 for query sets, 2 for textures, 3 for slices), aspect and mip
+-- level; a part that is whole is the one place 0 of its line
 abbrev pub part_line : PartRun → List ℕ
 part_line (BufferPart object) = object ∷ (0 ∷ [])
 part_line (LayerParts object aspect mip lo hi) = object ∷ (2 ∷ (aspect_number aspect ∷ (mip ∷ [])))

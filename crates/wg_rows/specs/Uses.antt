@@ -20,8 +20,7 @@ same_set a b = a.0 == b.0
 abbrev pub only_reads : Usages → Bool
 only_reads set = bit_and set.0 1643 == set.0
 
--- How a step accesses a cell. Both reads and then writes; Drop leaves the cell unset; ReadDrop reads and then leaves
--- it unset.
+-- whether an access reads its cell: Both reads and then writes, and ReadDrop reads and then leaves it unset
 abbrev pub kind_reads : Kind → Bool
 kind_reads Read = true
 kind_reads Write = false
@@ -68,7 +67,7 @@ same_from _ _ = false
 abbrev pub same_change : Change → Change → Bool
 same_change a b = same_from a.0 b.0 && same_set a.1 b.1
 
--- Uses and accesses as they are printed.
+-- the printed form of uses
 abbrev pub printed_uses : List (PartRun × Usages) → List (PartRun × Usages)
 printed_uses rows = printed part_sort same_set rows
 
@@ -76,7 +75,7 @@ printed_uses rows = printed part_sort same_set rows
 abbrev pub printed_accesses : List (Cells × Kind) → List (Cells × Kind)
 printed_accesses rows = printed cell_sort same_kind rows
 
--- Accesses in printed form that have the kinds of these rows are these rows as printed; likewise uses.
+-- Accesses in printed form that have the kinds of some rows which agree are the printed form of those.
 abbrev pub AccessesPrinted : Type 0
 AccessesPrinted = (found rows : List (Cells × Kind)) → AllFit cell_sort rows → Apart cell_sort found → Alike cell_sort same_kind found rows → found ≡ printed_accesses rows
 

@@ -36,7 +36,7 @@ abbrev pub IsPlaceWithin : ℕ → StepPlace → Type 0
 IsPlaceWithin most (Op number) = number ≤ most
 IsPlaceWithin most (Host entry) = entry < most
 
--- The objects of parts and of cells are among the first of this many, and so is an object.
+-- The object of a run of parts has a number below a bound.
 abbrev pub IsPartWithin : ℕ → PartRun → Type 0
 IsPartWithin most run = run_object run < most
 
@@ -57,7 +57,7 @@ IsItemWithin most = ItemHas (IsPlaceWithin most) (IsPartWithin most) (AreCellsWi
 abbrev pub NumbersAreWithin : Type 0
 NumbersAreWithin = (setup : Setup) (history : List Entry) → Run setup history → EachRow (IsItemWithin (length history)) (Trace setup history)
 
--- The reader takes where parts and cells lie within their objects: mip levels, layers, slices, queries and bytes.
+-- The numbers of a run of parts, but for its object, are ones that the reader of traces takes.
 abbrev pub IsSmallRange : PartRun → Type 0
 IsSmallRange (BufferPart object) = Unit {0}
 IsSmallRange (QueryPart object) = Unit {0}

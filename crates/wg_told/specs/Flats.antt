@@ -163,7 +163,7 @@ vertex_buffers_of buffers attributes =
 abbrev pub target_of : ℕ → Option (Option Format)
 target_of n = maybe_nth formats n
 
--- what a pipeline does with depth and stencil, where it has a format
+-- what a flat render pipeline does with depth and stencil, where it has a format, if its values are ones
 abbrev pub depth_with : FlatRender → Format → Option (Option DepthState)
 depth_with r format =
     option_and_then (λ depth. option_map (λ stencil. Some (record { format = format; depth_write = depth; stencil_write = stencil })) (flag_of r.stencil_write)) (flag_of r.depth_write)
@@ -192,7 +192,7 @@ attached_of c =
 abbrev pub color_of : FlatColor → Option (Option (ColorTargetOf ℕ))
 color_of c = if nat_eq c.view left_out then Some None else attached_of c
 
--- an attachment of depth and stencil
+-- the depth attachment that a flat one is, if its values are ones
 abbrev pub depth_attached_of : FlatDepth → Option (Option (DepthTargetOf ℕ))
 depth_attached_of d =
     option_and_then (λ depth_load. option_and_then (λ depth_store. option_and_then (λ depth_read_only.

@@ -35,7 +35,8 @@ part_told (part.Buffer object) = record { object = object; lo = 0; hi = 0; sort 
 part_told (part.Queries object) = record { object = object; lo = 0; hi = 0; sort = 2; aspect = 0; mip = 0 }
 part_told (part.Texture object aspect mip lo hi) = record { object = object; lo = lo; hi = hi; sort = 3; aspect = aspect_number aspect; mip = mip }
 
--- bytes of a buffer, queries, layers of a texture, or slices of a 3D texture, whose aspect is color
+-- a run of cells, as it is told: bytes of a buffer, queries, layers of a texture, or slices of a 3D texture, whose aspect is
+-- color
 abbrev pub cells_told : Cells → ToldRange
 cells_told (cells.Bytes object lo hi) = record { object = object; lo = lo; hi = hi; sort = 1; aspect = 0; mip = 0 }
 cells_told (cells.Queries object lo hi) = record { object = object; lo = lo; hi = hi; sort = 2; aspect = 0; mip = 0 }
@@ -72,7 +73,7 @@ kind_number kind.Both = 3
 kind_number kind.Drop = 4
 kind_number kind.ReadDrop = 5
 
--- the set from which a barrier comes, and whether there is none
+-- the set from which a barrier comes, as it is told, which of none is 0
 abbrev pub from_told : Option Usages → ℕ
 from_told None = 0
 from_told (Some set) = set.0
@@ -82,7 +83,7 @@ abbrev pub fresh_told : Option Usages → ℕ
 fresh_told None = 1
 fresh_told (Some set) = 0
 
--- whether a step is on the host, and the number of its operation or of its entry
+-- 1 where a step is on the host, and else 0
 abbrev pub host_told : StepPlace → ℕ
 host_told (Op number) = 0
 host_told (Host entry) = 1
@@ -104,7 +105,7 @@ blank_item = record { what = 0; name = 0; part = blank_range; from = 0; to = 0; 
 abbrev pub bar_told : PartRun → Option Usages → Usages → ToldItem
 bar_told part from to = record blank_item { what = 1; part = part_told part; from = from_told from; to = to.0; fresh = fresh_told from }
 
--- a step, with how many uses and accesses it has
+-- a step, as it is told, with how many uses and accesses it has
 abbrev pub step_told : Step → ToldItem
 step_told step = record blank_item {
   what = 2;
@@ -133,7 +134,7 @@ use_told used = record { part = part_told used.0; usages = used.1.0 }
 abbrev pub access_told : Cells × Kind → ToldAccess
 access_told access = record { cells = cells_told access.0; kind = kind_number access.1 }
 
--- the uses and the accesses of an item, which only a step has
+-- the uses of an item, which is a step or has none
 abbrev pub uses_of : Item → List (PartRun × Usages)
 uses_of (Bar part from to) = []
 uses_of (StepItem step) = step.uses

@@ -27,7 +27,7 @@ answer_number Promised = 3
 answer_number Plain = 4
 answer_number BadCompletion = 5
 
--- the object, the operation, or the promise, which goes by its entry
+-- the number of a reply: that of the object, of the operation, or of the promise, which goes by its entry
 abbrev pub number_told : Answer → ℕ → ℕ
 number_told (Made number valid) entry = number
 number_told (Queued number) entry = number
@@ -58,7 +58,7 @@ abbrev pub rule_number : Option Fault → ℕ
 rule_number None = 0
 rule_number (Some fault) = fault.rule
 
--- whether an error scope caught it, and which
+-- 1 where an error scope caught a fault, and else 0
 abbrev pub is_caught : Caught → ℕ
 is_caught (Scope place) = 1
 is_caught Uncaptured = 0

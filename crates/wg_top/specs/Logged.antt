@@ -15,7 +15,7 @@ line_told line = (line.who, line.verb, line.reply)
 abbrev pub logged_text : List Line → List Item → List ℕ
 logged_text lines trace = trace_behind (history_text (map line_told lines)) trace
 
--- whether the line is of an entry that issued an operation, or of one with a fault
+-- whether an entry that was logged issued an operation
 abbrev pub issued : Line → Bool
 issued line = is_queued line.reply.answer
 
