@@ -56,7 +56,8 @@ setting_at (Filled setting texture) = Some setting
 abbrev pub setting_of : CanvasValue → Option Setting
 setting_of canvas = setting_at canvas.stage
 
--- what a texture of a canvas with this setting is made with: 2D, with the canvas's extent, one mip level and one sample
+-- what the texture of a canvas is made with: 2D, of the canvas's extent, with one layer, one mip level and one sample, and the
+-- format and usage with which it was configured last
 abbrev pub info_of : CanvasValue → Setting → TextureInfo
 info_of canvas setting = record { size = canvas.width ∷ (canvas.height ∷ (1 ∷ [])); usage = setting.usage; format = format_of setting.format; dim = Two; mips = 1; samples = 1 }
 
@@ -72,7 +73,7 @@ asked_at canvas Unset = None
 asked_at canvas (Empty setting) = Some (CreateTexture (info_of canvas setting))
 asked_at canvas (Filled setting texture) = None
 
--- what a call for the current texture asks of the maker, if anything
+-- what a call for the current texture asks of the maker: to make one, exactly where the canvas is configured and has none
 abbrev pub texture_asked : CanvasValue → Option (RequestOf HandleValue)
 texture_asked canvas = asked_at canvas canvas.stage
 

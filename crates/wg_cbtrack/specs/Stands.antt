@@ -15,11 +15,11 @@ pub record Stands (t : TrackerValue) (steps : List Step) : Type 0 where
   pub last : KeepsLast t.last steps
   pub cells : KeepsSet t.cells steps
 
--- The rows of a tracker are in order.
+-- The rows of a tracker are in order: in printed form, those of its own objects, and runs that do not touch.
 pub record IsSound (t : TrackerValue) : Type 0 where
   pub last : AreSorted t.last
   pub cells : RunsApart t.cells
 
--- The release of objects changes no steps.
+-- Releases at the end of a trace change none of its steps, so that a tracker that stands for it stands for it with them too.
 abbrev pub FreesKeep : Type 0
 FreesKeep = (trace : List Item) (freed : List (ℕ × Sort)) → steps_of (trace ++ map free freed) ≡ steps_of trace

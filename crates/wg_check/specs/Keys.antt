@@ -48,7 +48,8 @@ item_events n (Bar parts from to) = bar_events parts
 item_events n (StepItem s) = row_events n s.accesses
 item_events n (Free object sort) = []
 
--- what a trace does to keys, in its order, behind n steps
+-- what a trace does to keys, in its order, behind n steps: a barrier is a fence on all cells of its parts, that on layer 0 of
+-- a mip level on the slices of that too, and a row is an act of its step
 abbrev pub key_events : ℕ → List Item → List KeyEvent
 key_events n [] = []
 key_events n (Bar parts from to ∷ items) = bar_events parts ++ key_events n items

@@ -53,7 +53,7 @@ abbrev pub is_step : Option ℕ → ℕ → Bool
 is_step None place = false
 is_step (Some k) place = k == place
 
--- the least writer that may disturb a reader
+-- the least writer that may disturb a reader, by what was written before it since the last fence, and by the next writer
 abbrev pub writer_met : Option Past → Option ℕ → List Access → Option ℕ
 writer_met past reader [] = at_end past
 writer_met past reader (a ∷ story) = if is_step reader a.place then writer_for past a (next_writer story) else writer_met (after past a) reader story

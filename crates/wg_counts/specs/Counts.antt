@@ -54,7 +54,7 @@ pub record Owns (note : ℕ → ℕ → ℕ) (old new : List ℕ) : Type 0 where
   pub len : length new ≡ length old
   pub each : (n : ℕ) → own_at new n ≡ (if nat_lt n (length old) then note n (own_at old n) else 0)
 
--- what fell is listed, once more than it was, and nothing that was not held is held
+-- What fell, which was held and is not, is listed, once more than it was, and nothing that was not held is held.
 pub record Falls (old new : CountsValue) : Type 0 where
   pub listed : (n : ℕ) → is_among new.fallen n ≡ is_among old.fallen n || (is_held old n && not (is_held new n))
   pub once : (n : ℕ) → times n new.fallen ≡ times n old.fallen + (if is_held old n && not (is_held new n) then 1 else 0)

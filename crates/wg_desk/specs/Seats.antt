@@ -128,7 +128,7 @@ pub record IsSeated (setup : Setup) (history : List Entry) (n : ℕ) (seat : Sea
   pub number : IfSome seat.handle (λ handle. handle.reference.number ≡ n)
   pub open_still : IfSome seat.recorder (λ recorder. recorder.takes ≡ 0)
 
--- There is a seat for each object that was made.
+-- There is a seat for each object that was made, and each handle is genuine and of the object of its number.
 pub record AreSeated (setup : Setup) (history : List Entry) (seats : List Seat) : Type 0 where
   pub count_is : length seats ≡ count (reverse history)
   pub each : (n : ℕ) (seat : Seat) → slice_get seats n ≡ Some seat → IsSeated setup history n seat

@@ -32,12 +32,12 @@ has_taken recorder = nat_lt 0 recorder.takes
 
 -- Passes of a recording. A bundle encoder is one place, and has none.
 
--- whether a pass is open
+-- whether a pass of a recording is open; a bundle encoder has no passes
 abbrev pub has_open_pass : Option TargetInfo → List (On × Command) → Bool
 has_open_pass None commands = is_some (open_pass (reverse commands))
 has_open_pass (Some targets) commands = false
 
--- whether a pass has ended
+-- whether a pass of a recording has ended; a bundle encoder has no passes
 abbrev pub pass_ended : Option TargetInfo → List (On × Command) → ℕ → Bool
 pass_ended None commands pass = has_ended (reverse commands) pass
 pass_ended (Some targets) commands pass = false
@@ -89,7 +89,8 @@ pub record IsTakenAt (takes passes : ℕ) (targets : Option TargetInfo) (command
   pub later : nat_lt 1 takes ≡ true → commands ≡ []
   pub later_left : nat_lt 1 takes ≡ true → targets ≡ targets_left targets
 
--- A recording is what the last take of a recorder gave: of its device, at its takes.
+-- A recording is what the last take of a recorder gave, and nothing came since that could count: of the first take the
+-- commands, which begin as many passes as the recorder has, of a later one none, and the targets that are left.
 abbrev pub IsTakenFrom : RecordingValue → RecorderValue → Type 0
 IsTakenFrom recording recorder =
     (recording.device ≡ recorder.device) × IsTakenAt recorder.takes recorder.passes recording.targets recording.commands

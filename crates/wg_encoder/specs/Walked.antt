@@ -68,7 +68,8 @@ abbrev pub open_rule : ℕ → Option PassSoFar → Option ℕ
 open_rule device None = None
 open_rule device (Some pass) = pass_rule device pass.begin pass.earlier
 
--- What a recorder keeps in place of a walk is what the walk over its commands finds.
+-- What a recorder keeps in place of a walk (which passes have ended, the verdict, the open groups, the open pass with its
+-- state, and what is done as long as no rule was unmet) is what the walk over its commands finds.
 pub record IsWalkOf (device : ℕ) (kept : Kept) (walk : Walk) : Type 0 where
   pub count : length walk.ended ≡ begins kept
   pub ended_is : (number : ℕ) → number < begins kept → slice_index_or walk.ended number false ≡ has_ended kept number

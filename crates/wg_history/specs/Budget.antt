@@ -14,7 +14,7 @@ bytes_made event = option_map_or bytes_of (info_made unknown event) 0
 abbrev pub bytes_at : Past → ℕ → ℕ
 bytes_at past n = option_map_or (λ entry. bytes_made entry.event) (maker past n) 0
 
--- A resource is live where it is valid and not released.
+-- whether a resource is live: it is valid and not released; destroyed or dropped it still takes its bytes until then
 abbrev pub is_live : Setup → Past → ℕ → Bool
 is_live setup past n = is_some (resource_at past n) && not (is_released setup past n)
 

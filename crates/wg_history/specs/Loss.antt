@@ -42,7 +42,9 @@ popped_off Plainly lost scopes = scopes
 abbrev pub stacked : Bool → Effects → List Scope → List Scope
 stacked lost effects scopes = pushed_on effects.pushed (popped_off effects.form lost scopes)
 
--- the stack of error scopes, outermost first
+-- the stack of open error scopes, outermost first, each with its filter and the first fault that it received: a pushErrorScope
+-- adds one, also on a lost device; a popErrorScope takes the last away, but not on a lost device; the fault of an entry goes
+-- into the scope that caught it, unless that has one already
 abbrev pub error_scopes : Past → List Scope
 error_scopes [] = []
 error_scopes (entry ∷ older) = caught entry.reply.fault (stacked (is_lost older) (effects_of entry.event) (error_scopes older))
@@ -85,8 +87,9 @@ settles settled promise = list_any (λ (s : Settlement). s.promise == promise) s
 abbrev pub unsettled : List Settlement → List Wait → List Wait
 unsettled settled waits = filter (λ (w : Wait). not (settles settled w.promise)) waits
 
--- The promises that were made and that no entry has settled, in their order. Those that are refused, aborted or kept at once are
--- settled by their own entry.
+-- the promises of workDones and of mapAsyncs that no entry has settled, in the order of their numbers, each with what it waits
+-- for: a workDone for the operation that was issued last at its entry; a mapAsync, with its buffer and mapping, for the last
+-- operation that uses the buffer, or 0
 abbrev pub awaiting : Past → List Wait
 awaiting [] = []
 awaiting (entry ∷ older) = unsettled entry.reply.settled (awaiting older ++ promised older (effects_of entry.event).form)

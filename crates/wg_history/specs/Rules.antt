@@ -131,7 +131,8 @@ mapped_now settled (wait ∷ waits) n = option_or (mapped_now settled waits n) (
 abbrev pub waits_of : Entry → Past → List Wait
 waits_of entry older = awaiting older ++ promised older (effects_of entry.event).form
 
--- How buffer n is mapped, if it is: what the last entry left that made it so or that unmapped it.
+-- how a buffer is mapped, if it is, by which mode and over which range: the last entry says it that made the buffer (for
+-- writing and whole, where it was made valid and mapped), that unmapped it, or that settled a map of it as mapped
 abbrev pub mapped_at : Setup → Past → ℕ → Option Mapping
 mapped_at setup [] n = None
 mapped_at setup (entry ∷ older) n =
@@ -198,11 +199,11 @@ abbrev pub may_name : Setup → Past → ℕ → ℕ → Bool
 may_name setup past encoder n = option_map_or (nat_lt encoder) (dropped_at setup past n) true
 
 -- whether a handle that a recorded command of an encoder names is not genuine, or its object was dropped before the encoder
--- was made
+-- was made; what a group binds, of what a view is, or of what a pipeline is made, is not asked
 abbrev pub is_barred : Setup → Past → ℕ → HandleValue × Wanted → Bool
 is_barred setup past encoder object = not (is_genuine setup past object.0 && may_name setup past encoder object.0.reference.number)
 
--- whether some handle that recorded commands of an encoder name is
+-- whether some handle that recorded commands of an encoder name is barred
 abbrev pub any_barred : Setup → Past → ℕ → List (On × Command) → Bool
 any_barred setup past encoder commands = list_any (λ kept. list_any (is_barred setup past encoder) (named kept.1)) commands
 
@@ -240,14 +241,16 @@ kept_rules setup past encoder recording =
 abbrev pub recording_rules : Setup → Past → ℕ → RecordingValue → List Rule
 recording_rules setup past encoder recording = (182, not (has_open_pass recording.targets recording.commands)) ∷ kept_rules setup past encoder recording
 
--- finish: the rules of the encoder, then the rule that invalidated it first, then those of the recording
+-- the first unmet rule of a finish (WebGPU, "Finalization"): those of the encoder, 10, 11, 12 and 180 that it has not ended,
+-- then the rule that invalidated it first, then those of the recording
 unfoldable pub finish_rule : Setup → Past → ObjRef → RecordingValue → Option ℕ
 finish_rule setup past encoder recording =
     option_or (first_unmet (encoder_rules setup past is_encoder encoder))
     (option_or (Verdict recording.device recording.targets recording.commands)
     (first_unmet (recording_rules setup past encoder.number recording)))
 
--- finishBundle (WebGPU, "finish" of a render bundle encoder): likewise. It has no passes.
+-- the first unmet rule of a finishBundle (WebGPU, "finish" of "GPURenderBundleEncoder"): those of the bundle encoder, then the
+-- rule that invalidated it first, then those of the recording, of which 182 is none, since it has no passes
 unfoldable pub finish_bundle_rule : Setup → Past → ObjRef → RecordingValue → Option ℕ
 finish_bundle_rule setup past encoder recording =
     option_or (first_unmet (encoder_rules setup past is_bundle_encoder encoder))
@@ -297,6 +300,7 @@ together_rules setup past buffers =
 abbrev pub submit_list : Setup → Past → List ObjRef → List Rule
 submit_list setup past buffers = listed_rules setup past buffers ++ together_rules setup past buffers
 
--- the first unmet rule of a submit
+-- the first unmet rule of a submit (WebGPU, "submit"): 10, 11 and 12 of each command buffer in turn, and then those on all
+-- together
 unfoldable pub submit_rule : Setup → Past → List ObjRef → Option ℕ
 submit_rule setup past buffers = first_unmet (submit_list setup past buffers)

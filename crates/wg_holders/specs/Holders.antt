@@ -92,7 +92,7 @@ pub record Marks (note : ℕ → Mark → Mark) (old new : Holdings) : Type 0 wh
   pub given_back : AreGivenBack old.marks old.names → AreGivenBack new.marks new.names
   pub refers : new.refers ≡ old.refers
 
--- what fell is listed, once more than it was, and nothing that was not held is held
+-- What fell, which was held and is not, is listed, once more than it was, and nothing that was not held is held.
 pub record Falls (old new : HoldersValue) : Type 0 where
   pub listed : (n : ℕ) → is_among new.fallen n ≡ is_among old.fallen n || (is_held old.holdings n && not (is_held new.holdings n))
   pub once : (n : ℕ) → times n new.fallen ≡ times n old.fallen + (if is_held old.holdings n && not (is_held new.holdings n) then 1 else 0)

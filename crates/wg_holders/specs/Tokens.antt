@@ -48,7 +48,8 @@ abbrev pub waits : List Awaited → ℕ → ℕ
 waits [] n = 0
 waits (wait ∷ awaited) n = (if wait.number == n then 1 else 0) + waits awaited n
 
--- Each object has the holds that are told by the marks, the names and what waits.
+-- Each object has one hold for not being dropped, one for waiting for an open encoder, and one for each time that a pending
+-- command buffer names it.
 pub record IsOwned (marks : List Mark) (names : List (List ℕ)) (awaited : List Awaited) (own : List ℕ) : Type 0 where
   pub own_len : length own ≡ length marks
   pub names_len : length names ≡ length marks
@@ -95,7 +96,7 @@ abbrev pub starts_awaited : List ℕ → List Awaited → Bool
 starts_awaited opened [] = true
 starts_awaited opened (wait ∷ awaited) = first_below opened wait.made
 
--- All that waits for an open encoder is listed, and nothing twice.
+-- All dropped objects that wait for an open encoder are listed, in the order of their drops, and nothing twice.
 pub record Drops (marks : List Mark) (awaited : List Awaited) : Type 0 where
   pub made_before : (n k : ℕ) → (mark_at marks n).dropped ≡ Some k → k ≤ length marks
   pub in_order : InOrder marks 0 awaited

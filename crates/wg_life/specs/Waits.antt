@@ -85,7 +85,8 @@ pub record IsInserted (wait : Wait) (old new : List Wait) : Type 0 where
 abbrev pub stands_for : List Row → ℕ → Wait → Bool
 stands_for rows n wait = wait.number == n && nat_le wait.last (row_at rows n).last
 
--- All that waits is listed, and no more than that many.
+-- All resources that are gone and not released are listed, in the order of the operations that they wait for, and no more than
+-- that many.
 pub record IsTidy (rows : List Row) (gone : List Bool) (listed : List Wait) : Type 0 where
   pub both : length gone ≡ length rows
   pub in_order : IsNonDecreasingBy (λ (wait : Wait). wait.last) listed

@@ -150,7 +150,8 @@ limits_asked values = if list_all can_ask values then Some (limits_for values) e
 abbrev pub IsNoBetter : LimitName → ℕ → Type 0
 IsNoBetter name value = IsTrue (no_better name value (limit_of name best_limits))
 
--- A value is no worse than the default, and no better than the best.
+-- A value is no worse than the default and no better than the best: the law that each limit is which is given for what is
+-- asked.
 abbrev pub IsBetween : LimitName → ℕ → Type 0
 IsBetween name value = IsTrue (no_better name (limit_of name default_limits) value) × IsNoBetter name value
 

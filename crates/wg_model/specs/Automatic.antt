@@ -34,12 +34,12 @@ clash_at iface group binding = differ (uses_of group binding iface)
 abbrev pub kinds_agree : List IfaceEntry → Bool
 kinds_agree iface = list_all (λ (used : IfaceEntry). not (clash_at iface used.group used.binding)) iface
 
--- how many groups there are up to the greatest that is named
+-- how many groups there are from 0 to the greatest that is named, and none where none is
 abbrev pub group_count : List IfaceEntry → ℕ
 group_count [] = 0
 group_count (used ∷ iface) = max (used.group + 1) (group_count iface)
 
--- whether each group that is named may be set
+-- whether each group that is named may be set: it is below 4, as for setBindGroup
 abbrev pub groups_fit : List IfaceEntry → Bool
 groups_fit iface = list_all (λ (used : IfaceEntry). nat_lt used.group most_groups) iface
 
@@ -111,7 +111,8 @@ abbrev pub derived_rules : {R : Type 0} → Limits → Option R → List IfaceEn
 derived_rules limits None iface = automatic_rules limits iface
 derived_rules limits (Some layout) iface = []
 
--- the layouts of a pipeline, by what is known of an object
+-- the bind group layouts of what is known of a pipeline of either kind, by group, be they named or derived; of anything else
+-- there are none
 abbrev pub known_layouts : Option Info → List GroupLayoutInfo
 known_layouts known = option_map_or layouts_in known []
 

@@ -124,7 +124,8 @@ moved_range_fits moved (BoundBuffer buffer known offset size) = nat_le (offset +
 moved_range_fits moved (BoundView view known) = true
 moved_range_fits moved (BoundSampler sampler known) = true
 
--- whether a range that is bound, moved by its offset, ends within its buffer
+-- rule 328: a range that is bound ends within its buffer, where it begins at its own offset and that by which it is moved
+-- together
 abbrev pub place_fits : Place → Bool
 place_fits place = moved_range_fits place.moved place.resource
 
@@ -189,14 +190,15 @@ resources_meet moved (BoundBuffer buffer known offset size) moved2 (BoundBuffer 
 resources_meet moved (BoundView view known) moved2 (BoundView view2 known2) = views_meet known known2
 resources_meet moved _ moved2 _ = false
 
--- whether one stage sees two places that overlap, where shaders may write one of them
+-- whether two places overlap of which shaders may write one: their visibilities have a bit in common, also one of a stage that
+-- the pipeline does not run, and they have a byte of one buffer or a subresource of one texture in common
 abbrev pub overlap : Place → Place → Bool
 overlap a b =
     nat_lt 0 (bit_and a.asked.visibility b.asked.visibility)
     && ((may_write a.asked.kind || may_write b.asked.kind)
     && resources_meet a.moved a.resource b.moved b.resource)
 
--- whether no two places do
+-- rule 342: no two places overlap of which shaders may write one
 abbrev pub are_clear : List Place → Bool
 are_clear [] = true
 are_clear (place ∷ places) = not (list_any (overlap place) places) && are_clear places
@@ -220,7 +222,8 @@ access_touch ReadOnly = (storage_read_usage, Read)
 access_touch WriteOnly = (storage_usage, Both)
 access_touch ReadWrite = (storage_usage, Both)
 
--- how what is bound is used and accessed, by its kind
+-- how what is bound is used and accessed, by its kind: a uniform buffer and a sampled texture as constant, and read; storage
+-- that is only read as storage-read, and read; any other storage as storage, and both read and written; a sampler has no cell
 abbrev pub kind_touch : BindingKind → Usages × Kind
 kind_touch (Buffer binding dynamic min_size) = buffer_touch binding
 kind_touch (Sampler sampler_type) = (constant_usage, Read)

@@ -92,7 +92,8 @@ object_rules device object =
     ∷ ((12, object.0.valid)
     ∷ [])
 
--- the rules on each object that a command names, one object after another
+-- the rules on each object that a command names, one object after another: 10 it is of the recorder's device and of the kind
+-- that is asked for; 12 it is valid
 abbrev pub common_rules : ℕ → List (HandleValue × Wanted) → List Rule
 common_rules device [] = []
 common_rules device (object ∷ objects) = object_rules device object ++ common_rules device objects
@@ -131,7 +132,7 @@ resolve_set_rules queries first count buffer offset =
     ∷ ((283, nat_le (offset + query_bytes * count) (buffer_of buffer).size)
     ∷ [])))
 
--- a command's own rules, but for those that look at the commands before it
+-- the rules of a command that look at it alone, and not at the commands before it
 abbrev pub own_rules : Command → List Rule
 own_rules BeginComputePass = []
 own_rules (BeginRenderPass begin) = []

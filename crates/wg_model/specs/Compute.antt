@@ -40,7 +40,8 @@ dispatch_rules_by set neither = []
 abbrev pub dispatch_rules : Settings → Command → List Rule
 dispatch_rules set command = dispatch_rules_by set (act command)
 
--- the rules of a command of the pass, over what is set, but for those on the objects that it names
+-- the rules of a command of a compute pass, over what is set, but for those on the objects that it names: of debug groups, of
+-- the end, of a group that is set, and of dispatches
 abbrev pub compute_rules : Settings → Command → List Rule
 compute_rules set command = debug_rules set.depth command ++ (end_rules set.depth command ++ (given_rules (group_given command) ++ dispatch_rules set command))
 

@@ -220,11 +220,13 @@ of_binding n (entry ∷ entries) = if entry.binding == n then entry ∷ of_bindi
 abbrev pub equivalent : List LayoutEntry → List LayoutEntry → Bool
 equivalent a b = length a == length b && list_all (λ (entry : LayoutEntry). same_list same_layout_entry (of_binding entry.binding a) (of_binding entry.binding b)) a
 
--- whether a layout that counts as exclusive to this pipeline, or to none, is equivalent to one that is set: that has the same
--- entries, and is exclusive to the same pipeline, or to none as well
+-- whether a layout of a pipeline in use and that of a group are equivalent for an owner: their entries are, and the group's is
+-- exclusive to just that owner, a pipeline that has derived its layouts, or none; to whom the other is exclusive, inside what
+-- is known of the pipeline, is not looked at
 abbrev pub equivalent_for : Option ℕ → GroupLayoutInfo → GroupLayoutInfo → Bool
 equivalent_for owner layout set = same_owner owner set.exclusive && equivalent layout.entries set.entries
 
--- whether two layouts are equivalent
+-- whether two bind group layouts are equivalent: their entries are, and both are exclusive to the same pipeline or neither to
+-- any; of which pipeline a layout was got makes no difference
 abbrev pub equivalent_layouts : GroupLayoutInfo → GroupLayoutInfo → Bool
 equivalent_layouts a b = equivalent_for a.exclusive a b

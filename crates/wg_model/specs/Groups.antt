@@ -37,7 +37,7 @@ storage = 128
 abbrev pub texture_binding : ℕ
 texture_binding = 4
 
--- whether the entries name each binding of a layout once, and no other
+-- rule 150: of each binding of the layout there is one entry, and each entry is of a binding of the layout
 abbrev pub are_matched : List LayoutEntry → List BoundEntry → Bool
 are_matched layout entries =
     list_all (λ (asked : LayoutEntry). count_by (λ (entry : BoundEntry). entry.binding == asked.binding) entries == 1) layout

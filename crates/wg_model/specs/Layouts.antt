@@ -162,7 +162,8 @@ group_layout_rules limits entries =
     ∷ ((137, dynamic_fits limits entries)
     ∷ [])))))))
 
--- the entries of several layouts
+-- the entries of several layouts together, of one that stands there twice also twice: 141 and 142 ask of these what 136 and
+-- 137 ask of one layout
 abbrev pub all_entries : List GroupLayoutInfo → List LayoutEntry
 all_entries [] = []
 all_entries (layout ∷ layouts) = layout.entries ++ all_entries layouts

@@ -112,7 +112,9 @@ pipeline_layout_made reference known layouts = record { layouts = map reference 
 abbrev pub group_made : {R : Type 0} → (R → ObjRef) → (R → Option Info) → R → List (GroupEntryOf R) → GroupInfo
 group_made reference known layout entries = record { layout = reference layout; layout_info = known_group_layout (known layout); entries = map (bound_entry reference known) entries }
 
--- what is known of the layout of a pipeline: the one that it is made with, or what it derives from what its shaders use
+-- what a pipeline knows of its layout: what is known of the one that it names, or else a pipeline layout of the layouts that
+-- it derives, each exclusive to none and got of none, of which there are none where kinds clash or a group is named that
+-- cannot be
 abbrev pub layout_made : {R : Type 0} → (R → Option Info) → Option R → List IfaceEntry → PipelineLayoutInfo
 layout_made known None iface = record { layouts = []; layouts_info = automatic_layouts iface }
 layout_made known (Some layout) iface = known_pipeline_layout (known layout)

@@ -21,7 +21,8 @@ levels_bytes info (suc mip) = levels_bytes info mip + level_bytes info mip
 unfoldable pub texture_bytes : TextureInfo → ℕ
 texture_bytes info = levels_bytes info info.mips
 
--- the bytes of an object; one that is no resource has none
+-- the bytes of an object: of a buffer its size, of a texture those of all its mip levels, of a query set 8 for each query, and
+-- of each other object 0
 abbrev pub bytes_of : Info → ℕ
 bytes_of (Buffer info) = info.size
 bytes_of (Texture info) = texture_bytes info

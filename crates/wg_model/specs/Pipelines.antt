@@ -37,6 +37,6 @@ serves used entry = is_seen_by (stage_bit used.stage) entry && same_use entry.ki
 abbrev pub offers : List GroupLayoutInfo → IfaceEntry → Bool
 offers layouts used = option_map_or (λ (layout : GroupLayoutInfo). option_map_or (serves used) (entry_of layout.entries used.binding) false) (slice_get layouts used.group) false
 
--- createComputePipeline: 160 the layout has each binding that a shader uses, visible to its stage and of the same kind.
+-- rule 160 of createComputePipeline: the layout offers each entry of the interface
 abbrev pub compute_rules : List GroupLayoutInfo → List IfaceEntry → List Rule
 compute_rules layouts iface = (160, list_all (offers layouts) iface) ∷ []

@@ -28,7 +28,7 @@ occlusion_by (occludes call) = Some call
 occlusion_by (executes bundles) = None
 occlusion_by neither = None
 
--- what a command does with occlusion queries, if anything
+-- what a command does with occlusion queries, if anything: it begins the query of an index, or ends the active one
 abbrev pub occlusion_call : Command → Option OcclusionCall
 occlusion_call command = occlusion_by (act command)
 

@@ -40,7 +40,7 @@ write_buffer_step place object offset size = touching place name.WriteBuffer (ra
 abbrev pub write_texture_step : StepPlace → ℕ → TextureInfo → TextureSpot → List ℕ → Step
 write_texture_step place object info spot size = touching place name.WriteTexture (copied_to object info spot size)
 
--- the step of a queue write; one of size 0 is no step
+-- the step of a queue write, which writes the range of its buffer or copies to its texture; one of size 0 makes none
 abbrev pub write_step : StepPlace → QueueWrite → Option Step
 write_step place (BufferWrite buffer offset size) = if size == 0 then None else Some (write_buffer_step place buffer.number offset size)
 write_step place (TextureWrite texture info spot layout size) =
@@ -68,7 +68,8 @@ host_name WriteMode = name.HostWrite
 abbrev pub host_touches : ℕ → Mapping → List Touch
 host_touches buffer m = (Bytes buffer m.lo m.hi, (host_usage m.mode, host_kind m.mode)) ∷ []
 
--- the step of a host access to the range of a mapping; an empty range is no step
+-- the step of a host access to the range of a mapping: of one for reading a host read, which uses the buffer as host-read and
+-- reads it; of one for writing a host write, which uses it as host-write and reads and writes it; an empty range makes none
 abbrev pub host_step : StepPlace → ℕ → Mapping → Option Step
 host_step place buffer m = if m.lo == m.hi then None else Some (touching place (host_name m.mode) (host_touches buffer m))
 
@@ -226,6 +227,8 @@ any_resource test commands = any_named resources test commands
 abbrev pub uses_resource : List (On × Command) → ℕ → Bool
 uses_resource commands n = any_resource (λ r. r == n) commands
 
--- the numbers of the objects that recorded commands name
+-- the numbers of all objects that recorded commands name themselves, in the order of the commands and each as often as it is
+-- named: of a group its own, and not those of what it binds, of a view its own, and not that of its texture, and of a bundle
+-- its own, and not those of what its commands name
 abbrev pub names_within : List (On × Command) → List ℕ
 names_within commands = flat_map (λ (kept : On × Command). map (λ (object : HandleValue × Wanted). object.0.reference.number) (named kept.1)) commands

@@ -232,8 +232,8 @@ draws_to targets desc =
 abbrev pub spares : TargetInfo → DepthState → Bool
 spares targets depth = not (targets.depth_read_only && depth.depth_write) && not (targets.stencil_read_only && depth.stencil_write)
 
--- the rules of a pipeline that is set: 320 targets, depth format and samples are those of the pass; 321 what the pass only
--- reads the pipeline does not write
+-- the rules of a pipeline that is set: 320 its targets, depth format and samples are those of the pass, where what is left out
+-- at the end of the targets does not count; 321 it writes neither depth nor stencil where the pass only reads that
 abbrev pub pipeline_rules : TargetInfo → Option RenderDesc → List Rule
 pipeline_rules targets None = []
 pipeline_rules targets (Some desc) = (320, draws_to targets desc) ∷ ((321, option_map_or (spares targets) desc.depth true) ∷ [])
@@ -304,7 +304,8 @@ indices_fit first indices (Some index) = nat_le ((first + indices) * index_bytes
 abbrev pub vertex_buffers_rule : RenderSet → Rule
 vertex_buffers_rule render = (350, are_set (buffers_wanted render.set) render.ranges 0)
 
--- rule 351: the ranges that are set serve a draw
+-- rule 351: the ranges that are set serve the draw, which goes up to firstVertex and vertices together, and up to
+-- firstInstance and instances together; of an indexed draw instances alone are told
 abbrev pub draw_rule : RenderSet → Option ℕ → ℕ → Rule
 draw_rule render vertices instances = (351, draw_fits (buffers_wanted render.set) render.ranges vertices instances)
 
@@ -346,7 +347,8 @@ setting_rules (set_group index group offsets) = []
 setting_rules (set_vertex_buffer slot buffer offset size) = vertex_rules slot buffer offset (size_or_rest buffer offset size)
 setting_rules (set_index_buffer buffer format offset size) = index_rules buffer format offset (size_or_rest buffer offset size)
 
--- the rules of a draw, by what is drawn
+-- the rules of a draw, by what is drawn: of a draw 350 and 351; of a drawIndexed 350, 352, 353 and 351; of a drawIndirect
+-- those of its buffer and 350; of a drawIndexedIndirect those of its buffer, 350 and 352
 abbrev pub running_rules : RenderSet → Running HandleValue → List Rule
 running_rules render (dispatch x y z) = []
 running_rules render (dispatch_indirect buffer offset) = []
@@ -368,7 +370,9 @@ drawing_rules_by render neither = []
 abbrev pub drawing_rules : RenderSet → Command → List Rule
 drawing_rules render command = drawing_rules_by render (act command)
 
--- the rules of a command of the pass, over what is set, but for those on the objects that it names
+-- the rules of a command of a render pass or on a bundle encoder, over what is set, but for those on the objects that it
+-- names: of debug groups, of the end, 310 and then 311, of a pipeline that is set, of a group that is set, and of buffers,
+-- draws, queries and bundles
 abbrev pub render_rules : RenderSet → Command → List Rule
 render_rules render command =
     debug_rules render.set.depth command
@@ -386,6 +390,7 @@ render_does_by render brackets.PushGroup = None
 render_does_by render brackets.PopGroup = None
 render_does_by render brackets.Neither = None
 
--- what a command of a render pass does: its end makes the pass's one step
+-- what a command of a render pass does: the end makes the pass's one step, which touches its attachments and what its commands
+-- touch, and no other command makes a step
 unfoldable pub render_does : RenderSet → Command → Option Doing
 render_does render command = render_does_by render (bracket command)

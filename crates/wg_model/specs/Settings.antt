@@ -67,7 +67,7 @@ unsets_by neither = false
 abbrev pub unsets : Command → Bool
 unsets command = unsets_by (act command)
 
--- the pipeline that is set: the last, since bundles were executed
+-- the pipeline that was set last, if one was since the pass began and since bundles were executed last
 abbrev pub pipeline_set : List Command → Option HandleValue
 pipeline_set [] = None
 pipeline_set (command ∷ earlier) = if unsets command then None else option_or (pipeline_given command) (pipeline_set earlier)
@@ -97,12 +97,13 @@ group_given_by neither = None
 abbrev pub group_given : Command → Option (ℕ × BoundGroup)
 group_given command = group_given_by (act command)
 
--- the group that is set at an index: the last, since bundles were executed
+-- the group, with its offsets, that was set last at an index, if one was since the pass began and since bundles were executed
+-- last
 abbrev pub group_set : List Command → ℕ → Option BoundGroup
 group_set [] at = None
 group_set (command ∷ earlier) at = if unsets command then None else slot_after (group_given command) at (group_set earlier at)
 
--- the groups that are set, by index
+-- the groups that are set at the indexes 0 to 3
 abbrev pub groups_set : List Command → List (Option BoundGroup)
 groups_set earlier = group_set earlier 0 ∷ (group_set earlier 1 ∷ (group_set earlier 2 ∷ (group_set earlier 3 ∷ [])))
 

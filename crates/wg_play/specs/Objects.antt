@@ -22,7 +22,7 @@ use Rattle.wg_play.specs.declared.objects.Stand.{Stand}
 abbrev pub unknown : HandleValue
 unknown = record { reference = record { device = 0; number = 0 }; valid = false; info = info.CommandBuffer }
 
--- the handle of what a call has made: of a pass, or of a canvas without a texture, one of no object
+-- the handle of what a call has made: of a pass, a canvas, or a name without a texture, one of no object
 abbrev pub handle_in : Object → HandleValue
 handle_in (object.Made handle recorder) = handle
 handle_in (object.Pass encoder number) = unknown

@@ -189,6 +189,6 @@ abbrev pub line_as : List ℕ → List ℕ → Option Line
 line_as w bs =
     if bytes_eq w (codes "bar") then bar_of bs else (if bytes_eq w (codes "step") then step_of bs else (if bytes_eq w (codes "use") then use_of bs else (if bytes_eq w (codes "acc") then acc_of bs else (if bytes_eq w (codes "free") then free_of bs else (if bytes_eq w (codes "end") then whole bs End else None)))))
 
--- the line that a text is, without its end; its first word has no space before it
+-- the line that a text is, without its end, by the first word, which has no space before it, and the forms behind it
 unfoldable pub line_of : List ℕ → Option Line
 line_of bs = line_as (take (gap_len bs) bs) (drop (gap_len bs) bs)

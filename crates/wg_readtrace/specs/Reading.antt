@@ -141,7 +141,8 @@ abbrev pub read_behind : Option (ℕ × List (List ℕ)) → Result (List Line) 
 read_behind None = Err (1, 0)
 read_behind (Some found) = if is_none_left found.1 then Err (3, found.0) else read_from (suc found.0) [] found.1
 
--- the lines of the trace, or the rule that is broken first, with the number of its line
+-- the lines behind the first line `trace`, each of which breaks no rule beside those before it, or the rule that is broken
+-- first, with the number of its line
 unfoldable pub read_lines : List ℕ → Result (List Line) (ℕ × ℕ)
 read_lines bytes = if not (list_all is_text_byte bytes) || not (ends_line bytes) then Err (1, 0) else read_behind (behind_trace 1 (lines_of bytes))
 
@@ -179,7 +180,7 @@ as_items (Err e) = Err e
 abbrev pub trace_in : List ℕ → Result (List Item) (ℕ × ℕ)
 trace_in bytes = as_items (read_lines bytes)
 
--- What a fault says of the reading.
+-- A fault says of a text the rule and the line of its first refusal; want of memory says nothing.
 abbrev pub Refuses : {X : Type 0} → TraceFault → Result X (ℕ × ℕ) → Type 0
 Refuses (Bad rule line) read = read ≡ Err (rule, line)
 Refuses NoMemory read = Unit {0}

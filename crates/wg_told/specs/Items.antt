@@ -101,11 +101,11 @@ blank_range = record { object = 0; lo = 0; hi = 0; sort = 0; aspect = 0; mip = 0
 abbrev pub blank_item : ToldItem
 blank_item = record { what = 0; name = 0; part = blank_range; from = 0; to = 0; fresh = 0; host = 0; place = 0; uses = 0; accesses = 0 }
 
--- a barrier, as it is told
+-- a barrier, as it is told, with its part, the sets of usages, and whether it comes from none
 abbrev pub bar_told : PartRun → Option Usages → Usages → ToldItem
 bar_told part from to = record blank_item { what = 1; part = part_told part; from = from_told from; to = to.0; fresh = fresh_told from }
 
--- a step, as it is told, with how many uses and accesses it has
+-- a step, as it is told, with its name, its place, and how many uses and accesses it has
 abbrev pub step_told : Step → ToldItem
 step_told step = record blank_item {
   what = 2;
@@ -116,11 +116,11 @@ step_told step = record blank_item {
   accesses = length step.accesses;
 }
 
--- a release, as it is told
+-- a release, as it is told, with the object and its sort
 abbrev pub free_told : ℕ → Sort → ToldItem
 free_told object sort = record blank_item { what = 3; part = record blank_range { object = object; sort = sort_number sort } }
 
--- an item of a trace, as it is told
+-- an item of a trace, as it is told: 1 a barrier, 2 a step, 3 a release
 abbrev pub item_told : Item → ToldItem
 item_told (Bar part from to) = bar_told part from to
 item_told (StepItem step) = step_told step

@@ -27,7 +27,7 @@ map_resource f (Sampler sampler) = Sampler (f sampler)
 abbrev pub map_entry : {R S : Type 0} → (R → S) → GroupEntryOf R → GroupEntryOf S
 map_entry f entry = record { binding = entry.binding; resource = map_resource f entry.resource }
 
--- the entry of a binding in a layout
+-- the entry of a binding in a layout, the first where there are several
 abbrev pub entry_of : List LayoutEntry → ℕ → Option LayoutEntry
 entry_of [] binding = None
 entry_of (entry ∷ entries) binding = if entry.binding == binding then Some entry else entry_of entries binding

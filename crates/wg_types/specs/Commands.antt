@@ -34,7 +34,10 @@ serves_at Bundle = wanted.Binding ∷ wanted.Drawing ∷ wanted.Recording ∷ []
 abbrev pub stands : Wanted → CommandPlace → Bool
 stands asked place = list_any (is_wanted asked) (serves_at place)
 
--- what a command asks of what it stands on, where that has a name
+-- what a command asks of what it stands on: an encoder for the begin of a pass, copies, clears and resolves of query sets; a
+-- pass for an end; a pass or a bundle encoder for what sets a pipeline or a bind group; a compute pass for dispatches; a
+-- render pass or a bundle encoder for what sets a vertex or index buffer and for draws; a render pass for occlusion queries
+-- and bundles that are executed; any of these for debug groups
 abbrev pub place_wanted : {R : Type 0} → CommandOf R → Wanted
 place_wanted BeginComputePass = wanted.Encoder
 place_wanted (BeginRenderPass begin) = wanted.Encoder
@@ -202,7 +205,9 @@ begin_in neither = None
 abbrev pub render_begun : {R : Type 0} → CommandOf R → Option (RenderBeginOf R)
 render_begun command = begin_in (act command)
 
--- the objects that a command names, in the order of its keys, with what is wanted of each
+-- the objects that a command names, in the order of its keys, each with the kind that it has to be of: of a copy the source
+-- and then the target, of a beginRenderPass the views that it attaches and then its query set, of a resolveQuerySet the query
+-- set and then the buffer
 abbrev pub named : {R : Type 0} → CommandOf R → List (R × Wanted)
 named BeginComputePass = []
 named (BeginRenderPass begin) = begin_named begin
