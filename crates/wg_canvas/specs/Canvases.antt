@@ -1,4 +1,5 @@
--- Canvases: what each call asks of a device, if it asks something, and what becomes of the canvas.
+-- Canvases: what each call asks of a device, if it asks something, and what becomes of the canvas (WebGPU, "Canvas Rendering"
+-- and "GPUCanvasContext").
 use Rattle.std.specs.Prelude.{◌≡◌, ℕ, ◌∷◌, [], Option, Some, None, option_map}
 use Rattle.wg_types.specs.Handles.{HandleValue}
 use Rattle.wg_types.specs.Kinds.{kind_of}

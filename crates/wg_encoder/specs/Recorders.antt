@@ -1,4 +1,4 @@
--- What contracts see of recorders and their recordings, and what calls of a recorder do.
+-- What contracts see of recorders and their recordings, and what calls of a recorder do (WebGPU, "Command Encoding").
 use Rattle.std.specs.Prelude.{◌≡◌, ℕ, ◌+◌, ◌-◌, ◌<◌, nat_lt, ◌++◌, Bool, true, false, ◌||◌, List, [], ◌∷◌, Option, Some, None, is_some, reverse, if◌then◌else◌}
 use Rattle.wg_types.specs.declared.handles.ObjRef.{ObjRef}
 use Rattle.wg_types.specs.declared.commands.On.{On}

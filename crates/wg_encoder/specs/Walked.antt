@@ -1,4 +1,4 @@
--- What a recorder keeps in place of a walk over its commands, and that it is what the walk finds.
+-- What a recorder keeps in place of a walk over its commands, and that it is what the walk finds (WebGPU, "Command Encoding").
 use Rattle.std.specs.Prelude.{◌≡◌, ℕ, ◌<◌, false, List, ◌∷◌, map, Option, Some, None, length, slice_index_or}
 use Rattle.std.specs.Option.{option_or}
 use Rattle.wg_types.specs.Commands.{Command, bracket, named_on}

@@ -1,4 +1,4 @@
--- What a device keeps of its error scopes.
+-- What a device keeps of its error scopes (WebGPU, "Error Scopes").
 use Rattle.std.specs.Prelude.{ℕ, Bool, List}
 use Rattle.wg_types.specs.declared.replies.Scope.{Scope}
 

@@ -1,4 +1,5 @@
--- The first unmet rule of an event that makes a bind group, a layout or a pipeline.
+-- The first unmet rule of an event that makes a bind group, a layout or a pipeline (WebGPU, "Bind Group Creation", "Pipeline
+-- Layout Creation", "Compute Pipeline Creation" and "Render Pipeline Creation").
 use Rattle.std.specs.Prelude.{ℕ, not, List, [], ◌∷◌, ◌++◌, Option}
 use Rattle.wg_types.specs.Wanted.{admits}
 use Rattle.wg_types.specs.Kinds.{kind_of}

@@ -1,5 +1,5 @@
--- Loss of the device, the stack of error scopes, and the promises that wait (WebGPU, "Error Scopes",
--- "Buffer Mapping" and "onSubmittedWorkDone").
+-- Loss of the device, the stack of error scopes, and the promises that wait (WebGPU, "Error Scopes", "Buffer Mapping" and
+-- "onSubmittedWorkDone"). Also WebGPU, "Device Loss".
 use Rattle.std.specs.Prelude.{ℕ, suc, ◌+◌, ◌≤◌, Bool, false, not, ◌||◌, ◌==◌, List, [], ◌∷◌, ◌++◌, filter, length, Option, Some, None, if◌then◌else◌}
 use Rattle.std.specs.List.{list_any}
 use Rattle.wg_types.specs.declared.replies.Fault.{Fault}

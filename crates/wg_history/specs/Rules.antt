@@ -1,4 +1,5 @@
--- The first unmet rule of an event that names objects.
+-- The first unmet rule of an event that names objects (WebGPU, "Finalization", "submit", "Buffer Destruction", "Texture
+-- Destruction", "Query Set Destruction" and "Internal Objects").
 use Rattle.std.specs.Prelude.{ℕ, Bool, true, false, not, ◌&&◌, ◌||◌, ◌==◌, nat_lt, List, [], ◌∷◌, ◌++◌, Option, Some, None, is_none, is_some, option_and_then, unwrap_or, if◌then◌else◌}
 use Rattle.std.specs.List.{list_any}
 use Rattle.std.specs.Option.{option_map_or, option_or}

@@ -1,4 +1,4 @@
--- Who holds which objects.
+-- Who holds which objects (WebGPU, "Internal Objects").
 use Rattle.std.specs.Prelude.{◌≡◌, ℕ, ◌+◌, ◌<◌, Bool, true, false, not, ◌&&◌, ◌||◌, List, [], ◌∷◌, ◌++◌, length, Some, None, is_some, slice_index_or, if◌then◌else◌}
 use Rattle.wg_model.specs.Holding.{Holds, is_among, is_held_in}
 use Rattle.wg_counts.specs.Counts.{times}

@@ -1,5 +1,6 @@
 -- The attachments of render passes (WebGPU, "Render Pass Encoder Creation" and "Render Pass Attachments"): the rules of the
--- begin, to what the pass draws, and what the attachments touch.
+-- begin, to what the pass draws, and what the attachments touch. Also WebGPU, "Color Attachments", "Depth/Stencil
+-- Attachments", "Load & Store Operations", "Render Pass Layout".
 use Rattle.std.specs.Prelude.{ℕ, ◌+◌, ◌==◌, nat_le, nat_lt, Bool, true, false, not, ◌&&◌, ◌||◌, List, [], ◌∷◌, ◌++◌, map, Option, Some, None, is_some, unwrap_or, option_map, length, if◌then◌else◌}
 use Rattle.std.specs.List.{list_all, list_any, flat_map}
 use Rattle.std.specs.Option.{option_map_or, option_to_list}

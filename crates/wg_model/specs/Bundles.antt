@@ -1,5 +1,5 @@
--- Render bundles (WebGPU, "Bundles"): the rules of createBundleEncoder, what is known of a bundle, and what one touches that is
--- executed.
+-- Render bundles (WebGPU, "Bundles"): the rules of createBundleEncoder, what is known of a bundle, and what one touches that
+-- is executed. Also WebGPU, "createRenderBundleEncoder", "executeBundles", "GPURenderBundle".
 use Rattle.std.specs.Prelude.{ℕ, ◌==◌, nat_le, Bool, true, not, ◌&&◌, ◌||◌, List, [], ◌∷◌, ◌++◌, map, Option, Some, None, is_some, length, if◌then◌else◌}
 use Rattle.std.specs.List.{list_all, list_any, flat_map, filter}
 use Rattle.std.specs.Option.{option_map_or}

@@ -1,4 +1,5 @@
--- The objects that commands name, and the rules of each command (WebGPU, "Command Encoding").
+-- The objects that commands name, and the rules of each command (WebGPU, "Command Encoding"). Also WebGPU, "Buffer Copy
+-- Commands", "resolveQuerySet", "Debug Markers".
 use Rattle.std.specs.Prelude.{ℕ, ◌+◌, ◌*◌, ◌%◌, Bool, true, false, not, ◌&&◌, ◌==◌, nat_lt, nat_le, List, [], ◌∷◌, ◌++◌, ◌-◌, Option, unwrap_or, if◌then◌else◌}
 use Rattle.wg_types.specs.Handles.{HandleValue}
 use Rattle.wg_types.specs.declared.handles.BufferInfo.{BufferInfo}

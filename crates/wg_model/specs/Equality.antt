@@ -1,4 +1,4 @@
--- When what is bound is the same, which is to say equal.
+-- When what is bound is the same, which is to say equal (WebGPU, "group-equivalent").
 use Rattle.std.specs.Prelude.{ℕ, Bool, true, false, not, ◌&&◌, ◌==◌, List, [], ◌∷◌, Option, Some, None, length, if◌then◌else◌}
 use Rattle.std.specs.List.{list_all}
 use Rattle.wg_types.specs.Formats.{same_format}

@@ -1,4 +1,5 @@
--- What is known of the objects that calls make of others: by what these are known as.
+-- What is known of the objects that calls make of others: by what these are known as (WebGPU, "Bind Group Creation", "Pipeline
+-- Layout Creation", "Compute Pipeline Creation" and "Render Pipeline Creation").
 use Rattle.std.specs.Prelude.{ℕ, ◌-◌, map, List, [], false, Option, Some, None, is_none, option_map, unwrap_or, if◌then◌else◌}
 use Rattle.std.specs.Option.{option_map_or}
 use Rattle.wg_types.specs.declared.handles.ObjRef.{ObjRef}

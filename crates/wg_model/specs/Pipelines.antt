@@ -1,4 +1,5 @@
--- The rules of compute pipelines (WebGPU, "Pipeline Creation").
+-- The rules of compute pipelines (WebGPU, "Pipeline Creation"). Also WebGPU, "Compute Pipeline Creation",
+-- "GPUProgrammableStage".
 use Rattle.std.specs.Prelude.{ℕ, Bool, false, ◌&&◌, List, [], ◌∷◌, slice_get}
 use Rattle.std.specs.List.{list_all}
 use Rattle.std.specs.Option.{option_map_or}

@@ -1,5 +1,6 @@
--- Query sets and occlusion queries (WebGPU, "Queries"): the rules of createQuerySet, and those of the queries of a render pass,
--- which are those of its query set. The commands of a pass so far stand newest first.
+-- Query sets and occlusion queries (WebGPU, "Queries"): the rules of createQuerySet, and those of the queries of a render
+-- pass, which are those of its query set. The commands of a pass so far stand newest first. Also WebGPU, "QuerySet Creation",
+-- "beginOcclusionQuery", "endOcclusionQuery".
 use Rattle.std.specs.Prelude.{ℕ, ◌+◌, ◌==◌, nat_lt, nat_le, Bool, true, false, not, List, [], ◌∷◌, ◌++◌, Option, Some, None, is_some, option_map}
 use Rattle.std.specs.List.{list_any}
 use Rattle.std.specs.Option.{option_map_or}

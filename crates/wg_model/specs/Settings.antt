@@ -1,5 +1,6 @@
 -- What is set in passes (WebGPU, "Programmable Passes"): the pipeline and the bind groups, with the rules that go by them, and
--- how many debug groups are open. The commands of a pass so far stand newest first.
+-- how many debug groups are open. The commands of a pass so far stand newest first. Also WebGPU, "Debug Markers", "Dispatch",
+-- "Drawing".
 use Rattle.std.specs.Prelude.{ℕ, ◌+◌, ◌-◌, ◌%◌, ◌==◌, nat_le, Bool, true, false, List, [], ◌∷◌, Option, Some, None, option_and_then, is_some, if◌then◌else◌}
 use Rattle.std.specs.Option.{option_or}
 use Rattle.wg_types.specs.Handles.{HandleValue}

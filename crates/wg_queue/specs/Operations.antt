@@ -1,4 +1,4 @@
--- What a device keeps of its operations, and of the promises that wait for them.
+-- What a device keeps of its operations, and of the promises that wait for them (WebGPU, "Queues" and "onSubmittedWorkDone").
 use Rattle.std.specs.Prelude.{ℕ, Bool, ◌||◌, ◌==◌, nat_le, nat_lt, List}
 use Rattle.wg_types.specs.declared.replies.Waiting.{Waiting}
 

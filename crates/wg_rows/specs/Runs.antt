@@ -1,4 +1,4 @@
--- Parts and cells of memory, and the runs of them that are printed.
+-- Parts and cells of memory, and the runs of them that are printed (WebGPU, "Resource Usages" and "Textures").
 use Rattle.std.specs.Prelude.{ℕ, ◌+◌, Bool, true, false, List, [], ◌∷◌, map, nat_lt}
 pub use Rattle.wg_types.specs.declared.parts.Aspect.{Aspect}
 pub use Rattle.wg_types.specs.declared.parts.Aspect.TheVariants.{Color, Depth, Stencil}

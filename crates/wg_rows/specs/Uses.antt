@@ -1,4 +1,5 @@
--- Usages, kinds of access and changes, which are the values of rows; and rows with them as they are printed.
+-- Usages, kinds of access and changes, which are the values of rows; and rows with them as they are printed (WebGPU, "Resource
+-- Usages").
 use Rattle.std.specs.Prelude.{Bool, true, false, ◌&&◌, List, [], ◌∷◌, Option, Some, None, ◌==◌, bit_and, bit_or, if◌then◌else◌, ◌≡◌}
 pub use Rattle.wg_types.specs.declared.parts.Kind.{Kind}
 pub use Rattle.wg_types.specs.declared.parts.Kind.TheVariants.{Read, Write, Both, Drop, ReadDrop}

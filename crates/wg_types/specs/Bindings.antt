@@ -1,4 +1,5 @@
--- The objects that the entries of a bind group name, the entries with others in their place, and the entries of layouts.
+-- The objects that the entries of a bind group name, the entries with others in their place, and the entries of layouts
+-- (WebGPU, "Resource Binding" and "Samplers").
 use Rattle.std.specs.Prelude.{ℕ, ◌==◌, List, [], ◌∷◌, map, Option, Some, None, if◌then◌else◌}
 use Rattle.wg_types.specs.declared.wanted.Wanted.{Wanted}
 use Rattle.wg_types.specs.declared.wanted.Wanted.TheVariants as wanted

@@ -1,4 +1,5 @@
--- Where commands may stand, which begin and end a pass, and the objects that they name.
+-- Where commands may stand, which begin and end a pass, and the objects that they name (WebGPU, "Command Encoding", "Compute
+-- Passes", "Render Passes", "Programmable Passes", "Bundles" and "Debug Markers").
 use Rattle.std.specs.Prelude.{ℕ, Bool, true, false, List, [], ◌∷◌, map, Option, Some, None}
 use Rattle.std.specs.List.{list_any}
 use Rattle.wg_types.specs.Handles.{HandleValue}

@@ -1,4 +1,4 @@
--- The views and the query set that the begin of a render pass names.
+-- The views and the query set that the begin of a render pass names (WebGPU, "Render Pass Encoder Creation").
 use Rattle.std.specs.Prelude.{List, [], ◌∷◌, ◌++◌, map, Option, Some, None, option_map}
 use Rattle.std.specs.List.{flat_map}
 use Rattle.wg_types.specs.Refs.{maybe_wanted}
