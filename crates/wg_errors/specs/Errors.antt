@@ -1,6 +1,6 @@
 -- What a device keeps of its error scopes.
 use Rattle.std.specs.Prelude.{ℕ, Bool, List}
-use Rattle.wg_types.specs.declared.replies.Scope.{Scope}
+use Rattle.wg_trace.specs.declared.replies.Scope.{Scope}
 
 pub record ErrorsValue : Type 0 where
   -- whether the device is lost

@@ -1,6 +1,6 @@
 -- What a device keeps of its operations, and of the promises that wait for them.
 use Rattle.std.specs.Prelude.{ℕ, Bool, ◌||◌, ◌==◌, nat_le, nat_lt, List}
-use Rattle.wg_types.specs.declared.replies.Waiting.{Waiting}
+use Rattle.wg_trace.specs.declared.replies.Waiting.{Waiting}
 
 pub record QueueValue : Type 0 where
   -- whether the device is lost
