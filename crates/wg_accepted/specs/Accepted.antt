@@ -1,6 +1,6 @@
 -- The reports of scripts are accepted where traces are checked.
 use Rattle.std.specs.Prelude.{◌≡◌, ℕ, ◌≤◌, List, length, Ok}
-use Rattle.wg_types.specs.declared.steps.Item.{Item}
+use Rattle.wg_trace.specs.declared.steps.Item.{Item}
 use Rattle.wg_limits.specs.Limits.{AreNoBetter, HaveFixed}
 use Rattle.wg_io.specs.Exchange.{Taking}
 use Rattle.wg_readtrace.specs.Reading.{trace_in}

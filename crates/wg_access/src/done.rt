@@ -2,7 +2,7 @@
 ghost use Rattle.std.specs.Prelude.{◌≡◌, Some, None, is_some, true, [], map, IfOk, OnOk, OnErr};
 ghost use Rattle.std.specs.List.{filter};
 ghost use Rattle.std.specs.Option.{option_or};
-ghost use Rattle.wg_types.specs.declared.steps.StepName.{StepName};
+ghost use Rattle.wg_trace.specs.declared.steps.StepName.{StepName};
 ghost use Rattle.wg_model.specs.Scopes.{clash};
 ghost use Rattle.wg_model.specs.Touches.{use_of, in_scope, scope_in, deed_of, encoder_does};
 ghost use Rattle.wg_access.specs.Done.{done_by_encoder, done_by_pass, done_of};

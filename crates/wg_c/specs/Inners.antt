@@ -3,8 +3,8 @@ use Rattle.std.specs.Prelude.{◌≡◌, ℕ, zero, suc, ◌+◌, ◌++◌, ◌|
 use Rattle.wg_types.specs.declared.commands.CommandOf.{CommandOf}
 use Rattle.wg_types.specs.declared.commands.On.{On}
 use Rattle.wg_types.specs.declared.limits.Limits.{Limits}
-use Rattle.wg_types.specs.declared.replies.Reply.{Reply}
-use Rattle.wg_types.specs.declared.replies.Settlement.{Settlement}
+use Rattle.wg_trace.specs.declared.replies.Reply.{Reply}
+use Rattle.wg_trace.specs.declared.replies.Settlement.{Settlement}
 use Rattle.wg_types.specs.declared.requests.RequestOf.{RequestOf}
 use Rattle.wg_types.specs.Commands.{is_begin, map_refs as map_command}
 use Rattle.wg_orders.specs.Trace.{Item}

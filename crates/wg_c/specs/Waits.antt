@@ -1,7 +1,7 @@
 -- Settlements that wait to be told.
 use Rattle.std.specs.Prelude.{ℕ, List}
 use Rattle.std.specs.List.{flat_map}
-use Rattle.wg_types.specs.declared.replies.Settlement.{Settlement}
+use Rattle.wg_trace.specs.declared.replies.Settlement.{Settlement}
 
 -- the settlements that are left to be told, and for how many more lists there is room
 pub record WaitingValue : Type 0 where

@@ -5,9 +5,9 @@ use Rattle.wg_types.specs.Handles.{HandleValue}
 use Rattle.wg_types.specs.Kinds.{kind_of}
 use Rattle.wg_types.specs.declared.formats.Format.{Format}
 use Rattle.wg_types.specs.declared.formats.Format.TheVariants.{Rgba8Unorm, Bgra8Unorm, Rgba16Float}
-use Rattle.wg_types.specs.declared.replies.Answer.{Answer}
-use Rattle.wg_types.specs.declared.replies.Answer.TheVariants.{Made as AnswerMade}
-use Rattle.wg_types.specs.declared.replies.Reply.{Reply}
+use Rattle.wg_trace.specs.declared.replies.Answer.{Answer}
+use Rattle.wg_trace.specs.declared.replies.Answer.TheVariants.{Made as AnswerMade}
+use Rattle.wg_trace.specs.declared.replies.Reply.{Reply}
 use Rattle.wg_types.specs.declared.handles.Info.TheVariants.{Texture as TextureInfoOf}
 use Rattle.wg_types.specs.declared.requests.RequestOf.{RequestOf}
 use Rattle.wg_types.specs.declared.requests.RequestOf.TheVariants.{CreateTexture, Destroy}

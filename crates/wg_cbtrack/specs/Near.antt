@@ -1,7 +1,7 @@
 -- The rows of a tracker that a note touches: those of the objects that its step uses or accesses.
 use Rattle.std.specs.Prelude.{ℕ, ◌≡◌, ◌+◌, ◌≤◌, List, length, vec_len, vec_capacity}
 use Rattle.wg_rows.specs.Runs.{Cells, part_line, cell_line}
-use Rattle.wg_rows.specs.Uses.{Kind}
+use Rattle.wg_rows.specs.Uses.{AccessKind}
 use Rattle.wg_rows.specs.Sets.{UseRow}
 use Rattle.wg_rows.specs.Rows.{line_object}
 use Rattle.wg_cbtrack.specs.declared.kept.Rows.{Rows}
@@ -16,7 +16,7 @@ abbrev pub cells_object : Cells → ℕ
 cells_object run = line_object (cell_line run)
 
 -- the object of an access
-abbrev pub access_object : Cells × Kind → ℕ
+abbrev pub access_object : Cells × AccessKind → ℕ
 access_object row = cells_object row.0
 
 -- All rows stand in the order of their objects.

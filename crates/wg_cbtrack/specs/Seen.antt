@@ -1,7 +1,7 @@
 -- The uses of noted steps: of each part the set of its first and of its last step.
 use Rattle.std.specs.Prelude.{◌≡◌, List, [], ◌∷◌, Option, None, length}
 use Rattle.std.specs.Option.{option_or}
-use Rattle.wg_types.specs.declared.steps.Deed.{Deed}
+use Rattle.wg_trace.specs.declared.steps.Deed.{Deed}
 use Rattle.wg_rows.specs.Rows.{Apart}
 use Rattle.wg_rows.specs.Cut.{value_at}
 use Rattle.wg_rows.specs.Runs.{Part, part_sort, part_spot}

@@ -3,7 +3,7 @@ use Rattle.std.specs.Prelude.{ℕ, zero, suc, slice_get, ◌+◌, ◌&&◌, ◌=
 use Rattle.std.specs.Option.{option_or, option_map, option_and_then}
 use Rattle.wg_rows.specs.Rows.{in_range}
 use Rattle.wg_rows.specs.Runs.{Cells, Bytes, Layers, Slices, Queries, aspect_number}
-use Rattle.wg_rows.specs.Uses.{Kind}
+use Rattle.wg_rows.specs.Uses.{AccessKind}
 use Rattle.wg_orders.specs.Trace.{Item, Bar, StepItem, Free}
 use Rattle.wg_check.specs.declared.segments.Spotted.{Spotted}
 use Rattle.wg_check.specs.declared.clashes.Clash.{Clash}
@@ -21,7 +21,7 @@ cell_in (Layers object aspect mip lo hi) k = option_map (λ x. Layers object asp
 cell_in (Slices object mip lo hi) k = option_map (λ x. Slices object mip x (x + 1)) (place_in k object 3 0 mip lo hi)
 
 -- the first cell of a step's accesses that stands at a key, if one does
-abbrev pub row_cell : Key → List (Cells × Kind) → Option Cells
+abbrev pub row_cell : Key → List (Cells × AccessKind) → Option Cells
 row_cell k [] = None
 row_cell k (row ∷ rows) = option_or (cell_in row.0 k) (row_cell k rows)
 

@@ -1,7 +1,7 @@
 -- The keys of cells, and the events of a trace over them.
 use Rattle.std.specs.Prelude.{ℕ, suc, ◌&&◌, ◌==◌, nat_lt, List, [], ◌∷◌, ◌++◌, map, if◌then◌else◌}
 use Rattle.wg_rows.specs.Runs.{PartRun, BufferPart, LayerParts, QueryPart, Cell, Byte, Texels, Slice, Query, Cells, Bytes, Layers, Slices, Queries, aspect_number}
-use Rattle.wg_rows.specs.Uses.{Kind, kind_reads, kind_writes}
+use Rattle.wg_rows.specs.Uses.{AccessKind, kind_reads, kind_writes}
 use Rattle.wg_orders.specs.Trace.{Item, Bar, StepItem, Free}
 use Rattle.wg_check.specs.declared.events.Deed.{Deed}
 use Rattle.wg_check.specs.declared.events.Deed.TheVariants.{Fence, Act}
@@ -39,7 +39,7 @@ run_event (Layers object aspect mip lo hi) deed = event (key object 2 (aspect_nu
 run_event (Slices object mip lo hi) deed = event (key object 3 0 mip lo) (key object 3 0 mip hi) deed
 
 -- what the accesses of a step at a place do to keys
-abbrev pub row_events : ℕ → List (Cells × Kind) → List KeyEvent
+abbrev pub row_events : ℕ → List (Cells × AccessKind) → List KeyEvent
 row_events n rows = map (λ row. run_event row.0 (Act n (kind_reads row.1) (kind_writes row.1))) rows
 
 -- what an item does, behind n steps

@@ -1,7 +1,7 @@
 -- How a check ends, and why.
 use Rattle.std.specs.Prelude.{◌≡◌, ℕ, List, Option, Some, None, Result, Ok, Err}
 use Rattle.std.specs.Io.KnownBytes.{Appends}
-use Rattle.wg_types.specs.declared.steps.Item.{Item}
+use Rattle.wg_trace.specs.declared.steps.Item.{Item}
 use Rattle.wg_io.specs.Causes.{Rose}
 use Rattle.wg_io.specs.Exchange.{Giving, Taking, IsUntouched}
 use Rattle.wg_io.specs.Reading.{GaveAll, GaveMore, GaveWithin}

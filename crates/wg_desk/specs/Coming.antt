@@ -3,7 +3,7 @@ use Rattle.std.specs.Prelude.{ℕ, Option, Some, None, option_map}
 use Rattle.std.specs.Arc.{arc_value}
 use Rattle.wg_types.specs.declared.handles.ObjRef.{ObjRef}
 use Rattle.wg_types.specs.declared.handles.Info.{Info}
-use Rattle.wg_types.specs.declared.replies.Answer.{Answer}
+use Rattle.wg_trace.specs.declared.replies.Answer.{Answer}
 use Rattle.wg_encoder.specs.Recorders.{RecorderValue}
 use Rattle.wg_calls.specs.Calls.{handle_of}
 use Rattle.wg_desk.specs.declared.seats.Seat.{Seat}

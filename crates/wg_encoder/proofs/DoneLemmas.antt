@@ -1,8 +1,8 @@
 -- What is done after one more command.
 use Rattle.std.proofs.Common.{◌≡◌, List, [], ◌∷◌, ◌++◌, map, Option, Some, None, refl, ap, ap₂, sym, ◌∙◌, append-nil}
 use Rattle.std.specs.Option.{option_to_list, option_or}
-use Rattle.wg_types.specs.declared.steps.Deed.{Deed}
-use Rattle.wg_types.specs.declared.parts.Part.{Part}
+use Rattle.wg_trace.specs.declared.steps.Deed.{Deed}
+use Rattle.wg_trace.specs.declared.parts.Part.{Part}
 use Rattle.wg_model.specs.Touches.{Doing, scope_in, deed_of}
 use Rattle.wg_model.specs.Scopes.{Use, clash, first_clash}
 use Rattle.wg_access.specs.declared.done.Done.{Done}

@@ -12,15 +12,15 @@ use Rattle.wg_types.specs.declared.bindings.BoundEntry.{BoundEntry}
 use Rattle.wg_types.specs.declared.textures.ViewInfo.{ViewInfo}
 use Rattle.wg_types.specs.declared.bundles.BundleInfo.{BundleInfo}
 use Rattle.wg_types.specs.declared.bundles.BundleTouch.{BundleTouch}
-use Rattle.wg_types.specs.declared.parts.Cells.{Cells}
-use Rattle.wg_types.specs.declared.parts.Cells.TheVariants.{Bytes, Layers, Slices, Queries as QueryCells}
+use Rattle.wg_trace.specs.declared.parts.Cells.{Cells}
+use Rattle.wg_trace.specs.declared.parts.Cells.TheVariants.{Bytes, Layers, Slices, Queries as QueryCells}
 use Rattle.wg_model.specs.Bound.{known_group}
 use Rattle.wg_model.specs.Attachments.{attached_view}
 use Rattle.wg_model.specs.Bundles.{known_bundle}
 use Rattle.wg_model.specs.Recorded.{Reaching, own_buffer, own_texture, own_queries, viewed_texture, bound_resources, bundled_resources, no_resource, reaching, names_within}
-use Rattle.wg_types.specs.declared.steps.Sort.{Sort}
-use Rattle.wg_types.specs.declared.steps.Sort.TheVariants.{Buffer, Texture, Queries}
-use Rattle.wg_types.specs.declared.steps.Used.{Used}
+use Rattle.wg_trace.specs.declared.steps.Sort.{Sort}
+use Rattle.wg_trace.specs.declared.steps.Sort.TheVariants.{Buffer, Texture, Queries}
+use Rattle.wg_trace.specs.declared.steps.Used.{Used}
 use Rattle.wg_encoder.specs.Once.{each_once}
 
 -- the resource that an entry of a bind group binds, or of which it binds a view

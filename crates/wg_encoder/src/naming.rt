@@ -38,7 +38,7 @@ struct Numbers;
 impl Gather<Handle, u64> for Numbers {
     ghost gathers = { λ _ object. object.0.reference.number ∷ [] };
 
-    #[tactic(auto, using(wg_types::proofs::Beginnings::begins_one, wg_types::proofs::Beginnings::begins_same))]
+    #[tactic(auto, using(wg_trace::proofs::Beginnings::begins_one, wg_trace::proofs::Beginnings::begins_same))]
     fn gather(
         &self,
         found: &mut Vec<u64>,

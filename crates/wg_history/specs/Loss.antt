@@ -2,10 +2,10 @@
 -- "onSubmittedWorkDone"). Also WebGPU, "Device Loss".
 use Rattle.std.specs.Prelude.{ℕ, suc, ◌+◌, ◌≤◌, Bool, false, not, ◌||◌, ◌==◌, List, [], ◌∷◌, ◌++◌, filter, length, Option, Some, None, if◌then◌else◌}
 use Rattle.std.specs.List.{list_any}
-use Rattle.wg_types.specs.declared.replies.Fault.{Fault}
-use Rattle.wg_types.specs.declared.replies.Filter.{Filter}
-use Rattle.wg_types.specs.declared.replies.Scope.{Scope}
-use Rattle.wg_types.specs.declared.replies.Settlement.{Settlement}
+use Rattle.wg_trace.specs.declared.replies.Fault.{Fault}
+use Rattle.wg_trace.specs.declared.replies.Filter.{Filter}
+use Rattle.wg_trace.specs.declared.replies.Scope.{Scope}
+use Rattle.wg_trace.specs.declared.replies.Settlement.{Settlement}
 use Rattle.wg_types.specs.declared.mappings.Mapping.{Mapping}
 use Rattle.wg_types.specs.declared.mappings.MapMode.TheVariants.{Read as ReadMode, Write as WriteMode}
 use Rattle.wg_model.specs.Buffers.{read_mode}

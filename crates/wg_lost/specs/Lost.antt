@@ -1,8 +1,8 @@
 -- The laws of lost devices and of events that have a fault (WebGPU, "Lose the device" and "Errors & Debugging").
 use Rattle.std.specs.Prelude.{◌≡◌, ℕ, true, false, List, [], ◌∷◌, ◌++◌, map, reverse, None, is_some}
-use Rattle.wg_types.specs.declared.replies.Reply.{Reply}
-use Rattle.wg_types.specs.declared.replies.Answer.TheVariants.{Made}
-use Rattle.wg_types.specs.declared.steps.Sort.{Sort}
+use Rattle.wg_trace.specs.declared.replies.Reply.{Reply}
+use Rattle.wg_trace.specs.declared.replies.Answer.TheVariants.{Made}
+use Rattle.wg_trace.specs.declared.steps.Sort.{Sort}
 use Rattle.wg_orders.specs.Steps.{Step}
 use Rattle.wg_orders.specs.Trace.{Item, free, add_groups}
 use Rattle.wg_history.specs.declared.events.Setup.{Setup}

@@ -10,8 +10,8 @@ use Rattle.wg_types.specs.Formats.{row, same_format}
 use Rattle.wg_types.specs.Textures.{width, height, depth}
 use Rattle.wg_types.specs.declared.handles.Info.{Info}
 use Rattle.wg_types.specs.declared.handles.Info.TheVariants as info
-use Rattle.wg_types.specs.declared.parts.Aspect.{Aspect}
-use Rattle.wg_types.specs.declared.parts.Aspect.TheVariants as aspect
+use Rattle.wg_trace.specs.declared.parts.Aspect.{Aspect}
+use Rattle.wg_trace.specs.declared.parts.Aspect.TheVariants as aspect
 use Rattle.wg_types.specs.declared.textures.AspectWord.TheVariants.{All}
 use Rattle.wg_types.specs.declared.textures.ViewDim.{ViewDim}
 use Rattle.wg_types.specs.declared.textures.ViewDim.TheVariants.{One, Two, TwoArray, Cube, CubeArray, Three}
@@ -25,7 +25,7 @@ use Rattle.wg_types.specs.declared.render.DepthTargetOf.{DepthTargetOf}
 use Rattle.wg_types.specs.declared.render.RenderBeginOf.{RenderBeginOf}
 use Rattle.wg_types.specs.declared.render.TargetInfo.{TargetInfo}
 use Rattle.wg_rows.specs.Runs.{Cells, Bytes, Layers, Slices, Queries}
-use Rattle.wg_rows.specs.Uses.{Usages, Kind, Read, Write, Both, Drop, ReadDrop}
+use Rattle.wg_rows.specs.Uses.{Usages, AccessKind, Read, Write, Both, Drop, ReadDrop}
 use Rattle.wg_model.specs.Rules.{Rule}
 use Rattle.wg_model.specs.Equality.{same_bool}
 use Rattle.wg_model.specs.Buffers.{has_usage}
@@ -288,14 +288,14 @@ abbrev pub color_cells : ColorTarget → List Cells
 color_cells target = map (sliced target.depth_slice) (handle_cells target.view)
 
 -- how an attachment is accessed: read where it is loaded, and left unset where it is discarded
-abbrev pub attach_kind : LoadOp → StoreOp → Kind
+abbrev pub attach_kind : LoadOp → StoreOp → AccessKind
 attach_kind Load Store = Both
 attach_kind Clear Store = Write
 attach_kind Load Discard = ReadDrop
 attach_kind Clear Discard = Drop
 
 -- a touch of cells in some way
-abbrev pub attached : Usages × Kind → Cells → Touch
+abbrev pub attached : Usages × AccessKind → Cells → Touch
 attached how cells = (cells, how)
 
 -- a resolve target is written
@@ -309,12 +309,12 @@ color_touches None = []
 color_touches (Some target) = map (attached (attachment_usage, attach_kind target.load target.store)) (color_cells target) ++ resolve_touches target.resolve
 
 -- how an aspect is accessed: it is read alone, or as its load and store say, which rule 304 asks for there
-abbrev pub aspect_how : Bool → Option LoadOp → Option StoreOp → Usages × Kind
+abbrev pub aspect_how : Bool → Option LoadOp → Option StoreOp → Usages × AccessKind
 aspect_how true load store = (attachment_read_usage, Read)
 aspect_how false load store = (attachment_usage, attach_kind (unwrap_or load Load) (unwrap_or store Store))
 
 -- how an aspect of the depth attachment is used and accessed
-abbrev pub depth_how : DepthTarget → Aspect → Usages × Kind
+abbrev pub depth_how : DepthTarget → Aspect → Usages × AccessKind
 depth_how target aspect.Color = aspect_how target.depth_read_only target.depth_load target.depth_store
 depth_how target aspect.Depth = aspect_how target.depth_read_only target.depth_load target.depth_store
 depth_how target aspect.Stencil = aspect_how target.stencil_read_only target.stencil_load target.stencil_store

@@ -21,7 +21,7 @@ use Rattle.wg_types.specs.declared.bindings.StorageAccess.{StorageAccess}
 use Rattle.wg_types.specs.declared.bindings.StorageAccess.TheVariants.{ReadOnly, WriteOnly, ReadWrite}
 use Rattle.wg_types.specs.declared.commands.BoundGroup.{BoundGroup}
 use Rattle.wg_rows.specs.Runs.{Cells, Bytes}
-use Rattle.wg_rows.specs.Uses.{Usages, Kind, Read, Both}
+use Rattle.wg_rows.specs.Uses.{Usages, AccessKind, Read, Both}
 use Rattle.wg_model.specs.Rules.{Rule}
 use Rattle.wg_model.specs.Layouts.{is_dynamic, may_write}
 use Rattle.wg_model.specs.Equality.{equivalent_for}
@@ -211,20 +211,20 @@ bound_rules owner layouts groups = (341, layouts_fit owner layouts groups 0) ∷
 
 -- What is bound is used and accessed as the kind of its binding says, whatever stages see it: each cell of a bound range and
 -- each cell of a view's subresources.
-abbrev pub buffer_touch : BufferBinding → Usages × Kind
+abbrev pub buffer_touch : BufferBinding → Usages × AccessKind
 buffer_touch Uniform = (constant_usage, Read)
 buffer_touch Storage = (storage_usage, Both)
 buffer_touch ReadOnlyStorage = (storage_read_usage, Read)
 
 -- how a storage texture is used and accessed, by its access
-abbrev pub access_touch : StorageAccess → Usages × Kind
+abbrev pub access_touch : StorageAccess → Usages × AccessKind
 access_touch ReadOnly = (storage_read_usage, Read)
 access_touch WriteOnly = (storage_usage, Both)
 access_touch ReadWrite = (storage_usage, Both)
 
 -- how what is bound is used and accessed, by its kind: a uniform buffer and a sampled texture as constant, and read; storage
 -- that is only read as storage-read, and read; any other storage as storage, and both read and written; a sampler has no cell
-abbrev pub kind_touch : BindingKind → Usages × Kind
+abbrev pub kind_touch : BindingKind → Usages × AccessKind
 kind_touch (Buffer binding dynamic min_size) = buffer_touch binding
 kind_touch (Sampler sampler_type) = (constant_usage, Read)
 kind_touch (Texture sample dim multi) = (constant_usage, Read)

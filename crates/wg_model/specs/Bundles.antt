@@ -16,11 +16,11 @@ use Rattle.wg_types.specs.declared.bundles.BundleInfo.{BundleInfo}
 use Rattle.wg_types.specs.declared.bundles.BundleTouch.{BundleTouch}
 use Rattle.wg_types.specs.declared.bundles.BundleUse.{BundleUse}
 use Rattle.wg_types.specs.declared.bundles.BundleUse.TheVariants.{Input, Constant, StorageRead, Storage}
-use Rattle.wg_types.specs.declared.steps.Deed.{Deed}
-use Rattle.wg_types.specs.declared.steps.StepName.TheVariants as name
+use Rattle.wg_trace.specs.declared.steps.Deed.{Deed}
+use Rattle.wg_trace.specs.declared.steps.StepName.TheVariants as name
 use Rattle.wg_types.specs.declared.wanted.Wanted.{Wanted}
 use Rattle.wg_rows.specs.Runs.{PartRun, BufferPart, LayerParts, QueryPart, Cells, Bytes, Layers, Slices, Queries}
-use Rattle.wg_rows.specs.Uses.{Usages, Kind, Read, Both, same_kind}
+use Rattle.wg_rows.specs.Uses.{Usages, AccessKind, Read, Both, same_kind}
 use Rattle.wg_rows.specs.Sets.{UseRow}
 use Rattle.wg_model.specs.Rules.{Rule}
 use Rattle.wg_model.specs.Formats.{is_color}
@@ -62,7 +62,7 @@ abbrev pub known_bundle : HandleValue → Option BundleInfo
 known_bundle handle = if handle.valid then bundle_in handle.info else None
 
 -- What a bundle touches counts in each pass that executes it, used and accessed as in the bundle itself.
-abbrev pub bundle_how : BundleUse → Usages × Kind
+abbrev pub bundle_how : BundleUse → Usages × AccessKind
 bundle_how Input = (input_usage, Read)
 bundle_how Constant = (constant_usage, Read)
 bundle_how StorageRead = (storage_read_usage, Read)
@@ -100,7 +100,7 @@ abbrev pub part_touched : BundleUse → UseRow → BundleTouch
 part_touched used row = record { cells = no_cells row.0; used = used }
 
 -- what is told of a run of cells that a bundle accesses in one way
-abbrev pub cells_touched : BundleUse → Cells × Kind → BundleTouch
+abbrev pub cells_touched : BundleUse → Cells × AccessKind → BundleTouch
 cells_touched used row = record { cells = row.0; used = used }
 
 -- what is told of a deed of one way of use: its parts, without cells, and then its cells

@@ -2,10 +2,10 @@
 -- "Command Encoding" and "Resource Usages").
 use Rattle.std.specs.Prelude.{ℕ, ◌==◌, Bool, ◌||◌, List, [], ◌∷◌, ◌++◌, map, Option, Some, None, if◌then◌else◌}
 use Rattle.std.specs.List.{list_any, flat_map}
-use Rattle.wg_types.specs.declared.steps.QueueWrite.{QueueWrite}
-use Rattle.wg_types.specs.declared.steps.QueueWrite.TheVariants.{Buffer as BufferWrite, Texture as TextureWrite}
-use Rattle.wg_types.specs.declared.steps.StepName.{StepName}
-use Rattle.wg_types.specs.declared.steps.StepName.TheVariants as name
+use Rattle.wg_types.specs.declared.writes.QueueWrite.{QueueWrite}
+use Rattle.wg_types.specs.declared.writes.QueueWrite.TheVariants.{Buffer as BufferWrite, Texture as TextureWrite}
+use Rattle.wg_trace.specs.declared.steps.StepName.{StepName}
+use Rattle.wg_trace.specs.declared.steps.StepName.TheVariants as name
 use Rattle.wg_types.specs.declared.commands.On.{On}
 use Rattle.wg_types.specs.Handles.{HandleValue}
 use Rattle.wg_types.specs.Commands.{Command, named}
@@ -23,7 +23,7 @@ use Rattle.wg_types.specs.declared.textures.TextureSpot.{TextureSpot}
 use Rattle.wg_types.specs.declared.render.TargetInfo.{TargetInfo}
 use Rattle.wg_types.specs.declared.textures.ViewInfo.{ViewInfo}
 use Rattle.wg_rows.specs.Runs.{Bytes}
-use Rattle.wg_rows.specs.Uses.{Usages, Kind, Read, Both}
+use Rattle.wg_rows.specs.Uses.{Usages, AccessKind, Read, Both}
 use Rattle.wg_orders.specs.Steps.{Step, StepPlace}
 use Rattle.wg_model.specs.Subresources.{has_no_texel}
 use Rattle.wg_model.specs.Touches.{Touch, range_touches, copied_to, touching, placed}
@@ -55,7 +55,7 @@ host_usage ReadMode = record { 0 = 1024 }
 host_usage WriteMode = record { 0 = 2048 }
 
 -- how a host access accesses its bytes: it reads them, or reads and writes them
-abbrev pub host_kind : MapMode → Kind
+abbrev pub host_kind : MapMode → AccessKind
 host_kind ReadMode = Read
 host_kind WriteMode = Both
 

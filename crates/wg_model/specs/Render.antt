@@ -20,7 +20,7 @@ use Rattle.wg_types.specs.declared.render.TargetInfo.{TargetInfo}
 use Rattle.wg_types.specs.declared.commands.BoundGroup.{BoundGroup}
 use Rattle.wg_types.specs.declared.commands.Bracket.{Bracket}
 use Rattle.wg_types.specs.declared.commands.Bracket.TheVariants as brackets
-use Rattle.wg_types.specs.declared.steps.StepName.TheVariants as name
+use Rattle.wg_trace.specs.declared.steps.StepName.TheVariants as name
 use Rattle.wg_rows.specs.Uses.{Read}
 use Rattle.wg_model.specs.Rules.{Rule}
 use Rattle.wg_model.specs.Equality.{same_option}

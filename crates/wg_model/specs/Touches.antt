@@ -1,9 +1,9 @@
 -- What steps touch: the cells that they access and the parts that they use (WebGPU, "Resource Usages").
 use Rattle.std.specs.Prelude.{ℕ, ◌+◌, ◌*◌, ◌==◌, nat_lt, Bool, true, false, List, [], ◌∷◌, ◌++◌, map, Option, Some, None, unwrap_or, if◌then◌else◌}
 use Rattle.std.specs.List.{filter}
-use Rattle.wg_types.specs.declared.steps.StepName.{StepName}
-use Rattle.wg_types.specs.declared.steps.StepName.TheVariants as name
-use Rattle.wg_types.specs.declared.steps.Deed.{Deed}
+use Rattle.wg_trace.specs.declared.steps.StepName.{StepName}
+use Rattle.wg_trace.specs.declared.steps.StepName.TheVariants as name
+use Rattle.wg_trace.specs.declared.steps.Deed.{Deed}
 use Rattle.wg_types.specs.Handles.{HandleValue}
 use Rattle.wg_types.specs.Commands.{Command}
 use Rattle.wg_types.specs.declared.commands.CommandOf.TheVariants.{BeginComputePass, BeginRenderPass, CopyBufferToBuffer, CopyBufferToTexture, CopyTextureToBuffer, CopyTextureToTexture, ClearBuffer, ResolveQuerySet, PushDebugGroup, PopDebugGroup, End, SetPipeline, SetBindGroup, Dispatch, DispatchIndirect, SetVertexBuffer, SetIndexBuffer, Draw, DrawIndexed, DrawIndirect, DrawIndexedIndirect, BeginOcclusionQuery, EndOcclusionQuery, ExecuteBundles}
@@ -12,7 +12,7 @@ use Rattle.wg_types.specs.declared.textures.TextureSpot.{TextureSpot}
 use Rattle.wg_types.specs.declared.textures.DataLayout.{DataLayout}
 use Rattle.wg_types.specs.Textures.{width, height, depth}
 use Rattle.wg_rows.specs.Runs.{PartRun, Cells, Bytes, Layers, Slices, Queries, cell_lo, cell_hi, run_part}
-use Rattle.wg_rows.specs.Uses.{Usages, Kind, Read, Write, Both, printed_accesses}
+use Rattle.wg_rows.specs.Uses.{Usages, AccessKind, Read, Write, Both, printed_accesses}
 use Rattle.wg_rows.specs.Sets.{UseRow, sets}
 use Rattle.wg_orders.specs.Steps.{Step, StepPlace}
 use Rattle.wg_model.specs.Formats.{texel_from, texel_to}
@@ -54,18 +54,18 @@ query_read_usage = record { 0 = 512 }
 
 -- What a step does with some cells: how it uses the parts that they lie in, and how it accesses them.
 abbrev pub Touch : Type 0
-Touch = Cells × (Usages × Kind)
+Touch = Cells × (Usages × AccessKind)
 
 -- how a touch uses the parts of its cells
 abbrev pub use_of : Touch → PartRun × Usages
 use_of touch = (run_part touch.0, touch.1.0)
 
 -- how a touch accesses its cells
-abbrev pub access_of : Touch → Cells × Kind
+abbrev pub access_of : Touch → Cells × AccessKind
 access_of touch = (touch.0, touch.1.1)
 
 -- whether a run has a cell
-abbrev pub has_cells : Cells × Kind → Bool
+abbrev pub has_cells : Cells × AccessKind → Bool
 has_cells row = nat_lt (cell_lo row.0) (cell_hi row.0)
 
 -- What is done in one step: its name, and what it touches.
@@ -118,7 +118,7 @@ abbrev pub read_cells : Cells → Touch
 read_cells cells = (cells, (copy_src_usage, Read))
 
 -- cells that a copy is to, used as copy-dst
-abbrev pub written_cells : Kind → Cells → Touch
+abbrev pub written_cells : AccessKind → Cells → Touch
 written_cells kind cells = (cells, (copy_dst_usage, kind))
 
 -- the bytes from an offset on
@@ -127,7 +127,7 @@ bytes_at object offset size = Bytes object offset (offset + size)
 
 -- how a copy accesses the cells of the texture that it is to: it writes them where it covers all of each, and else reads and
 -- writes them, since what it leaves stays
-abbrev pub target_kind : TextureInfo → TextureSpot → List ℕ → Kind
+abbrev pub target_kind : TextureInfo → TextureSpot → List ℕ → AccessKind
 target_kind info spot size = if covers_all info spot size then Write else Both
 
 -- what a copy touches of the texture that it is to
@@ -143,7 +143,7 @@ abbrev pub layout_bytes : DataLayout → Option ℕ → List ℕ → ℕ
 layout_bytes layout bytes size = unwrap_or (required layout (bytes_in bytes) size) 0
 
 -- Bytes between rows or images stay as they are: then a range is read and written, and else it is written.
-abbrev pub range_kind : ℕ → ℕ → List ℕ → Kind
+abbrev pub range_kind : ℕ → ℕ → List ℕ → AccessKind
 range_kind taken bytes size = if nat_lt (width size * height size * depth size * bytes) taken then Both else Write
 
 -- What writeBuffer and clearBuffer touch: the range is written.

@@ -9,8 +9,8 @@ use Rattle.wg_types.specs.Requests.{map_refs as map_asked}
 use Rattle.wg_types.specs.declared.canvases.CanvasCall.{CanvasCall}
 use Rattle.wg_types.specs.declared.canvases.CanvasOf.{CanvasOf}
 use Rattle.wg_types.specs.declared.canvases.CanvasOf.TheVariants.{Create, On}
-use Rattle.wg_types.specs.declared.replies.Answer.{Answer}
-use Rattle.wg_types.specs.declared.replies.Reply.{Reply}
+use Rattle.wg_trace.specs.declared.replies.Answer.{Answer}
+use Rattle.wg_trace.specs.declared.replies.Reply.{Reply}
 use Rattle.wg_types.specs.declared.requests.RequestOf.{RequestOf}
 use Rattle.wg_canvas.specs.declared.canvas.Stage.TheVariants.{Unset}
 use Rattle.wg_encoder.specs.Recorders.{RecorderValue}

@@ -1,25 +1,17 @@
 -- The text of an entry of the history.
 use Rattle.std.specs.Prelude.{ℕ, List, [], ◌++◌, Bool, true, false, codes, decimal, Option, Some, None}
 use Rattle.std.specs.List.{flat_map}
-use Rattle.wg_types.specs.declared.replies.Verb.{Verb}
-use Rattle.wg_types.specs.declared.replies.Verb.TheVariants.{Call, Late}
-use Rattle.wg_types.specs.Words.{word_text}
-use Rattle.wg_types.specs.declared.replies.FaultKind.{FaultKind}
-use Rattle.wg_types.specs.declared.replies.FaultKind.TheVariants.{Validation, OutOfMemory}
-use Rattle.wg_types.specs.declared.replies.Caught.{Caught}
-use Rattle.wg_types.specs.declared.replies.Caught.TheVariants.{Scope, Uncaptured}
-use Rattle.wg_types.specs.declared.replies.Fault.{Fault}
-use Rattle.wg_types.specs.declared.replies.Answer.{Answer}
-use Rattle.wg_types.specs.declared.replies.Answer.TheVariants.{Made, Queued, Promised, Plain, BadCompletion}
-use Rattle.wg_types.specs.declared.replies.How.{How}
-use Rattle.wg_types.specs.declared.replies.How.TheVariants.{Mapped, Done, Aborted, Rejected, Null, Error}
-use Rattle.wg_types.specs.declared.replies.Settlement.{Settlement}
-use Rattle.wg_types.specs.declared.replies.Reply.{Reply}
-
--- the word of an event, as it is printed: that of its call, or that it came too late
-abbrev pub verb_text : Verb → List ℕ
-verb_text (Call word) = word_text word
-verb_text Late = codes "late"
+use Rattle.wg_trace.specs.declared.replies.FaultKind.{FaultKind}
+use Rattle.wg_trace.specs.declared.replies.FaultKind.TheVariants.{Validation, OutOfMemory}
+use Rattle.wg_trace.specs.declared.replies.Caught.{Caught}
+use Rattle.wg_trace.specs.declared.replies.Caught.TheVariants.{Scope, Uncaptured}
+use Rattle.wg_trace.specs.declared.replies.Fault.{Fault}
+use Rattle.wg_trace.specs.declared.replies.Answer.{Answer}
+use Rattle.wg_trace.specs.declared.replies.Answer.TheVariants.{Made, Queued, Promised, Plain, BadCompletion}
+use Rattle.wg_trace.specs.declared.replies.How.{How}
+use Rattle.wg_trace.specs.declared.replies.How.TheVariants.{Mapped, Done, Aborted, Rejected, Null, Error}
+use Rattle.wg_trace.specs.declared.replies.Settlement.{Settlement}
+use Rattle.wg_trace.specs.declared.replies.Reply.{Reply}
 
 -- the word of a kind of fault
 abbrev pub fault_kind_text : FaultKind → List ℕ
@@ -66,8 +58,8 @@ settlement_text settlement = codes " settle " ++ decimal settlement.promise ++ c
 abbrev pub settled_text : List Settlement → List ℕ
 settled_text settlements = flat_map settlement_text settlements
 
--- the entry's number, its caller, its event, the answer, the fault if there is one, and what was settled
-unfoldable pub entry_text : ℕ → ℕ → Verb → Reply → List ℕ
+-- the entry's number, its caller, the text of its event, the answer, the fault if there is one, and what was settled
+unfoldable pub entry_text : ℕ → ℕ → List ℕ → Reply → List ℕ
 entry_text number who verb reply =
-    decimal number ++ codes " " ++ decimal who ++ codes " " ++ verb_text verb ++ codes " "
+    decimal number ++ codes " " ++ decimal who ++ codes " " ++ verb ++ codes " "
     ++ answer_text reply.answer ++ fault_text reply.fault ++ settled_text reply.settled ++ codes "\n"

@@ -1,18 +1,18 @@
 -- The text of an item of a trace.
 use Rattle.std.specs.Prelude.{ℕ, List, ◌++◌, codes, decimal, Option, Some, None}
 use Rattle.std.specs.List.{flat_map}
-use Rattle.wg_types.specs.declared.parts.PartRun.{PartRun}
-use Rattle.wg_types.specs.declared.parts.Cells.{Cells}
-use Rattle.wg_types.specs.declared.parts.Kind.{Kind}
-use Rattle.wg_types.specs.declared.usages.Usages.{Usages}
-use Rattle.wg_types.specs.declared.steps.StepPlace.{StepPlace}
-use Rattle.wg_types.specs.declared.steps.StepPlace.TheVariants.{Op, Host}
-use Rattle.wg_types.specs.declared.steps.Step.{Step}
-use Rattle.wg_types.specs.declared.steps.Sort.{Sort}
-use Rattle.wg_types.specs.declared.steps.Sort.TheVariants.{Buffer, Texture, Queries}
-use Rattle.wg_types.specs.declared.steps.Item.{Item}
-use Rattle.wg_types.specs.declared.steps.Item.TheVariants.{Bar, Step as StepItem, Free}
-use Rattle.wg_types.specs.Words.{step_name_text}
+use Rattle.wg_trace.specs.declared.parts.PartRun.{PartRun}
+use Rattle.wg_trace.specs.declared.parts.Cells.{Cells}
+use Rattle.wg_trace.specs.declared.parts.AccessKind.{AccessKind}
+use Rattle.wg_trace.specs.declared.usages.Usages.{Usages}
+use Rattle.wg_trace.specs.declared.steps.StepPlace.{StepPlace}
+use Rattle.wg_trace.specs.declared.steps.StepPlace.TheVariants.{Op, Host}
+use Rattle.wg_trace.specs.declared.steps.Step.{Step}
+use Rattle.wg_trace.specs.declared.steps.Sort.{Sort}
+use Rattle.wg_trace.specs.declared.steps.Sort.TheVariants.{Buffer, Texture, Queries}
+use Rattle.wg_trace.specs.declared.steps.Item.{Item}
+use Rattle.wg_trace.specs.declared.steps.Item.TheVariants.{Bar, Step as StepItem, Free}
+use Rattle.wg_trace.specs.StepNames.{step_name_text}
 use Rattle.wg_print.specs.Parts.{access_kind_text, part_text, cells_text}
 use Rattle.wg_print.specs.UsageSets.{usages_text}
 
@@ -41,7 +41,7 @@ abbrev pub use_text : PartRun × Usages → List ℕ
 use_text use_of = codes "use " ++ part_text use_of.0 ++ codes " " ++ usages_text use_of.1 ++ codes "\n"
 
 -- the line of an access
-abbrev pub access_text : Cells × Kind → List ℕ
+abbrev pub access_text : Cells × AccessKind → List ℕ
 access_text access = codes "acc " ++ access_kind_text access.1 ++ codes " " ++ cells_text access.0 ++ codes "\n"
 
 -- the lines of a step: its own with its number, then one for each use and each access

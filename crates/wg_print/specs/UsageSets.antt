@@ -1,7 +1,7 @@
 -- The text of a set of usages.
 use Rattle.std.specs.Prelude.{ℕ, List, [], ◌∷◌, ◌==◌, map, filter, codes, bit_and}
 use Rattle.std.specs.List.{join_with_byte}
-use Rattle.wg_types.specs.declared.usages.Usages.{Usages}
+use Rattle.wg_trace.specs.declared.usages.Usages.{Usages}
 
 -- each usage's bit, with the word for it
 abbrev pub usage_words : List (ℕ × List ℕ)

@@ -1,17 +1,17 @@
 -- What a trace has to be, and the text before it, so that its printed lines are a trace again.
 use Rattle.std.specs.Prelude.{ℕ, ◌+◌, ◌<◌, ◌≤◌, true, false, List, [], ◌∷◌, length, codes, bytes_eq, ◌≡◌}
 use Rattle.std.specs.List.{list_all, list_any}
-use Rattle.wg_types.specs.declared.parts.PartRun.{PartRun}
-use Rattle.wg_types.specs.declared.parts.PartRun.TheVariants.{Buffer, Queries, Texture}
-use Rattle.wg_types.specs.declared.parts.Cells.{Cells}
-use Rattle.wg_types.specs.declared.parts.Cells.TheVariants.{Bytes, Queries as QueryCells, Layers, Slices}
-use Rattle.wg_types.specs.declared.parts.Kind.{Kind}
-use Rattle.wg_types.specs.declared.usages.Usages.{Usages}
-use Rattle.wg_types.specs.declared.steps.StepPlace.{StepPlace}
-use Rattle.wg_types.specs.declared.steps.StepPlace.TheVariants.{Op, Host}
-use Rattle.wg_types.specs.declared.steps.Step.{Step}
-use Rattle.wg_types.specs.declared.steps.Item.{Item}
-use Rattle.wg_types.specs.declared.steps.Item.TheVariants.{Bar, Step as StepItem, Free}
+use Rattle.wg_trace.specs.declared.parts.PartRun.{PartRun}
+use Rattle.wg_trace.specs.declared.parts.PartRun.TheVariants.{Buffer, Queries, Texture}
+use Rattle.wg_trace.specs.declared.parts.Cells.{Cells}
+use Rattle.wg_trace.specs.declared.parts.Cells.TheVariants.{Bytes, Queries as QueryCells, Layers, Slices}
+use Rattle.wg_trace.specs.declared.parts.AccessKind.{AccessKind}
+use Rattle.wg_trace.specs.declared.usages.Usages.{Usages}
+use Rattle.wg_trace.specs.declared.steps.StepPlace.{StepPlace}
+use Rattle.wg_trace.specs.declared.steps.StepPlace.TheVariants.{Op, Host}
+use Rattle.wg_trace.specs.declared.steps.Step.{Step}
+use Rattle.wg_trace.specs.declared.steps.Item.{Item}
+use Rattle.wg_trace.specs.declared.steps.Item.TheVariants.{Bar, Step as StepItem, Free}
 use Rattle.wg_rows.specs.Rows.{EachRow}
 use Rattle.wg_readtrace.specs.Forms.{most_32, most_53}
 use Rattle.wg_readtrace.specs.Reading.{is_text_byte, ends_line, lines_of}
@@ -40,7 +40,7 @@ abbrev pub IsSmallUse : PartRun × Usages → Type 0
 IsSmallUse row = IsSmallPart row.0
 
 -- The numbers of an access are ones that the reader of traces takes.
-abbrev pub IsSmallAccess : Cells × Kind → Type 0
+abbrev pub IsSmallAccess : Cells × AccessKind → Type 0
 IsSmallAccess row = AreSmallCells row.0
 
 -- The numbers of a step are ones that the reader of traces takes.

@@ -1,11 +1,11 @@
 -- The shape of a trace, whatever its numbers are.
 use Rattle.std.specs.Prelude.{◌<◌, List, [], ◌∷◌, Option, Some, None}
-use Rattle.wg_types.specs.declared.parts.PartRun.{PartRun}
-use Rattle.wg_types.specs.declared.parts.Kind.{Kind}
-use Rattle.wg_types.specs.declared.usages.Usages.{Usages}
-use Rattle.wg_types.specs.declared.steps.Step.{Step}
-use Rattle.wg_types.specs.declared.steps.Item.{Item}
-use Rattle.wg_types.specs.declared.steps.Item.TheVariants.{Bar, Step as StepItem, Free}
+use Rattle.wg_trace.specs.declared.parts.PartRun.{PartRun}
+use Rattle.wg_trace.specs.declared.parts.AccessKind.{AccessKind}
+use Rattle.wg_trace.specs.declared.usages.Usages.{Usages}
+use Rattle.wg_trace.specs.declared.steps.Step.{Step}
+use Rattle.wg_trace.specs.declared.steps.Item.{Item}
+use Rattle.wg_trace.specs.declared.steps.Item.TheVariants.{Bar, Step as StepItem, Free}
 use Rattle.wg_rows.specs.Rows.{EachRow}
 use Rattle.wg_rows.specs.Runs.{Cell, Cells, part_lo, part_hi, cell_lo, cell_hi}
 use Rattle.wg_rows.specs.Once.{OneCovers}
@@ -32,7 +32,7 @@ abbrev pub IsShapedUse : PartRun × Usages → Type 0
 IsShapedUse row = HasPart row.0 × IsSet row.1
 
 -- An access has a cell.
-abbrev pub IsShapedAccess : Cells × Kind → Type 0
+abbrev pub IsShapedAccess : Cells × AccessKind → Type 0
 IsShapedAccess row = HasCell row.0
 
 -- A step has no empty row and no empty set,

@@ -1,9 +1,10 @@
 -- The text of a trace, and of the entries before it.
 use Rattle.std.specs.Prelude.{ℕ, ◌+◌, List, [], ◌∷◌, ◌++◌, codes}
-use Rattle.wg_types.specs.declared.replies.Verb.{Verb}
-use Rattle.wg_types.specs.declared.replies.Reply.{Reply}
-use Rattle.wg_types.specs.declared.steps.Item.{Item}
-use Rattle.wg_types.specs.declared.steps.Item.TheVariants.{Step as StepItem}
+use Rattle.wg_types.specs.declared.words.Verb.{Verb}
+use Rattle.wg_trace.specs.declared.replies.Reply.{Reply}
+use Rattle.wg_trace.specs.declared.steps.Item.{Item}
+use Rattle.wg_trace.specs.declared.steps.Item.TheVariants.{Step as StepItem}
+use Rattle.wg_types.specs.Words.{verb_text}
 use Rattle.wg_print.specs.Entries.{entry_text}
 use Rattle.wg_print.specs.Items.{item_text}
 use Rattle.wg_print.specs.Pieces.{line_text}
@@ -36,7 +37,7 @@ told_after n entry = n + 1
 
 -- the line of an entry, with its number
 abbrev pub told_line : ℕ → Told → List ℕ
-told_line n entry = entry_text n entry.0 entry.1 entry.2
+told_line n entry = entry_text n entry.0 (verb_text entry.1) entry.2
 
 -- the entries of a history are numbered from 0
 abbrev pub entries_text : List Told → List ℕ

@@ -1,13 +1,13 @@
 -- The reading of lines by what is kept of those before, and items put together from lines.
 use Rattle.std.specs.Prelude.{ℕ, suc, Bool, not, ◌&&◌, ◌||◌, List, [], ◌∷◌, ◌++◌, map, Option, Some, None, Result, Ok, Err, ◌≡◌}
-use Rattle.wg_types.specs.declared.parts.PartRun.{PartRun}
-use Rattle.wg_types.specs.declared.parts.Cells.{Cells}
-use Rattle.wg_types.specs.declared.parts.Kind.{Kind}
-use Rattle.wg_types.specs.declared.usages.Usages.{Usages}
-use Rattle.wg_types.specs.declared.steps.StepPlace.{StepPlace}
-use Rattle.wg_types.specs.declared.steps.StepName.{StepName}
-use Rattle.wg_types.specs.declared.steps.Item.{Item}
-use Rattle.wg_types.specs.declared.steps.Item.TheVariants as item
+use Rattle.wg_trace.specs.declared.parts.PartRun.{PartRun}
+use Rattle.wg_trace.specs.declared.parts.Cells.{Cells}
+use Rattle.wg_trace.specs.declared.parts.AccessKind.{AccessKind}
+use Rattle.wg_trace.specs.declared.usages.Usages.{Usages}
+use Rattle.wg_trace.specs.declared.steps.StepPlace.{StepPlace}
+use Rattle.wg_trace.specs.declared.steps.StepName.{StepName}
+use Rattle.wg_trace.specs.declared.steps.Item.{Item}
+use Rattle.wg_trace.specs.declared.steps.Item.TheVariants as item
 use Rattle.wg_readtrace.specs.declared.line.Line.{Line}
 use Rattle.wg_readtrace.specs.declared.line.Line.TheVariants.{Bar, Step, Use, Acc, Free, End}
 use Rattle.wg_readtrace.specs.declared.draft.Draft.{Draft}
@@ -36,13 +36,13 @@ lines_from n last steps rows (text ∷ texts) =
     (judged n (is_none_left texts) last steps rows (line_of text))
 
 -- the items of lines behind a step that is not whole yet, or none
-abbrev pub flow : Option (StepPlace × StepName) → List (PartRun × Usages) → List (Cells × Kind) → List Line → List Item
+abbrev pub flow : Option (StepPlace × StepName) → List (PartRun × Usages) → List (Cells × AccessKind) → List Line → List Item
 flow None uses accesses lines = items_of lines
 flow (Some step) uses accesses lines =
     item.Step (record { place = step.0; name = step.1; uses = uses ++ uses_in lines; accesses = accesses ++ accesses_in lines }) ∷ items_of lines
 
 -- the cells of the step that is not whole yet
-abbrev pub rows_of : List (Cells × Kind) → List Cells
+abbrev pub rows_of : List (Cells × AccessKind) → List Cells
 rows_of accesses = map (λ row. row.0) accesses
 
 -- the items of a draft with those of the lines behind it

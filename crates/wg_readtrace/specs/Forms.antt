@@ -1,14 +1,14 @@
 -- The lines of a trace.
 use Rattle.std.specs.Prelude.{ℕ, ◌≤◌, Bool, true, false, ◌==◌, nat_lt, List, length, take, drop, codes, bytes_eq, Option, Some, None, if◌then◌else◌, ◌≡◌}
-use Rattle.wg_types.specs.declared.parts.Aspect.{Aspect}
-use Rattle.wg_types.specs.declared.parts.Aspect.TheVariants.{Color}
-use Rattle.wg_types.specs.declared.parts.PartRun.{PartRun}
-use Rattle.wg_types.specs.declared.parts.PartRun.TheVariants as part
-use Rattle.wg_types.specs.declared.parts.Cells.{Cells}
-use Rattle.wg_types.specs.declared.parts.Cells.TheVariants as cells
-use Rattle.wg_types.specs.declared.steps.StepPlace.{StepPlace}
-use Rattle.wg_types.specs.declared.steps.StepPlace.TheVariants.{Op, Host}
-use Rattle.wg_types.specs.declared.usages.Usages.{Usages}
+use Rattle.wg_trace.specs.declared.parts.Aspect.{Aspect}
+use Rattle.wg_trace.specs.declared.parts.Aspect.TheVariants.{Color}
+use Rattle.wg_trace.specs.declared.parts.PartRun.{PartRun}
+use Rattle.wg_trace.specs.declared.parts.PartRun.TheVariants as part
+use Rattle.wg_trace.specs.declared.parts.Cells.{Cells}
+use Rattle.wg_trace.specs.declared.parts.Cells.TheVariants as cells
+use Rattle.wg_trace.specs.declared.steps.StepPlace.{StepPlace}
+use Rattle.wg_trace.specs.declared.steps.StepPlace.TheVariants.{Op, Host}
+use Rattle.wg_trace.specs.declared.usages.Usages.{Usages}
 use Rattle.wg_readtrace.specs.Words.{gap_len, field, number_word, aspect_word, kind_word, name_word, sort_word, set_word}
 use Rattle.wg_readtrace.specs.declared.line.Line.{Line}
 use Rattle.wg_readtrace.specs.declared.line.Line.TheVariants.{Bar, Step, Use, Acc, Free, End}

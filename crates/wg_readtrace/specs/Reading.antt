@@ -2,12 +2,12 @@
 use Rattle.std.specs.Prelude.{ℕ, suc, ◌-◌, Bool, true, false, not, ◌&&◌, ◌||◌, ◌==◌, nat_le, List, [], ◌∷◌, ◌++◌, length, slice_index_or, codes, bytes_eq, Option, Some, None, Result, Ok, Err, if◌then◌else◌, ◌≡◌}
 use Rattle.std.specs.List.{list_all}
 use Rattle.std.specs.Option.{option_map_or}
-use Rattle.wg_types.specs.declared.parts.Cells.{Cells}
-use Rattle.wg_types.specs.declared.parts.PartRun.{PartRun}
-use Rattle.wg_types.specs.declared.parts.Kind.{Kind}
-use Rattle.wg_types.specs.declared.usages.Usages.{Usages}
-use Rattle.wg_types.specs.declared.steps.Item.{Item}
-use Rattle.wg_types.specs.declared.steps.Item.TheVariants as item
+use Rattle.wg_trace.specs.declared.parts.Cells.{Cells}
+use Rattle.wg_trace.specs.declared.parts.PartRun.{PartRun}
+use Rattle.wg_trace.specs.declared.parts.AccessKind.{AccessKind}
+use Rattle.wg_trace.specs.declared.usages.Usages.{Usages}
+use Rattle.wg_trace.specs.declared.steps.Item.{Item}
+use Rattle.wg_trace.specs.declared.steps.Item.TheVariants as item
 use Rattle.wg_readtrace.specs.declared.line.Line.{Line}
 use Rattle.wg_readtrace.specs.declared.line.Line.TheVariants.{Bar, Step, Use, Acc, Free, End}
 use Rattle.wg_readtrace.specs.declared.reading.TraceFault.{TraceFault}
@@ -154,7 +154,7 @@ uses_in (Acc kind cells ∷ lines) = uses_in lines
 uses_in (_ ∷ lines) = []
 
 -- the accesses of a step: those of its `acc` lines
-abbrev pub accesses_in : List Line → List (Cells × Kind)
+abbrev pub accesses_in : List Line → List (Cells × AccessKind)
 accesses_in [] = []
 accesses_in (Use part set ∷ lines) = accesses_in lines
 accesses_in (Acc kind cells ∷ lines) = (cells, kind) ∷ accesses_in lines

@@ -2,16 +2,16 @@
 use Rattle.std.specs.Prelude.{ℕ, suc, ◌+◌, ◌*◌, ◌-◌, ◌&&◌, ◌||◌, ◌==◌, nat_lt, List, [], ◌∷◌, ◌++◌, length, take, drop, bytes_eq, Option, Some, None, if◌then◌else◌}
 use Rattle.std.specs.Option.{option_and_then, option_map}
 use Rattle.std.specs.List.{find}
-use Rattle.wg_types.specs.declared.parts.Aspect.{Aspect}
-use Rattle.wg_types.specs.declared.parts.Aspect.TheVariants.{Color, Depth, Stencil}
-use Rattle.wg_types.specs.declared.parts.Kind.{Kind}
-use Rattle.wg_types.specs.declared.parts.Kind.TheVariants.{Read, Write, Both, Drop, ReadDrop}
-use Rattle.wg_types.specs.declared.steps.StepName.{StepName}
-use Rattle.wg_types.specs.declared.steps.StepName.TheVariants.{Clear, WriteBuffer, WriteTexture, CopyBufferToBuffer, CopyBufferToTexture, CopyTextureToBuffer, CopyTextureToTexture, ClearBuffer, ResolveQuerySet, Dispatch, RenderPass, HostRead, HostWrite}
-use Rattle.wg_types.specs.declared.steps.Sort.{Sort}
-use Rattle.wg_types.specs.declared.steps.Sort.TheVariants.{Buffer, Texture, Queries}
-use Rattle.wg_types.specs.declared.usages.Usages.{Usages}
-use Rattle.wg_types.specs.Words.{step_name_text}
+use Rattle.wg_trace.specs.declared.parts.Aspect.{Aspect}
+use Rattle.wg_trace.specs.declared.parts.Aspect.TheVariants.{Color, Depth, Stencil}
+use Rattle.wg_trace.specs.declared.parts.AccessKind.{AccessKind}
+use Rattle.wg_trace.specs.declared.parts.AccessKind.TheVariants.{Read, Write, Both, Drop, ReadDrop}
+use Rattle.wg_trace.specs.declared.steps.StepName.{StepName}
+use Rattle.wg_trace.specs.declared.steps.StepName.TheVariants.{Clear, WriteBuffer, WriteTexture, CopyBufferToBuffer, CopyBufferToTexture, CopyTextureToBuffer, CopyTextureToTexture, ClearBuffer, ResolveQuerySet, Dispatch, RenderPass, HostRead, HostWrite}
+use Rattle.wg_trace.specs.declared.steps.Sort.{Sort}
+use Rattle.wg_trace.specs.declared.steps.Sort.TheVariants.{Buffer, Texture, Queries}
+use Rattle.wg_trace.specs.declared.usages.Usages.{Usages}
+use Rattle.wg_trace.specs.StepNames.{step_name_text}
 use Rattle.wg_print.specs.Items.{sort_text}
 use Rattle.wg_print.specs.Parts.{aspect_text, access_kind_text}
 use Rattle.wg_print.specs.UsageSets.{usage_words}
@@ -45,7 +45,7 @@ abbrev pub aspect_word : List ℕ → Option Aspect
 aspect_word w = printed_as aspect_text (Color ∷ Depth ∷ Stencil ∷ []) w
 
 -- the kind of access that a word names, if one
-abbrev pub kind_word : List ℕ → Option Kind
+abbrev pub kind_word : List ℕ → Option AccessKind
 kind_word w = printed_as access_kind_text (Read ∷ Write ∷ Both ∷ Drop ∷ ReadDrop ∷ []) w
 
 -- the name of a step that a word is, if one

@@ -1,13 +1,13 @@
 -- Parts and cells of memory, and the runs of them that are printed (WebGPU, "Resource Usages" and "Textures").
 use Rattle.std.specs.Prelude.{ℕ, ◌+◌, Bool, true, false, List, [], ◌∷◌, map, nat_lt}
-pub use Rattle.wg_types.specs.declared.parts.Aspect.{Aspect}
-pub use Rattle.wg_types.specs.declared.parts.Aspect.TheVariants.{Color, Depth, Stencil}
-pub use Rattle.wg_types.specs.declared.parts.Part.{Part}
-pub use Rattle.wg_types.specs.declared.parts.Part.TheVariants.{Buffer, Queries as QuerySet, Texture as Subresource}
-pub use Rattle.wg_types.specs.declared.parts.PartRun.{PartRun}
-pub use Rattle.wg_types.specs.declared.parts.PartRun.TheVariants.{Buffer as BufferPart, Queries as QueryPart, Texture as LayerParts}
-pub use Rattle.wg_types.specs.declared.parts.Cells.{Cells}
-pub use Rattle.wg_types.specs.declared.parts.Cells.TheVariants.{Bytes, Queries, Layers, Slices}
+pub use Rattle.wg_trace.specs.declared.parts.Aspect.{Aspect}
+pub use Rattle.wg_trace.specs.declared.parts.Aspect.TheVariants.{Color, Depth, Stencil}
+pub use Rattle.wg_trace.specs.declared.parts.Part.{Part}
+pub use Rattle.wg_trace.specs.declared.parts.Part.TheVariants.{Buffer, Queries as QuerySet, Texture as Subresource}
+pub use Rattle.wg_trace.specs.declared.parts.PartRun.{PartRun}
+pub use Rattle.wg_trace.specs.declared.parts.PartRun.TheVariants.{Buffer as BufferPart, Queries as QueryPart, Texture as LayerParts}
+pub use Rattle.wg_trace.specs.declared.parts.Cells.{Cells}
+pub use Rattle.wg_trace.specs.declared.parts.Cells.TheVariants.{Bytes, Queries, Layers, Slices}
 use Rattle.wg_rows.specs.Rows.{numbers, Sort, Spot, covers_spot}
 
 -- A cell is a byte of a buffer, a subresource of a texture, a slice of a mip level of a 3D texture, or

@@ -1,9 +1,9 @@
 -- Usages, kinds of access and changes, which are the values of rows; and rows with them as they are printed (WebGPU, "Resource
 -- Usages").
 use Rattle.std.specs.Prelude.{Bool, true, false, ◌&&◌, List, [], ◌∷◌, Option, Some, None, ◌==◌, bit_and, bit_or, if◌then◌else◌, ◌≡◌}
-pub use Rattle.wg_types.specs.declared.parts.Kind.{Kind}
-pub use Rattle.wg_types.specs.declared.parts.Kind.TheVariants.{Read, Write, Both, Drop, ReadDrop}
-pub use Rattle.wg_types.specs.declared.usages.Usages.{Usages}
+pub use Rattle.wg_trace.specs.declared.parts.AccessKind.{AccessKind}
+pub use Rattle.wg_trace.specs.declared.parts.AccessKind.TheVariants.{Read, Write, Both, Drop, ReadDrop}
+pub use Rattle.wg_trace.specs.declared.usages.Usages.{Usages}
 use Rattle.wg_rows.specs.Rows.{printed, any_row, Apart, Alike, AllFit}
 use Rattle.wg_rows.specs.Runs.{Part, PartRun, Cell, Cells, part_sort, cell_sort, covers_part, covers}
 
@@ -22,7 +22,7 @@ abbrev pub only_reads : Usages → Bool
 only_reads set = bit_and set.0 1643 == set.0
 
 -- whether an access reads its cell: Both reads and then writes, and ReadDrop reads and then leaves it unset
-abbrev pub kind_reads : Kind → Bool
+abbrev pub kind_reads : AccessKind → Bool
 kind_reads Read = true
 kind_reads Write = false
 kind_reads Both = true
@@ -30,7 +30,7 @@ kind_reads Drop = false
 kind_reads ReadDrop = true
 
 -- whether an access writes its cell: each does but a read
-abbrev pub kind_writes : Kind → Bool
+abbrev pub kind_writes : AccessKind → Bool
 kind_writes Read = false
 kind_writes Write = true
 kind_writes Both = true
@@ -38,7 +38,7 @@ kind_writes Drop = true
 kind_writes ReadDrop = true
 
 -- whether an access leaves its cell unset
-abbrev pub kind_unsets : Kind → Bool
+abbrev pub kind_unsets : AccessKind → Bool
 kind_unsets Read = false
 kind_unsets Write = false
 kind_unsets Both = false
@@ -46,7 +46,7 @@ kind_unsets Drop = true
 kind_unsets ReadDrop = true
 
 -- whether two accesses are of the same kind
-abbrev pub same_kind : Kind → Kind → Bool
+abbrev pub same_kind : AccessKind → AccessKind → Bool
 same_kind Read Read = true
 same_kind Write Write = true
 same_kind Both Both = true
@@ -73,12 +73,12 @@ abbrev pub printed_uses : List (PartRun × Usages) → List (PartRun × Usages)
 printed_uses rows = printed part_sort same_set rows
 
 -- the printed form of accesses
-abbrev pub printed_accesses : List (Cells × Kind) → List (Cells × Kind)
+abbrev pub printed_accesses : List (Cells × AccessKind) → List (Cells × AccessKind)
 printed_accesses rows = printed cell_sort same_kind rows
 
 -- Accesses in printed form that have the kinds of some rows which agree are the printed form of those.
 abbrev pub AccessesPrinted : Type 0
-AccessesPrinted = (found rows : List (Cells × Kind)) → AllFit cell_sort rows → Apart cell_sort found → Alike cell_sort same_kind found rows → found ≡ printed_accesses rows
+AccessesPrinted = (found rows : List (Cells × AccessKind)) → AllFit cell_sort rows → Apart cell_sort found → Alike cell_sort same_kind found rows → found ≡ printed_accesses rows
 
 -- Rows of uses in printed form that have the values of some rows which agree are the printed form of those.
 abbrev pub UsesPrinted : Type 0
@@ -89,15 +89,15 @@ abbrev pub BarsPrinted : Type 0
 BarsPrinted = (found rows : List (PartRun × Change)) → AllFit part_sort rows → Apart part_sort found → Alike part_sort same_change found rows → found ≡ printed part_sort same_change rows
 
 -- whether some row of accesses reads a cell
-abbrev pub row_reads : Cell → List (Cells × Kind) → Bool
+abbrev pub row_reads : Cell → List (Cells × AccessKind) → Bool
 row_reads c rows = any_row (λ run. covers run c) kind_reads rows
 
 -- whether some row of accesses writes a cell
-abbrev pub row_writes : Cell → List (Cells × Kind) → Bool
+abbrev pub row_writes : Cell → List (Cells × AccessKind) → Bool
 row_writes c rows = any_row (λ run. covers run c) kind_writes rows
 
 -- whether the last row that writes the cell leaves it unset
-abbrev pub row_unsets : Cell → List (Cells × Kind) → Bool
+abbrev pub row_unsets : Cell → List (Cells × AccessKind) → Bool
 row_unsets c [] = false
 row_unsets c (row ∷ rows) = if row_writes c rows then row_unsets c rows else (covers row.0 c && kind_unsets row.1)
 

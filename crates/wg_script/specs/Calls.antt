@@ -20,8 +20,8 @@ use Rattle.wg_types.specs.declared.words.Word.{Word}
 use Rattle.wg_types.specs.declared.words.Word.TheVariants as word
 use Rattle.wg_script.specs.CallOf.{Call}
 use Rattle.wg_types.specs.declared.commands.CommandOf.TheVariants.{CopyBufferToBuffer, ClearBuffer, PushDebugGroup, PopDebugGroup}
-use Rattle.wg_types.specs.declared.replies.Filter.{Filter}
-use Rattle.wg_types.specs.declared.replies.Filter.TheVariants as filter
+use Rattle.wg_trace.specs.declared.replies.Filter.{Filter}
+use Rattle.wg_trace.specs.declared.replies.Filter.TheVariants as filter
 use Rattle.wg_types.specs.declared.requests.RequestOf.{RequestOf}
 use Rattle.wg_types.specs.declared.requests.RequestOf.TheVariants.{CreateBuffer, CreateEncoder, Finish, Submit, WriteBuffer, Destroy, Drop, Complete, PushErrorScope, PopErrorScope, Lose, WorkDone, MapAsync, Unmap}
 use Rattle.wg_script.specs.Calling.{recording, asking, making}

@@ -5,7 +5,7 @@ use Rattle.wg_types.specs.declared.handles.Info.TheVariants.{Buffer, Texture, Qu
 use Rattle.wg_types.specs.declared.limits.Limits.{Limits}
 use Rattle.wg_types.specs.declared.mappings.Mapping.{Mapping}
 use Rattle.wg_model.specs.Textures.{within_limits, mips_fit}
-use Rattle.wg_types.specs.declared.steps.StepPlace.TheVariants.{Op}
+use Rattle.wg_trace.specs.declared.steps.StepPlace.TheVariants.{Op}
 use Rattle.wg_limits.specs.Limits.{AreNoBetter}
 use Rattle.wg_rows.specs.Rows.{EachRow}
 use Rattle.wg_model.specs.Touches.{placed}

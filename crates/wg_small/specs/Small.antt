@@ -1,12 +1,12 @@
 -- How large the numbers in the trace of a run are.
 use Rattle.std.specs.Prelude.{ℕ, ◌+◌, ◌<◌, ◌≤◌, List, length, Ok, ◌≡◌}
-use Rattle.wg_types.specs.declared.parts.Kind.{Kind}
-use Rattle.wg_types.specs.declared.usages.Usages.{Usages}
-use Rattle.wg_types.specs.declared.steps.StepPlace.{StepPlace}
-use Rattle.wg_types.specs.declared.steps.StepPlace.TheVariants.{Op, Host}
-use Rattle.wg_types.specs.declared.steps.Step.{Step}
-use Rattle.wg_types.specs.declared.steps.Item.{Item}
-use Rattle.wg_types.specs.declared.steps.Item.TheVariants.{Bar, Step as StepItem, Free}
+use Rattle.wg_trace.specs.declared.parts.AccessKind.{AccessKind}
+use Rattle.wg_trace.specs.declared.usages.Usages.{Usages}
+use Rattle.wg_trace.specs.declared.steps.StepPlace.{StepPlace}
+use Rattle.wg_trace.specs.declared.steps.StepPlace.TheVariants.{Op, Host}
+use Rattle.wg_trace.specs.declared.steps.Step.{Step}
+use Rattle.wg_trace.specs.declared.steps.Item.{Item}
+use Rattle.wg_trace.specs.declared.steps.Item.TheVariants.{Bar, Step as StepItem, Free}
 use Rattle.wg_rows.specs.Rows.{EachRow}
 use Rattle.wg_rows.specs.Runs.{PartRun, BufferPart, LayerParts, QueryPart, Cells, Bytes, Layers, Slices, Queries, run_part, run_object}
 use Rattle.wg_history.specs.declared.events.Setup.{Setup}
@@ -23,7 +23,7 @@ use Rattle.wg_shaped.specs.Reports.{report_of}
 pub record StepHas (place : StepPlace → Type 0) (part : PartRun → Type 0) (cells : Cells → Type 0) (step : Step) : Type 0 where
   pub stands : place step.place
   pub uses : EachRow (λ (row : PartRun × Usages). part row.0) step.uses
-  pub accesses : EachRow (λ (row : Cells × Kind). cells row.0) step.accesses
+  pub accesses : EachRow (λ (row : Cells × AccessKind). cells row.0) step.accesses
 
 -- What is said of the places, parts, cells and objects of an item; of a release it is said of the number of its object.
 abbrev pub ItemHas : (StepPlace → Type 0) → (PartRun → Type 0) → (Cells → Type 0) → (ℕ → Type 0) → Item → Type 0

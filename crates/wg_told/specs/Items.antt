@@ -1,23 +1,23 @@
 -- What is told of the items of a trace. The numbers are those of the header.
 use Rattle.std.specs.Prelude.{ℕ, List, [], Option, Some, None, length}
-use Rattle.wg_types.specs.declared.parts.Aspect.{Aspect}
-use Rattle.wg_types.specs.declared.parts.Aspect.TheVariants.{Color, Depth, Stencil}
-use Rattle.wg_types.specs.declared.parts.PartRun.{PartRun}
-use Rattle.wg_types.specs.declared.parts.PartRun.TheVariants as part
-use Rattle.wg_types.specs.declared.parts.Cells.{Cells}
-use Rattle.wg_types.specs.declared.parts.Cells.TheVariants as cells
-use Rattle.wg_types.specs.declared.parts.Kind.{Kind}
-use Rattle.wg_types.specs.declared.parts.Kind.TheVariants as kind
-use Rattle.wg_types.specs.declared.usages.Usages.{Usages}
-use Rattle.wg_types.specs.declared.steps.StepPlace.{StepPlace}
-use Rattle.wg_types.specs.declared.steps.StepPlace.TheVariants.{Op, Host}
-use Rattle.wg_types.specs.declared.steps.StepName.{StepName}
-use Rattle.wg_types.specs.declared.steps.StepName.TheVariants as name
-use Rattle.wg_types.specs.declared.steps.Step.{Step}
-use Rattle.wg_types.specs.declared.steps.Sort.{Sort}
-use Rattle.wg_types.specs.declared.steps.Sort.TheVariants as sort
-use Rattle.wg_types.specs.declared.steps.Item.{Item}
-use Rattle.wg_types.specs.declared.steps.Item.TheVariants.{Bar, Step as StepItem, Free}
+use Rattle.wg_trace.specs.declared.parts.Aspect.{Aspect}
+use Rattle.wg_trace.specs.declared.parts.Aspect.TheVariants.{Color, Depth, Stencil}
+use Rattle.wg_trace.specs.declared.parts.PartRun.{PartRun}
+use Rattle.wg_trace.specs.declared.parts.PartRun.TheVariants as part
+use Rattle.wg_trace.specs.declared.parts.Cells.{Cells}
+use Rattle.wg_trace.specs.declared.parts.Cells.TheVariants as cells
+use Rattle.wg_trace.specs.declared.parts.AccessKind.{AccessKind}
+use Rattle.wg_trace.specs.declared.parts.AccessKind.TheVariants as kind
+use Rattle.wg_trace.specs.declared.usages.Usages.{Usages}
+use Rattle.wg_trace.specs.declared.steps.StepPlace.{StepPlace}
+use Rattle.wg_trace.specs.declared.steps.StepPlace.TheVariants.{Op, Host}
+use Rattle.wg_trace.specs.declared.steps.StepName.{StepName}
+use Rattle.wg_trace.specs.declared.steps.StepName.TheVariants as name
+use Rattle.wg_trace.specs.declared.steps.Step.{Step}
+use Rattle.wg_trace.specs.declared.steps.Sort.{Sort}
+use Rattle.wg_trace.specs.declared.steps.Sort.TheVariants as sort
+use Rattle.wg_trace.specs.declared.steps.Item.{Item}
+use Rattle.wg_trace.specs.declared.steps.Item.TheVariants.{Bar, Step as StepItem, Free}
 use Rattle.wg_told.specs.declared.items.ToldRange.{ToldRange}
 use Rattle.wg_told.specs.declared.items.ToldItem.{ToldItem}
 use Rattle.wg_told.specs.declared.items.ToldUse.{ToldUse}
@@ -66,7 +66,7 @@ name_number name.HostRead = 12
 name_number name.HostWrite = 13
 
 -- the number of a kind of access, from 1 on
-abbrev pub kind_number : Kind → ℕ
+abbrev pub kind_number : AccessKind → ℕ
 kind_number kind.Read = 1
 kind_number kind.Write = 2
 kind_number kind.Both = 3
@@ -131,7 +131,7 @@ abbrev pub use_told : PartRun × Usages → ToldUse
 use_told used = record { part = part_told used.0; usages = used.1.0 }
 
 -- an access of a step, as it is told
-abbrev pub access_told : Cells × Kind → ToldAccess
+abbrev pub access_told : Cells × AccessKind → ToldAccess
 access_told access = record { cells = cells_told access.0; kind = kind_number access.1 }
 
 -- the uses of an item, which is a step or has none
@@ -141,7 +141,7 @@ uses_of (StepItem step) = step.uses
 uses_of (Free object sort) = []
 
 -- the accesses of an item, which is a step or has none
-abbrev pub accesses_of : Item → List (Cells × Kind)
+abbrev pub accesses_of : Item → List (Cells × AccessKind)
 accesses_of (Bar part from to) = []
 accesses_of (StepItem step) = step.accesses
 accesses_of (Free object sort) = []

@@ -1,16 +1,16 @@
 -- What is told of replies and of settlements. The numbers are those of the header.
 use Rattle.std.specs.Prelude.{ℕ, Bool, true, false, Option, Some, None, length}
-use Rattle.wg_types.specs.declared.replies.Answer.{Answer}
-use Rattle.wg_types.specs.declared.replies.Answer.TheVariants.{Made, Queued, Promised, Plain, BadCompletion}
-use Rattle.wg_types.specs.declared.replies.Caught.{Caught}
-use Rattle.wg_types.specs.declared.replies.Caught.TheVariants.{Scope, Uncaptured}
-use Rattle.wg_types.specs.declared.replies.Fault.{Fault}
-use Rattle.wg_types.specs.declared.replies.FaultKind.{FaultKind}
-use Rattle.wg_types.specs.declared.replies.FaultKind.TheVariants.{Validation, OutOfMemory}
-use Rattle.wg_types.specs.declared.replies.How.{How}
-use Rattle.wg_types.specs.declared.replies.How.TheVariants.{Mapped, Done, Aborted, Rejected, Null, Error}
-use Rattle.wg_types.specs.declared.replies.Reply.{Reply}
-use Rattle.wg_types.specs.declared.replies.Settlement.{Settlement}
+use Rattle.wg_trace.specs.declared.replies.Answer.{Answer}
+use Rattle.wg_trace.specs.declared.replies.Answer.TheVariants.{Made, Queued, Promised, Plain, BadCompletion}
+use Rattle.wg_trace.specs.declared.replies.Caught.{Caught}
+use Rattle.wg_trace.specs.declared.replies.Caught.TheVariants.{Scope, Uncaptured}
+use Rattle.wg_trace.specs.declared.replies.Fault.{Fault}
+use Rattle.wg_trace.specs.declared.replies.FaultKind.{FaultKind}
+use Rattle.wg_trace.specs.declared.replies.FaultKind.TheVariants.{Validation, OutOfMemory}
+use Rattle.wg_trace.specs.declared.replies.How.{How}
+use Rattle.wg_trace.specs.declared.replies.How.TheVariants.{Mapped, Done, Aborted, Rejected, Null, Error}
+use Rattle.wg_trace.specs.declared.replies.Reply.{Reply}
+use Rattle.wg_trace.specs.declared.replies.Settlement.{Settlement}
 use Rattle.wg_told.specs.declared.replies.ToldReply.{ToldReply}
 use Rattle.wg_told.specs.declared.replies.ToldSettlement.{ToldSettlement}
 

@@ -29,8 +29,8 @@ use Rattle.wg_types.specs.declared.render.LoadOp.{LoadOp}
 use Rattle.wg_types.specs.declared.render.LoadOp.TheVariants.{Load, Clear}
 use Rattle.wg_types.specs.declared.render.StoreOp.{StoreOp}
 use Rattle.wg_types.specs.declared.render.StoreOp.TheVariants.{Store, Discard}
-use Rattle.wg_types.specs.declared.replies.Filter.{Filter}
-use Rattle.wg_types.specs.declared.replies.Filter.TheVariants as filter
+use Rattle.wg_trace.specs.declared.replies.Filter.{Filter}
+use Rattle.wg_trace.specs.declared.replies.Filter.TheVariants as filter
 
 -- the value of a number, if it has one
 abbrev pub nth : {T : Type 0} → List T → ℕ → Option T

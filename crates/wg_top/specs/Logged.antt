@@ -1,6 +1,6 @@
 -- What is written of the lines of a log, and of a trace.
 use Rattle.std.specs.Prelude.{ℕ, Bool, is_some, List, ◌++◌, map, length, count_by, codes, Option}
-use Rattle.wg_types.specs.declared.steps.Item.{Item}
+use Rattle.wg_trace.specs.declared.steps.Item.{Item}
 use Rattle.wg_history.specs.Operations.{is_queued}
 use Rattle.wg_core.specs.declared.logged.Line.{Line}
 use Rattle.wg_readback.specs.Texts.{Told, trace_behind, history_text}

@@ -1,7 +1,7 @@
 //! The commands of recorders, and where they stand.
 ghost use Rattle.std.specs.Prelude.{◌≡◌, ◌++◌, IfOk, OnOk, option_copied};
 ghost use Rattle.std.specs.List.{list_any, flat_map};
-ghost use Rattle.wg_types.specs.Added.{BeginsWith};
+ghost use Rattle.wg_trace.specs.Added.{BeginsWith};
 ghost use Rattle.wg_types.specs.Commands.{fits, stands, place_wanted, kind_begun, bracket, is_begin, is_end, render_begun, named, map_refs, first_of};
 
 use crate::NoMemory;

@@ -1,7 +1,7 @@
 //! Render pipelines, and what render passes begin with.
 ghost use Rattle.std.specs.Prelude.{◌≡◌, ◌++◌, IfOk, OnOk, map, option_map};
 ghost use Rattle.std.specs.List.{flat_map};
-ghost use Rattle.wg_types.specs.Added.{BeginsWith};
+ghost use Rattle.wg_trace.specs.Added.{BeginsWith};
 ghost use Rattle.wg_types.specs.Refs.{first_of, maybe_wanted};
 ghost use Rattle.wg_types.specs.Render.{color_named, depth_named, targets_named, begin_named, map_color, map_depth, map_begin};
 
