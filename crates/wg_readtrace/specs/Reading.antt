@@ -15,8 +15,8 @@ use Rattle.wg_readtrace.specs.declared.reading.TraceFault.TheVariants.{Bad, NoMe
 use Rattle.wg_readtrace.specs.Forms.{line_of}
 use Rattle.wg_readtrace.specs.Given.{is_given}
 
--- Rule 1 is of the text: its bytes are line ends (10) and from 32 to 126, a line end is the last, and some line is
--- `trace`.
+-- whether a byte may stand in a text: a line end (10), or one from 32 to 126; trace rule 1 asks that of each, that a line end
+-- is the last, and that some line is `trace`
 abbrev pub is_text_byte : ℕ → Bool
 is_text_byte b = (b == 10) || (nat_le 32 b && nat_le b 126)
 
@@ -83,9 +83,8 @@ abbrev pub is_counted : ℕ → Line → Bool
 is_counted steps (Step number place name) = number == steps
 is_counted steps line = true
 
--- Rule 3, but for the last line: whether a line may stand behind another, or behind none, and so many steps. A barrier
--- is followed by a barrier or a step, `end` by nothing; `use` stands behind `step` or `use`, and `acc` behind these or
--- `acc`.
+-- trace rule 3, but for the last line: whether a line may stand behind another, or behind none, and so many steps: a barrier
+-- is followed by a barrier or a step, `end` by nothing; `use` stands behind `step` or `use`, and `acc` behind these or `acc`
 abbrev pub may_stand : Option Line → ℕ → Line → Bool
 may_stand last steps line =
     is_counted steps line
@@ -94,7 +93,7 @@ may_stand last steps line =
     && (not (is_some_line is_bar last) || (is_bar line || is_step line))
     && not (is_some_line is_end last)
 
--- Rule 4: the cells that `acc` lines of the step gave before a line
+-- the cells that `acc` lines of the step gave before a line, for trace rule 4
 abbrev pub given_by : List Line → List Cells
 given_by [] = []
 given_by (Use part set ∷ before) = given_by before
@@ -106,8 +105,8 @@ abbrev pub gives_again : List Cells → Line → Bool
 gives_again rows (Acc kind cells) = is_given rows cells
 gives_again rows line = false
 
--- The first of rules 2, 3 and 4 that the line with number n breaks, or the line. It is given with whether it is the last
--- one, the line before it, how many steps stand before it, and the cells that its step has so far.
+-- the line with number n, or the first of trace rules 2, 3 and 4 that it breaks, by whether it is the last one, the line
+-- before it, how many steps stand before it, and the cells that its step has so far
 abbrev pub judged : ℕ → Bool → Option Line → ℕ → List Cells → Option Line → Result Line (ℕ × ℕ)
 judged n is_last last steps rows None = Err (2, n)
 judged n is_last last steps rows (Some line) =
