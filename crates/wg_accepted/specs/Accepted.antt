@@ -24,8 +24,8 @@ pub record IsAccepted (text : List ℕ) (trace : List Item) : Type 0 where
   pub read : trace_in text ≡ Ok trace
   pub agrees : (taking : Taking) (checked : Checked) → Answers text taking checked → HasAnswered checked → checked ≡ Agrees
 
--- So is the report of a script that was read and of any history of its device whose replies are the right ones, as its trace, if it
--- has no more bytes than a text that is checked.
+-- The report of a script that was read and of any history of its device whose replies are the right ones is read as its trace,
+-- and agrees where it is checked, if it has no more bytes than a text that is checked.
 abbrev pub ReportsAreAccepted : Type 0
 ReportsAreAccepted =
     (bytes : List ℕ) (script : Script) (history : List Entry)

@@ -6,11 +6,11 @@ use Rattle.wg_rows.specs.Runs.{Cells, Cell, cell_sort, cell_spot}
 use Rattle.wg_rows.specs.Uses.{AccessKind, Read, Write, Drop, kind_reads, kind_writes, kind_unsets, same_kind}
 use Rattle.wg_init.specs.Effects.{is_full}
 
--- what is left of a cell that is written
+-- what an access leaves of a cell that it writes: a write, or a cell that is unset
 abbrev pub left_kind : AccessKind → AccessKind
 left_kind kind = if kind_unsets kind then Drop else Write
 
--- what is left after accesses, each of which overwrites what was there
+-- what accesses leave of cells, each of which overwrites what was there
 abbrev pub left_after : List (Cells × AccessKind) → List (Cells × AccessKind) → List (Cells × AccessKind)
 left_after [] rows = rows
 left_after (x ∷ xs) rows = left_after xs (if kind_writes x.1 && is_full x.0 then overwrite cell_sort same_kind (x.0, left_kind x.1) rows else rows)

@@ -37,11 +37,13 @@ pub record WithClear (ends : List UseRow) (rows : List (Cells × AccessKind)) (d
   pub clears : IsKept ends (clear_deed rows) false clear mid
   pub steps : IsKept mid deed true step after
 
+-- A step that needs no clear inside its command buffer is kept alone, and uses are after it as it leaves them.
 pub record WithoutClear (ends : List UseRow) (deed : Deed) (held : List Kept) (after : List UseRow) : Type 0 where
   pub step : Kept
   pub more : held ≡ step ∷ []
   pub steps : IsKept ends deed true step after
 
+-- What a step adds to the kept steps: itself, and before it the clear that it needs, if it needs one.
 abbrev pub AreMore : List UseRow → List (Cells × AccessKind) → Deed → List Kept → List UseRow → Type 0
 AreMore ends [] deed more after = WithoutClear ends deed more after
 AreMore ends (x ∷ rows) deed more after = WithClear ends (x ∷ rows) deed more after

@@ -17,6 +17,7 @@ use Rattle.wg_checker.specs.Texts.{verdict_text, fault_text}
 abbrev pub limit : ℕ
 limit = 67108864
 
+-- what is answered of a verdict
 abbrev pub told : Option Clash → Checked
 told None = Agrees
 told (Some clash) = Differs clash

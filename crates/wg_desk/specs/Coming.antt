@@ -14,6 +14,7 @@ use Rattle.wg_desk.specs.Seats.{recorder_by}
 abbrev pub known_of : ObjRef → Info → Info × Option RecorderValue
 known_of reference known = (known, recorder_by reference known)
 
+-- what is known of an object that is about to be made, and its recorder, if one is
 abbrev pub expected : Option Coming → Option (Info × Option RecorderValue)
 expected coming = option_map (λ (one : Coming). (arc_value one.info, one.recorder)) coming
 

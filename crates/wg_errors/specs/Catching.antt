@@ -23,7 +23,7 @@ abbrev pub top : List Catchers → Catchers
 top [] = record { validation = Uncaptured; memory = Uncaptured }
 top (catchers ∷ outer) = catchers
 
--- the same in a scope with this filter, which has so many around it
+-- what catches faults inside a scope with this filter, which has so many around it
 abbrev pub within : Filter → ℕ → Catchers → Catchers
 within filter place outer = record {
   validation = if catches filter kind.Validation then CaughtBy place else outer.validation;

@@ -30,10 +30,11 @@ abbrev pub rows_after : ℕ → List (Cells × AccessKind) → List SetRow → L
 rows_after object [] rows = rows
 rows_after object (x ∷ xs) rows = rows_after object xs (if changes_at object x then with_effect x.0 x.1 rows else rows)
 
--- Rows after accesses, and with a step noted.
+-- Rows are those after accesses.
 abbrev pub IsAfter : SetRows → List (Cells × AccessKind) → SetRows → Type 0
 IsAfter kept xs noted = (object : ℕ) → rows_in noted object ≡ rows_after object xs (rows_in kept object)
 
+-- Rows are those after a step: they are after its accesses.
 abbrev pub IsNoted : SetRows → Step → SetRows → Type 0
 IsNoted kept step noted = IsAfter kept step.accesses noted
 

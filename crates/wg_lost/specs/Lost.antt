@@ -41,7 +41,7 @@ pub record AddsReleases (trace new : List Item) : Type 0 where
 abbrev pub LostReplies : Type 0
 LostReplies = (setup : Setup) (past : Past) (event : Event) → is_lost past ≡ true → IsLostReply past event (reply_to setup past event)
 
--- and the trace of its run grows by the host write of the event, if it has one, and by releases.
+-- On a lost device the trace of a run grows by the host write of the event, if it has one, and by releases.
 abbrev pub LostWritesBack : Type 0
 LostWritesBack = (setup : Setup) (history : List Entry) (entry : Entry) → Run setup history → entry.reply ≡ reply_to setup (reverse history) entry.event
     → is_lost (reverse history) ≡ true → AddsGroups (host_writes setup (reverse history) entry.event) (Trace setup history) (Trace setup (history ++ entry ∷ []))

@@ -25,9 +25,11 @@ abbrev pub catcher_back : List Scope → FaultKind → Option ℕ
 catcher_back [] kind = None
 catcher_back (scope ∷ outer) kind = if catches scope.filter kind then Some (length outer) else catcher_back outer kind
 
+-- the place of the innermost open scope that catches faults of a kind, if one does
 abbrev pub catcher : List Scope → FaultKind → Option ℕ
 catcher scopes kind = catcher_back (reverse scopes) kind
 
+-- where a fault goes: to the scope of a place, or to none
 abbrev pub caught_by : Option ℕ → Caught
 caught_by None = Uncaptured
 caught_by (Some place) = CaughtBy place
@@ -41,6 +43,7 @@ abbrev pub kept_first : Option First → First → Option First
 kept_first None error = Some error
 kept_first (Some first) error = Some first
 
+-- the open scopes after a fault that the scope of a place catches, if it is there
 abbrev pub filled : List Scope → ℕ → Option Scope → First → List Scope
 filled scopes place None error = scopes
 filled scopes place (Some scope) error = slice_set scopes place (record scope { first = kept_first scope.first error })
@@ -54,10 +57,12 @@ caught_in Uncaptured error scopes = scopes
 abbrev pub delivered : List Scope → FaultKind → ℕ → List Scope
 delivered scopes kind rule = caught_in (deliver scopes kind) (record { kind = kind; rule = rule }) scopes
 
+-- how a pop settles by the first fault of its scope: by null where there is none
 abbrev pub first_how : Option First → How
 first_how None = Null
 first_how (Some first) = Error first.kind first.rule
 
+-- how a pop settles by the innermost scope: it is rejected where none is open
 abbrev pub top_how : Option Scope → How
 top_how None = Rejected
 top_how (Some scope) = first_how scope.first

@@ -9,11 +9,13 @@ use Rattle.wg_trace.specs.declared.parts.Cells.TheVariants.{Bytes, Queries as Qu
 use Rattle.wg_trace.specs.declared.parts.AccessKind.{AccessKind}
 use Rattle.wg_trace.specs.declared.parts.AccessKind.TheVariants.{Read, Write, Both, Drop, ReadDrop}
 
+-- the word of an aspect
 abbrev pub aspect_text : Aspect → List ℕ
 aspect_text Color = codes "color"
 aspect_text Depth = codes "depth"
 aspect_text Stencil = codes "stencil"
 
+-- the word of a kind of access
 abbrev pub access_kind_text : AccessKind → List ℕ
 access_kind_text Read = codes "read"
 access_kind_text Write = codes "write"

@@ -17,33 +17,39 @@ use Rattle.wg_readtrace.specs.Forms.{most_32, most_53}
 use Rattle.wg_readtrace.specs.Reading.{is_text_byte, ends_line, lines_of}
 use Rattle.wg_readback.specs.Shapes.{IsShaped}
 
--- The numbers of parts and of cells are ones that the reader takes.
+-- The numbers of a run of parts are ones that the reader of traces takes.
 abbrev pub IsSmallPart : PartRun → Type 0
 IsSmallPart (Buffer object) = object ≤ most_53
 IsSmallPart (Queries object) = object ≤ most_53
 IsSmallPart (Texture object aspect mip lo hi) = (object ≤ most_53) × (mip ≤ most_32) × (hi ≤ most_32)
 
+-- The numbers of a run of cells are ones that the reader of traces takes.
 abbrev pub AreSmallCells : Cells → Type 0
 AreSmallCells (Bytes object lo hi) = (object ≤ most_53) × (hi ≤ most_53)
 AreSmallCells (QueryCells object lo hi) = (object ≤ most_53) × (hi ≤ most_32)
 AreSmallCells (Layers object aspect mip lo hi) = (object ≤ most_53) × (mip ≤ most_32) × (hi ≤ most_32)
 AreSmallCells (Slices object mip lo hi) = (object ≤ most_53) × (mip ≤ most_32) × (hi ≤ most_32)
 
+-- The number of a place is one that the reader of traces takes.
 abbrev pub IsSmallPlace : StepPlace → Type 0
 IsSmallPlace (Op number) = number ≤ most_53
 IsSmallPlace (Host entry) = entry ≤ most_53
 
+-- The numbers of a use are ones that the reader of traces takes.
 abbrev pub IsSmallUse : PartRun × Usages → Type 0
 IsSmallUse row = IsSmallPart row.0
 
+-- The numbers of an access are ones that the reader of traces takes.
 abbrev pub IsSmallAccess : Cells × AccessKind → Type 0
 IsSmallAccess row = AreSmallCells row.0
 
+-- The numbers of a step are ones that the reader of traces takes.
 pub record IsSmallStep (step : Step) : Type 0 where
   pub place : IsSmallPlace step.place
   pub uses : EachRow IsSmallUse step.uses
   pub accesses : EachRow IsSmallAccess step.accesses
 
+-- The numbers of an item are ones that the reader of traces takes.
 abbrev pub IsSmallItem : Item → Type 0
 IsSmallItem (Bar part from to) = IsSmallPart part
 IsSmallItem (StepItem step) = IsSmallStep step

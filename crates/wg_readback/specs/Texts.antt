@@ -19,6 +19,7 @@ abbrev pub step_after : ℕ → Item → ℕ
 step_after n (StepItem step) = n + 1
 step_after n _ = n
 
+-- the items of a trace, as they are printed
 abbrev pub items_text : List Item → List ℕ
 items_text trace = numbered step_after item_text 0 trace
 
@@ -30,9 +31,11 @@ trace_behind before trace = before ++ line_text (codes "trace") ++ items_text tr
 abbrev pub Told : Type 0
 Told = ℕ × Verb × Reply
 
+-- the number of the entry behind one
 abbrev pub told_after : ℕ → Told → ℕ
 told_after n entry = n + 1
 
+-- the line of an entry, with its number
 abbrev pub told_line : ℕ → Told → List ℕ
 told_line n entry = entry_text n entry.0 (verb_text entry.1) entry.2
 
@@ -40,5 +43,6 @@ told_line n entry = entry_text n entry.0 (verb_text entry.1) entry.2
 abbrev pub entries_text : List Told → List ℕ
 entries_text entries = numbered told_after told_line 0 entries
 
+-- the entries of a history, as they are printed, behind their heading
 abbrev pub history_text : List Told → List ℕ
 history_text entries = line_text (codes "history") ++ entries_text entries

@@ -49,10 +49,12 @@ rows_of accesses = map (λ row. row.0) accesses
 abbrev pub items_with : Draft → List Line → List Item
 items_with draft lines = draft.items ++ flow draft.begun draft.uses draft.accesses lines
 
+-- the items of lines that were read, behind those that a draft has, or the first refusal
 abbrev pub read_with : Draft → Result (List Line) (ℕ × ℕ) → Result (List Item) (ℕ × ℕ)
 read_with draft (Ok lines) = Ok (items_with draft lines)
 read_with draft (Err e) = Err e
 
+-- An access has a cell; of other lines nothing is said.
 abbrev pub LineIsFull : Line → Type 0
 LineIsFull (Acc kind cells) = IsFull cells
 LineIsFull line = Unit {0}
@@ -63,7 +65,7 @@ Gives (Ok x) read = read ≡ Ok x
 Gives (Err (Bad rule line)) read = read ≡ Err (rule, line)
 Gives (Err NoMemory) read = Unit {0}
 
--- Rule 3 by cases: whether a line may stand behind another, and whether it may be the first.
+-- whether a line may stand behind another
 abbrev pub may_follow : Line → Line → Bool
 may_follow last (Bar part from to) = not (is_end last)
 may_follow last (Step number place name) = not (is_end last)
@@ -72,5 +74,6 @@ may_follow last (Acc kind cells) = is_step last || is_use last || is_acc last
 may_follow last (Free object sort) = not (is_bar last) && not (is_end last)
 may_follow last End = not (is_bar last) && not (is_end last)
 
+-- whether a line may stand where an item begins: it is neither a use nor an access
 abbrev pub may_begin : Line → Bool
 may_begin line = not (is_use line) && not (is_acc line)

@@ -46,7 +46,7 @@ is_accessed cells cell = list_any (λ run. covers run cell) cells
 abbrev pub ViewsCover : Type 0
 ViewsCover = (view : ViewInfo) (part : Part) → is_covered (view_runs view) part ≡ view_has view part
 
--- and so do those of a copy.
+-- The runs of a copy cover just the subresources that it has.
 abbrev pub CopiesCover : Type 0
 CopiesCover =
     (texture : ℕ) (info : TextureInfo) (spot : TextureSpot) (size : List ℕ) (part : Part)
@@ -87,7 +87,7 @@ pub record ViewsPrinted : Type 0 where
   pub apart : (view : ViewInfo) (usage : Usages) → Apart part_sort (all_used usage (view_runs view))
   pub printed : (view : ViewInfo) (usage : Usages) → printed_uses (all_used usage (view_runs view)) ≡ all_used usage (view_runs view)
 
--- and so are those of a copy.
+-- The runs of a copy, used in one way, are in printed form.
 pub record CopiesPrinted : Type 0 where
   pub apart : (texture : ℕ) (info : TextureInfo) (spot : TextureSpot) (size : List ℕ) (usage : Usages)
       → Apart part_sort (all_used usage (copy_runs texture info spot size))
