@@ -4,7 +4,7 @@
 
 mod bundled;
 mod deeds;
-mod done;
+mod scopes;
 mod touches;
 mod touching;
 
@@ -16,7 +16,7 @@ ghost use Rattle.wg_access.specs.Ranges.{IsInRange};
 
 pub use bundled::{bundle_touch, bundle_touches};
 pub use deeds::encoder_deed;
-pub use done::{Done, scope_of};
+pub use scopes::{scope_clash, scope_of};
 use std::alloc::Global;
 use touches::{copied_to, range_touches};
 pub use touching::deed_of;

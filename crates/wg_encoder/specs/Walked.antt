@@ -13,8 +13,8 @@ use Rattle.wg_model.specs.Settings.{Settings, settings, debug_depth}
 use Rattle.wg_model.specs.Attachments.{RenderBegin, begin_of}
 use Rattle.wg_model.specs.Render.{RenderSet, render_set, bundle_set, render_rules}
 use Rattle.wg_model.specs.Walk.{Kept, PassSoFar, pass_rule, pass_does, begins, open_pass, has_ended, encoder_depth, verdict, bundle_verdict}
-use Rattle.wg_access.specs.Done.{done_by_pass, done_of}
-use Rattle.wg_access.specs.declared.done.Done.{Done}
+use Rattle.wg_encoder.specs.Done.{done_by_pass, done_of}
+use Rattle.wg_encoder.specs.declared.done.Done.{Done}
 use Rattle.wg_encoder.specs.declared.pass.PassState.{PassState}
 use Rattle.wg_encoder.specs.declared.pass.PassState.TheVariants.{Refused, Compute, Render}
 use Rattle.wg_encoder.specs.declared.walk.Opened.{Opened}

@@ -328,7 +328,7 @@ impl<R> CommandOf<R> {
     }
 
     /// Gathers what there is of the objects that the command names, in order.
-    #[tactic(auto, using(crate::proofs::Beginnings::begins_self))]
+    #[tactic(auto, using(wg_trace::proofs::Beginnings::begins_self))]
     pub fn gather<T, G: Gather<R, T>>(&self, gather: &G, found: &mut Vec<T>) -> Result<(), NoMemory>
         ensures gathered { OnOk result (found.new.items ≡ found.old.items ++ flat_map (G.gathers gather.now) (named self.now)) }
         ensures begins { BeginsWith found.new.items found.old.items }

@@ -22,8 +22,4 @@ pub mod words;
 pub mod writes;
 
 pub use wg_entry::NoMemory;
-pub use wg_trace::items;
-pub use wg_trace::parts;
-pub use wg_trace::replies;
-pub use wg_trace::steps;
-pub use wg_trace::usages;
+pub use wg_trace::{items, parts, replies, steps, usages};

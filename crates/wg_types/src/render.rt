@@ -205,7 +205,7 @@ fn first_begun<R, E: Drop, A: Ask<R, E>>(
 }
 
 /// Gathers what there is of the views of a color attachment, if there is one.
-#[tactic(auto, using(crate::proofs::RefLemmas::flat_joined, crate::proofs::Beginnings::begins_self, crate::proofs::Beginnings::begins_then))]
+#[tactic(auto, using(crate::proofs::RefLemmas::flat_joined, wg_trace::proofs::Beginnings::begins_self, wg_trace::proofs::Beginnings::begins_then))]
 fn gather_color<R, T, G: Gather<R, T>>(
     gather: &G,
     found: &mut Vec<T>,
@@ -224,7 +224,7 @@ fn gather_color<R, T, G: Gather<R, T>>(
 }
 
 /// Gathers what there is of the views of color attachments.
-#[tactic(auto, using(crate::proofs::RefLemmas::flat_joined, crate::proofs::Beginnings::begins_self))]
+#[tactic(auto, using(crate::proofs::RefLemmas::flat_joined, wg_trace::proofs::Beginnings::begins_self))]
 fn gather_colors<R, T, G: Gather<R, T>>(
     gather: &G,
     found: &mut Vec<T>,
@@ -240,7 +240,7 @@ fn gather_colors<R, T, G: Gather<R, T>>(
 }
 
 /// Gathers what there is of the view of a depth attachment, if there is one.
-#[tactic(auto, using(crate::proofs::Beginnings::begins_self))]
+#[tactic(auto, using(wg_trace::proofs::Beginnings::begins_self))]
 fn gather_depth<R, T, G: Gather<R, T>>(
     gather: &G,
     found: &mut Vec<T>,
@@ -256,7 +256,7 @@ fn gather_depth<R, T, G: Gather<R, T>>(
 }
 
 /// Gathers what there is of the views of all attachments.
-#[tactic(auto, using(crate::proofs::RefLemmas::flat_joined, crate::proofs::Beginnings::begins_then))]
+#[tactic(auto, using(crate::proofs::RefLemmas::flat_joined, wg_trace::proofs::Beginnings::begins_then))]
 fn gather_targets<R, T, G: Gather<R, T>>(
     gather: &G,
     found: &mut Vec<T>,
@@ -271,7 +271,7 @@ fn gather_targets<R, T, G: Gather<R, T>>(
 }
 
 /// Gathers what there is of the views of all attachments, and then of the query set, if there is one.
-#[tactic(auto, using(crate::proofs::RefLemmas::flat_joined, crate::proofs::Beginnings::begins_then))]
+#[tactic(auto, using(crate::proofs::RefLemmas::flat_joined, wg_trace::proofs::Beginnings::begins_then))]
 fn gather_begun<R, T, G: Gather<R, T>>(
     gather: &G,
     found: &mut Vec<T>,

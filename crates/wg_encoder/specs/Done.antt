@@ -5,7 +5,7 @@ use Rattle.std.specs.Option.{option_or}
 use Rattle.wg_model.specs.Touches.{Doing, scope_in, deed_of}
 use Rattle.wg_model.specs.Scopes.{clash, first_clash}
 use Rattle.wg_model.specs.Walk.{Kept, usage_scopes, deeds}
-use Rattle.wg_access.specs.declared.done.Done.{Done}
+use Rattle.wg_encoder.specs.declared.done.Done.{Done}
 
 -- what is done with what one more command on the encoder does, which is a deed
 abbrev pub done_by_encoder : Done → Option Doing → Done
