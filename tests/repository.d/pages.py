@@ -9,6 +9,8 @@ import json
 import re
 
 LONGEST = 300
+# What tests/tool reads as one line.
+ONE_LINE = ("`on` names an encoder; a bundle encoder in ",)
 LEAST_SENTENCE = 60
 STANDS_ON = re.compile(r"\| `(wg_\w+)` \| .* \| ((?:`\w+`(?:, )?)+) \|$")
 HEADING = re.compile(r"^#{1,6} (.*)$", re.M)
@@ -38,7 +40,7 @@ def check_lines(top, crates, findings):
         shown = False
         for number, line in enumerate(path.read_text(encoding="utf-8").splitlines(), 1):
             shown ^= line.startswith("```")
-            if len(line) > LONGEST and not shown and not line.startswith("|"):
+            if len(line) > LONGEST and not shown and not line.startswith(("|", *ONE_LINE)):
                 findings.append(f"{path.relative_to(top)}:{number}: {len(line)} characters, and at most {LONGEST} are wanted")
 
 
