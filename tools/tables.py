@@ -59,7 +59,8 @@ def calls_table(top):
 def refusals_table(top):
     """What each rule of scripts refuses, and with which place."""
     rows = json.loads((top / "docs/rules.json").read_text(encoding="utf-8"))["scripts"]
-    return ["| Rule | What is refused | Place |", "|---|---|---|"] + [f"| {row['rule']} | {row['refuses']} | {row['place']} |" for row in rows]
+    lines = [f"| {row['rule']} | {row['refuses']} | {row['place']} |" for row in rows]
+    return ["| Rule | What is refused | Place |", "|---|---|---|", *lines]
 
 
 TABLES = (("docs/map.md", "calls", calls_table), ("docs/script.md", "refusals", refusals_table))
