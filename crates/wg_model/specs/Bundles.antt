@@ -71,13 +71,13 @@ bundle_how Storage = (storage_usage, Both)
 abbrev pub bundle_touch : BundleTouch → Touch
 bundle_touch touch = (touch.cells, bundle_how touch.used)
 
-abbrev pub touches_within : Option BundleInfo → List Touch
-touches_within None = []
-touches_within (Some bundle) = map bundle_touch bundle.touches
+abbrev pub known_touches : Option BundleInfo → List Touch
+known_touches None = []
+known_touches (Some bundle) = map bundle_touch bundle.touches
 
 -- what bundles touch that are executed
 abbrev pub executed_touches : List HandleValue → List Touch
-executed_touches bundles = flat_map (λ bundle. touches_within (known_bundle bundle)) bundles
+executed_touches bundles = flat_map (λ bundle. known_touches (known_bundle bundle)) bundles
 
 -- What is known of the touches of a bundle: for each way of use those of that way, in printed form. A part that is used has a run
 -- without cells, so that it counts as used also where none of its cells is accessed.

@@ -37,5 +37,5 @@ abbrev pub offers : List GroupLayoutInfo → IfaceEntry → Bool
 offers layouts used = option_map_or (λ (layout : GroupLayoutInfo). option_map_or (serves used) (entry_of layout.entries used.binding) false) (slice_get layouts used.group) false
 
 -- createComputePipeline: 160 the layout has each binding that a shader uses, visible to its stage and of the same kind.
-abbrev pub compute_rules : List GroupLayoutInfo → List IfaceEntry → List Rule
-compute_rules layouts iface = (160, list_all (offers layouts) iface) ∷ []
+abbrev pub compute_pipeline_rules : List GroupLayoutInfo → List IfaceEntry → List Rule
+compute_pipeline_rules layouts iface = (160, list_all (offers layouts) iface) ∷ []
