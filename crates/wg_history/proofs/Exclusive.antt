@@ -1,5 +1,5 @@
 -- Bind group layouts that were got of pipelines, and the bind groups that were made for them.
-use Rattle.std.proofs.Common.{◌≡◌, ℕ, zero, suc, ◌+◌, ◌<◌, ◌≤◌, List, [], ◌∷◌, ◌++◌, length, reverse, Bool, true, false, not, ◌&&◌, ◌||◌, ◌==◌, nat_lt, Option, Some, None, is_some, is_none, option_map, option_and_then, slice_get, get_or, slice_index_or, refl, ap, ap₂, sym, ◌∙◌, subst, arith, add-one, if◌then◌else◌, true≢false}
+use Rattle.std.proofs.Common.{◌≡◌, ℕ, zero, suc, ◌+◌, ◌<◌, ◌≤◌, List, [], ◌∷◌, ◌++◌, length, reverse, Bool, true, false, not, ◌&&◌, ◌||◌, ◌==◌, nat_lt, Option, Some, None, is_some, is_none, option_map, option_and_then, slice_get, get_or, slice_index_or, refl, ap, ap₂, sym, ◌∙◌, subst, arith, if◌then◌else◌, true≢false}
 use Rattle.std.specs.Option.{option_map_or}
 use Rattle.std.proofs.lemmas.Bool.{and_parts, and_left, and_right, eqb-true}
 use Rattle.std.proofs.lemmas.Bool.Decides.{nat_tests}
@@ -21,13 +21,11 @@ use Rattle.wg_model.specs.Making.{known_group_layout, group_made, group_layout_m
 use Rattle.wg_model.specs.Bound.{has_entries, info_set, known_group, group_in, is_automatic, owner_of, layouts_in, layout_fits, layouts_fit, are_clear, layouts_places, bound_rules}
 use Rattle.wg_model.specs.Equality.{equivalent_for}
 use Rattle.wg_model.specs.Automatic.{entries_at, known_layouts, get_layout_rules}
-use Rattle.wg_model.specs.Settings.{Settings, pipeline_layouts, ready_rules}
-use Rattle.wg_model.specs.Owned.{IsOfOther}
+use Rattle.wg_model.specs.Settings.{pipeline_layouts, ready_rules}
 use Rattle.wg_model.proofs.Unmet.{all_met}
 use Rattle.wg_model.proofs.Owned.{others_do_not_run}
 use Rattle.wg_history.specs.Entries.{Setup, Event, CreateBindGroupLayout, CreateBindGroup, GetBindGroupLayout, effects_of, Entry, Past}
-use Rattle.wg_history.specs.Objects.{ObjRef, is_making, count, maker, made_info, known_in, info_at, is_own, is_valid, is_made_valid}
-use Rattle.wg_history.specs.Rules.{is_genuine}
+use Rattle.wg_history.specs.Objects.{ObjRef, is_making, count, maker, made_info, known_in, info_at, is_valid, is_made_valid}
 use Rattle.wg_history.specs.GroupRules.{named_rules, group_named, create_bind_group_rule, get_bind_group_layout_rule}
 use Rattle.wg_history.specs.Loss.{is_lost}
 use Rattle.wg_history.specs.FirstRules.{first_rule}

@@ -14,7 +14,7 @@ use Rattle.wg_model.specs.Rules.{Rule, first_unmet}
 use Rattle.wg_model.specs.Layouts.{group_layout_rules, pipeline_layout_rules}
 use Rattle.wg_model.specs.Automatic.{derived_rules, get_layout_rules}
 use Rattle.wg_model.specs.Groups.{group_rules}
-use Rattle.wg_model.specs.Pipelines.{compute_rules}
+use Rattle.wg_model.specs.Pipelines.{compute_pipeline_rules}
 use Rattle.wg_model.specs.RenderPipelines.{render_pipeline_rules}
 use Rattle.wg_types.specs.declared.render.RenderDesc.{RenderDesc}
 use Rattle.wg_model.specs.Making.{pipeline_layout_made, group_made, compute_made, render_made}
@@ -58,7 +58,7 @@ unfoldable pub create_compute_pipeline_rule : Setup → Past → Option ObjRef �
 create_compute_pipeline_rule setup past layout iface =
     first_unmet (named_rules setup past (maybe_wanted wanted.PipelineLayout layout)
     ++ (derived_rules setup.limits layout iface.entries
-    ++ compute_rules (compute_made (λ r. r) (known_in past) layout iface).layout_info.layouts_info iface.entries))
+    ++ compute_pipeline_rules (compute_made (λ r. r) (known_in past) layout iface).layout_info.layouts_info iface.entries))
 
 -- createRenderPipeline: likewise
 unfoldable pub create_render_pipeline_rule : Setup → Past → Option ObjRef → RenderDesc → Option ℕ

@@ -1,5 +1,5 @@
 -- Bind groups of the layouts of one pipeline do not serve another.
-use Rattle.std.proofs.Common.{◌≡◌, ℕ, zero, suc, ◌+◌, ◌==◌, Bool, true, false, not, ◌&&◌, ◌||◌, List, [], ◌∷◌, Option, Some, None, slice_get, slice_index_or, is_some, option_and_then, if◌then◌else◌, refl, ap, ap₂, sym, ◌∙◌, true≢false, arith, add-one}
+use Rattle.std.proofs.Common.{◌≡◌, ℕ, zero, suc, ◌+◌, ◌==◌, Bool, true, false, not, ◌||◌, List, [], ◌∷◌, Option, Some, None, slice_get, slice_index_or, is_some, option_and_then, if◌then◌else◌, refl, ap, ap₂, sym, ◌∙◌, true≢false, arith}
 use Rattle.std.proofs.lemmas.Bool.{and_left, and_right}
 use Rattle.std.specs.Option.{option_map_or}
 use Rattle.wg_types.specs.Handles.{HandleValue}
@@ -9,8 +9,8 @@ use Rattle.wg_types.specs.declared.commands.BoundGroup.{BoundGroup}
 use Rattle.wg_model.specs.Rules.{first_unmet}
 use Rattle.wg_model.specs.Equality.{equivalent, same_owner, equivalent_for}
 use Rattle.wg_model.specs.Bound.{has_entries, info_set, is_automatic, owner_of, layouts_in, layout_fits, layouts_fit, are_clear, layouts_places, bound_rules}
-use Rattle.wg_model.specs.Settings.{Settings, pipeline_layouts, owner_set, layouts_set, ready_rules}
-use Rattle.wg_model.specs.Owned.{IsOfOther, OthersAreRefused, OthersDoNotRun}
+use Rattle.wg_model.specs.Settings.{pipeline_layouts}
+use Rattle.wg_model.specs.Owned.{OthersAreRefused, OthersDoNotRun}
 
 layout_refused : (owner : Option ℕ) (other : ℕ) (layout : GroupLayoutInfo) (group : Option BoundGroup) (known : GroupInfo) → has_entries layout ≡ true → info_set group ≡ Some known → known.layout_info.exclusive ≡ Some other → same_owner owner (Some other) ≡ false → layout_fits owner layout group ≡ false
 layout_refused owner other layout group known asked set exclusive apart =

@@ -73,13 +73,13 @@ abbrev pub bundle_touch : BundleTouch → Touch
 bundle_touch touch = (touch.cells, bundle_how touch.used)
 
 -- all that a pass touches by executing a bundle, if it is one
-abbrev pub touches_within : Option BundleInfo → List Touch
-touches_within None = []
-touches_within (Some bundle) = map bundle_touch bundle.touches
+abbrev pub known_touches : Option BundleInfo → List Touch
+known_touches None = []
+known_touches (Some bundle) = map bundle_touch bundle.touches
 
 -- what bundles touch that are executed
 abbrev pub executed_touches : List HandleValue → List Touch
-executed_touches bundles = flat_map (λ bundle. touches_within (known_bundle bundle)) bundles
+executed_touches bundles = flat_map (λ bundle. known_touches (known_bundle bundle)) bundles
 
 -- What is known of the touches of a bundle: for each way of use those of that way, in printed form. A buffer that is used has a
 -- run without bytes, so that it counts as used also where none of them is accessed; of a texture a layer or slice that is used

@@ -39,5 +39,5 @@ abbrev pub offers : List GroupLayoutInfo → IfaceEntry → Bool
 offers layouts used = option_map_or (λ (layout : GroupLayoutInfo). option_map_or (serves used) (entry_of layout.entries used.binding) false) (slice_get layouts used.group) false
 
 -- rule 160 of createComputePipeline: the layout offers each entry of the interface
-abbrev pub compute_rules : List GroupLayoutInfo → List IfaceEntry → List Rule
-compute_rules layouts iface = (160, list_all (offers layouts) iface) ∷ []
+abbrev pub compute_pipeline_rules : List GroupLayoutInfo → List IfaceEntry → List Rule
+compute_pipeline_rules layouts iface = (160, list_all (offers layouts) iface) ∷ []

@@ -254,8 +254,8 @@ DeedsOf device None commands = encoder_deeds device (reverse commands)
 DeedsOf device (Some targets) commands = []
 
 -- What is known of the bundle that a recording makes: where some rule was unmet, not what it touches.
-abbrev pub touched_within : ℕ → TargetInfo → List Command → List BundleTouch
-touched_within device targets earlier = if is_none (bundle_verdict device targets earlier) then bundle_touches (bundle_set targets earlier).touches else []
+abbrev pub recorded_touches : ℕ → TargetInfo → List Command → List BundleTouch
+recorded_touches device targets earlier = if is_none (bundle_verdict device targets earlier) then bundle_touches (bundle_set targets earlier).touches else []
 
 -- the targets of nothing, as of a recording that comes after the first of a bundle encoder
 abbrev pub no_targets : TargetInfo
@@ -265,4 +265,4 @@ no_targets = record { colors = []; depth = None; samples = 1; depth_read_only = 
 abbrev pub bundle_of : ℕ → Option TargetInfo → List (On × Command) → BundleInfo
 bundle_of device None commands = record { targets = no_targets; named = references_within commands; touches = [] }
 bundle_of device (Some targets) commands =
-    record { targets = targets; named = references_within commands; touches = touched_within device targets (bundled commands) }
+    record { targets = targets; named = references_within commands; touches = recorded_touches device targets (bundled commands) }

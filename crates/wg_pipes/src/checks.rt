@@ -1,7 +1,7 @@
 //! The rules in their order.
 ghost use Rattle.std.specs.Prelude.{◌≡◌};
 ghost use Rattle.wg_model.specs.Rules.{first_unmet};
-ghost use Rattle.wg_model.specs.Pipelines.{compute_rules};
+ghost use Rattle.wg_model.specs.Pipelines.{compute_pipeline_rules};
 ghost use Rattle.wg_model.specs.RenderPipelines.{render_pipeline_rules};
 
 use crate::interface::offer_all;
@@ -15,7 +15,7 @@ use wg_vertex::check_layout;
 /// The number of the first unmet rule of createComputePipeline (WebGPU, "Compute Pipeline Creation"), of
 /// those that the layout and what the shader uses tell; none where the pipeline may be made.
 pub fn check_compute(layout: &PipelineLayoutInfo, iface: &[IfaceEntry]) -> Option<u16>
-    ensures { result ≡ first_unmet (compute_rules layout.now.layouts_info iface.now) }
+    ensures { result ≡ first_unmet (compute_pipeline_rules layout.now.layouts_info iface.now) }
 {
     if !offer_all(layout.layouts_info.as_slice(), iface) {
         return Some(160);

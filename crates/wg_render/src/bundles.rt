@@ -2,7 +2,7 @@
 ghost use Rattle.std.specs.Prelude.{◌≡◌, ◌++◌, true, map, OnOk};
 ghost use Rattle.std.specs.Option.{option_map_or};
 ghost use Rattle.wg_model.specs.Rules.{first_unmet};
-ghost use Rattle.wg_model.specs.Bundles.{known_bundle, bundle_touch, touches_within, executed_touches};
+ghost use Rattle.wg_model.specs.Bundles.{known_bundle, bundle_touch, known_touches, executed_touches};
 ghost use Rattle.wg_model.specs.Render.{bundle_fits, bundle_spares, all_bundles, execute_rules};
 
 use crate::pipelines::{same_target, same_targets};
@@ -97,7 +97,7 @@ fn push_within(touches: &mut Touches, within: &[BundleTouch]) -> Result<(), NoMe
 }
 
 fn push_bundle(touches: &mut Touches, bundle: &Handle) -> Result<(), NoMemory>
-    ensures { OnOk result (touches.new ≡ touches.old ++ touches_within (known_bundle bundle.now)) }
+    ensures { OnOk result (touches.new ≡ touches.old ++ known_touches (known_bundle bundle.now)) }
 {
     match known_bundle(bundle) {
         Some(known) => return push_within(touches, known.touches.as_slice()),
