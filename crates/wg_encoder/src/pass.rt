@@ -1,5 +1,5 @@
 //! One pass: its state, in place of a walk over its commands.
-ghost use Rattle.std.specs.Prelude.{◌≡◌, ◌∷◌, [], ℕ, List, true, IfOk, OnErr};
+ghost use Rattle.std.specs.Prelude.{◌≡◌, [], List, true, IfOk, OnErr};
 ghost use Rattle.wg_types.specs.Commands.{Command, is_begin};
 ghost use Rattle.wg_model.specs.Walk.{compute_rule, render_rule};
 ghost use Rattle.wg_encoder.specs.Walked.{IsStateOf, IsTaken};
