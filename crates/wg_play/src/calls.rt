@@ -2,7 +2,7 @@
 ghost use Rattle.std.specs.Prelude.{◌≡◌, IfOk, OnOk, OnErr};
 ghost use Rattle.wg_encoder.specs.Recorders.{noted};
 ghost use Rattle.wg_play.specs.Lanes.{command_seen, noted_on, request_seen};
-ghost use Rattle.wg_play.specs.Objects.{ended_by, is_late_on};
+ghost use Rattle.wg_play.specs.Objects.{is_late_on};
 ghost use Rattle.wg_play.specs.Sights.{SeesSame, sight_of, handle_in_sight};
 
 use crate::objects::{Object, Stand, begun_by, record_on};
@@ -50,16 +50,6 @@ pub fn request_of(
     ensures { IfOk result (λ found. found ≡ request_seen (sight_of seen.now) request.now) }
 {
     request.map(alloc, &Handles { alloc, seen })
-}
-
-/// The slot of the encoder that a call of the device ends, if it ends one.
-pub fn ended_by(request: &RequestOf<u32>) -> Option<u32>
-    ensures { result ≡ ended_by request.now }
-{
-    match request {
-        RequestOf::Finish { encoder } | RequestOf::FinishBundle { encoder } => Some(*encoder),
-        _ => None,
-    }
 }
 
 /// Records a command where it stands, and makes the pass that it begins, late or not. The room for a pass is

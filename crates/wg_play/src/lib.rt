@@ -7,7 +7,7 @@ mod laws;
 mod objects;
 mod seen;
 
-pub use calls::{command_of, ended_by, note_command, request_of};
+pub use calls::{command_of, note_command, request_of};
 pub use laws::{
     bound_calls, genuine_handles, lanes_through, late_calls, played_scripts, presented_textures,
 };

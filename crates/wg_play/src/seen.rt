@@ -1,5 +1,5 @@
 //! What a lane of a script sees of the objects, by their slots.
-ghost use Rattle.std.specs.Prelude.{◌≡◌, true, false, Some, None, IfOk, OnOk, OnErr, [], ◌∷◌};
+ghost use Rattle.std.specs.Prelude.{◌≡◌, Some, None, IfOk, OnOk, OnErr, [], ◌∷◌};
 ghost use Rattle.std.specs.Option.{is_some};
 ghost use Rattle.wg_names.specs.Uses.{made_of};
 ghost use Rattle.wg_play.specs.Lanes.{count_made, with_handle};

@@ -9,13 +9,13 @@ ghost use Rattle.wg_play.specs.Sights.{SeesSame, sight_of};
 ghost use Rattle.wg_player.specs.Moves.{HasAskedBy, HasPlayedBy};
 
 use crate::canvas::play_canvas;
-use std::alloc::Global;
 use std::sync::Wait;
+use wg_calls::ended_by;
 use wg_device::{Device, DevicePass};
 use wg_encoder::{Noted, Recorder};
 use wg_entry::NoMemory;
 use wg_play::{
-    Object, Seen, command_of, ended_by, note_command, reference_at, request_of, stand_at,
+    Object, Seen, command_of, note_command, reference_at, request_of, stand_at,
 };
 use wg_script::BoundCall;
 use wg_types::commands::CommandOf;
