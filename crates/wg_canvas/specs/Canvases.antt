@@ -44,15 +44,6 @@ texture_at (Filled setting texture) = Some texture
 abbrev pub texture_of : CanvasValue → Option HandleValue
 texture_of canvas = texture_at canvas.stage
 
--- what it was configured with, if it was
-abbrev pub setting_at : Stage → Option Setting
-setting_at Unset = None
-setting_at (Empty setting) = Some setting
-setting_at (Filled setting texture) = Some setting
-
-abbrev pub setting_of : CanvasValue → Option Setting
-setting_of canvas = setting_at canvas.stage
-
 -- what a texture of a canvas with this setting is made with: 2D, with the canvas's extent, one mip level and one sample
 abbrev pub info_of : CanvasValue → Setting → TextureInfo
 info_of canvas setting = record { size = canvas.width ∷ (canvas.height ∷ (1 ∷ [])); usage = setting.usage; format = format_of setting.format; dim = Two; mips = 1; samples = 1 }
