@@ -1,6 +1,6 @@
 -- The report of a script's history is read as its trace, whose verdict is None.
 use Rattle.std.proofs.Common.{◌≡◌, ℕ, List, Some, None, Ok, Err, refl, sym, ◌∙◌, subst, arith}
-use Rattle.wg_types.specs.declared.steps.Item.{Item}
+use Rattle.wg_trace.specs.declared.steps.Item.{Item}
 use Rattle.wg_io.specs.Exchange.{Taking}
 use Rattle.wg_check.specs.Verdict.{IsVerdict}
 use Rattle.wg_checker.specs.declared.checking.Checked.{Checked}

@@ -5,7 +5,7 @@ use wg_cbtrack::{CbTrack, Plan};
 use wg_init::CellState;
 use wg_types::NoMemory;
 use wg_types::items::Items;
-use wg_types::parts::{Cells, Kind, PartRun};
+use wg_types::parts::{AccessKind, Cells, PartRun};
 use wg_types::steps::{Deed, Item, StepName, StepPlace};
 use wg_types::usages::Usages;
 
@@ -32,7 +32,7 @@ fn deed(
     alloc: Global,
     name: StepName,
     uses: &[(PartRun, Usages)],
-    accesses: &[(Cells, Kind)],
+    accesses: &[(Cells, AccessKind)],
 ) -> Result<Deed, NoMemory> {
     Ok(Deed {
         name,
@@ -45,12 +45,12 @@ fn deed(
 fn noted(alloc: Global) -> Result<CbTrack, NoMemory> {
     let mut track = CbTrack::new(alloc);
     let stored = [(buffer(0), Usages::STORAGE)];
-    let both = [(bytes(0, 0, 16), Kind::Both)];
+    let both = [(bytes(0, 0, 16), AccessKind::Both)];
     track.note(&deed(alloc, StepName::Dispatch, &stored, &both)?)?;
     let copied = [(buffer(0), Usages::COPY_SRC), (buffer(1), Usages::COPY_DST)];
     let cells = [
-        (bytes(0, 0, 16), Kind::Read),
-        (bytes(1, 0, 16), Kind::Write),
+        (bytes(0, 0, 16), AccessKind::Read),
+        (bytes(1, 0, 16), AccessKind::Write),
     ];
     track.note(&deed(alloc, StepName::CopyBufferToBuffer, &copied, &cells)?)?;
     Ok(track)

@@ -2,13 +2,13 @@ use std::alloc::Global;
 use wg_init::{CellRow, CellState};
 use wg_types::NoMemory;
 use wg_types::items::Items;
-use wg_types::parts::{Cells, Kind};
+use wg_types::parts::{AccessKind, Cells};
 use wg_types::steps::{Step, StepName, StepPlace};
 
 const BUFFER: u64 = 2;
 
 /// A step that accesses bytes of the buffer.
-fn step(alloc: Global, lo: u64, hi: u64, kind: Kind) -> Result<Step, NoMemory> {
+fn step(alloc: Global, lo: u64, hi: u64, kind: AccessKind) -> Result<Step, NoMemory> {
     let mut accesses = Items::new(alloc);
     accesses.push((bytes(lo, hi), kind))?;
     Ok(Step {
@@ -32,7 +32,7 @@ fn note(
     state: &mut CellState,
     alloc: Global,
     (lo, hi): (u64, u64),
-    kind: Kind,
+    kind: AccessKind,
 ) -> Result<(), NoMemory> {
     let step = step(alloc, lo, hi, kind)?;
     state.note(&step)
@@ -40,7 +40,7 @@ fn note(
 
 /// Whether a read of the first 8 bytes finds that these were not written.
 fn lacks(state: &CellState, alloc: Global, cells: &[Cells]) -> Result<bool, NoMemory> {
-    let step = step(alloc, 0, 8, Kind::Read)?;
+    let step = step(alloc, 0, 8, AccessKind::Read)?;
     let unset = state.unset(&step)?;
     Ok(unset.as_slice() == cells)
 }
@@ -53,7 +53,7 @@ fn has(state: &CellState, row: CellRow, runs: &[(u64, u64)]) -> bool {
 /// A state in which the first 4 bytes were written.
 fn begun(alloc: Global) -> Result<CellState, NoMemory> {
     let mut state = CellState::new(alloc);
-    note(&mut state, alloc, (0, 4), Kind::Write)?;
+    note(&mut state, alloc, (0, 4), AccessKind::Write)?;
     Ok(state)
 }
 
@@ -61,8 +61,8 @@ fn begun(alloc: Global) -> Result<CellState, NoMemory> {
 fn of_state(alloc: Global) -> Result<([Result<bool, NoMemory>; 4], [bool; 3]), NoMemory> {
     let mut state = begun(alloc)?;
     let before = lacks(&state, alloc, &[bytes(4, 8)]);
-    let noted = note(&mut state, alloc, (8, 12), Kind::Write).is_ok();
-    let both = note(&mut state, alloc, (4, 8), Kind::Both).is_ok();
+    let noted = note(&mut state, alloc, (8, 12), AccessKind::Write).is_ok();
+    let both = note(&mut state, alloc, (4, 8), AccessKind::Both).is_ok();
     let found = [before, Ok(noted), Ok(both), lacks(&state, alloc, &[])];
     let rows = [
         has(&state, CellRow::Buffer(BUFFER), &[(0, 12)]),
@@ -81,7 +81,7 @@ fn a_read_finds_what_was_not_written(rt: HostRuntime) {
 fn of_copy(alloc: Global) -> Result<(bool, Result<bool, NoMemory>, bool), NoMemory> {
     let mut state = begun(alloc)?;
     let other = state.copy()?;
-    let noted = note(&mut state, alloc, (4, 12), Kind::Write).is_ok();
+    let noted = note(&mut state, alloc, (4, 12), AccessKind::Write).is_ok();
     let row = has(&other, CellRow::Buffer(BUFFER), &[(0, 4)]);
     Ok((noted, lacks(&other, alloc, &[bytes(4, 8)]), row))
 }

@@ -4,7 +4,7 @@ use wg_rows::accesses::printed_accesses;
 use wg_rows::rows::{cut, gaps, inside, overwrite, printed, put};
 use wg_rows::uses::sets;
 use wg_types::NoMemory;
-use wg_types::parts::{Aspect, Cells, Kind, PartRun};
+use wg_types::parts::{AccessKind, Aspect, Cells, PartRun};
 use wg_types::usages::Usages;
 
 fn layers(lo: u32, hi: u32) -> PartRun {
@@ -69,8 +69,8 @@ fn rows_are_joined_and_cut(rt: HostRuntime) {
     assert!(rt; (joined, cut) == ([true; 3], [true; 4]));
 }
 
-fn read(object: u64, lo: u64, hi: u64) -> (Cells, Kind) {
-    (Cells::Bytes { object, lo, hi }, Kind::Read)
+fn read(object: u64, lo: u64, hi: u64) -> (Cells, AccessKind) {
+    (Cells::Bytes { object, lo, hi }, AccessKind::Read)
 }
 
 /// Whether the two halves of each of 20 buffers, in disorder, are joined and in order.

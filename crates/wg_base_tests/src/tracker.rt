@@ -3,7 +3,7 @@ use std::alloc::Global;
 use wg_cbtrack::Tracker;
 use wg_types::NoMemory;
 use wg_types::items::Items;
-use wg_types::parts::{Cells, Kind, PartRun};
+use wg_types::parts::{AccessKind, Cells, PartRun};
 use wg_types::steps::{Item, Step, StepName, StepPlace};
 use wg_types::usages::Usages;
 
@@ -32,7 +32,7 @@ fn added(
     alloc: Global,
     name: StepName,
     uses: &[(PartRun, Usages)],
-    accesses: &[(Cells, Kind)],
+    accesses: &[(Cells, AccessKind)],
 ) -> Result<Vec<Item>, NoMemory> {
     let uses = items(alloc, uses)?;
     let accesses = items(alloc, accesses)?;
@@ -60,7 +60,7 @@ fn is_step(
     item: &Item,
     name: StepName,
     uses: &[(PartRun, Usages)],
-    accesses: &[(Cells, Kind)],
+    accesses: &[(Cells, AccessKind)],
 ) -> bool {
     match item {
         Item::Step(step) => {
@@ -76,7 +76,7 @@ fn is_step(
 /// A write of the first bytes of buffer 0: whether only it is added.
 fn written(tracker: &mut Tracker, alloc: Global) -> Result<bool, NoMemory> {
     let uses = [(buffer(0), Usages::COPY_DST)];
-    let accesses = [(bytes(0, 0, 4), Kind::Write)];
+    let accesses = [(bytes(0, 0, 4), AccessKind::Write)];
     let items = added(tracker, alloc, StepName::WriteBuffer, &uses, &accesses)?;
     Ok(match items.as_slice() {
         [only] => is_step(only, StepName::WriteBuffer, &uses, &accesses),
@@ -88,8 +88,8 @@ fn written(tracker: &mut Tracker, alloc: Global) -> Result<bool, NoMemory> {
 fn copied(tracker: &mut Tracker, alloc: Global) -> Result<[bool; 4], NoMemory> {
     let uses = [(buffer(0), Usages::COPY_SRC), (buffer(1), Usages::COPY_DST)];
     let accesses = [
-        (bytes(0, 0, 16), Kind::Read),
-        (bytes(1, 0, 16), Kind::Write),
+        (bytes(0, 0, 16), AccessKind::Read),
+        (bytes(1, 0, 16), AccessKind::Write),
     ];
     let items = added(
         tracker,
@@ -99,7 +99,7 @@ fn copied(tracker: &mut Tracker, alloc: Global) -> Result<[bool; 4], NoMemory> {
         &accesses,
     )?;
     let cleared = [(buffer(0), Usages::CLEAR)];
-    let rest = [(bytes(0, 4, 16), Kind::Write)];
+    let rest = [(bytes(0, 4, 16), AccessKind::Write)];
     Ok(match items.as_slice() {
         [to_clear, clear, to_copy, copy] => [
             is_bar(to_clear, (buffer(0), Some(Usages::COPY_DST), Usages::CLEAR)),

@@ -3,7 +3,7 @@ use Rattle.std.proofs.Common.{◌≡◌, ℕ, ◌+◌, ◌<◌, ◌≤◌, List,
 use Rattle.std.specs.Prelude.{MatchBool}
 use Rattle.wg_types.specs.declared.commands.CommandOf.{CommandOf}
 use Rattle.wg_types.specs.declared.commands.On.{On}
-use Rattle.wg_types.specs.declared.replies.Reply.{Reply}
+use Rattle.wg_trace.specs.declared.replies.Reply.{Reply}
 use Rattle.wg_types.specs.declared.requests.RequestOf.{RequestOf}
 use Rattle.wg_types.specs.Commands.{map_refs as map_command}
 use Rattle.wg_orders.specs.Trace.{Item}

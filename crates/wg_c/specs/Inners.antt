@@ -3,8 +3,8 @@ use Rattle.std.specs.Prelude.{◌≡◌, ℕ, zero, suc, ◌+◌, ◌≤◌, ◌
 use Rattle.wg_types.specs.declared.commands.CommandOf.{CommandOf}
 use Rattle.wg_types.specs.declared.commands.On.{On}
 use Rattle.wg_types.specs.declared.limits.Limits.{Limits}
-use Rattle.wg_types.specs.declared.replies.Reply.{Reply}
-use Rattle.wg_types.specs.declared.replies.Settlement.{Settlement}
+use Rattle.wg_trace.specs.declared.replies.Reply.{Reply}
+use Rattle.wg_trace.specs.declared.replies.Settlement.{Settlement}
 use Rattle.wg_types.specs.declared.requests.RequestOf.{RequestOf}
 use Rattle.wg_types.specs.Commands.{is_begin, map_refs as map_command}
 use Rattle.wg_orders.specs.Trace.{Item}
@@ -80,11 +80,13 @@ pass_begun old encoder command = if is_begin command then passes_at old.desk.sea
 abbrev pub late_event : InnerValue → ℕ → Event
 late_event old encoder = Late (found_at old.desk.seats encoder).reference
 
+-- A late command was told as its event, and changed no seat.
 pub record HasComeLate (old new : InnerValue) (who encoder : ℕ) (command : CommandOf ℕ) (out : ToldReply) : Type 0 where
   pub done : HasDone old new who (late_event old encoder)
   pub seats : new.desk.seats ≡ old.desk.seats
   pub out_is : out ≡ reply_told (answer_to old (late_event old encoder)) (length old.desk.history) (pass_begun old encoder command)
 
+-- A command was kept by its recorder, and nothing else changed.
 pub record HasKept (old new : InnerValue) (encoder : ℕ) (on : On) (command : CommandOf ℕ) (out : ToldReply) : Type 0 where
   pub setup : new.desk.setup ≡ old.desk.setup
   pub history : new.desk.history ≡ old.desk.history
@@ -110,7 +112,7 @@ abbrev pub last_of : List Item → ℕ → Option Item
 last_of items zero = None
 last_of items (suc n) = slice_get items n
 
--- the next settlement was told
+-- The next settlement was told, and nothing else changed.
 pub record HasToldNext (old new : InnerValue) (out : ToldSettlement) : Type 0 where
   pub desk : new.desk ≡ old.desk
   pub items : new.items ≡ old.items

@@ -17,7 +17,7 @@ use wg_told::{
 };
 use wg_types::commands::{CommandOf, On};
 use wg_types::limits::Limits;
-use wg_types::parts::{Cells, Kind, PartRun};
+use wg_types::parts::{AccessKind, Cells, PartRun};
 use wg_types::requests::RequestOf;
 use wg_types::steps::Item;
 use wg_types::usages::Usages;
@@ -61,7 +61,7 @@ fn use_in(uses: &[(PartRun, Usages)], at: usize) -> Option<ToldUse>
 }
 
 /// An access of a list, as it is told.
-fn access_in(accesses: &[(Cells, Kind)], at: usize) -> Option<ToldAccess>
+fn access_in(accesses: &[(Cells, AccessKind)], at: usize) -> Option<ToldAccess>
     ensures { result ≡ option_map access_told (slice_get accesses.now at) }
 {
     let (cells, kind) = accesses.get(at)?;

@@ -1,7 +1,7 @@
 -- The first and the last sets of parts after one more step.
 use Rattle.std.proofs.Common.{◌≡◌, List, [], ◌∷◌, ◌++◌, length, Option, Some, None, refl, ap, ap₂, sym, ◌∙◌, subst}
 use Rattle.std.specs.Option.{option_or, option_and_then, option_map_or}
-use Rattle.wg_types.specs.declared.steps.Deed.{Deed}
+use Rattle.wg_trace.specs.declared.steps.Deed.{Deed}
 use Rattle.wg_rows.specs.Rows.{Spot, Apart}
 use Rattle.wg_rows.specs.Cut.{value_at, put_all}
 use Rattle.wg_rows.specs.Runs.{Part, part_sort, part_spot}

@@ -3,7 +3,7 @@ ghost use Rattle.std.specs.Prelude.{◌≡◌, List, [], IfOk, OnOk, IsTrue, map
 ghost use Rattle.wg_rows.specs.Cut.{choose, put_all};
 ghost use Rattle.wg_rows.specs.Rows.{Apart};
 ghost use Rattle.wg_rows.specs.Runs.{cell_sort};
-ghost use Rattle.wg_rows.specs.Uses.{Kind, Read, same_kind};
+ghost use Rattle.wg_rows.specs.Uses.{AccessKind, Read, same_kind};
 ghost use Rattle.wg_cbtrack.specs.Leaves.{
   left_kind,
   left_after,
@@ -21,33 +21,33 @@ use std::alloc::Global;
 use wg_entry::NoMemory;
 use wg_rows::cell_runs::{cell_hi, cell_lo, reads, unsets, writes};
 use wg_rows::rows::{are_apart, put_all};
-use wg_types::parts::{Cells, Kind};
+use wg_trace::parts::{AccessKind, Cells};
 
 /// The cells that a clear inside sets, those that are wanted from before all steps, and what is left of
 /// those that are written.
 #[derive(Drop)]
 pub struct CellsAfter {
-    pub clear: Vec<(Cells, Kind)>,
-    pub wants: Vec<(Cells, Kind)>,
-    pub leaves: Vec<(Cells, Kind)>,
+    pub clear: Vec<(Cells, AccessKind)>,
+    pub wants: Vec<(Cells, AccessKind)>,
+    pub leaves: Vec<(Cells, AccessKind)>,
 }
 
 /// What is left of a cell that an access writes.
-fn left_kind(kind: Kind) -> Kind
+fn left_kind(kind: AccessKind) -> AccessKind
     ensures { result ≡ left_kind kind }
 {
     if unsets(kind) {
-        return Kind::Drop;
+        return AccessKind::Drop;
     }
-    Kind::Write
+    AccessKind::Write
 }
 
 /// What is left after accesses.
 fn left_after(
     alloc: Global,
-    leaves: Vec<(Cells, Kind)>,
-    accesses: &[(Cells, Kind)],
-) -> Result<Vec<(Cells, Kind)>, NoMemory>
+    leaves: Vec<(Cells, AccessKind)>,
+    accesses: &[(Cells, AccessKind)],
+) -> Result<Vec<(Cells, AccessKind)>, NoMemory>
     ensures { IfOk result (λ v. v.items ≡ left_after accesses.now leaves.items) }
 {
     let mut out = leaves;
@@ -60,13 +60,16 @@ fn left_after(
 }
 
 /// The rows of what is left unset, as they are cleared.
-fn cleared(alloc: Global, rows: &[(Cells, Kind)]) -> Result<Vec<(Cells, Kind)>, NoMemory>
+fn cleared(
+    alloc: Global,
+    rows: &[(Cells, AccessKind)],
+) -> Result<Vec<(Cells, AccessKind)>, NoMemory>
     ensures { IfOk result (λ v. v.items ≡ choose cleared_kind rows.now) }
 {
     let mut out = Vec::new(alloc);
     for row in rows {
         if unsets(row.1) {
-            out.push((row.0, Kind::Write))?;
+            out.push((row.0, AccessKind::Write))?;
         }
     }
     Ok(out)
@@ -75,10 +78,10 @@ fn cleared(alloc: Global, rows: &[(Cells, Kind)]) -> Result<Vec<(Cells, Kind)>, 
 /// What of a run is left unset, as it is cleared.
 fn unset_pieces(
     alloc: Global,
-    leaves: &[(Cells, Kind)],
+    leaves: &[(Cells, AccessKind)],
     are_printed: bool,
     run: Cells,
-) -> Result<Vec<(Cells, Kind)>, NoMemory>
+) -> Result<Vec<(Cells, AccessKind)>, NoMemory>
     requires { IsTrue are_printed → Apart cell_sort leaves.now }
     ensures { IfOk result (λ v. v.items ≡ unset_pieces leaves.now run) }
 {
@@ -90,13 +93,13 @@ fn unset_pieces(
 /// printed form.
 #[tactic(auto, using(wg_rows::proofs::Chained::put_all_more))]
 fn push_unset(
-    found: &mut Vec<(Cells, Kind)>,
-    leaves: &[(Cells, Kind)],
+    found: &mut Vec<(Cells, AccessKind)>,
+    leaves: &[(Cells, AccessKind)],
     are_printed: bool,
     run: Cells,
 ) -> Result<(), NoMemory>
     requires { IsTrue are_printed → Apart cell_sort leaves.now }
-    ensures { OnOk result ((rows : List (Cells × Kind)) → put_all cell_sort same_kind found.new.items rows
+    ensures { OnOk result ((rows : List (Cells × AccessKind)) → put_all cell_sort same_kind found.new.items rows
         ≡ put_all cell_sort same_kind (unset_pieces leaves.now run) (put_all cell_sort same_kind found.old.items rows)) }
 {
     let more = unset_pieces(*found.allocator(), leaves, are_printed, run)?;
@@ -108,9 +111,9 @@ fn push_unset(
 #[tactic(auto, using(crate::proofs::OfRuns::cells_printed))]
 fn clear_of(
     alloc: Global,
-    leaves: &[(Cells, Kind)],
-    accesses: &[(Cells, Kind)],
-) -> Result<Vec<(Cells, Kind)>, NoMemory>
+    leaves: &[(Cells, AccessKind)],
+    accesses: &[(Cells, AccessKind)],
+) -> Result<Vec<(Cells, AccessKind)>, NoMemory>
     ensures { IfOk result (λ v. v.items ≡ with_pieces (unset_pieces leaves.now) accesses.now []) }
 {
     let are_printed = are_apart(leaves);
@@ -130,17 +133,17 @@ fn clear_of(
 /// form.
 #[tactic(auto, using(wg_rows::proofs::Chained::put_all_more))]
 fn push_unwritten(
-    found: &mut Vec<(Cells, Kind)>,
-    leaves: &[(Cells, Kind)],
+    found: &mut Vec<(Cells, AccessKind)>,
+    leaves: &[(Cells, AccessKind)],
     are_printed: bool,
     run: Cells,
 ) -> Result<(), NoMemory>
     requires { IsTrue are_printed → Apart cell_sort leaves.now }
-    ensures { OnOk result ((rows : List (Cells × Kind)) → put_all cell_sort same_kind found.new.items rows
+    ensures { OnOk result ((rows : List (Cells × AccessKind)) → put_all cell_sort same_kind found.new.items rows
         ≡ put_all cell_sort same_kind (unwritten_pieces leaves.now run) (put_all cell_sort same_kind found.old.items rows)) }
 {
     let rows = about_cells(leaves, are_printed, run);
-    let more = gaps(*found.allocator(), (run, Kind::Read), rows)?;
+    let more = gaps(*found.allocator(), (run, AccessKind::Read), rows)?;
     found.extend_from_slice(more.as_slice())?;
     Ok(())
 }
@@ -149,10 +152,10 @@ fn push_unwritten(
 #[tactic(auto, using(crate::proofs::OfRuns::cells_printed))]
 fn wanted_after(
     alloc: Global,
-    wants: Vec<(Cells, Kind)>,
-    leaves: &[(Cells, Kind)],
-    accesses: &[(Cells, Kind)],
-) -> Result<Vec<(Cells, Kind)>, NoMemory>
+    wants: Vec<(Cells, AccessKind)>,
+    leaves: &[(Cells, AccessKind)],
+    accesses: &[(Cells, AccessKind)],
+) -> Result<Vec<(Cells, AccessKind)>, NoMemory>
     ensures { IfOk result (λ v. v.items ≡ with_pieces (unwritten_pieces leaves.now) accesses.now wants.items) }
 {
     let are_printed = are_apart(leaves);
@@ -171,9 +174,9 @@ fn wanted_after(
 /// The cells of one more step that accesses these.
 pub fn cells_after(
     alloc: Global,
-    wants: &[(Cells, Kind)],
-    leaves: &[(Cells, Kind)],
-    accesses: &[(Cells, Kind)],
+    wants: &[(Cells, AccessKind)],
+    leaves: &[(Cells, AccessKind)],
+    accesses: &[(Cells, AccessKind)],
 ) -> Result<CellsAfter, NoMemory>
     ensures { IfOk result (λ r. AreTidy wants.now leaves.now →
         AreCells wants.now leaves.now accesses.now r.clear.items r.wants.items r.leaves.items) }

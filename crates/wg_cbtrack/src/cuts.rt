@@ -9,7 +9,7 @@ use std::alloc::Global;
 use wg_entry::NoMemory;
 use wg_rows::cell_runs::{cell_hi, cell_lo};
 use wg_rows::rows::{Run, put};
-use wg_types::parts::{Cells, Kind};
+use wg_trace::parts::{AccessKind, Cells};
 
 /// A run of the same line with other ends, neither of which is past both of its own.
 fn widened(run: Cells, from: u64, to: u64) -> Cells
@@ -90,7 +90,11 @@ fn inner(run: Cells, other: Cells) -> Option<Cells>
 }
 
 /// Adds a row at the end, if there is one.
-fn push_some(out: &mut Vec<(Cells, Kind)>, run: Option<Cells>, kind: Kind) -> Result<(), NoMemory>
+fn push_some(
+    out: &mut Vec<(Cells, AccessKind)>,
+    run: Option<Cells>,
+    kind: AccessKind,
+) -> Result<(), NoMemory>
     ensures { OnOk result (out.new.items ≡ out.old.items ++ some_row run kind) }
 {
     match run {
@@ -103,7 +107,11 @@ fn push_some(out: &mut Vec<(Cells, Kind)>, run: Option<Cells>, kind: Kind) -> Re
 }
 
 /// Adds at the end what is left of a row without a run.
-fn push_cut(out: &mut Vec<(Cells, Kind)>, run: Cells, row: (Cells, Kind)) -> Result<(), NoMemory>
+fn push_cut(
+    out: &mut Vec<(Cells, AccessKind)>,
+    run: Cells,
+    row: (Cells, AccessKind),
+) -> Result<(), NoMemory>
     ensures { OnOk result (out.new.items ≡ out.old.items ++ cut_row cell_sort run row) }
 {
     if !run.same_line(&row.0) {
@@ -115,7 +123,11 @@ fn push_cut(out: &mut Vec<(Cells, Kind)>, run: Cells, row: (Cells, Kind)) -> Res
 }
 
 /// Rows without a run.
-fn cut(alloc: Global, rows: &[(Cells, Kind)], run: Cells) -> Result<Vec<(Cells, Kind)>, NoMemory>
+fn cut(
+    alloc: Global,
+    rows: &[(Cells, AccessKind)],
+    run: Cells,
+) -> Result<Vec<(Cells, AccessKind)>, NoMemory>
     ensures { IfOk result (λ v. v.items ≡ cut cell_sort run rows.now) }
 {
     let mut out = Vec::with_capacity(alloc, rows.len())?;
@@ -126,7 +138,11 @@ fn cut(alloc: Global, rows: &[(Cells, Kind)], run: Cells) -> Result<Vec<(Cells, 
 }
 
 /// Adds at the end what a row has in a run.
-fn push_inside(out: &mut Vec<(Cells, Kind)>, run: Cells, row: (Cells, Kind)) -> Result<(), NoMemory>
+fn push_inside(
+    out: &mut Vec<(Cells, AccessKind)>,
+    run: Cells,
+    row: (Cells, AccessKind),
+) -> Result<(), NoMemory>
     ensures { OnOk result (out.new.items ≡ out.old.items ++ inside_row cell_sort run row) }
 {
     push_some(out, inner(row.0, run), row.1)
@@ -135,9 +151,9 @@ fn push_inside(out: &mut Vec<(Cells, Kind)>, run: Cells, row: (Cells, Kind)) -> 
 /// What rows have in a run.
 pub fn inside(
     alloc: Global,
-    rows: &[(Cells, Kind)],
+    rows: &[(Cells, AccessKind)],
     run: Cells,
-) -> Result<Vec<(Cells, Kind)>, NoMemory>
+) -> Result<Vec<(Cells, AccessKind)>, NoMemory>
     ensures { IfOk result (λ v. v.items ≡ inside cell_sort run rows.now) }
 {
     let mut out = Vec::new(alloc);
@@ -150,9 +166,9 @@ pub fn inside(
 /// What is left of a row where other rows are.
 pub fn gaps(
     alloc: Global,
-    row: (Cells, Kind),
-    rows: &[(Cells, Kind)],
-) -> Result<Vec<(Cells, Kind)>, NoMemory>
+    row: (Cells, AccessKind),
+    rows: &[(Cells, AccessKind)],
+) -> Result<Vec<(Cells, AccessKind)>, NoMemory>
     ensures { IfOk result (λ v. v.items ≡ gaps cell_sort (row ∷ []) rows.now) }
 {
     let mut left = Vec::new(alloc);
@@ -166,9 +182,9 @@ pub fn gaps(
 /// Rows with another value in a run.
 pub fn overwrite(
     alloc: Global,
-    rows: &[(Cells, Kind)],
-    row: (Cells, Kind),
-) -> Result<Vec<(Cells, Kind)>, NoMemory>
+    rows: &[(Cells, AccessKind)],
+    row: (Cells, AccessKind),
+) -> Result<Vec<(Cells, AccessKind)>, NoMemory>
     ensures { IfOk result (λ v. v.items ≡ overwrite cell_sort same_kind row rows.now) }
 {
     let rest = cut(alloc, rows, row.0)?;

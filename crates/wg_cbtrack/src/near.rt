@@ -10,8 +10,8 @@ use crate::kept::Rows;
 use crate::owners::{Owned, exchange, rows_among};
 use std::alloc::Global;
 use wg_entry::NoMemory;
-use wg_types::parts::{Cells, Kind, PartRun};
-use wg_types::usages::Usages;
+use wg_trace::parts::{AccessKind, Cells, PartRun};
+use wg_trace::usages::Usages;
 
 /// The object of a run of parts.
 pub fn part_object(run: PartRun) -> u64
@@ -44,7 +44,7 @@ impl Owned for (PartRun, Usages) {
     }
 }
 
-impl Owned for (Cells, Kind) {
+impl Owned for (Cells, AccessKind) {
     ghost object = { access_object };
 
     fn object(&self) -> u64 {

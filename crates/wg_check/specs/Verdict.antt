@@ -26,6 +26,7 @@ pub record IsLeastClash (trace : List Item) (clash : Clash) : Type 0 where
   pub differs : Differs trace clash.reader at clash.writer
   pub least : (reader : Option ℕ) (c : Cell) (writer : ℕ) → Differs trace reader c writer → IsAtMost clash.reader at clash.writer reader c writer
 
+-- A verdict is none where no writer differs at any reader and cell, and else the least clash.
 abbrev pub IsVerdict : List Item → Option Clash → Type 0
 IsVerdict trace None = (reader : Option ℕ) (c : Cell) (writer : ℕ) → Differs trace reader c writer → ⊥
 IsVerdict trace (Some clash) = IsLeastClash trace clash
@@ -62,6 +63,7 @@ pub record IsLeastSpotted (trace : List Item) (key : Cell → Key) (ends : List 
   pub differs : (c : Cell) → rank ends (key c) ≡ s.segment → Differs trace s.reader c s.writer
   pub first : (c : Cell) (reader : Option ℕ) (j : ℕ) → Differs trace reader c j → IsFirst s reader (rank ends (key c)) j
 
+-- What is spotted in segments tells of all cells: none where no writer differs, and else the least.
 abbrev pub SegmentsTell : List Item → (Cell → Key) → List Key → Option Spotted → Type 0
 SegmentsTell trace key ends None = (c : Cell) (reader : Option ℕ) (j : ℕ) → Differs trace reader c j → ⊥
 SegmentsTell trace key ends (Some s) = IsLeastSpotted trace key ends s

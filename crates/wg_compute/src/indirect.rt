@@ -6,7 +6,7 @@ ghost use Rattle.wg_model.specs.Settings.{indirect_rules, indirect_touch};
 use wg_formats::buffer_of;
 use wg_types::NoMemory;
 use wg_types::handles::Handle;
-use wg_types::parts::{Cells, Kind};
+use wg_types::parts::{AccessKind, Cells};
 use wg_types::steps::Touch;
 use wg_types::usages::Usages;
 
@@ -43,7 +43,7 @@ pub fn indirect_touch(buffer: &Handle, offset: u64, bytes: u64) -> Result<Touch,
                 lo: offset,
                 hi,
             };
-            return Ok((cells, (Usages::INPUT, Kind::Read)));
+            return Ok((cells, (Usages::INPUT, AccessKind::Read)));
         }
         None => return Err(NoMemory),
     }

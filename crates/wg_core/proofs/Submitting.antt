@@ -10,7 +10,7 @@ use Rattle.wg_history.specs.declared.events.Setup.{Setup}
 use Rattle.wg_history.specs.Entries.{Past}
 use Rattle.wg_history.specs.Objects.{is_own, is_command_buffer, is_valid}
 use Rattle.wg_history.specs.Rules.{is_destroyed, is_dropped, is_consumed, are_distinct, listed_rules, together_rules, any_used, is_busy, submit_rule}
-use Rattle.wg_types.specs.declared.steps.Used.{Used}
+use Rattle.wg_trace.specs.declared.steps.Used.{Used}
 use Rattle.wg_state.specs.Uses.{uses_of}
 use Rattle.wg_state.proofs.UsesLemmas.{used_buffers, used_textures, used_query_sets}
 use Rattle.wg_state.specs.Recordings.{any_spent}

@@ -7,7 +7,7 @@ use Rattle.wg_types.specs.Commands.{Command}
 use Rattle.wg_types.specs.declared.handles.Info.{Info}
 use Rattle.wg_types.specs.declared.handles.Info.TheVariants as info
 use Rattle.wg_types.specs.declared.commands.On.{On}
-use Rattle.wg_types.specs.declared.replies.Answer.{Answer}
+use Rattle.wg_trace.specs.declared.replies.Answer.{Answer}
 use Rattle.wg_types.specs.declared.wanted.Wanted.{Wanted}
 use Rattle.wg_encoder.specs.Recorders.{RecorderValue, is_late, recorded}
 use Rattle.wg_history.specs.declared.events.Setup.{Setup}
@@ -38,6 +38,7 @@ found_at seats n = unwrap_or (handle_at seats n) no_object
 abbrev pub is_missing : List Seat → ℕ × Wanted → Bool
 is_missing seats used = is_none (handle_at seats used.0)
 
+-- whether some number that a call names has no handle
 abbrev pub any_missing : List Seat → List (ℕ × Wanted) → Bool
 any_missing seats useds = list_any (is_missing seats) useds
 
@@ -57,31 +58,35 @@ is_late_at seats n on = option_map_or (λ recorder. is_late recorder on) (record
 abbrev pub changed_at : List Seat → ℕ → (Seat → Seat) → List Seat
 changed_at seats n change = option_map_or (λ seat. slice_set seats n (change seat)) (slice_get seats n) seats
 
--- with a command on its recorder
+-- a seat with a command on its recorder
 abbrev pub recorded_in : On → Command → Seat → Seat
 recorded_in on command seat = record { handle = seat.handle; recorder = option_map (λ recorder. recorded recorder on command) seat.recorder }
 
+-- the seats after a command on the recorder of a number
 abbrev pub recorded_at : List Seat → ℕ → On → Command → List Seat
 recorded_at seats n on command = changed_at seats n (recorded_in on command)
 
--- with its recorder taken out
+-- a seat with its recorder taken out
 abbrev pub closed : Seat → Seat
 closed seat = record { handle = seat.handle; recorder = None }
 
+-- the seats without the recorder of a number
 abbrev pub closed_at : List Seat → ℕ → List Seat
 closed_at seats n = changed_at seats n closed
 
--- with a recorder put in
+-- a seat with a recorder put in
 abbrev pub reopened : RecorderValue → Seat → Seat
 reopened recorder seat = record { handle = seat.handle; recorder = Some recorder }
 
+-- the seats with this recorder at a number
 abbrev pub reopened_at : List Seat → ℕ → RecorderValue → List Seat
 reopened_at seats n recorder = changed_at seats n (reopened recorder)
 
--- with nothing kept there
+-- a seat with nothing kept there
 abbrev pub emptied : Seat → Seat
 emptied seat = record { handle = None; recorder = None }
 
+-- the seats without the object of a number
 abbrev pub emptied_at : List Seat → ℕ → List Seat
 emptied_at seats n = changed_at seats n emptied
 
@@ -100,7 +105,7 @@ pub record IsSeated (setup : Setup) (history : List Entry) (n : ℕ) (seat : Sea
   pub number : IfSome seat.handle (λ handle. handle.reference.number ≡ n)
   pub open_still : IfSome seat.recorder (λ recorder. recorder.takes ≡ 0)
 
--- There is a seat for each object that was made.
+-- There is a seat for each object that was made, and each handle is genuine and of the object of its number.
 pub record AreSeated (setup : Setup) (history : List Entry) (seats : List Seat) : Type 0 where
   pub count_is : length seats ≡ count (reverse history)
   pub each : (n : ℕ) (seat : Seat) → slice_get seats n ≡ Some seat → IsSeated setup history n seat

@@ -10,19 +10,18 @@ use wg_print::{Out, entry, item, line};
 use wg_types::NoMemory;
 use wg_types::items::Items;
 use wg_types::parts::PartRun;
-use wg_types::replies::{Answer, Reply, Verb};
+use wg_types::replies::{Answer, Reply};
 use wg_types::steps::Item;
 use wg_types::usages::Usages;
-use wg_types::words::Word;
 
 // Prints a report of one entry and one item.
 fn report<W: Sink>(sink: &mut W, reply: &Reply, only: &Item) -> Result<(), Failed>
     ensures { Written (W.taken sink.old) (W.taken sink.new) (W.faults sink.old) (W.faults sink.new)
-        (line_text (codes "history") ++ entry_text 0 0 (Verb.Call Word.CreateBuffer) reply.now ++ item_text 0 only.now) result }
+        (line_text (codes "history") ++ entry_text 0 0 (codes "createBuffer") reply.now ++ item_text 0 only.now) result }
 {
     let mut out = Out::new(sink);
     line(&mut out, "history")?;
-    entry(&mut out, 0, 0, Verb::Call(Word::CreateBuffer), reply)?;
+    entry(&mut out, 0, 0, "createBuffer", reply)?;
     item(&mut out, 0, only)?;
     out.finish()
 }

@@ -12,9 +12,9 @@ use Rattle.wg_types.specs.declared.handles.ObjRef.{ObjRef}
 use Rattle.wg_types.specs.declared.commands.On.{On}
 use Rattle.wg_types.specs.Commands.{Command, named}
 use Rattle.wg_types.specs.declared.wanted.Wanted.{Wanted}
-use Rattle.wg_types.specs.declared.steps.Used.{Used}
-use Rattle.wg_types.specs.declared.steps.Sort.{Sort}
-use Rattle.wg_types.specs.declared.steps.Sort.TheVariants.{Buffer, Texture, Queries}
+use Rattle.wg_trace.specs.declared.steps.Used.{Used}
+use Rattle.wg_trace.specs.declared.steps.Sort.{Sort}
+use Rattle.wg_trace.specs.declared.steps.Sort.TheVariants.{Buffer, Texture, Queries}
 use Rattle.wg_types.specs.contracts.steps.UsedPartialEq.TheImpl.{eq-value}
 use Rattle.wg_model.specs.Recorded.{names_within}
 use Rattle.wg_encoder.specs.Once.{with_one, each_once}

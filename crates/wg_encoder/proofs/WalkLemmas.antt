@@ -19,10 +19,10 @@ use Rattle.std.specs.Option.{option_to_list, option_or}
 use Rattle.wg_model.specs.Touches.{scope_in, deed_of, encoder_does}
 use Rattle.wg_model.specs.Scopes.{first_clash}
 use Rattle.wg_model.specs.Walk.{Kept, PassSoFar, pass_rule, pass_does, begins, open_pass, is_open, has_ended, encoder_depth, verdict, doings, deeds, usage_scopes}
-use Rattle.wg_access.specs.Done.{done_by_encoder, done_by_pass, done_of}
+use Rattle.wg_encoder.specs.Done.{done_by_encoder, done_by_pass, done_of}
 use Rattle.wg_encoder.specs.Walked.{IsStateOf, IsOpenOf, IsWalkOf, IsNext}
 use Rattle.wg_encoder.proofs.DoneLemmas.{or_none, after_nothing, after_encoder, after_pass}
-use Rattle.wg_access.specs.declared.done.Done.{Done}
+use Rattle.wg_encoder.specs.declared.done.Done.{Done}
 use Rattle.wg_encoder.specs.declared.walk.Walk.{Walk}
 use Rattle.wg_encoder.specs.declared.walk.Opened.{Opened}
 

@@ -18,7 +18,7 @@ struct References;
 impl Gather<Handle, ObjRef> for References {
     ghost gathers = { λ _ object. object.0.reference ∷ [] };
 
-    #[tactic(auto, using(wg_types::proofs::Beginnings::begins_one, wg_types::proofs::Beginnings::begins_same))]
+    #[tactic(auto, using(wg_trace::proofs::Beginnings::begins_one, wg_trace::proofs::Beginnings::begins_same))]
     fn gather(
         &self,
         found: &mut Vec<ObjRef>,

@@ -6,7 +6,7 @@ use Rattle.wg_types.specs.declared.commands.On.{On}
 use Rattle.wg_types.specs.Commands.{Command}
 use Rattle.wg_types.specs.declared.textures.TextureSpot.{TextureSpot}
 use Rattle.wg_types.specs.declared.textures.DataLayout.{DataLayout}
-use Rattle.wg_types.specs.declared.replies.Fault.{Fault}
+use Rattle.wg_trace.specs.declared.replies.Fault.{Fault}
 use Rattle.wg_model.specs.Rules.{Rule, first_unmet}
 use Rattle.wg_model.specs.Recorded.{buffers_of, textures_of, query_sets_of, any_named}
 use Rattle.wg_model.proofs.Unmet.{all_met}

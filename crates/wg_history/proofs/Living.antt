@@ -3,7 +3,7 @@ use Rattle.std.proofs.Common.{◌≡◌, ℕ, zero, suc, ◌+◌, ◌<◌, ◌�
 use Rattle.std.specs.List.{sum_by}
 use Rattle.std.specs.Option.{option_map, option_map_or, option_to_list}
 use Rattle.std.proofs.lemmas.List.Sums.{sum_by-append, sum_by-cons}
-use Rattle.wg_types.specs.declared.steps.Sort.{Sort}
+use Rattle.wg_trace.specs.declared.steps.Sort.{Sort}
 use Rattle.wg_history.specs.Entries.{Setup, Event, CreateBuffer, CreateTexture, CreateQuerySet, Entry, Past}
 use Rattle.wg_history.specs.Objects.{is_making, count, is_made_valid, sort_made, resource_at}
 use Rattle.wg_history.specs.Releases.{is_due, is_released, freed_at, freed_below, freed}

@@ -34,7 +34,7 @@ pub record IsGroupOf (setup : Setup) (past : Past) (group pipeline : ℕ) : Type
   pub made : event_at past group ≡ Some (CreateBindGroup layout entries)
   pub of_automatic : IsOfAutomatic setup past layout.number pipeline
 
--- These are the entries of one of the layouts of a pipeline.
+-- The entries of a layout are those of the layout at an index of a pipeline.
 pub record AreEntriesAt (layout : GroupLayoutInfo) (layouts : List GroupLayoutInfo) (index : ℕ) : Type 0 where
   pub one : GroupLayoutInfo
   pub there : slice_get layouts index ≡ Some one
@@ -53,7 +53,8 @@ LayoutsAreExclusive = (setup : Setup) (history : List Entry) (n pipeline : ℕ) 
     → Run setup history → is_valid (reverse history) n ≡ true → info_at (reverse history) n ≡ Some (GroupLayout layout)
     → (layout.exclusive ≡ Some pipeline) ↔ IsOfAutomatic setup (reverse history) n pipeline
 
--- So what a valid bind group knows of its layout is exclusive to a pipeline exactly where the group was made for such a layout.
+-- In a run, what a valid bind group knows of its layout is exclusive to a pipeline exactly where the group was made for a
+-- layout that was got of the pipeline, which derived its layouts itself.
 abbrev pub GroupsAreExclusive : Type 0
 GroupsAreExclusive = (setup : Setup) (history : List Entry) (n pipeline : ℕ) (group : GroupInfo)
     → Run setup history → is_valid (reverse history) n ≡ true → info_at (reverse history) n ≡ Some (Group group)

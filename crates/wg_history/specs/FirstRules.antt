@@ -1,4 +1,5 @@
--- The first unmet rule of each event. Those of buffers, textures and query sets that are made end by the budget.
+-- The first unmet rule of each event. Those of buffers, textures and query sets that are made end by the budget. WebGPU:
+-- "Buffer Creation", "Texture Creation", "QuerySet Creation".
 use Rattle.std.specs.Prelude.{ℕ, ◌+◌, nat_le, List, [], ◌∷◌, ◌++◌, Option, Some, None}
 use Rattle.wg_types.specs.declared.handles.BufferInfo.{BufferInfo}
 use Rattle.wg_types.specs.declared.handles.QueriesInfo.{QueriesInfo}

@@ -1,4 +1,5 @@
--- The first unmet rule of an event that makes a bind group, a layout or a pipeline.
+-- The first unmet rule of an event that makes a bind group, a layout or a pipeline (WebGPU, "Bind Group Creation", "Pipeline
+-- Layout Creation", "Compute Pipeline Creation" and "Render Pipeline Creation").
 use Rattle.std.specs.Prelude.{ℕ, not, List, [], ◌∷◌, ◌++◌, Option}
 use Rattle.wg_types.specs.Wanted.{admits}
 use Rattle.wg_types.specs.Kinds.{kind_of}
@@ -45,6 +46,7 @@ create_pipeline_layout_rule setup past layouts =
 abbrev pub group_named : ObjRef → List (GroupEntryOf ObjRef) → List (ObjRef × Wanted)
 group_named layout entries = (layout, wanted.GroupLayout) ∷ entries_named entries
 
+-- the first unmet rule of a createBindGroup: those on the objects that it names, and then its own
 unfoldable pub create_bind_group_rule : Setup → Past → ObjRef → List (GroupEntryOf ObjRef) → Option ℕ
 create_bind_group_rule setup past layout entries =
     first_unmet (named_rules setup past (group_named layout entries)

@@ -14,10 +14,10 @@ use Rattle.wg_history.specs.Traces.{Trace}
 abbrev pub SeenAsPrinted : Type 0
 SeenAsPrinted = (setup : Setup) (history : List Entry) (c : Cell) (order : List ℕ) → IsOrder order (steps_of (Trace setup history)) c → Keeps order (Trace setup history) c → Same order (steps_of (Trace setup history)) c
 
--- So no writer differs,
+-- In the trace of a history no writer differs at any reader and cell.
 abbrev pub NoneDiffers : Type 0
 NoneDiffers = (setup : Setup) (history : List Entry) (reader : Option ℕ) (c : Cell) (writer : ℕ) → Differs (Trace setup history) reader c writer → ⊥
 
--- and the verdict is None.
+-- The verdict on the trace of a history is none.
 abbrev pub VerdictIsNone : Type 0
 VerdictIsNone = (setup : Setup) (history : List Entry) (found : Option Clash) → IsVerdict (Trace setup history) found → found ≡ None

@@ -2,12 +2,12 @@
 use Rattle.std.proofs.Common.{◌≡◌, ℕ, List, [], ◌∷◌, ◌++◌, map, reverse, filter, Bool, true, false, not, ◌&&◌, ◌||◌, ◌==◌, Option, Some, None, is_none, is_some, option_and_then, length, refl, ap, ap₂, sym, subst, ◌∙◌, append-nil, if◌then◌else◌, true≢false}
 use Rattle.std.specs.List.{list_any, flat_map}
 use Rattle.wg_types.specs.declared.handles.ObjRef.{ObjRef}
-use Rattle.wg_types.specs.declared.replies.Answer.{Answer}
-use Rattle.wg_types.specs.declared.replies.Answer.TheVariants.{Made, Queued, Promised, Plain, BadCompletion}
-use Rattle.wg_types.specs.declared.replies.Reply.{Reply}
-use Rattle.wg_types.specs.declared.replies.Settlement.{Settlement}
-use Rattle.wg_types.specs.declared.steps.QueueWrite.{QueueWrite}
-use Rattle.wg_types.specs.declared.steps.StepPlace.TheVariants.{Host}
+use Rattle.wg_trace.specs.declared.replies.Answer.{Answer}
+use Rattle.wg_trace.specs.declared.replies.Answer.TheVariants.{Made, Queued, Promised, Plain, BadCompletion}
+use Rattle.wg_trace.specs.declared.replies.Reply.{Reply}
+use Rattle.wg_trace.specs.declared.replies.Settlement.{Settlement}
+use Rattle.wg_types.specs.declared.writes.QueueWrite.{QueueWrite}
+use Rattle.wg_trace.specs.declared.steps.StepPlace.TheVariants.{Host}
 use Rattle.wg_orders.specs.Steps.{Step}
 use Rattle.wg_orders.specs.Trace.{free, add_groups}
 use Rattle.wg_history.specs.declared.events.Setup.{Setup}

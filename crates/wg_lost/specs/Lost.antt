@@ -1,8 +1,8 @@
 -- The laws of lost devices and of events that have a fault (WebGPU, "Lose the device" and "Errors & Debugging").
 use Rattle.std.specs.Prelude.{◌≡◌, ℕ, true, false, List, [], ◌∷◌, ◌++◌, map, reverse, None, is_some}
-use Rattle.wg_types.specs.declared.replies.Reply.{Reply}
-use Rattle.wg_types.specs.declared.replies.Answer.TheVariants.{Made}
-use Rattle.wg_types.specs.declared.steps.Sort.{Sort}
+use Rattle.wg_trace.specs.declared.replies.Reply.{Reply}
+use Rattle.wg_trace.specs.declared.replies.Answer.TheVariants.{Made}
+use Rattle.wg_trace.specs.declared.steps.Sort.{Sort}
 use Rattle.wg_orders.specs.Steps.{Step}
 use Rattle.wg_orders.specs.Trace.{Item, free, add_groups}
 use Rattle.wg_history.specs.declared.events.Setup.{Setup}
@@ -41,7 +41,7 @@ pub record AddsReleases (trace new : List Item) : Type 0 where
 abbrev pub LostReplies : Type 0
 LostReplies = (setup : Setup) (past : Past) (event : Event) → is_lost past ≡ true → IsLostReply past event (reply_to setup past event)
 
--- and the trace of its run grows by the host write of the event, if it has one, and by releases.
+-- On a lost device the trace of a run grows by the host write of the event, if it has one, and by releases.
 abbrev pub LostWritesBack : Type 0
 LostWritesBack = (setup : Setup) (history : List Entry) (entry : Entry) → Run setup history → entry.reply ≡ reply_to setup (reverse history) entry.event
     → is_lost (reverse history) ≡ true → AddsGroups (host_writes setup (reverse history) entry.event) (Trace setup history) (Trace setup (history ++ entry ∷ []))

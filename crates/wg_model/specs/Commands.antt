@@ -1,4 +1,5 @@
--- The objects that commands name, and the rules of each command (WebGPU, "Command Encoding").
+-- The objects that commands name, and the rules of each command (WebGPU, "Command Encoding"). Also WebGPU, "Buffer Copy
+-- Commands", "resolveQuerySet", "Debug Markers".
 use Rattle.std.specs.Prelude.{ℕ, ◌+◌, ◌*◌, ◌%◌, Bool, true, false, not, ◌&&◌, ◌==◌, nat_lt, nat_le, List, [], ◌∷◌, ◌++◌, ◌-◌, Option, unwrap_or, if◌then◌else◌}
 use Rattle.wg_types.specs.Handles.{HandleValue}
 use Rattle.wg_types.specs.declared.handles.BufferInfo.{BufferInfo}
@@ -21,6 +22,7 @@ use Rattle.wg_model.specs.Equality.{same_reference}
 use Rattle.wg_model.specs.Buffers.{copy_src, copy_dst, query_resolve, has_usage}
 use Rattle.wg_model.specs.TexelCopies.{buffer_to_texture_rules, texture_to_buffer_rules, texture_to_texture_rules, whole_spot}
 
+-- whether an info knows of a buffer
 abbrev pub is_buffer : Info → Bool
 is_buffer (Buffer info) = true
 is_buffer _ = false
@@ -29,6 +31,7 @@ is_buffer _ = false
 abbrev pub no_buffer : BufferInfo
 no_buffer = record { size = 0; usage = 0; mapped = false }
 
+-- what is known of a buffer, or a buffer of nothing where the info is of something else
 abbrev pub buffer_or_none : Info → BufferInfo
 buffer_or_none (Buffer info) = info
 buffer_or_none _ = no_buffer
@@ -45,14 +48,16 @@ rest_of buffer offset = if buffer.valid then (buffer_of buffer).size - offset el
 abbrev pub size_or_rest : HandleValue → ℕ → Option ℕ → ℕ
 size_or_rest buffer offset size = unwrap_or size (rest_of buffer offset)
 
+-- whether an info knows of a texture
 abbrev pub is_texture_info : Info → Bool
 is_texture_info (Texture info) = true
 is_texture_info _ = false
 
--- likewise for what is known of a texture
+-- what is known of a texture of nothing, which stands for what is none
 abbrev pub no_texture : TextureInfo
 no_texture = record { size = 0 ∷ (0 ∷ (0 ∷ [])); usage = 0; format = R8Unorm; dim = Two; mips = 0; samples = 0 }
 
+-- what is known of a texture, or a texture of nothing where the info is of something else
 abbrev pub texture_or_none : Info → TextureInfo
 texture_or_none (Texture info) = info
 texture_or_none _ = no_texture
@@ -61,14 +66,16 @@ texture_or_none _ = no_texture
 abbrev pub texture_of : HandleValue → TextureInfo
 texture_of handle = texture_or_none handle.info
 
+-- whether an info knows of a query set
 abbrev pub is_queries : Info → Bool
 is_queries (Queries info) = true
 is_queries _ = false
 
--- likewise for what is known of a query set
+-- what is known of a set of no queries, which stands for what is none
 abbrev pub no_queries : QueriesInfo
 no_queries = record { count = 0 }
 
+-- what is known of a query set, or a set of no queries where the info is of something else
 abbrev pub queries_or_none : Info → QueriesInfo
 queries_or_none (Queries info) = info
 queries_or_none _ = no_queries
@@ -86,6 +93,8 @@ object_rules device object =
     ∷ ((12, object.0.valid)
     ∷ [])
 
+-- the rules on each object that a command names, one object after another: 10 it is of the recorder's device and of the kind
+-- that is asked for; 12 it is valid
 abbrev pub common_rules : ℕ → List (HandleValue × Wanted) → List Rule
 common_rules device [] = []
 common_rules device (object ∷ objects) = object_rules device object ++ common_rules device objects
@@ -124,7 +133,7 @@ resolve_set_rules queries first count buffer offset =
     ∷ ((283, nat_le (offset + query_bytes * count) (buffer_of buffer).size)
     ∷ [])))
 
--- a command's own rules, but for those that look at the commands before it
+-- the rules of a command that look at it alone, and not at the commands before it
 abbrev pub own_rules : Command → List Rule
 own_rules BeginComputePass = []
 own_rules (BeginRenderPass begin) = []
@@ -160,6 +169,7 @@ debug_rules_by depth brackets.PushGroup = []
 debug_rules_by depth brackets.PopGroup = (285, nat_lt 0 depth) ∷ []
 debug_rules_by depth brackets.Neither = []
 
+-- the rules of a debug group that a command closes, where so many are open: 285 there is one
 abbrev pub debug_rules : ℕ → Command → List Rule
 debug_rules depth command = debug_rules_by depth (bracket command)
 

@@ -22,13 +22,15 @@ use Rattle.wg_model.specs.Textures.{is_cube, is_2d_view}
 abbrev pub vertex_stage : ℕ
 vertex_stage = 1
 
+-- the bit of the fragment stage
 abbrev pub fragment_stage : ℕ
 fragment_stage = 2
 
+-- the bit of the compute stage
 abbrev pub compute_stage : ℕ
 compute_stage = 4
 
--- all of them
+-- the bits of all stages
 abbrev pub stages : ℕ
 stages = 7
 
@@ -41,11 +43,13 @@ abbrev pub bindings_are_distinct : List LayoutEntry → Bool
 bindings_are_distinct [] = true
 bindings_are_distinct (entry ∷ entries) = not (list_any (λ (other : LayoutEntry). other.binding == entry.binding) entries) && bindings_are_distinct entries
 
+-- whether an access of a storage texture writes it
 abbrev pub is_written : StorageAccess → Bool
 is_written ReadOnly = false
 is_written WriteOnly = true
 is_written ReadWrite = true
 
+-- whether a buffer is bound as storage that may be written
 abbrev pub is_storage : BufferBinding → Bool
 is_storage Uniform = false
 is_storage Storage = true
@@ -58,6 +62,7 @@ may_write (Sampler sampler_type) = false
 may_write (Texture sample dim multi) = false
 may_write (StorageTexture access format dim) = is_written access
 
+-- whether a sample type is float
 abbrev pub is_float : SampleType → Bool
 is_float Float = true
 is_float _ = false
@@ -67,6 +72,7 @@ abbrev pub multi_fits : BindingKind → Bool
 multi_fits (Texture sample dim multi) = not multi || (is_2d_view dim && not (is_float sample))
 multi_fits _ = true
 
+-- whether a format has an access as storage
 abbrev pub has_access : StorageAccess → StorageAccesses → Bool
 has_access ReadOnly storage = storage.read_only
 has_access WriteOnly storage = storage.write_only
@@ -83,6 +89,7 @@ is_uniform_binding Uniform = true
 is_uniform_binding Storage = false
 is_uniform_binding ReadOnlyStorage = false
 
+-- whether an entry is a uniform buffer
 abbrev pub is_uniform : BindingKind → Bool
 is_uniform (Buffer binding dynamic min_size) = is_uniform_binding binding
 is_uniform _ = false
@@ -92,18 +99,22 @@ abbrev pub is_storage_buffer : BindingKind → Bool
 is_storage_buffer (Buffer binding dynamic min_size) = not (is_uniform_binding binding)
 is_storage_buffer _ = false
 
+-- whether an entry is a sampler
 abbrev pub is_sampler : BindingKind → Bool
 is_sampler (Sampler sampler_type) = true
 is_sampler _ = false
 
+-- whether an entry is a texture that is sampled
 abbrev pub is_sampled_texture : BindingKind → Bool
 is_sampled_texture (Texture sample dim multi) = true
 is_sampled_texture _ = false
 
+-- whether an entry is a storage texture
 abbrev pub is_storage_texture : BindingKind → Bool
 is_storage_texture (StorageTexture access format dim) = true
 is_storage_texture _ = false
 
+-- whether an entry is a buffer with an offset that is given later
 abbrev pub is_dynamic : BindingKind → Bool
 is_dynamic (Buffer binding dynamic min_size) = dynamic
 is_dynamic _ = false
@@ -121,6 +132,7 @@ stage_fits limits entries stage =
     && nat_le (seen_count is_storage_texture stage entries) limits.max_storage_textures_per_shader_stage
     && nat_le (seen_count is_uniform stage entries) limits.max_uniform_buffers_per_shader_stage
 
+-- rules 136 and 141: no stage sees more entries of a sort than it may
 abbrev pub stages_fit : Limits → List LayoutEntry → Bool
 stages_fit limits entries = stage_fits limits entries vertex_stage && stage_fits limits entries fragment_stage && stage_fits limits entries compute_stage
 
@@ -128,6 +140,7 @@ stages_fit limits entries = stage_fits limits entries vertex_stage && stage_fits
 abbrev pub dynamic_count : (BindingKind → Bool) → List LayoutEntry → ℕ
 dynamic_count sort entries = count_by (λ (entry : LayoutEntry). is_dynamic entry.kind && sort entry.kind) entries
 
+-- rules 137 and 142: there are no more dynamic uniform buffers, and dynamic storage buffers, than there may be
 abbrev pub dynamic_fits : Limits → List LayoutEntry → Bool
 dynamic_fits limits entries =
     nat_le (dynamic_count is_uniform entries) limits.max_dynamic_uniform_buffers_per_pipeline_layout
@@ -149,7 +162,8 @@ group_layout_rules limits entries =
     ∷ ((137, dynamic_fits limits entries)
     ∷ [])))))))
 
--- the entries of several layouts
+-- the entries of several layouts together, of one that stands there twice also twice: 141 and 142 ask of these what 136 and
+-- 137 ask of one layout
 abbrev pub all_entries : List GroupLayoutInfo → List LayoutEntry
 all_entries [] = []
 all_entries (layout ∷ layouts) = layout.entries ++ all_entries layouts

@@ -1,5 +1,6 @@
--- Query sets and occlusion queries (WebGPU, "Queries"): the rules of createQuerySet, and those of the queries of a render pass,
--- which are those of its query set. The commands of a pass so far stand newest first.
+-- Query sets and occlusion queries (WebGPU, "Queries"): the rules of createQuerySet, and those of the queries of a render
+-- pass, which are those of its query set. The commands of a pass so far stand newest first. Also WebGPU, "QuerySet Creation",
+-- "beginOcclusionQuery", "endOcclusionQuery".
 use Rattle.std.specs.Prelude.{ℕ, ◌+◌, ◌==◌, nat_lt, nat_le, Bool, true, false, not, List, [], ◌∷◌, ◌++◌, Option, Some, None, is_some, option_map}
 use Rattle.std.specs.List.{list_any}
 use Rattle.std.specs.Option.{option_map_or}
@@ -28,6 +29,7 @@ occlusion_by (occludes call) = Some call
 occlusion_by (executes bundles) = None
 occlusion_by neither = None
 
+-- what a command does with occlusion queries, if anything: it begins the query of an index, or ends the active one
 abbrev pub occlusion_call : Command → Option OcclusionCall
 occlusion_call command = occlusion_by (act command)
 
@@ -42,6 +44,7 @@ begun_after begun None = begun
 begun_after begun (Some (begin_occlusion index)) = begun ++ index ∷ []
 begun_after begun (Some end_occlusion) = begun
 
+-- the indexes of the queries that commands of a pass have begun, in order
 abbrev pub queries_begun : List Command → List ℕ
 queries_begun [] = []
 queries_begun (command ∷ earlier) = begun_after (queries_begun earlier) (occlusion_call command)
@@ -52,10 +55,12 @@ active_after active None = active
 active_after active (Some (begin_occlusion index)) = true
 active_after active (Some end_occlusion) = false
 
+-- whether a query is active after commands of a pass
 abbrev pub query_active : List Command → Bool
 query_active [] = false
 query_active (command ∷ earlier) = active_after (query_active earlier) (occlusion_call command)
 
+-- the queries of a pass after its commands
 abbrev pub occlusion_of : List Command → Occlusion
 occlusion_of earlier = record { begun = queries_begun earlier; active = query_active earlier }
 
@@ -63,6 +68,7 @@ occlusion_of earlier = record { begun = queries_begun earlier; active = query_ac
 abbrev pub set_given : HandleValue → ℕ × ℕ
 set_given queries = (queries.reference.number, (queries_of queries).count)
 
+-- the number and the count of the query set of a pass, if it has one
 abbrev pub set_of_pass : Option HandleValue → Option (ℕ × ℕ)
 set_of_pass queries = option_map set_given queries
 
@@ -88,6 +94,7 @@ begin_query_rules count queries index =
 abbrev pub end_query_rules : Occlusion → List Rule
 end_query_rules queries = (364, queries.active) ∷ []
 
+-- the rules of what a command does with occlusion queries
 abbrev pub occlusion_rules : Option (ℕ × ℕ) → Occlusion → Option OcclusionCall → List Rule
 occlusion_rules set queries None = []
 occlusion_rules set queries (Some (begin_occlusion index)) = begin_query_rules (count_given set) queries index
@@ -102,6 +109,7 @@ pass_end_rules_by active brackets.PushGroup = []
 pass_end_rules_by active brackets.PopGroup = []
 pass_end_rules_by active brackets.Neither = []
 
+-- the rule of the end of a render pass: 311 no query is active
 abbrev pub pass_end_rules : Bool → Command → List Rule
 pass_end_rules active command = pass_end_rules_by active (bracket command)
 
@@ -109,6 +117,7 @@ pass_end_rules active command = pass_end_rules_by active (bracket command)
 abbrev pub query_written : ℕ → ℕ → Touch
 query_written object index = (Queries object index (index + 1), (query_write_usage, Write))
 
+-- what the begin of a query touches: that query of the pass's set, if it has one
 abbrev pub query_begun_touches : Option (ℕ × ℕ) → ℕ → List Touch
 query_begun_touches None index = []
 query_begun_touches (Some set) index = query_written set.0 index ∷ []

@@ -24,6 +24,7 @@ depth_state_fits depth =
     && ((not depth.depth_write || has_depth (row depth.format).aspects)
     && (not depth.stencil_write || has_stencil (row depth.format).aspects))
 
+-- whether a texture of a format may have four samples
 abbrev pub is_multisampled : Format → Bool
 is_multisampled format = (row format).multisampled
 

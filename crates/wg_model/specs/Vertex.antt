@@ -31,10 +31,12 @@ attribute_end attribute = attribute.offset + vertex_bytes attribute.format
 abbrev pub attribute_room : Limits → VertexBuffer → ℕ
 attribute_room limits buffer = if buffer.stride == 0 then limits.max_vertex_buffer_array_stride else buffer.stride
 
--- whether an attribute ends there at the most, and has an offset that is a multiple of the lesser of 4 and its bytes
+-- whether an attribute ends within the room of its buffer, and has an offset that is a multiple of the lesser of 4 and its
+-- bytes
 abbrev pub attribute_fits : ℕ → VertexAttribute → Bool
 attribute_fits room attribute = nat_le (attribute_end attribute) room && attribute.offset % min 4 (vertex_bytes attribute.format) == 0
 
+-- whether each attribute of a vertex buffer fits it
 abbrev pub attributes_fit : Limits → VertexBuffer → Bool
 attributes_fit limits buffer = list_all (attribute_fits (attribute_room limits buffer)) buffer.attributes
 
@@ -63,10 +65,12 @@ abbrev pub bytes_serve : VertexBuffer → ℕ → Option ℕ → Bool
 bytes_serve buffer bytes None = true
 bytes_serve buffer bytes (Some count) = (count == 0) || nat_le ((count - 1) * buffer.stride + last_end buffer.attributes) bytes
 
--- the same of each buffer, the first of which has this slot; where no range is set there are no bytes
+-- whether the range at each slot serves the vertex buffer of that slot, the first of which is given; where no range is set
+-- there are no bytes
 abbrev pub ranges_serve : List VertexBuffer → List (Option ℕ) → ℕ → Option ℕ → ℕ → Bool
 ranges_serve [] ranges slot vertices instances = true
 ranges_serve (buffer ∷ buffers) ranges slot vertices instances = bytes_serve buffer (unwrap_or (slice_index_or ranges slot None) 0) (counted_by_step buffer.step vertices instances) && ranges_serve buffers ranges (slot + 1) vertices instances
 
+-- whether the ranges that are set at the slots of vertex buffers serve a draw
 unfoldable pub draw_fits : List VertexBuffer → List (Option ℕ) → Option ℕ → ℕ → Bool
 draw_fits buffers ranges vertices instances = ranges_serve buffers ranges 0 vertices instances

@@ -14,7 +14,7 @@ use Rattle.wg_types.specs.declared.wanted.Wanted.TheVariants as wanted
 use Rattle.wg_types.specs.Wanted.{admits}
 use Rattle.wg_types.specs.Commands.{place_wanted, kind_begun}
 use Rattle.wg_types.specs.declared.commands.CommandOf.{CommandOf}
-use Rattle.wg_types.specs.declared.replies.Answer.{Answer}
+use Rattle.wg_trace.specs.declared.replies.Answer.{Answer}
 use Rattle.wg_encoder.specs.Recorders.{RecorderValue, has_taken}
 use Rattle.wg_script.specs.CallOf.{BoundCall}
 use Rattle.wg_script.specs.declared.calls.CallOf.TheVariants.{Record, Ask, Canvas}

@@ -15,8 +15,8 @@ use Rattle.wg_types.specs.declared.handles.Info.{Info}
 use Rattle.wg_types.specs.declared.handles.Info.TheVariants as info
 use Rattle.wg_types.specs.declared.requests.RequestOf.{RequestOf}
 use Rattle.wg_types.specs.declared.textures.TextureInfo.{TextureInfo}
-use Rattle.wg_types.specs.declared.replies.Answer.{Answer}
-use Rattle.wg_types.specs.declared.replies.Answer.TheVariants.{Made, Queued, Promised, Plain, BadCompletion}
+use Rattle.wg_trace.specs.declared.replies.Answer.{Answer}
+use Rattle.wg_trace.specs.declared.replies.Answer.TheVariants.{Made, Queued, Promised, Plain, BadCompletion}
 use Rattle.wg_types.specs.declared.wanted.Kind.{Kind}
 use Rattle.wg_canvas.specs.Canvases.{CanvasValue, texture_at, texture_of, texture_asked, asked_at as stage_asked, act_asked, info_of, filled_at, acted}
 use Rattle.wg_canvas.specs.declared.canvas.Setting.{Setting}

@@ -3,7 +3,7 @@ use Rattle.std.proofs.Common.{◌≡◌, ℕ, suc, ◌+◌, ◌≤◌, ◌==◌,
 use Rattle.std.proofs.lemmas.List.Elements.{filter-append}
 use Rattle.wg_history.specs.Entries.{Entry}
 use Rattle.wg_history.specs.declared.events.Event.{Event}
-use Rattle.wg_types.specs.declared.replies.Reply.{Reply}
+use Rattle.wg_trace.specs.declared.replies.Reply.{Reply}
 use Rattle.wg_history.specs.declared.events.Setup.{Setup}
 use Rattle.wg_script.specs.CallOf.{BoundCall}
 use Rattle.wg_play.specs.Turns.{made_by, Gives, AllGive, all_after, lane_at}

@@ -18,8 +18,8 @@ use Rattle.wg_types.specs.declared.wanted.Wanted.TheVariants as wanted
 use Rattle.wg_types.specs.declared.words.Word.TheVariants as word
 use Rattle.wg_encoder.specs.Recorders.{RecorderValue, RecordingValue}
 use Rattle.wg_history.specs.declared.events.Event.{Event}
-use Rattle.wg_types.specs.declared.replies.Verb.{Verb}
-use Rattle.wg_types.specs.declared.replies.Verb.TheVariants.{Call}
+use Rattle.wg_types.specs.declared.words.Verb.{Verb}
+use Rattle.wg_types.specs.declared.words.Verb.TheVariants.{Call}
 use Rattle.wg_history.specs.Entries.{verb_of}
 use Rattle.wg_calls.specs.Calls.{event_asked, info_asked, finish_event, finished_info, recording_of, finish_of, known_of_finish}
 use Rattle.wg_script.specs.CallOf.{BoundCall}

@@ -19,17 +19,18 @@ use Rattle.wg_play.specs.declared.objects.Stand.{Stand}
 abbrev pub unknown : HandleValue
 unknown = record { reference = record { device = 0; number = 0 }; valid = false; info = info.CommandBuffer }
 
--- What a call has made: an object as its caller holds it, with the recorder of an encoder; a pass, by the place of its
--- encoder and its number there; a canvas; or a name for the texture of one, if it has one.
+-- the handle of what a call has made: of a pass, a canvas, or a name without a texture, one of no object
 abbrev pub handle_in : Object → HandleValue
 handle_in (object.Made handle recorder) = handle
 handle_in (object.Pass encoder number) = unknown
 handle_in (object.Canvas canvas) = unknown
 handle_in (object.Shown texture) = unwrap_or texture unknown
 
+-- the handle at a place, or one of no object
 abbrev pub handle_at : List Object → ℕ → HandleValue
 handle_at objects place = option_map_or handle_in (slice_get objects place) unknown
 
+-- the object that stands at a place
 abbrev pub reference_at : List Object → ℕ → ObjRef
 reference_at objects place = (handle_at objects place).reference
 
@@ -40,9 +41,11 @@ recorder_in (object.Pass encoder number) = None
 recorder_in (object.Canvas canvas) = None
 recorder_in (object.Shown texture) = None
 
+-- the recorder at a place, if there is one
 abbrev pub recorder_at : List Object → ℕ → Option RecorderValue
 recorder_at objects place = option_and_then recorder_in (slice_get objects place)
 
+-- an object with its recorder changed, if it has one
 abbrev pub changed : Object → (RecorderValue → RecorderValue) → Object
 changed (object.Made handle recorder) change = object.Made handle (option_map change recorder)
 changed (object.Pass encoder number) change = object.Pass encoder number
@@ -53,13 +56,14 @@ changed (object.Shown texture) change = object.Shown texture
 abbrev pub with_recorder : List Object → ℕ → (RecorderValue → RecorderValue) → List Object
 with_recorder objects place change = option_map_or (λ x. slice_set objects place (changed x change)) (slice_get objects place) objects
 
--- where a recording call stands that names a place: on the encoder itself, or on a pass of one
+-- on what a recording call stands that names an object at a place: on the encoder itself, or on a pass of one
 abbrev pub stand_in : ℕ → Object → Stand
 stand_in place (object.Made handle recorder) = record { encoder = place; on = Encoder }
 stand_in place (object.Pass encoder number) = record { encoder = encoder; on = Pass number }
 stand_in place (object.Canvas canvas) = record { encoder = place; on = Encoder }
 stand_in place (object.Shown texture) = record { encoder = place; on = Encoder }
 
+-- on what a recording call stands that names a place
 abbrev pub stand_at : List Object → ℕ → Stand
 stand_at objects place = option_map_or (stand_in place) (slice_get objects place) (record { encoder = place; on = Encoder })
 
@@ -68,12 +72,15 @@ stand_at objects place = option_map_or (stand_in place) (slice_get objects place
 abbrev pub is_late_by : On → RecorderValue → Bool
 is_late_by on recorder = not (is_begun on recorder.passes) || is_late recorder on
 
+-- whether what a recording call stands on has ended
 abbrev pub is_late_on : List Object → Stand → Bool
 is_late_on objects stand = option_map_or (is_late_by stand.on) (recorder_at objects stand.encoder) true
 
+-- a recorder after a command, if that stands on a pass that was begun
 abbrev pub recorded_by : On → Command → RecorderValue → RecorderValue
 recorded_by on command recorder = if is_begun on recorder.passes then recorded recorder on command else recorder
 
+-- the objects of a lane after a command that stands there
 abbrev pub recorded_on : List Object → Stand → Command → List Object
 recorded_on objects stand command = with_recorder objects stand.encoder (recorded_by stand.on command)
 

@@ -63,7 +63,8 @@ EachExpires setup history plays = (front back : List Entry) (entry : Entry) (cal
     → history ≡ front ++ entry ∷ back → GivenAt plays front entry (Canvas call made) → entry.event ≡ Destroy texture
     → HasExpired setup (front ++ entry ∷ []) back texture
 
--- So it is where a script was played through, as each is whose names are bound, however its calls were played.
+-- Each texture of a canvas that a call destroyed has expired from then on, where a script was played through, as each is whose
+-- names are bound, however its calls were played.
 abbrev pub PresentsExpire : Type 0
 PresentsExpire = (setup : Setup) (phases : List (List (List BoundCall))) (history : List Entry) → Run setup history
     → (through : IsPlayedThrough setup phases history) → EachExpires setup history through.plays

@@ -13,6 +13,7 @@ pub record Sight : Type 0 where
   pub first : ℕ
   pub own : List Object
 
+-- what a lane sees, as definitions have it
 abbrev pub sight_of : Seen → Sight
 sight_of seen = record { others = seen.others.now; first = seen.first; own = seen.own.items }
 

@@ -1,5 +1,5 @@
-//! The play of a script: what its lanes see of the objects, which command or event each call is, and, in
-//! specs/, the history that lanes give which take turns.
+//! The play of a script over histories: what its lanes see of the objects, which command or event each
+//! call is, and, in specs/, the history that lanes give which take turns. `wg_player` plays it on a device.
 #![tactic(auto)]
 
 mod calls;

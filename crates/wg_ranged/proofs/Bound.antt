@@ -16,7 +16,7 @@ use Rattle.wg_types.specs.declared.handles.Info.{Info}
 use Rattle.wg_types.specs.declared.handles.Info.TheVariants.{Group}
 use Rattle.wg_rows.specs.Rows.{EachRow}
 use Rattle.wg_rows.specs.Runs.{Cells}
-use Rattle.wg_rows.specs.Uses.{Usages, Kind}
+use Rattle.wg_rows.specs.Uses.{Usages, AccessKind}
 use Rattle.wg_model.specs.Rules.{AreMet}
 use Rattle.wg_model.specs.Touches.{Touch}
 use Rattle.wg_model.specs.Bound.{Place, group_in, known_group, moved_by, place_of, entry_places, places_in, moved_range_fits, place_fits, set_rules, offset_rules, has_entries, set_places, index_places, layouts_places, kind_touch, resource_cells, place_touches, bound_touches}
@@ -32,7 +32,7 @@ IsSmallTouch touch = HaveSmallRange touch.0
 abbrev pub AreSmallTouches : List Touch → Type 0
 AreSmallTouches touches = EachRow IsSmallTouch touches
 
-pub mapped_small : (how : Usages × Kind) (cells : List Cells) → AreSmall cells → AreSmallTouches (map (λ (run : Cells). (run, how)) cells)
+pub mapped_small : (how : Usages × AccessKind) (cells : List Cells) → AreSmall cells → AreSmallTouches (map (λ (run : Cells). (run, how)) cells)
 mapped_small how [] h = tt
 mapped_small how (run ∷ cells) h = (h.0, mapped_small how cells h.1)
 

@@ -6,10 +6,10 @@ use Rattle.wg_types.specs.declared.bundles.BundleTouch.{BundleTouch}
 use Rattle.wg_types.specs.declared.bundles.BundleUse.{BundleUse}
 use Rattle.wg_types.specs.declared.bundles.BundleUse.TheVariants.{Input, Constant, StorageRead, Storage}
 use Rattle.wg_types.specs.declared.commands.On.{On}
-use Rattle.wg_types.specs.declared.parts.Kind.{Kind}
+use Rattle.wg_trace.specs.declared.parts.AccessKind.{AccessKind}
 use Rattle.wg_types.specs.declared.render.TargetInfo.{TargetInfo}
-use Rattle.wg_types.specs.declared.steps.StepName.TheVariants as name
-use Rattle.wg_types.specs.declared.steps.StepPlace.TheVariants.{Op}
+use Rattle.wg_trace.specs.declared.steps.StepName.TheVariants as name
+use Rattle.wg_trace.specs.declared.steps.StepPlace.TheVariants.{Op}
 use Rattle.wg_rows.specs.Rows.{EachRow}
 use Rattle.wg_rows.specs.Runs.{PartRun, BufferPart, LayerParts, QueryPart, Cells, Bytes, Layers, Slices, Queries, run_part}
 use Rattle.wg_rows.specs.Uses.{Usages}
@@ -62,7 +62,7 @@ parts_touched : (used : BundleUse) (rows : List UseRow) → EachRow (λ (row : P
 parts_touched used [] h = tt
 parts_touched used (row ∷ rows) h = (no_cells_small row.0 h.0, parts_touched used rows h.1)
 
-all_cells : (used : BundleUse) (rows : List (Cells × Kind)) → EachRow (λ (row : Cells × Kind). HaveSmallRange row.0) rows → AreSmallTouched (map (cells_touched used) rows)
+all_cells : (used : BundleUse) (rows : List (Cells × AccessKind)) → EachRow (λ (row : Cells × AccessKind). HaveSmallRange row.0) rows → AreSmallTouched (map (cells_touched used) rows)
 all_cells used [] h = tt
 all_cells used (row ∷ rows) h = (h.0, all_cells used rows h.1)
 

@@ -15,7 +15,7 @@ use Rattle.wg_types.specs.declared.handles.Info.{Info}
 use Rattle.wg_types.specs.declared.handles.Info.TheVariants.{Buffer, Texture, View}
 use Rattle.wg_types.specs.declared.handles.ObjRef.{ObjRef}
 use Rattle.wg_types.specs.declared.limits.Limits.{Limits}
-use Rattle.wg_types.specs.declared.steps.StepPlace.TheVariants.{Op}
+use Rattle.wg_trace.specs.declared.steps.StepPlace.TheVariants.{Op}
 use Rattle.wg_types.specs.declared.wanted.Wanted.{Wanted}
 use Rattle.wg_limits.specs.Limits.{AreNoBetter, HaveFixed}
 use Rattle.wg_limits.specs.declared.names.LimitName.TheVariants.{MaxBufferSize}

@@ -13,7 +13,7 @@ use Rattle.wg_types.specs.declared.bundles.BundleTouch.{BundleTouch}
 use Rattle.wg_types.specs.declared.handles.Info.{Info}
 use Rattle.wg_types.specs.declared.handles.Info.TheVariants.{Buffer, Texture, View, Group, Queries, Bundle}
 use Rattle.wg_types.specs.declared.limits.Limits.{Limits}
-use Rattle.wg_types.specs.declared.parts.Aspect.{Aspect}
+use Rattle.wg_trace.specs.declared.parts.Aspect.{Aspect}
 use Rattle.wg_types.specs.declared.textures.TextureDim.{TextureDim}
 use Rattle.wg_types.specs.declared.textures.TextureDim.TheVariants as texture_dim
 use Rattle.wg_types.specs.declared.textures.TextureInfo.{TextureInfo}

@@ -2,12 +2,13 @@
 use Rattle.std.proofs.Common.{◌≡◌, ℕ, ◌+◌, ◌≤◌, List, [], ◌∷◌, ◌++◌, map, length, codes, decimal, sym, arith}
 use Rattle.std.specs.List.{flat_map}
 use Rattle.std.proofs.lemmas.List.{length-append, length-map}
-use Rattle.wg_types.specs.Words.{step_name_text}
-use Rattle.wg_types.specs.declared.replies.Reply.{Reply}
-use Rattle.wg_types.specs.declared.replies.Verb.{Verb}
-use Rattle.wg_types.specs.declared.steps.Item.{Item}
-use Rattle.wg_types.specs.declared.steps.Item.TheVariants.{Bar, Step as StepItem, Free}
-use Rattle.wg_print.specs.Entries.{verb_text, answer_text, fault_text, settled_text, entry_text}
+use Rattle.wg_trace.specs.StepNames.{step_name_text}
+use Rattle.wg_trace.specs.declared.replies.Reply.{Reply}
+use Rattle.wg_types.specs.declared.words.Verb.{Verb}
+use Rattle.wg_trace.specs.declared.steps.Item.{Item}
+use Rattle.wg_trace.specs.declared.steps.Item.TheVariants.{Bar, Step as StepItem, Free}
+use Rattle.wg_types.specs.Words.{verb_text}
+use Rattle.wg_print.specs.Entries.{answer_text, fault_text, settled_text, entry_text}
 use Rattle.wg_print.specs.Items.{place_text, use_text, access_text, item_text}
 use Rattle.wg_print.specs.Pieces.{line_text}
 use Rattle.wg_history.specs.Entries.{Entry}
@@ -26,7 +27,7 @@ first_length xs ys = let both = length-append xs ys in omega (arith, both)
 last_length : (xs ys : List ℕ) → length ys ≤ length (xs ++ ys)
 last_length xs ys = let both = length-append xs ys in omega (arith, both)
 
-line_has : (n who : ℕ) (verb : Verb) (reply : Reply) → 1 ≤ length (entry_text n who verb reply)
+line_has : (n who : ℕ) (verb : Verb) (reply : Reply) → 1 ≤ length (entry_text n who (verb_text verb) reply)
 unfolding entry_text
 line_has n who verb reply =
     let front : List ℕ = decimal n ++ codes " " ++ decimal who ++ codes " " ++ verb_text verb ++ codes " " ++ answer_text reply.answer ++ fault_text reply.fault ++ settled_text reply.settled in

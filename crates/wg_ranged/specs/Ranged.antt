@@ -14,8 +14,8 @@ use Rattle.wg_shaped.specs.Reports.{report_of}
 use Rattle.wg_small.specs.Small.{HasSmallRanges}
 use Rattle.wg_small.specs.Limits.{RecordsSmallRanges}
 
--- In a run what a valid command buffer does lies in small ranges: no limit of the device is better than the best, and those that
--- no script changes are as they are by default.
+-- In a run what a valid command buffer does lies in small ranges, where no limit of the device is better than the best, and
+-- those that no script changes are as they are by default.
 abbrev pub RecordingsAreSmall : Type 0
 RecordingsAreSmall =
     (setup : Setup) (history : List Entry)
@@ -24,7 +24,7 @@ RecordingsAreSmall =
     → HaveFixed setup.limits
     → EachRow RecordsSmallRanges history
 
--- So do all its steps.
+-- In a run all steps lie in small ranges, under the same limits.
 abbrev pub StepsAreSmall : Type 0
 StepsAreSmall =
     (setup : Setup) (history : List Entry)
@@ -33,8 +33,8 @@ StepsAreSmall =
     → HaveFixed setup.limits
     → EachRow HasSmallRanges (Steps setup history)
 
--- So the report of a run is read as its trace, if the history is not longer than the greatest number that the reader takes and
--- there are numbers for its steps,
+-- The report of a run is read as its trace, if the history is not longer than the greatest number that the reader takes and
+-- there are numbers for its steps.
 abbrev pub ReadsBackByCounts : Type 0
 ReadsBackByCounts =
     (setup : Setup) (history : List Entry)

@@ -4,9 +4,9 @@ use Rattle.std.specs.List.{find}
 use Rattle.std.specs.Option.{option_and_then, option_map}
 use Rattle.std.proofs.Common.{◌≡◌, ℕ, ◌+◌, ◌-◌, ◌*◌, ◌<◌, ◌≤◌, ◌==◌, ◌&&◌, ◌||◌, List, [], ◌∷◌, ◌++◌, length, take, drop, Bool, true, false, cond, if◌then◌else◌, refl, arith, lit≤}
 use Rattle.std.proofs.lemmas.Bool.{ltb-true, ltb-false}
-use Rattle.wg_types.specs.declared.parts.PartRun.TheVariants as part
-use Rattle.wg_types.specs.declared.parts.Cells.TheVariants as cells
-use Rattle.wg_types.specs.declared.steps.StepPlace.TheVariants.{Op, Host}
+use Rattle.wg_trace.specs.declared.parts.PartRun.TheVariants as part
+use Rattle.wg_trace.specs.declared.parts.Cells.TheVariants as cells
+use Rattle.wg_trace.specs.declared.steps.StepPlace.TheVariants.{Op, Host}
 use Rattle.wg_rows.specs.Rows.{EachRow}
 use Rattle.wg_print.specs.UsageSets.{usage_words}
 use Rattle.wg_readtrace.specs.declared.line.Line.{Line}

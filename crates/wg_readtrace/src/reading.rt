@@ -14,8 +14,8 @@ use crate::given::Given;
 use crate::line::Line;
 use crate::{forms, words};
 use std::alloc::Global;
-use wg_types::items::Items;
-use wg_types::steps::Item;
+use wg_trace::items::Items;
+use wg_trace::steps::Item;
 
 /// Why a text is no trace: the rule that it breaks first, with the number of the line, from 1, or 0 for
 /// the text; or there is no memory.

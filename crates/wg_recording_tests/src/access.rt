@@ -5,9 +5,10 @@ use wg_access::{Done, write_step};
 use wg_types::NoMemory;
 use wg_types::commands::Command;
 use wg_types::handles::{BufferInfo, Handle, Info, ObjRef};
-use wg_types::parts::{Cells, Kind, Part, PartRun};
-use wg_types::steps::{Deed, QueueWrite, StepName, StepPlace};
+use wg_types::parts::{AccessKind, Cells, Part, PartRun};
+use wg_types::steps::{Deed, StepName, StepPlace};
 use wg_types::usages::Usages;
+use wg_types::writes::QueueWrite;
 
 /// A buffer of 64 bytes that is copied from and to.
 fn buffer(alloc: Global, number: u64) -> Result<Handle, NoMemory> {
@@ -45,8 +46,8 @@ fn copy(alloc: Global) -> Result<Command, NoMemory> {
 fn is_copy(deeds: &[Deed]) -> bool {
     let uses = [(part(3), Usages::COPY_DST), (part(5), Usages::COPY_SRC)];
     let accesses = [
-        (bytes(3, 8, 20), Kind::Write),
-        (bytes(5, 4, 16), Kind::Read),
+        (bytes(3, 8, 20), AccessKind::Write),
+        (bytes(5, 4, 16), AccessKind::Read),
     ];
     match deeds {
         [deed] => deed.uses.as_slice() == uses.as_slice()
@@ -81,7 +82,7 @@ fn written(alloc: Global) -> Result<bool, NoMemory> {
         size: 8,
     };
     let made = write_step(alloc, &write, StepPlace::Op(5))?;
-    let accesses = [(bytes(3, 4, 12), Kind::Write)];
+    let accesses = [(bytes(3, 4, 12), AccessKind::Write)];
     Ok(match &made {
         Some(step) => step.accesses.as_slice() == accesses.as_slice(),
         None => false,
@@ -96,8 +97,8 @@ fn a_write_makes_a_step(rt: HostRuntime) {
 /// The clash of a dispatch that reads and writes one buffer, and how many deeds it does.
 fn dispatched(alloc: Global) -> Result<(Option<Part>, usize), NoMemory> {
     let touches = [
-        (bytes(7, 0, 16), (Usages::CONSTANT, Kind::Read)),
-        (bytes(7, 16, 32), (Usages::STORAGE, Kind::Both)),
+        (bytes(7, 0, 16), (Usages::CONSTANT, AccessKind::Read)),
+        (bytes(7, 16, 32), (Usages::STORAGE, AccessKind::Both)),
     ];
     let mut done = Done::new(alloc);
     done.add(alloc, StepName::Dispatch, touches.as_slice())?;
@@ -119,9 +120,9 @@ fn queried(alloc: Global, usage: Usages) -> Result<Option<Part>, NoMemory> {
         hi: 3,
     };
     let touches = [
-        (bytes(7, 0, 16), (Usages::CONSTANT, Kind::Read)),
-        (query, (Usages::QUERY_WRITE, Kind::Write)),
-        (bytes(7, 16, 32), (usage, Kind::Read)),
+        (bytes(7, 0, 16), (Usages::CONSTANT, AccessKind::Read)),
+        (query, (Usages::QUERY_WRITE, AccessKind::Write)),
+        (bytes(7, 16, 32), (usage, AccessKind::Read)),
     ];
     let mut done = Done::new(alloc);
     done.add(alloc, StepName::RenderPass, touches.as_slice())?;

@@ -9,7 +9,7 @@ use wg_types::commands::Command;
 use wg_types::groups::{ComputeInfo, GroupInfo, GroupLayoutInfo, Interface, PipelineLayoutInfo};
 use wg_types::handles::{BufferInfo, Handle, Info, ObjRef};
 use wg_types::items::Items;
-use wg_types::parts::{Cells, Kind, PartRun};
+use wg_types::parts::{AccessKind, Cells, PartRun};
 use wg_types::shared::Shared;
 use wg_types::steps::{Deed, StepName};
 use wg_types::usages::Usages;
@@ -125,7 +125,7 @@ fn dispatched(set: &mut ComputeState, done: &mut Done, alloc: Global) -> Result<
 }
 
 /// Whether a dispatch did this.
-fn is(deed: &Deed, uses: &[(PartRun, Usages)], accesses: &[(Cells, Kind)]) -> bool {
+fn is(deed: &Deed, uses: &[(PartRun, Usages)], accesses: &[(Cells, AccessKind)]) -> bool {
     deed.name == StepName::Dispatch
         && deed.uses.as_slice() == uses
         && deed.accesses.as_slice() == accesses
@@ -145,11 +145,11 @@ fn are(deeds: &[Deed]) -> (bool, bool) {
         lo: 4,
         hi: 16,
     };
-    let all = (all, Kind::Read);
+    let all = (all, AccessKind::Read);
     match deeds {
         [direct, indirect] => (
             is(direct, &[bound], &[all]),
-            is(indirect, &[bound, read], &[all, (counts, Kind::Read)]),
+            is(indirect, &[bound, read], &[all, (counts, AccessKind::Read)]),
         ),
         _ => (false, false),
     }

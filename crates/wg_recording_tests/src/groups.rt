@@ -11,7 +11,7 @@ use wg_types::formats::{Format, SampleType};
 use wg_types::groups::{GroupInfo, GroupLayoutInfo};
 use wg_types::handles::{BufferInfo, Handle, Info, ObjRef};
 use wg_types::items::Items;
-use wg_types::parts::{Aspect, Cells, Kind};
+use wg_types::parts::{AccessKind, Aspect, Cells};
 use wg_types::shared::Shared;
 use wg_types::textures::{AspectWord, TextureDim, TextureInfo, ViewDim, ViewInfo};
 use wg_types::usages::Usages;
@@ -168,7 +168,7 @@ fn touched(alloc: Global, expected: &[Touch]) -> Result<bool, NoMemory> {
     Ok(touches.as_slice() == expected)
 }
 
-type Touch = (Cells, (Usages, Kind));
+type Touch = (Cells, (Usages, AccessKind));
 
 #[test]
 fn groups_touch_what_they_bind(rt: HostRuntime) {
@@ -185,8 +185,8 @@ fn groups_touch_what_they_bind(rt: HostRuntime) {
         hi: 272,
     };
     let expected = [
-        (texels, (Usages::CONSTANT, Kind::Read)),
-        (bytes, (Usages::STORAGE, Kind::Both)),
+        (texels, (Usages::CONSTANT, AccessKind::Read)),
+        (bytes, (Usages::STORAGE, AccessKind::Both)),
     ];
     assert!(rt; touched(rt.alloc(), &expected) == Ok(true));
 }

@@ -11,7 +11,7 @@ use wg_types::formats::Format;
 use wg_types::groups::{GroupInfo, GroupLayoutInfo};
 use wg_types::handles::{BufferInfo, Handle, Info, ObjRef};
 use wg_types::items::Items;
-use wg_types::parts::{Aspect, Cells, Kind, PartRun};
+use wg_types::parts::{AccessKind, Aspect, Cells, PartRun};
 use wg_types::render::{LoadOp, StoreOp};
 use wg_types::shared::Shared;
 use wg_types::steps::{Deed, StepName};
@@ -206,11 +206,11 @@ fn is_pass(deed: &Deed) -> [bool; 3] {
         (PartRun::Buffer { object: 8 }, Usages::CONSTANT),
     ];
     let accesses = [
-        (layer(5, Aspect::Color), Kind::Write),
-        (layer(6, Aspect::Depth), Kind::Drop),
-        (layer(6, Aspect::Stencil), Kind::Read),
-        (bytes(7, 4), Kind::Read),
-        (bytes(8, 0), Kind::Read),
+        (layer(5, Aspect::Color), AccessKind::Write),
+        (layer(6, Aspect::Depth), AccessKind::Drop),
+        (layer(6, Aspect::Stencil), AccessKind::Read),
+        (bytes(7, 4), AccessKind::Read),
+        (bytes(8, 0), AccessKind::Read),
     ];
     [
         deed.name == StepName::RenderPass,

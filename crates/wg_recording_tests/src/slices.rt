@@ -6,7 +6,7 @@ use wg_types::NoMemory;
 use wg_types::formats::Format;
 use wg_types::handles::{Handle, Info, ObjRef};
 use wg_types::items::Items;
-use wg_types::parts::{Cells, Kind};
+use wg_types::parts::{AccessKind, Cells};
 use wg_types::render::{LoadOp, StoreOp};
 use wg_types::textures::{AspectWord, TextureDim, TextureInfo, ViewDim, ViewInfo};
 use wg_types::usages::Usages;
@@ -78,7 +78,7 @@ fn slice(lo: u32, hi: u32) -> Cells {
 fn are_written(alloc: Global) -> Result<bool, NoMemory> {
     let begin = begin(alloc, [Some(1), Some(3)])?;
     let state = RenderState::new(alloc, &begin)?;
-    let how = (Usages::ATTACHMENT, Kind::Write);
+    let how = (Usages::ATTACHMENT, AccessKind::Write);
     Ok(state.touches() == [(slice(1, 2), how), (slice(3, 4), how)].as_slice())
 }
 

@@ -5,7 +5,7 @@ use wg_maps::Maps;
 use wg_scopes::Scope;
 use wg_types::NoMemory;
 use wg_types::mappings::{MapMode, MapState, Mapping, Unmapped};
-use wg_types::parts::{Aspect, Cells, Kind, Part, PartRun};
+use wg_types::parts::{AccessKind, Aspect, Cells, Part, PartRun};
 use wg_types::steps::StepPlace;
 use wg_types::usages::Usages;
 
@@ -67,7 +67,7 @@ fn maps_wait_and_are_kept(rt: HostRuntime) {
 fn host_reads(alloc: Global, mapping: &Mapping, bytes: Cells) -> Result<bool, NoMemory> {
     let step = host_step(alloc, 5, mapping, StepPlace::Host(3))?;
     Ok(match &step {
-        Some(step) => step.accesses.as_slice() == [(bytes, Kind::Read)].as_slice(),
+        Some(step) => step.accesses.as_slice() == [(bytes, AccessKind::Read)].as_slice(),
         None => false,
     })
 }

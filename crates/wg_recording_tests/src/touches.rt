@@ -3,7 +3,7 @@ use std::alloc::Global;
 use wg_access::{bundle_touch, bundle_touches, scope_of};
 use wg_types::NoMemory;
 use wg_types::bundles::{BundleTouch, BundleUse};
-use wg_types::parts::{Cells, Kind, Part};
+use wg_types::parts::{AccessKind, Cells, Part};
 use wg_types::steps::Touch;
 use wg_types::usages::Usages;
 
@@ -19,7 +19,7 @@ const TOUCHES: [Touch; 4] = [
             lo: 4,
             hi: 16,
         },
-        (Usages::CONSTANT, Kind::Read),
+        (Usages::CONSTANT, AccessKind::Read),
     ),
     (
         Cells::Bytes {
@@ -27,7 +27,7 @@ const TOUCHES: [Touch; 4] = [
             lo: 8,
             hi: 8,
         },
-        (Usages::INPUT, Kind::Read),
+        (Usages::INPUT, AccessKind::Read),
     ),
     (
         Cells::Bytes {
@@ -35,7 +35,7 @@ const TOUCHES: [Touch; 4] = [
             lo: 16,
             hi: 20,
         },
-        (Usages::CONSTANT, Kind::Read),
+        (Usages::CONSTANT, AccessKind::Read),
     ),
     (
         Cells::Bytes {
@@ -43,7 +43,7 @@ const TOUCHES: [Touch; 4] = [
             lo: 8,
             hi: 12,
         },
-        (Usages::STORAGE, Kind::Both),
+        (Usages::STORAGE, AccessKind::Both),
     ),
 ];
 
@@ -72,12 +72,12 @@ fn touches_of_bundles_are_printed_by_way_of_use(rt: HostRuntime) {
 #[test]
 fn a_pass_touches_what_its_bundles_touch(rt: HostRuntime) {
     let known = touch(bytes(4, 8, 12), BundleUse::Storage);
-    assert!(rt; bundle_touch(known) == (bytes(4, 8, 12), (Usages::STORAGE, Kind::Both)));
+    assert!(rt; bundle_touch(known) == (bytes(4, 8, 12), (Usages::STORAGE, AccessKind::Both)));
 }
 
 #[test]
 fn a_scope_clashes_where_a_buffer_is_storage_and_constant(rt: HostRuntime) {
-    let storage = (bytes(5, 0, 4), (Usages::STORAGE, Kind::Both));
+    let storage = (bytes(5, 0, 4), (Usages::STORAGE, AccessKind::Both));
     assert!(rt; scope_of(rt.alloc(), &TOUCHES) == Ok(None));
     assert!(rt;
         scope_of(rt.alloc(), &[TOUCHES[0], storage]) == Ok(Some(Part::Buffer { object: 5 }))

@@ -6,8 +6,7 @@ ghost use Rattle.wg_model.specs.Rules.{first_unmet};
 ghost use Rattle.wg_types.specs.declared.commands.CommandOf.TheVariants.{BeginOcclusionQuery};
 ghost use Rattle.wg_model.specs.Vertex.{draw_fits};
 ghost use Rattle.wg_model.specs.Queries.{occlusion_call, occlusion_rules};
-ghost use Rattle.wg_model.specs.Render.{buffers_wanted, are_set, draw_rules, draw_indexed_rules, draw_indirect_rules, draw_indexed_indirect_rules, drawing_rules, render_rules, render_does};
-ghost use Rattle.wg_access.specs.Done.{done_by_pass};
+ghost use Rattle.wg_model.specs.Render.{buffers_wanted, are_set, draw_rules, draw_indexed_rules, draw_indirect_rules, draw_indexed_indirect_rules, drawing_rules, render_rules};
 ghost use Rattle.wg_compute.specs.After.{slots_after, emptied};
 ghost use Rattle.wg_render.specs.After.{render_after};
 
@@ -21,7 +20,6 @@ use crate::touches::{DRAW_BYTES, DRAW_INDEXED_BYTES, command_touches, query_writ
 use crate::views::RenderBegin;
 use std::alloc::Global;
 use std::marker::Model;
-use wg_access::Done;
 use wg_compute::{
     Settings, check_end, check_given, check_group, check_indirect, pipeline_given, unsets,
 };
@@ -31,7 +29,7 @@ use wg_types::NoMemory;
 use wg_types::commands::Command;
 use wg_types::handles::Handle;
 use wg_types::render::TargetInfo;
-use wg_types::steps::{StepName, Touch};
+use wg_types::steps::Touch;
 use wg_types::vertex::IndexFormat;
 
 /// What is set in a render pass or in a bundle: what is set in any pass, the sizes of the ranges that are
@@ -359,25 +357,15 @@ impl RenderState {
         Ok(())
     }
 
-    /// Takes a command no rule of which is unmet, and adds the step of the whole pass to what is done
-    /// where the command ends it. Ranges that end past every number, which such commands don't have, are
-    /// answered as want of memory.
-    #[tactic(auto, unfolding(wg_model::specs::Render::render_does), using(crate::proofs::Grown::after_end, crate::proofs::Grown::after_query_ended))]
-    pub fn take(
-        &mut self,
-        done: &mut Done,
-        alloc: Global,
-        command: &Command,
-    ) -> Result<(), NoMemory>
+    /// Takes a command no rule of which is unmet. Ranges that end past every number, which such commands don't
+    /// have, are answered as want of memory.
+    #[tactic(auto, using(crate::proofs::Grown::after_end, crate::proofs::Grown::after_query_ended))]
+    pub fn take(&mut self, alloc: Global, command: &Command) -> Result<(), NoMemory>
         ensures set { OnOk result (self.new ≡ render_after self.old command.now) }
-        ensures done { OnOk result (done.new ≡ done_by_pass done.old (render_does self.old command.now)) }
         ensures unchanged { OnErr result (self.new ≡ self.old) }
-        ensures none_done { OnErr result (done.new ≡ done.old) }
     {
         match command {
-            Command::End => {
-                return done.add(alloc, StepName::RenderPass, self.touches.as_slice());
-            }
+            Command::End => return Ok(()),
             Command::BeginOcclusionQuery { index } => return self.add_query(*index),
             Command::EndOcclusionQuery => {
                 self.occlusion.note_ended();

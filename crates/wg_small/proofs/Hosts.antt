@@ -6,10 +6,10 @@ use Rattle.wg_types.specs.declared.handles.ObjRef.{ObjRef}
 use Rattle.wg_types.specs.declared.mappings.Mapping.{Mapping}
 use Rattle.wg_types.specs.declared.mappings.MapMode.{MapMode}
 use Rattle.wg_types.specs.declared.mappings.MapMode.TheVariants.{Read as ReadMode, Write as WriteMode}
-use Rattle.wg_types.specs.declared.replies.Reply.{Reply}
-use Rattle.wg_types.specs.declared.replies.Settlement.{Settlement}
-use Rattle.wg_types.specs.declared.replies.How.TheVariants.{Aborted, Rejected}
-use Rattle.wg_types.specs.declared.steps.StepPlace.TheVariants.{Host}
+use Rattle.wg_trace.specs.declared.replies.Reply.{Reply}
+use Rattle.wg_trace.specs.declared.replies.Settlement.{Settlement}
+use Rattle.wg_trace.specs.declared.replies.How.TheVariants.{Aborted, Rejected}
+use Rattle.wg_trace.specs.declared.steps.StepPlace.TheVariants.{Host}
 use Rattle.wg_rows.specs.Rows.{EachRow}
 use Rattle.wg_orders.specs.Steps.{Step}
 use Rattle.wg_model.specs.Touches.{touching}

@@ -5,8 +5,8 @@ use Rattle.std.specs.Map.{lookup}
 use Rattle.std.specs.Option.{option_map_or}
 use Rattle.wg_types.specs.declared.commands.On.{On}
 use Rattle.wg_types.specs.Commands.{Command}
-use Rattle.wg_types.specs.declared.steps.Deed.{Deed}
-use Rattle.wg_types.specs.declared.steps.Used.{Used}
+use Rattle.wg_trace.specs.declared.steps.Deed.{Deed}
+use Rattle.wg_trace.specs.declared.steps.Used.{Used}
 use Rattle.wg_types.specs.declared.handles.ObjRef.{ObjRef}
 use Rattle.wg_model.specs.Walk.{DeedsOf}
 use Rattle.wg_encoder.specs.Recorders.{RecordingValue}
@@ -30,9 +30,11 @@ pub record SpentValue : Type 0 where
 abbrev pub kept_at : List (ℕ × RecordingValue) → ℕ → Option RecordingValue
 kept_at kept n = lookup (nat_eq n) kept
 
+-- the commands of a recording, or none where there is none
 abbrev pub commands_of : Option RecordingValue → List (On × Command)
 commands_of o = option_map_or (λ (recording : RecordingValue). recording.commands) o []
 
+-- what the commands of a recording do, or nothing where there is none
 abbrev pub deeds_of : Option RecordingValue → List Deed
 deeds_of o = option_map_or (λ (recording : RecordingValue). DeedsOf recording.device recording.targets recording.commands) o []
 
@@ -48,18 +50,19 @@ is_spent setup past n = is_consumed setup past n || is_dropped setup past n
 abbrev pub any_spent : Setup → Past → List ObjRef → Bool
 any_spent setup past buffers = list_any (λ buffer. is_spent setup past buffer.number) buffers
 
+-- a recording, or none where it is forgotten
 abbrev pub forgotten : Bool → Option RecordingValue → Option RecordingValue
 forgotten b recording = if b then None else recording
 
--- what is left of the recording of object n
+-- what is left of the recording of object n, of which nothing is once it is spent
 abbrev pub left_at : Setup → Past → ℕ → Option RecordingValue
 left_at setup past n = forgotten (is_spent setup past n) (recording_at past n)
 
--- Of each object that is kept which is left of its recording.
+-- Of each object just that recording is kept which is left of it.
 pub record AreLeft (setup : Setup) (past : Past) (kept : List (ℕ × RecordingValue)) : Type 0 where
   pub each : (n : ℕ) → kept_at kept n ≡ left_at setup past n
 
--- The same is kept of each object.
+-- Two keep the same recording of each object.
 pub record SameKept (old new : List (ℕ × RecordingValue)) : Type 0 where
   pub each : (n : ℕ) → kept_at new n ≡ kept_at old n
 

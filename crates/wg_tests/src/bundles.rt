@@ -16,7 +16,7 @@ use wg_types::commands::{Command, On};
 use wg_types::formats::Format;
 use wg_types::handles::{BufferInfo, Handle};
 use wg_types::items::Items;
-use wg_types::parts::{Aspect, Cells, Kind, PartRun};
+use wg_types::parts::{AccessKind, Aspect, Cells, PartRun};
 use wg_types::render::{LoadOp, RenderDesc, StoreOp, TargetInfo};
 use wg_types::replies::Answer;
 use wg_types::steps::{Item, StepName};
@@ -395,7 +395,7 @@ fn is_pass(item: &Item) -> bool {
     };
     let buffer = PartRun::Buffer { object: 4 };
     let uses = [(texels, Usages::ATTACHMENT), (buffer, Usages::INPUT)];
-    let accesses = [(layer, Kind::Write), (bytes, Kind::Read)];
+    let accesses = [(layer, AccessKind::Write), (bytes, AccessKind::Read)];
     is_step(item, StepName::RenderPass, &uses, &accesses)
 }
 

@@ -12,7 +12,7 @@ use wg_types::commands::{Command, On};
 use wg_types::formats::Format;
 use wg_types::handles::{BufferInfo, Handle, Info, QueriesInfo};
 use wg_types::items::Items;
-use wg_types::parts::{Aspect, Cells, Kind, PartRun};
+use wg_types::parts::{AccessKind, Aspect, Cells, PartRun};
 use wg_types::render::{LoadOp, StoreOp};
 use wg_types::replies::Answer;
 use wg_types::steps::{Item, StepName, StepPlace};
@@ -170,7 +170,7 @@ pub(crate) fn is_step(
     item: &Item,
     name: StepName,
     uses: &[(PartRun, Usages)],
-    accesses: &[(Cells, Kind)],
+    accesses: &[(Cells, AccessKind)],
 ) -> bool {
     match item {
         Item::Step(step) => {
@@ -209,7 +209,7 @@ fn queries(lo: u32, hi: u32) -> Cells {
 /// Whether an item clears the query that the pass does not write.
 fn clears(item: &Item) -> bool {
     let uses = [(SET, Usages::CLEAR)];
-    let accesses = [(queries(0, 1), Kind::Write)];
+    let accesses = [(queries(0, 1), AccessKind::Write)];
     is_step(item, StepName::Clear, &uses, &accesses)
 }
 
@@ -223,7 +223,10 @@ fn writes(item: &Item) -> bool {
         hi: 1,
     };
     let uses = [(TEXELS, Usages::ATTACHMENT), (SET, Usages::QUERY_WRITE)];
-    let accesses = [(texels, Kind::Write), (queries(1, 2), Kind::Write)];
+    let accesses = [
+        (texels, AccessKind::Write),
+        (queries(1, 2), AccessKind::Write),
+    ];
     is_step(item, StepName::RenderPass, &uses, &accesses)
 }
 
@@ -236,7 +239,10 @@ fn reads(item: &Item) -> bool {
     };
     let buffer = PartRun::Buffer { object: 3 };
     let uses = [(SET, Usages::QUERY_READ), (buffer, Usages::COPY_DST)];
-    let accesses = [(queries(0, 2), Kind::Read), (bytes, Kind::Write)];
+    let accesses = [
+        (queries(0, 2), AccessKind::Read),
+        (bytes, AccessKind::Write),
+    ];
     is_step(item, StepName::ResolveQuerySet, &uses, &accesses)
 }
 

@@ -8,6 +8,7 @@ use Rattle.wg_told.specs.declared.flats.FlatLimit.{FlatLimit}
 use Rattle.wg_told.specs.Flats.{every}
 use Rattle.wg_told.specs.Tables.{nth}
 
+-- the limit and the value that a flat limit asks for, if its number is one
 abbrev pub limit_of : FlatLimit → Option (LimitName × ℕ)
 limit_of limit = option_map (λ name. (name, limit.value)) (nth limit_names limit.name)
 

@@ -1,6 +1,4 @@
-use Rattle.std.proofs.Common.{rules}
-use Rattle.wg_types.specs.declared.replies.Verb.TheVariants.{Call}
-use Rattle.wg_types.specs.declared.words.Word.TheVariants.{CreateBuffer}
+use Rattle.std.proofs.Common.{codes, rules}
 use Rattle.wg_print.specs.Entries.{entry_text}
 use Rattle.wg_print.specs.Items.{item_text}
 use Rattle.wg_print.proofs.PrintingLemmas.{◌⨟◌, stops_then, stops_longer, stopped_written, written_at}
@@ -13,7 +11,7 @@ returns g c =
 
 pub returns-in_err-line : goal.returns-in_err-line
 returns-in_err-line g c =
-    let stopped = stops_longer _ _ _ (item_text 0 c.args.only.now) (stops_longer _ _ _ (entry_text 0 0 (Call CreateBuffer) c.args.reply.now) c.in_err-line.ensures.stopped) in
+    let stopped = stops_longer _ _ _ (item_text 0 c.args.only.now) (stops_longer _ _ _ (entry_text 0 0 (codes "createBuffer") c.args.reply.now) c.in_err-line.ensures.stopped) in
     written_at g.W.Sink.taken g.W.Sink.faults _ _ _ _ _ _ (stopped_written _ _ _ _ (search rules) c.new-out.ensures.fresh stopped) (search rules) (search rules)
 
 pub returns-in_err-entry : goal.returns-in_err-entry

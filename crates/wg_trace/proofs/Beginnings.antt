@@ -1,6 +1,6 @@
 -- What a list that is added to begins with.
 use Rattle.std.proofs.Common.{◌≡◌, List, [], ◌∷◌, ◌++◌, sym, ap, ◌∙◌, append_assoc, append-nil}
-use Rattle.wg_types.specs.Added.{BeginsWith}
+use Rattle.wg_trace.specs.Added.{BeginsWith}
 
 module _ {A : Type 0} where
   pub begins_self : (xs : List A) → BeginsWith xs xs

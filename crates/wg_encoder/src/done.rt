@@ -1,21 +1,16 @@
 //! What the kept commands of a recorder have done.
-ghost use Rattle.std.specs.Prelude.{◌≡◌, Some, None, is_some, true, [], map, IfOk, OnOk, OnErr};
-ghost use Rattle.std.specs.List.{filter};
+ghost use Rattle.std.specs.Prelude.{◌≡◌, Some, None, is_some, true, [], OnOk, OnErr};
 ghost use Rattle.std.specs.Option.{option_or};
-ghost use Rattle.wg_types.specs.declared.steps.StepName.{StepName};
-ghost use Rattle.wg_model.specs.Scopes.{clash};
-ghost use Rattle.wg_model.specs.Touches.{use_of, in_scope, scope_in, deed_of, encoder_does};
-ghost use Rattle.wg_access.specs.Done.{done_by_encoder, done_by_pass, done_of};
+ghost use Rattle.wg_model.specs.Touches.{encoder_does};
+ghost use Rattle.wg_encoder.specs.Done.{done_by_encoder, done_by_pass, done_of};
 
-use crate::deeds::encoder_deed;
-use crate::touching::{all_in_scope, deed_of, touches_in_scope, uses_of};
 use std::alloc::Global;
+use wg_access::{deed_of, encoder_deed, scope_clash};
 use wg_cbtrack::CbTrack;
-use wg_scopes::clash_in;
 use wg_types::NoMemory;
 use wg_types::commands::Command;
 use wg_types::parts::Part;
-use wg_types::steps::{Deed, StepName, Touch};
+use wg_types::steps::{StepName, Touch};
 
 /// The finished steps, in order, in a tracker that finds what they add to a trace, and the least clashing
 /// part of the first usage scope that has one (WebGPU, "Usage Scope Validation").
@@ -33,28 +28,6 @@ fn first_part(a: Option<Part>, b: Option<Part>) -> Option<Part>
         return Some(part);
     }
     b
-}
-
-/// The least clashing part of the usage scope of what touches these (WebGPU, "Usage Scope Validation").
-#[tactic(auto, unfolding(wg_model::specs::Scopes::clash))]
-pub fn scope_of(alloc: Global, touches: &[Touch]) -> Result<Option<Part>, NoMemory>
-    ensures { IfOk result (λ found. found ≡ clash (map use_of (filter in_scope touches.now))) }
-{
-    let scoped = touches_in_scope(alloc, touches)?;
-    let uses = uses_of(alloc, scoped.as_slice())?;
-    Ok(clash_in(uses.as_slice()))
-}
-
-/// The least clashing part of the usage scope of a step that does this and touches these. Where nothing of a
-/// query set is touched, the scope has the step's own uses.
-#[tactic(auto, unfolding(wg_model::specs::Scopes::clash), using(crate::proofs::Adding::all_clash))]
-fn scope_clash(alloc: Global, deed: &Deed, touches: &[Touch]) -> Result<Option<Part>, NoMemory>
-    ensures { (name : StepName) → deed.now ≡ deed_of (name, touches.now) → IfOk result (λ found. found ≡ clash (scope_in (name, touches.now))) }
-{
-    if all_in_scope(touches) {
-        return Ok(clash_in(deed.uses.as_slice()));
-    }
-    scope_of(alloc, touches)
 }
 
 impl Done {
