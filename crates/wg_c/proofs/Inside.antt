@@ -1,6 +1,7 @@
 -- What the desk has done, as what lies behind a device shows it.
-use Rattle.std.proofs.Common.{◌≡◌, ℕ, ◌+◌, ◌<◌, ◌≤◌, List, [], ◌∷◌, ◌++◌, Bool, true, false, length, ap, sym, ◌∙◌, subst, append-nil, length-append, arith}
-use Rattle.std.specs.Prelude.{MatchBool}
+use Rattle.std.proofs.Common.{◌≡◌, ℕ, ◌+◌, ◌<◌, ◌≤◌, List, [], ◌∷◌, ◌++◌, Bool, true, false, Some, None, inl, inr, length, ap, sym, ◌∙◌, subst, append-nil, length-append, arith}
+use Rattle.std.specs.Prelude.{MatchBool, slice_get}
+use Rattle.std.proofs.lemmas.Option.{slice_get_within, slice_get_cases}
 use Rattle.wg_types.specs.declared.commands.CommandOf.{CommandOf}
 use Rattle.wg_types.specs.declared.commands.On.{On}
 use Rattle.wg_trace.specs.declared.replies.Reply.{Reply}
@@ -113,12 +114,21 @@ still_waits old new items more told setup history same waits = record {
 }
 
 -- one more was told
-pub next_waits : (setup : Setup) (history : List Entry) (items : List Item) (told : ℕ) → told < length items → AreWaiting setup history items told → AreWaiting setup history items (told + 1)
-next_waits setup history items told less waits = record { first = waits.first; is_end = waits.is_end; within = omega (arith, less) }
+pub next_waits : (setup : Setup) (history : List Entry) (items : List Item) (told : ℕ) (item : Item) → slice_get items told ≡ Some item
+    → AreWaiting setup history items told → AreWaiting setup history items (told + 1)
+next_waits setup history items told item is waits =
+    let less : told < length items = slice_get_within items told item is in
+    record { first = waits.first; is_end = waits.is_end; within = omega (arith, less) }
 
 -- and all were
-pub all_told : (setup : Setup) (history : List Entry) (items : List Item) (told : ℕ) → AreWaiting setup history items told → AreWaiting setup history [] 0
-all_told setup history items told waits = record {
+pub all_told : (setup : Setup) (history : List Entry) (items : List Item) (told : ℕ) → slice_get items told ≡ None → AreWaiting setup history items told → told ≡ length items
+all_told setup history items told none waits = elim (slice_get_cases items told).1 [
+  | inl found ↦ let there : Some found.0 ≡ None = sym found.2 ∙ none in absurd (cc (there))
+  | inr past ↦ let most : length items ≤ told = past.0 in let least : told ≤ length items = waits.within in omega (arith, most, least)
+]
+
+pub none_left : (setup : Setup) (history : List Entry) (items : List Item) (told : ℕ) → AreWaiting setup history items told → AreWaiting setup history [] 0
+none_left setup history items told waits = record {
   first = waits.first ++ items;
   is_end = append-nil (waits.first ++ items) ∙ waits.is_end;
   within = omega arith;

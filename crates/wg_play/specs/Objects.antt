@@ -10,6 +10,7 @@ use Rattle.wg_types.specs.declared.commands.On.TheVariants.{Encoder, Pass}
 use Rattle.wg_types.specs.Commands.{Command, kind_begun}
 use Rattle.wg_encoder.specs.Recorders.{RecorderValue, is_late, recorded}
 use Rattle.wg_calls.specs.Calls.{taken_out}
+use Rattle.wg_calls.specs.Encoders.{recorder_of, is_begun}
 use Rattle.wg_play.specs.declared.objects.Object.{Object}
 use Rattle.wg_play.specs.declared.objects.Object.TheVariants as object
 use Rattle.wg_play.specs.declared.objects.Stand.{Stand}

@@ -12,4 +12,4 @@ pub use laws::{
     bound_calls, genuine_handles, lanes_through, late_calls, played_scripts, presented_textures,
 };
 pub use objects::{Object, Stand, object_of, reference_at, stand_at};
-pub use seen::{Seen, count_made};
+pub use seen::{LaneSight, count_made};

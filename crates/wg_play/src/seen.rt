@@ -14,13 +14,13 @@ use wg_types::handles::Handle;
 /// What a lane sees: what earlier phases made, by their slots, which are those from 0 on; and what it has
 /// made itself, whose slots are those from `first` on.
 #[derive(Drop)]
-pub struct Seen<'a> {
+pub struct LaneSight<'a> {
     pub others: &'a [Object],
     pub first: u32,
     pub own: Vec<Object>,
 }
 
-impl Seen<'_> {
+impl LaneSight<'_> {
     /// The place of a slot among what the lane has made.
     pub fn place(&self, slot: u32) -> u32
         ensures { result ≡ place_in (sight_of self.now) slot }
