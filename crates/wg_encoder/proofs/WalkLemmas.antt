@@ -61,17 +61,6 @@ none_is : (opened : Option PassSoFar) → is_some opened ≡ false → opened �
 none_is None h = refl
 none_is (Some q) h = absurd (cc)
 
--- a command on a locked encoder that begins no pass
-locked : (device : ℕ) (kept : Kept) (opened : PassSoFar) (command : Command) (walk : Walk) → IsWalkOf device kept walk → open_pass kept ≡ Some opened → is_begin command ≡ false → IsWalkOf device ((Encoder, command) ∷ kept) (record walk { verdict = option_or walk.verdict (Some 240) })
-locked device kept opened command walk m e b = record {
-  count = rw b m.count;
-  ended_is = λ n lt. m.ended_is n (rw b at lt);
-  verdict_is = rw e (ap (λ v. option_or v (Some 240)) m.verdict_is);
-  depth_is = rw e m.depth_is;
-  open_is = let o = m.open_is in rw e (rw e at o);
-  done_is = λ v r. let w = or_second (verdict device kept) _ v in absurd (let x = rw e at w in cc);
-}
-
 -- a dead pass: one that is begun on a locked encoder
 dead_begun : (device : ℕ) (kept : Kept) (opened : PassSoFar) (command : Command) (walk : Walk) → IsWalkOf device kept walk → open_pass kept ≡ Some opened → is_begin command ≡ true → IsWalkOf device ((Encoder, command) ∷ kept) (record walk { verdict = option_or walk.verdict (Some 240); ended = walk.ended ++ false ∷ [] })
 dead_begun device kept opened command walk m e b = record {
@@ -82,9 +71,6 @@ dead_begun device kept opened command walk m e b = record {
   open_is = let o = m.open_is in rw e (rw e at o);
   done_is = λ v r. let w = or_second (verdict device kept) _ v in absurd (let x = rw e at w in cc);
 }
-
-pub walk_locked : (device : ℕ) (kept : Kept) (command : Command) (walk : Walk) → IsWalkOf device kept walk → is_some (open_pass kept) ≡ true → is_begin command ≡ false → IsWalkOf device ((Encoder, command) ∷ kept) (record walk { verdict = option_or walk.verdict (Some 240) })
-walk_locked device kept command walk m l b = let q = some_is (open_pass kept) l in locked device kept q.0 command walk m q.1 b
 
 pub walk_dead_begun : (device : ℕ) (kept : Kept) (command : Command) (walk : Walk) → IsWalkOf device kept walk → is_some (open_pass kept) ≡ true → is_begin command ≡ true → IsWalkOf device ((Encoder, command) ∷ kept) (record walk { verdict = option_or walk.verdict (Some 240); ended = walk.ended ++ false ∷ [] })
 walk_dead_begun device kept command walk m l b = let q = some_is (open_pass kept) l in dead_begun device kept q.0 command walk m q.1 b

@@ -5,7 +5,6 @@ ghost use Rattle.wg_types.specs.declared.render.TargetInfo.{TargetInfo};
 ghost use Rattle.wg_model.specs.Scopes.{first_clash};
 ghost use Rattle.wg_model.specs.Settings.{debug_depth};
 ghost use Rattle.wg_model.specs.Walk.{bundle_verdict, bundle_scopes, recorded_touches};
-ghost use Rattle.wg_render.specs.After.{render_after};
 ghost use Rattle.wg_encoder.specs.Walked.{drawn_rule, IsBundleOf};
 
 use crate::named::check_named_on;
