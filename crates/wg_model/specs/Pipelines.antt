@@ -2,6 +2,7 @@
 use Rattle.std.specs.Prelude.{ℕ, Bool, false, ◌&&◌, List, [], ◌∷◌, slice_get}
 use Rattle.std.specs.List.{list_all}
 use Rattle.std.specs.Option.{option_map_or}
+use Rattle.wg_rules.specs.declared.TheConstants.{INTERFACE_FITS_LAYOUT}
 use Rattle.wg_types.specs.Formats.{same_format}
 use Rattle.wg_types.specs.Bindings.{entry_of}
 use Rattle.wg_types.specs.declared.bindings.Stage.{Stage}
@@ -38,4 +39,4 @@ offers layouts used = option_map_or (λ (layout : GroupLayoutInfo). option_map_o
 
 -- createComputePipeline: 160 the layout has each binding that a shader uses, visible to its stage and of the same kind.
 abbrev pub compute_rules : List GroupLayoutInfo → List IfaceEntry → List Rule
-compute_rules layouts iface = (160, list_all (offers layouts) iface) ∷ []
+compute_rules layouts iface = (INTERFACE_FITS_LAYOUT, list_all (offers layouts) iface) ∷ []
