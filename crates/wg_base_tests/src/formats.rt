@@ -34,7 +34,7 @@ fn formats_are_those_of_the_standard(rt: HostRuntime) {
         let row = format.row();
         let StorageAccesses { read_only, write_only, read_write } = row.storage;
         let accesses = (read_only, write_only, read_write);
-        assert!(rt; (row.bytes, row.sampled, accesses) == (bytes, sampled, storage), "{format:?}");
+        assert!(rt; (row.bytes, row.sampled, accesses) == (bytes, sampled, storage));
     }
 }
 
