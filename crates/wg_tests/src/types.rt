@@ -1,8 +1,8 @@
+//! A handle that is shared.
 use std::alloc::Global;
 use std::sync::Arc;
 use wg_types::NoMemory;
 use wg_types::handles::{BufferInfo, Handle, Info, ObjRef};
-use wg_types::items::Items;
 use wg_types::same::Same;
 
 const OBJECT: ObjRef = ObjRef {
@@ -26,21 +26,4 @@ fn shared(alloc: Global) -> Result<(ObjRef, bool, bool), NoMemory> {
 #[test]
 fn a_shared_handle_is_the_same(rt: HostRuntime) {
     assert!(rt; shared(rt.alloc()) == Ok((OBJECT, true, true)));
-}
-
-/// Whether a list of two and its copy have both.
-fn copied(alloc: Global) -> Result<(bool, bool), NoMemory> {
-    let mut items = Items::new(alloc);
-    items.push(3u64)?;
-    items.push(5)?;
-    let copy = items.clone()?;
-    Ok((
-        items.as_slice() == [3, 5].as_slice(),
-        copy.as_slice() == [3, 5].as_slice(),
-    ))
-}
-
-#[test]
-fn a_list_grows_and_is_copied(rt: HostRuntime) {
-    assert!(rt; copied(rt.alloc()) == Ok((true, true)));
 }

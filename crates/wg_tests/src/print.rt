@@ -1,8 +1,5 @@
-ghost use Rattle.std.specs.Prelude.{◌++◌, ◌<◌, codes};
-ghost use Rattle.wg_print.specs.Entries.{entry_text};
-ghost use Rattle.wg_print.specs.Items.{item_text};
-ghost use Rattle.wg_print.specs.Pieces.{line_text};
-ghost use Rattle.wg_print.specs.Printing.{Written};
+//! A report that is printed line by line.
+ghost use Rattle.std.specs.Prelude.{◌<◌};
 
 use std::alloc::Global;
 use wg_io::{Failed, MemSink, Sink};
@@ -15,10 +12,7 @@ use wg_types::steps::Item;
 use wg_types::usages::Usages;
 
 // Prints a report of one entry and one item.
-fn report<W: Sink>(sink: &mut W, reply: &Reply, only: &Item) -> Result<(), Failed>
-    ensures { Written (W.taken sink.old) (W.taken sink.new) (W.faults sink.old) (W.faults sink.new)
-        (line_text (codes "history") ++ entry_text 0 0 (codes "createBuffer") reply.now ++ item_text 0 only.now) result }
-{
+fn report<W: Sink>(sink: &mut W, reply: &Reply, only: &Item) -> Result<(), Failed> {
     let mut out = Out::new(sink);
     line(&mut out, "history")?;
     entry(&mut out, 0, 0, "createBuffer", reply)?;

@@ -1,18 +1,16 @@
-//! The top call, where a source, a sink or a gate is not what the program has. What scripts and words show is for
-//! tests/cases.
-ghost use Rattle.std.specs.Prelude.{◌<◌};
-
+//! The top call under a gate, which holds lanes or counts their calls: that lanes run at once. It reads from memory and
+//! writes there. What scripts and words show is for tests/cases.
 use std::alloc::Global;
 use std::sync::Wait;
 use std::sync::atomic::{AtomicU64, Ordering};
 use std::thread::Threads;
 use wg_io::{MemSink, MemSource};
-use wg_lanes::{Gate, NoGate};
+use wg_lanes::Gate;
 use wg_top::run;
 use wg_types::NoMemory;
 
 /// The words of a command line.
-pub(crate) fn words(alloc: Global, line: &str) -> Result<Vec<String>, NoMemory> {
+fn words(alloc: Global, line: &str) -> Result<Vec<String>, NoMemory> {
     let mut words = Vec::new(alloc);
     for word in line.split_whitespace() {
         words.push(String::from_str(alloc, word)?)?;
@@ -20,92 +18,23 @@ pub(crate) fn words(alloc: Global, line: &str) -> Result<Vec<String>, NoMemory> 
     Ok(words)
 }
 
-/// A source of these bytes in pieces of this size, of whose reads these fail.
-pub(crate) fn source_of(
-    alloc: Global,
-    script: &str,
-    most: usize,
-    fails: &[u64],
-) -> Result<MemSource, NoMemory>
-    requires { 0 < most }
-{
-    let fails = Vec::from_slice(alloc, fails)?;
-    let bytes = Vec::from_slice(alloc, script.as_bytes())?;
-    Ok(MemSource::new(bytes, most, fails))
-}
-
-/// Runs words over a source: the number of the status, and whether a sink with so much room has then this text.
+/// Runs words over these bytes: the number of the status, and whether this text was written.
 fn run_over<T: Wait + Threads + Sync, G: Gate + Sync>(
     rt: &T,
     alloc: Global,
     line: &str,
-    source: &mut MemSource,
-    (room, text): (usize, &str),
+    (script, text): (&str, &str),
     gate: &G,
 ) -> Result<(u8, bool), NoMemory> {
     let words = words(alloc, line)?;
-    let mut sink = MemSink::new(alloc, room, 7, Vec::new(alloc))?;
-    let number = run(rt, alloc, &words, source, &mut sink, gate).number();
+    let bytes = Vec::from_slice(alloc, script.as_bytes())?;
+    let mut source = MemSource::new(bytes, 4096, Vec::new(alloc));
+    let mut sink = MemSink::new(alloc, 2000, 7, Vec::new(alloc))?;
+    let number = run(rt, alloc, &words, &mut source, &mut sink, gate).number();
     Ok((number, sink.taken() == text.as_bytes()))
 }
 
 type Told = Result<(u8, bool), NoMemory>;
-
-/// The same of the word `run` over a script that can be read.
-fn run_script<T: Wait + Threads + Sync, G: Gate + Sync>(
-    rt: &T,
-    alloc: Global,
-    script: &str,
-    text: &str,
-    gate: &G,
-) -> Told {
-    let mut source = source_of(alloc, script, 4096, &[])?;
-    run_over(rt, alloc, "run", &mut source, (2000, text), gate)
-}
-
-const EMPTY: &str = "{\"budget\":0,\"phases\":[]}";
-
-/// A trace of one step, which accesses nothing.
-const TRACE: &str = "trace\nstep 0 op 1 clear\nend\n";
-
-/// What is told of a word where the third read fails, which comes before the end, and where the sink takes so much.
-fn told_of_faults<T: Wait + Threads + Sync>(
-    rt: &T,
-    alloc: Global,
-    word: &str,
-    text: &str,
-    taken: &str,
-) -> Result<[Told; 2], NoMemory> {
-    let mut broken = source_of(alloc, text, 8, &[3])?;
-    let read = run_over(rt, alloc, word, &mut broken, (100, ""), &NoGate);
-    let mut whole = source_of(alloc, text, 4096, &[])?;
-    let written = run_over(rt, alloc, word, &mut whole, (taken.len(), taken), &NoGate);
-    Ok([read, written])
-}
-
-#[test]
-fn faults_of_source_and_sink(rt: HostRuntime) {
-    let wanted = [Ok((4, true)), Ok((5, true))];
-    assert!(rt; told_of_faults(&rt, rt.alloc(), "run", EMPTY, "history\ntr") == Ok(wanted));
-}
-
-#[test]
-fn faults_of_a_check(rt: HostRuntime) {
-    let wanted = [Ok((4, true)), Ok((5, true))];
-    assert!(rt; told_of_faults(&rt, rt.alloc(), "check", TRACE, "agr") == Ok(wanted));
-}
-
-/// What is told of a generated script, where the first read would fail.
-fn told_of_generated<T: Wait + Threads + Sync>(rt: &T, alloc: Global) -> Told {
-    let mut source = source_of(alloc, "", 1, &[1])?;
-    let text = "entries 41 ops 12 faults 0 frees 8\n";
-    run_over(rt, alloc, "gen 2 3", &mut source, (100, text), &NoGate)
-}
-
-#[test]
-fn generated_scripts_are_not_read(rt: HostRuntime) {
-    assert!(rt; told_of_generated(&rt, rt.alloc()) == Ok((0, true)));
-}
 
 /// A submit of what clears a buffer, and at once its destroy, in two lanes.
 const RACE: &str =
@@ -148,7 +77,7 @@ fn held<T: Wait + Threads + Sync>(rt: &T, alloc: Global, held: u32, text: &str) 
         passed: AtomicU64::new(0),
         given_up: AtomicU64::new(0),
     };
-    let told = run_script(rt, alloc, RACE, text, &gate);
+    let told = run_over(rt, alloc, "run", (RACE, text), &gate);
     (told, gate.given_up.load(Ordering::SeqCst))
 }
 
@@ -238,8 +167,7 @@ fn counted<T: Wait + Threads + Sync>(
         fourth: AtomicU64::new(0),
         wrong: AtomicU64::new(0),
     };
-    let mut source = source_of(alloc, script, 4096, &[])?;
-    let (number, _) = run_over(rt, alloc, line, &mut source, (2000, ""), &gate)?;
+    let (number, _) = run_over(rt, alloc, line, (script, ""), &gate)?;
     let before = gate.before.load(Ordering::SeqCst);
     let after = gate.after.load(Ordering::SeqCst);
     Ok((number, [before, after, gate.wrong.load(Ordering::SeqCst)]))

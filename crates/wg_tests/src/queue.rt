@@ -1,3 +1,4 @@
+//! What waits for operations, and what of it is due.
 use std::alloc::Global;
 use wg_queue::Queue;
 use wg_types::NoMemory;
@@ -42,9 +43,4 @@ fn completions(alloc: Global) -> [bool; 3] {
 #[test]
 fn only_what_was_issued_is_completed(rt: HostRuntime) {
     assert!(rt; completions(rt.alloc()) == [false, true, false]);
-}
-
-#[test]
-fn room_is_made(rt: HostRuntime) {
-    assert!(rt; Queue::new(rt.alloc()).reserve(2) == Ok(()));
 }

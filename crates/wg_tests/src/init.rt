@@ -1,3 +1,4 @@
+//! Set cells, noted step by step.
 use std::alloc::Global;
 use wg_init::{CellRow, CellState};
 use wg_types::NoMemory;

@@ -1,3 +1,4 @@
+//! Last uses, noted step by step, with the barriers before each.
 use bitflags::Flags;
 use std::alloc::Global;
 use wg_bars::LastUse;
