@@ -7,6 +7,7 @@
 - docs/map.md, how many files name a call: by a search. A file names a call where the name of its variant, as `CopyTextureToTexture`,
   stands in it as a word. Files are those of `src` and `specs` of all crates but those of tests and the one that measures memory.
 - docs/script.md, what is refused: by docs/rules.json.
+- docs/map.md, what a crate stands on, where its cell lists that and says no more: by crates.txt.
 """
 
 import argparse
@@ -17,6 +18,7 @@ import re
 import sys
 
 TOP = pathlib.Path(__file__).resolve().parent.parent
+STANDS_ON = re.compile(r"^(\| `(wg_\w+)` \| .* \| )(?:(?:`\w+`(?:, )?)+|nothing) \|$", re.M)
 CALLS = (
     "copyTextureToTexture",
     "setBindGroup",
@@ -66,6 +68,23 @@ def refusals_table(top):
 TABLES = (("docs/map.md", "calls", calls_table), ("docs/script.md", "refusals", refusals_table))
 
 
+def used(top):
+    """What each crate uses, by crates.txt."""
+    rows = [line for line in (top / "crates.txt").read_text(encoding="utf-8").splitlines() if line and not line.startswith("#")]
+    return {row.partition(":")[0].split()[0]: row.partition(":")[2].split() for row in rows}
+
+
+def stood_on(top, text):
+    """A text in whose rows of crates the last cell has what the crate uses."""
+    known = used(top)
+
+    def row(found):
+        libraries = ", ".join(f"`{library}`" for library in known.get(found[2], [])) or "nothing"
+        return f"{found[1]}{libraries} |"
+
+    return STANDS_ON.sub(row, text)
+
+
 def page(top, name, mark, table):
     """A page with its table as that should be, or None where its marks are missing."""
     text = (top / name).read_text(encoding="utf-8")
@@ -73,7 +92,7 @@ def page(top, name, mark, table):
     if text.count(begin) != 1 or text.count(end) != 1:
         return None
     lines = "\n".join(table(top))
-    return f"{text.partition(begin)[0]}{begin}\n\n{lines}\n\n{end}{text.partition(end)[2]}"
+    return stood_on(top, f"{text.partition(begin)[0]}{begin}\n\n{lines}\n\n{end}{text.partition(end)[2]}")
 
 
 def write(top):
@@ -90,7 +109,7 @@ def findings_of(top):
         if wanted is None:
             found.append(f"{name}: the marks of the table `{mark}` are not in it")
         elif wanted != (top / name).read_text(encoding="utf-8"):
-            found.append(f"{name}: the table `{mark}` is not what `tools/tables.py --write` writes")
+            found.append(f"{name}: its tables are not what `tools/tables.py --write` writes")
     return found
 
 

@@ -12,7 +12,6 @@ LONGEST = 300
 # What tests/tool reads as one line.
 ONE_LINE = ("`on` names an encoder; a bundle encoder in ",)
 LEAST_SENTENCE = 60
-STANDS_ON = re.compile(r"\| `(wg_\w+)` \| .* \| ((?:`\w+`(?:, )?)+) \|$")
 HEADING = re.compile(r"^#{1,6} (.*)$", re.M)
 INNER = re.compile(r"\]\(#([^)]+)\)")
 SHOWN = re.compile(r"^```.*?^```", re.M | re.S)
@@ -69,21 +68,6 @@ def check_tables(top, crates, findings):
     findings.extend(tool(top, "tables").findings_of(top))
 
 
-def stood_on(top):
-    """What each crate uses, by crates.txt."""
-    rows = [line for line in (top / "crates.txt").read_text(encoding="utf-8").splitlines() if line and not line.startswith("#")]
-    return {row.partition(":")[0].split()[0]: row.partition(":")[2].split() for row in rows}
-
-
-def check_stands(top, crates, findings):
-    """Where the map lists what a crate stands on, that is what crates.txt has."""
-    used = stood_on(top)
-    for line in (top / "docs/map.md").read_text(encoding="utf-8").splitlines():
-        row = STANDS_ON.match(line)
-        if row and re.findall(r"\w+", row[2]) != used.get(row[1]):
-            findings.append(f"docs/map.md: {row[1]} does not stand on just {row[2]}")
-
-
 def folders_of(tree):
     """The paths that a drawn tree has, by how far its lines are indented."""
     above, found = [], []
@@ -137,7 +121,6 @@ CHECKS = (
     check_contents,
     check_definitions,
     check_tables,
-    check_stands,
     check_folders,
     check_sentences,
     check_version,

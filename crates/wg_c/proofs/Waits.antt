@@ -7,11 +7,6 @@ use Rattle.std.specs.List.{flat_map}
 use Rattle.wg_trace.specs.declared.replies.Settlement.{Settlement}
 use Rattle.wg_c.specs.Waits.{all_of}
 
--- those of one more list come last
-pub all_of-append : (lists : List (List Settlement)) (more : List Settlement) → all_of (lists ++ more ∷ []) ≡ all_of lists ++ more
-all_of-append [] more = append-nil more
-all_of-append (x ∷ xs) more = ap (λ ys. x ++ ys) (all_of-append xs more) ∙ sym (append_assoc x (all_of xs) more)
-
 drop_suc : (xs : List Settlement) (n : ℕ) (x : Settlement) → slice_get xs n ≡ Some x → drop n xs ≡ x ∷ drop (suc n) xs
 drop_suc [] n x e = cc
 drop_suc (y ∷ xs) zero x e = let p : y ≡ x = cc in ap (λ z. z ∷ xs) p

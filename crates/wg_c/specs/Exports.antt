@@ -1,5 +1,5 @@
 -- What the exports do, by the status that they return: 0 OK, 1 NO_MEMORY, 2 NO_OBJECT, 3 CLOSED, 4 BAD_VALUE, 5 NO_PASS, 6 END, 7 IS_OPEN.
-use Rattle.std.specs.Prelude.{◌≡◌, ℕ, ◌+◌, ◌||◌, nat_eq, Bool, true, false, List, [], slice_get, Option, Some, None, is_none, option_map, option_and_then, MatchBool, MatchOption}
+use Rattle.std.specs.Prelude.{◌≡◌, ℕ, ◌+◌, ◌||◌, nat_eq, true, [], slice_get, Option, Some, None, is_none, option_map, option_and_then, MatchBool, MatchOption}
 use Rattle.wg_types.specs.declared.commands.CommandOf.{CommandOf}
 use Rattle.wg_types.specs.declared.commands.On.{On}
 use Rattle.wg_types.specs.declared.limits.Limits.{Limits}
@@ -116,7 +116,7 @@ Closes (Some a) new status = (status ≡ 0) × (new ≡ None)
 -- The next item was told, or all were and the list is emptied.
 abbrev pub TellsItem : ToldItem → ToldItem → ℕ → InnerValue → InnerValue → Type 0
 TellsItem before after status old new =
-    MatchOption (slice_get old.items old.told) ((status ≡ 6) × (new ≡ record old { items = []; told = 0 }) × (after ≡ before))
+    MatchOption (slice_get old.items old.told) ((status ≡ 6) × (old.told ≡ length old.items) × (new ≡ record old { items = []; told = 0 }) × (after ≡ before))
     (λ item. (status ≡ 0) × (new ≡ record old { told = old.told + 1 }) × (after ≡ item_told item))
 
 -- What a call for the next item of the trace tells.

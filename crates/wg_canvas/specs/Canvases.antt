@@ -47,16 +47,6 @@ texture_at (Filled setting texture) = Some texture
 abbrev pub texture_of : CanvasValue → Option HandleValue
 texture_of canvas = texture_at canvas.stage
 
--- what it was configured with, if it was
-abbrev pub setting_at : Stage → Option Setting
-setting_at Unset = None
-setting_at (Empty setting) = Some setting
-setting_at (Filled setting texture) = Some setting
-
--- the format and usage with which a canvas is configured, if it is
-abbrev pub setting_of : CanvasValue → Option Setting
-setting_of canvas = setting_at canvas.stage
-
 -- what the texture of a canvas is made with: 2D, of the canvas's extent, with one layer, one mip level and one sample, and the
 -- format and usage with which it was configured last
 abbrev pub info_of : CanvasValue → Setting → TextureInfo

@@ -85,10 +85,6 @@ finish_genuine setup history targets encoder recording = record {
       genuine_finish setup (record { who = who; event = finish_event targets encoder recording; reply = reply }) (reverse history) targets encoder recording handle refl replied made;
 }
 
--- A late command makes nothing.
-pub late_genuine : (setup : Setup) (history : List Entry) (encoder : ObjRef) → MakesGenuine setup history (Late encoder) None
-late_genuine setup history encoder = record { making = refl; genuine = λ who reply handle replied made. absurd (cc (made)) }
-
 -- The end of an encoder hands over its recording.
 pub is_handed_over : (targets : Option TargetInfo) (encoder : ObjRef) (recording : RecordingValue) → handed_over (finish_event targets encoder recording) ≡ Some recording
 is_handed_over None encoder recording = refl

@@ -1,14 +1,12 @@
 -- What is kept of objects, by their numbers.
-use Rattle.std.specs.Prelude.{◌≡◌, ℕ, nat_lt, not, Bool, true, false, List, length, reverse, slice_get, slice_set, Option, Some, None, IfSome, is_none, unwrap_or, option_map, option_and_then}
+use Rattle.std.specs.Prelude.{◌≡◌, ℕ, not, Bool, true, false, List, length, reverse, slice_get, slice_set, Option, Some, None, IfSome, is_none, unwrap_or, option_map, option_and_then}
 use Rattle.std.specs.List.{list_any}
 use Rattle.std.specs.Option.{option_map_or}
 use Rattle.wg_types.specs.Handles.{HandleValue}
 use Rattle.wg_types.specs.Commands.{Command}
-use Rattle.wg_types.specs.declared.handles.ObjRef.{ObjRef}
 use Rattle.wg_types.specs.declared.handles.Info.{Info}
 use Rattle.wg_types.specs.declared.handles.Info.TheVariants as info
 use Rattle.wg_types.specs.declared.commands.On.{On}
-use Rattle.wg_types.specs.declared.commands.On.TheVariants.{Encoder, Pass}
 use Rattle.wg_trace.specs.declared.replies.Answer.{Answer}
 use Rattle.wg_types.specs.declared.wanted.Wanted.{Wanted}
 use Rattle.wg_encoder.specs.Recorders.{RecorderValue, is_late, recorded}
@@ -16,7 +14,8 @@ use Rattle.wg_history.specs.declared.events.Setup.{Setup}
 use Rattle.wg_history.specs.Entries.{Entry}
 use Rattle.wg_history.specs.Objects.{count}
 use Rattle.wg_history.specs.Rules.{is_genuine}
-use Rattle.wg_calls.specs.Calls.{handle_of, opened_for, opened_with}
+use Rattle.wg_calls.specs.Calls.{handle_of}
+use Rattle.wg_calls.specs.Encoders.{recorder_of, is_begun}
 use Rattle.wg_desk.specs.declared.seats.Seat.{Seat}
 
 -- the handle at a number, until its object is dropped
@@ -47,14 +46,9 @@ any_missing seats useds = list_any (is_missing seats) useds
 abbrev pub passes_at : List Seat → ℕ → ℕ
 passes_at seats n = option_map_or (λ recorder. recorder.passes) (recorder_at seats n) 0
 
--- whether a command stands on a pass that was not begun
-abbrev pub is_beyond : On → ℕ → Bool
-is_beyond Encoder passes = false
-is_beyond (Pass pass) passes = not (nat_lt pass passes)
-
 -- whether a command stands on a pass that was not begun on the encoder of a number, which is open
 abbrev pub is_unbegun : List Seat → ℕ → On → Bool
-is_unbegun seats n on = option_map_or (λ recorder. is_beyond on recorder.passes) (recorder_at seats n) false
+is_unbegun seats n on = option_map_or (λ recorder. not (is_begun on recorder.passes)) (recorder_at seats n) false
 
 -- A command is late where its encoder is not open, or its pass has ended.
 abbrev pub is_late_at : List Seat → ℕ → On → Bool
@@ -96,26 +90,9 @@ emptied seat = record { handle = None; recorder = None }
 abbrev pub emptied_at : List Seat → ℕ → List Seat
 emptied_at seats n = changed_at seats n emptied
 
--- the recorder of a new object, if it is an encoder: one that is open for it and has kept nothing
-abbrev pub recorder_by : ObjRef → Info → Option RecorderValue
-recorder_by reference info.Encoder = Some (opened_for reference)
-recorder_by reference (info.BundleEncoder targets) = Some (opened_with targets reference)
-recorder_by reference (info.Buffer known) = None
-recorder_by reference (info.Texture known) = None
-recorder_by reference (info.View known) = None
-recorder_by reference (info.Sampler known) = None
-recorder_by reference (info.GroupLayout known) = None
-recorder_by reference (info.PipelineLayout known) = None
-recorder_by reference (info.Group known) = None
-recorder_by reference (info.Compute known) = None
-recorder_by reference (info.Render known) = None
-recorder_by reference (info.Queries known) = None
-recorder_by reference info.CommandBuffer = None
-recorder_by reference (info.Bundle known) = None
-
 -- what is kept of an object that was made
 abbrev pub seat_of : HandleValue → Seat
-seat_of handle = record { handle = Some handle; recorder = recorder_by handle.reference handle.info }
+seat_of handle = record { handle = Some handle; recorder = recorder_of handle.reference handle.info }
 
 -- what is kept of what an answer made, of which so much is known
 abbrev pub seat_made : ℕ → Option Info → Answer → Option Seat

@@ -12,38 +12,9 @@ use Rattle.wg_encoder.specs.Recorders.{RecorderValue, RecordingValue}
 use Rattle.wg_history.specs.declared.events.Event.{Event}
 use Rattle.wg_history.specs.declared.events.Event.TheVariants as event
 use Rattle.wg_calls.specs.Calls.{event_asked, info_asked, finish_of, known_of_finish}
+use Rattle.wg_calls.specs.Encoders.{ended_by}
 use Rattle.wg_desk.specs.declared.seats.Seat.{Seat}
 use Rattle.wg_desk.specs.Seats.{found_at, recorder_at, closed_at, emptied_at, seat_made}
-
--- the encoder that a call ends, if it ends one
-abbrev pub ended_by : RequestOf ℕ → Option ℕ
-ended_by (Finish encoder) = Some encoder
-ended_by (FinishBundle encoder) = Some encoder
-ended_by (CreateBuffer known) = None
-ended_by (CreateTexture known) = None
-ended_by (CreateView texture asked) = None
-ended_by (CreateSampler known) = None
-ended_by (CreateBindGroupLayout entries) = None
-ended_by (CreatePipelineLayout layouts) = None
-ended_by (CreateBindGroup layout entries) = None
-ended_by (CreateComputePipeline layout iface) = None
-ended_by (CreateRenderPipeline layout desc) = None
-ended_by (GetBindGroupLayout pipeline index) = None
-ended_by (CreateQuerySet known) = None
-ended_by CreateEncoder = None
-ended_by (CreateBundleEncoder targets) = None
-ended_by (Submit buffers) = None
-ended_by (WriteBuffer buffer offset size) = None
-ended_by (WriteTexture texture spot layout size data_size) = None
-ended_by (Destroy object) = None
-ended_by (Drop object) = None
-ended_by (Complete op) = None
-ended_by (PushErrorScope filter) = None
-ended_by PopErrorScope = None
-ended_by Lose = None
-ended_by WorkDone = None
-ended_by (MapAsync buffer mode offset size) = None
-ended_by (Unmap buffer) = None
 
 -- the object that a call drops, if it drops one
 abbrev pub dropped_by : RequestOf ℕ → Option ℕ

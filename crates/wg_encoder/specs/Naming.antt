@@ -12,7 +12,7 @@ use Rattle.wg_encoder.specs.declared.naming.Named.{Named}
 -- What is kept of one command is the resources that it uses and the numbers of the objects that it names.
 pub record IsNamedBy (command : Command) (one : Named) : Type 0 where
   pub uses : one.uses.items ≡ uses_in (named command)
-  pub objects : one.objects.items ≡ map (λ (object : HandleValue × Wanted). object.0.reference.number) (named command)
+  pub objects : one.objects.items ≡ map (λ (object : HandleValue × Wanted). object.0.reference) (named command)
 
 -- There is room for so many more.
 pub record HasRoomFor (naming : Naming) (one : Named) : Type 0 where

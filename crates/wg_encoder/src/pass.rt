@@ -1,5 +1,5 @@
 //! One pass: its state, in place of a walk over its commands.
-ghost use Rattle.std.specs.Prelude.{◌≡◌, ◌∷◌, [], ℕ, List, true, IfOk, OnOk, OnErr};
+ghost use Rattle.std.specs.Prelude.{◌≡◌, [], List, true, IfOk, OnOk, OnErr};
 ghost use Rattle.wg_types.specs.Commands.{Command, is_begin};
 ghost use Rattle.wg_model.specs.Compute.{compute_does};
 ghost use Rattle.wg_model.specs.Render.{render_does};

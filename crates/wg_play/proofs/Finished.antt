@@ -22,7 +22,8 @@ use Rattle.wg_names.specs.Uses.{made_of}
 use Rattle.wg_names.specs.Bound.{made_by, made_in, CallIsBound, LaneIsBound}
 use Rattle.wg_play.specs.declared.objects.Object.{Object}
 use Rattle.wg_play.specs.declared.objects.Object.TheVariants as object
-use Rattle.wg_play.specs.Objects.{recorder_at, ended_by}
+use Rattle.wg_calls.specs.Encoders.{ended_by}
+use Rattle.wg_play.specs.Objects.{recorder_at}
 use Rattle.wg_play.specs.Sights.{Sight, place_in}
 use Rattle.wg_play.specs.Found.{is_pass, has_recorder, StandsAt}
 use Rattle.wg_play.specs.Late.{Answered, Answers, IsAnswered, after_call, after_calls, finishes}

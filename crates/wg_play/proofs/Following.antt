@@ -24,7 +24,8 @@ use Rattle.wg_names.specs.Uses.{made_as, made_of}
 use Rattle.wg_play.specs.declared.objects.Object.{Object}
 use Rattle.wg_play.specs.Canvases.{given_by}
 use Rattle.wg_play.specs.Found.{CanvasIsSeen}
-use Rattle.wg_play.specs.Objects.{recorder_at, is_late_on, taken_on, ended_by, object_of}
+use Rattle.wg_calls.specs.Encoders.{ended_by}
+use Rattle.wg_play.specs.Objects.{recorder_at, is_late_on, taken_on, object_of}
 use Rattle.wg_play.specs.Sights.{Sight, place_in, handle_in_sight}
 use Rattle.wg_play.specs.Lanes.{canvas_asks, drawn, command_seen, stand_seen, noted_on, finish_known, request_seen, info_sent, with_handle, handle_known, handle_kept}
 use Rattle.wg_play.specs.Late.{Answers, is_made, after_call}

@@ -34,7 +34,8 @@ use Rattle.wg_play.specs.declared.objects.Object.{Object}
 use Rattle.wg_play.specs.declared.objects.Object.TheVariants as object
 use Rattle.wg_play.specs.declared.objects.Stand.{Stand}
 use Rattle.wg_play.specs.Canvases.{canvas_at, redrawn, with_canvas, asked_at, given_by, acted_at, shown_at}
-use Rattle.wg_play.specs.Objects.{unknown, handle_in, changed, with_recorder, recorded_by, recorded_on, begun_by, ended_by, object_of}
+use Rattle.wg_calls.specs.Encoders.{ended_by}
+use Rattle.wg_play.specs.Objects.{unknown, handle_in, changed, with_recorder, recorded_by, recorded_on, begun_by, object_of}
 use Rattle.wg_play.specs.Sights.{Sight, place_in}
 use Rattle.wg_play.specs.Lanes.{kept, canvas_asks, new_canvas, drawn, command_seen, stand_seen, info_sent, handle_known, handle_kept, count_made, gathered}
 use Rattle.wg_play.specs.Late.{is_made, Answers, Answered, IsAnswered, after_call, after_calls}

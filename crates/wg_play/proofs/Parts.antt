@@ -23,14 +23,6 @@ part_of n front part old new es before now grown =
     (ap (λ o. o ++ made_by n part) (sym before) ∙ (sym (filter-append (λ e. e.who == n) front part) ∙ (now ∙ grown)))
 
 module _ {W : Type 0} (next : W → Option Event) (after : W → Reply → W) where
-  -- by the lanes' numbers
-  pub all_give : (n : ℕ) (ws : List W) (part : List Entry) → ((i : ℕ) (w : W) → lane_at next after ws i ≡ Some w → Gives next after w (made_by (n + i) part)) → AllGive next after n ws part
-  all_give n [] part f = tt
-  all_give n (w ∷ ws) part f =
-      let zero_is : n + 0 ≡ n = omega arith in (
-        subst (λ k. Gives next after w (made_by k part)) zero_is (f 0 w refl),
-        all_give (suc n) ws part (λ i u at. let e : n + suc i ≡ suc n + i = omega arith in subst (λ k. Gives next after u (made_by k part)) e (f (suc i) u at)),
-      )
 
 module _ (setup : Setup) where
   -- one phase more

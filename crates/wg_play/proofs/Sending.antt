@@ -27,7 +27,8 @@ use Rattle.wg_script.specs.declared.calls.CallOf.TheVariants.{Record, Ask, Canva
 use Rattle.wg_names.specs.Bound.{IsFound, CallIsBound}
 use Rattle.wg_play.specs.declared.objects.Object.{Object}
 use Rattle.wg_play.specs.declared.objects.Object.TheVariants as object
-use Rattle.wg_play.specs.Objects.{unknown, handle_in, recorder_in, reference_at, recorder_at, ended_by}
+use Rattle.wg_calls.specs.Encoders.{ended_by}
+use Rattle.wg_play.specs.Objects.{unknown, handle_in, recorder_in, reference_at, recorder_at}
 use Rattle.wg_play.specs.Sights.{Sight, place_in, handle_in_sight}
 use Rattle.wg_play.specs.Lanes.{finish_by, finish_known, request_seen, event_sent, info_sent}
 use Rattle.wg_play.specs.Found.{is_pass, has_recorder, IsOpenAs, IsOf, StandsAt, CanvasIsSeen}

@@ -16,7 +16,8 @@ use Rattle.wg_script.specs.CallOf.{BoundCall}
 use Rattle.wg_script.specs.declared.calls.CallOf.TheVariants.{Record, Ask, Canvas}
 use Rattle.wg_play.specs.declared.objects.Object.{Object}
 use Rattle.wg_play.specs.Canvases.{given_by}
-use Rattle.wg_play.specs.Objects.{ended_by, object_of}
+use Rattle.wg_calls.specs.Encoders.{ended_by}
+use Rattle.wg_play.specs.Objects.{object_of}
 use Rattle.wg_play.specs.Sights.{Sight, place_in}
 use Rattle.wg_play.specs.Lanes.{canvas_asks, command_seen, stand_seen, handle_kept}
 use Rattle.wg_play.specs.Late.{after_call, after_calls}

@@ -29,7 +29,8 @@ use Rattle.wg_names.specs.Uses.{wants_own}
 use Rattle.wg_play.specs.declared.objects.Object.{Object}
 use Rattle.wg_play.specs.declared.objects.Object.TheVariants as object
 use Rattle.wg_play.specs.Canvases.{canvas_at}
-use Rattle.wg_play.specs.Objects.{handle_in, reference_at, recorder_at, ended_by}
+use Rattle.wg_calls.specs.Encoders.{ended_by}
+use Rattle.wg_play.specs.Objects.{handle_in, reference_at, recorder_at}
 use Rattle.wg_play.specs.Sights.{Sight, place_in, handle_in_sight}
 use Rattle.wg_play.specs.Lanes.{Lane, stand_seen, request_seen, event_sent, info_sent, count_made, gathered}
 use Rattle.wg_play.specs.Late.{Answered, IsAnswered, after_calls, slots_before}

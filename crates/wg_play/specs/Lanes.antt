@@ -24,7 +24,8 @@ use Rattle.wg_play.specs.declared.objects.Object.{Object}
 use Rattle.wg_play.specs.declared.objects.Object.TheVariants as object
 use Rattle.wg_play.specs.declared.objects.Stand.{Stand}
 use Rattle.wg_play.specs.Canvases.{asked_at, given_by, acted_at, shown_at}
-use Rattle.wg_play.specs.Objects.{unknown, reference_at, recorder_at, stand_at, is_late_on, recorded_on, begun_by, taken_on, ended_by, object_of}
+use Rattle.wg_calls.specs.Encoders.{ended_by}
+use Rattle.wg_play.specs.Objects.{unknown, reference_at, recorder_at, stand_at, is_late_on, recorded_on, begun_by, taken_on, object_of}
 use Rattle.wg_play.specs.Sights.{Sight, place_in, handle_in_sight, with_more}
 
 -- ---- recording calls

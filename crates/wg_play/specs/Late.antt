@@ -16,7 +16,8 @@ use Rattle.wg_names.specs.Bound.{made_in, IsBound}
 use Rattle.wg_names.specs.Uses.{made_of}
 use Rattle.wg_play.specs.declared.objects.Object.{Object}
 use Rattle.wg_play.specs.declared.objects.Stand.{Stand}
-use Rattle.wg_play.specs.Objects.{recorder_at, ended_by, is_late_on}
+use Rattle.wg_calls.specs.Encoders.{ended_by}
+use Rattle.wg_play.specs.Objects.{recorder_at, is_late_on}
 use Rattle.wg_play.specs.Sights.{Sight}
 use Rattle.wg_play.specs.Lanes.{stand_seen, kept, answered_by}
 

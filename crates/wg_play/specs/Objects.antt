@@ -1,18 +1,16 @@
 -- What the calls of a lane have made, each at its place, from 0 on. An encoder is one of either kind, a command encoder or a bundle
 -- encoder, which has no passes.
-use Rattle.std.specs.Prelude.{ℕ, nat_lt, not, ◌||◌, List, [], ◌∷◌, Option, Some, None, option_and_then, option_map, slice_get, slice_set, if◌then◌else◌, Bool, true, false, unwrap_or}
+use Rattle.std.specs.Prelude.{ℕ, not, ◌||◌, List, [], ◌∷◌, Option, None, option_and_then, option_map, slice_get, slice_set, if◌then◌else◌, Bool, true, false, unwrap_or}
 use Rattle.std.specs.Option.{option_map_or}
 use Rattle.wg_types.specs.Handles.{HandleValue}
 use Rattle.wg_types.specs.declared.handles.ObjRef.{ObjRef}
-use Rattle.wg_types.specs.declared.handles.Info.{Info}
 use Rattle.wg_types.specs.declared.handles.Info.TheVariants as info
 use Rattle.wg_types.specs.declared.commands.On.{On}
 use Rattle.wg_types.specs.declared.commands.On.TheVariants.{Encoder, Pass}
 use Rattle.wg_types.specs.Commands.{Command, kind_begun}
-use Rattle.wg_types.specs.declared.requests.RequestOf.{RequestOf}
-use Rattle.wg_types.specs.declared.requests.RequestOf.TheVariants.{CreateBuffer, CreateTexture, CreateView, CreateSampler, CreateBindGroupLayout, CreatePipelineLayout, CreateBindGroup, CreateComputePipeline, CreateRenderPipeline, GetBindGroupLayout, CreateQuerySet, CreateEncoder, CreateBundleEncoder, Finish, FinishBundle, Submit, WriteBuffer, WriteTexture, Destroy, Drop, Complete, PushErrorScope, PopErrorScope, Lose, WorkDone, MapAsync, Unmap}
 use Rattle.wg_encoder.specs.Recorders.{RecorderValue, is_late, recorded}
-use Rattle.wg_calls.specs.Calls.{opened_for, opened_with, taken_out}
+use Rattle.wg_calls.specs.Calls.{taken_out}
+use Rattle.wg_calls.specs.Encoders.{recorder_of, is_begun}
 use Rattle.wg_play.specs.declared.objects.Object.{Object}
 use Rattle.wg_play.specs.declared.objects.Object.TheVariants as object
 use Rattle.wg_play.specs.declared.objects.Stand.{Stand}
@@ -70,12 +68,8 @@ stand_in place (object.Shown texture) = record { encoder = place; on = Encoder }
 abbrev pub stand_at : List Object → ℕ → Stand
 stand_at objects place = option_map_or (stand_in place) (slice_get objects place) (record { encoder = place; on = Encoder })
 
--- A recorder has begun each pass that a script names, so that the other case is not met.
-abbrev pub is_begun : On → ℕ → Bool
-is_begun Encoder passes = true
-is_begun (Pass number) passes = nat_lt number passes
-
--- a recording call is late where its encoder's recorder says so
+-- A recording call is late where its encoder's recorder says so. This has begun each pass that a script names, so that the other case
+-- is not met.
 abbrev pub is_late_by : On → RecorderValue → Bool
 is_late_by on recorder = not (is_begun on recorder.passes) || is_late recorder on
 
@@ -103,53 +97,6 @@ begun_by objects encoder command made = option_map_or (λ slot. option_map_or (�
 abbrev pub taken_on : List Object → ℕ → List Object
 taken_on objects place = with_recorder objects place taken_out
 
--- the encoder that a call of the device ends, if it ends one
-abbrev pub ended_by : RequestOf ℕ → Option ℕ
-ended_by (Finish encoder) = Some encoder
-ended_by (FinishBundle encoder) = Some encoder
-ended_by (CreateBuffer known) = None
-ended_by (CreateTexture known) = None
-ended_by (CreateView texture asked) = None
-ended_by (CreateSampler known) = None
-ended_by (CreateBindGroupLayout entries) = None
-ended_by (CreatePipelineLayout layouts) = None
-ended_by (CreateBindGroup layout entries) = None
-ended_by (CreateComputePipeline layout iface) = None
-ended_by (CreateRenderPipeline layout desc) = None
-ended_by (GetBindGroupLayout pipeline index) = None
-ended_by (CreateQuerySet known) = None
-ended_by CreateEncoder = None
-ended_by (CreateBundleEncoder targets) = None
-ended_by (Submit buffers) = None
-ended_by (WriteBuffer buffer offset size) = None
-ended_by (WriteTexture texture spot layout size data_size) = None
-ended_by (Destroy object) = None
-ended_by (Drop object) = None
-ended_by (Complete op) = None
-ended_by (PushErrorScope filter) = None
-ended_by PopErrorScope = None
-ended_by Lose = None
-ended_by WorkDone = None
-ended_by (MapAsync buffer mode offset size) = None
-ended_by (Unmap buffer) = None
-
--- the recorder of an object that was made, if it is an encoder; that of a bundle encoder has its targets
-abbrev pub recorder_for : ObjRef → Info → Option RecorderValue
-recorder_for encoder info.Encoder = Some (opened_for encoder)
-recorder_for encoder (info.BundleEncoder targets) = Some (opened_with targets encoder)
-recorder_for encoder (info.Buffer known) = None
-recorder_for encoder (info.Texture known) = None
-recorder_for encoder (info.View known) = None
-recorder_for encoder (info.Sampler known) = None
-recorder_for encoder (info.GroupLayout known) = None
-recorder_for encoder (info.PipelineLayout known) = None
-recorder_for encoder (info.Group known) = None
-recorder_for encoder (info.Compute known) = None
-recorder_for encoder (info.Render known) = None
-recorder_for encoder (info.Queries known) = None
-recorder_for encoder info.CommandBuffer = None
-recorder_for encoder (info.Bundle known) = None
-
 -- an object that was made, an encoder with a recorder that has kept nothing
 abbrev pub object_of : HandleValue → Object
-object_of handle = object.Made handle (recorder_for handle.reference handle.info)
+object_of handle = object.Made handle (recorder_of handle.reference handle.info)

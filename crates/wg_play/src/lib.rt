@@ -7,9 +7,9 @@ mod laws;
 mod objects;
 mod seen;
 
-pub use calls::{command_of, ended_by, note_command, request_of};
+pub use calls::{command_of, note_command, request_of};
 pub use laws::{
     bound_calls, genuine_handles, lanes_through, late_calls, played_scripts, presented_textures,
 };
 pub use objects::{Object, Stand, object_of, reference_at, stand_at};
-pub use seen::{Seen, count_made};
+pub use seen::{LaneSight, count_made};

@@ -8,7 +8,7 @@ use Rattle.wg_device.specs.Fronts.{Lock, DevicePass, setup_of, front_in, IsSound
 use Rattle.wg_types.specs.Handles.{HandleValue}
 use Rattle.wg_types.specs.declared.handles.Info.{Info}
 use Rattle.wg_script.specs.CallOf.{BoundCall}
-use Rattle.wg_play.specs.declared.seen.Seen.{Seen}
+use Rattle.wg_play.specs.declared.seen.LaneSight.{LaneSight}
 use Rattle.wg_play.specs.Sights.{Sight, sight_of}
 use Rattle.wg_play.specs.Lanes.{Lane, handle_known, event_of, answered_by, kept, settle, next_event, after_reply}
 
@@ -47,7 +47,7 @@ HasPlayed serial sight sight_after call made made_after =
     HasSent serial sight sight_after call made made_after ⊎ HasKept sight sight_after call made made_after
 
 -- A call was played with a pass of a device, by a lane that saw the one and then the other.
-abbrev pub HasPlayedBy : Lock → Seen → Seen → BoundCall → DevicePass → DevicePass → Type 0
+abbrev pub HasPlayedBy : Lock → LaneSight → LaneSight → BoundCall → DevicePass → DevicePass → Type 0
 HasPlayedBy lock seen seen_after call old new = HasPlayed (setup_of lock).serial (sight_of seen) (sight_of seen_after) call (own_of old) (own_of new)
 
 -- From one moment to another a pass saw more, and its own entries grew by those that take the one lane to the other.

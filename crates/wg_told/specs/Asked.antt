@@ -1,6 +1,6 @@
 -- Which calls and commands the arguments of the header stand for, over the numbers of objects. With a value out of its range they
 -- stand for none.
-use Rattle.std.specs.Prelude.{ℕ, List, Option, Some, None, option_map, option_and_then}
+use Rattle.std.specs.Prelude.{ℕ, List, Option, option_map, option_and_then}
 use Rattle.wg_types.specs.declared.requests.RequestOf.{RequestOf}
 use Rattle.wg_types.specs.declared.requests.RequestOf.TheVariants as request
 use Rattle.wg_types.specs.declared.commands.CommandOf.{CommandOf}

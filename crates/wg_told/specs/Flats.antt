@@ -1,5 +1,5 @@
 -- What the flat structs of the header stand for. One that has a value out of its range stands for nothing.
-use Rattle.std.specs.Prelude.{ℕ, ◌+◌, nat_eq, nat_lt, Bool, true, false, not, List, [], ◌∷◌, length, Option, Some, None, option_map, option_and_then, if◌then◌else◌}
+use Rattle.std.specs.Prelude.{ℕ, ◌+◌, nat_eq, nat_lt, List, [], ◌∷◌, length, Option, Some, None, option_map, option_and_then, if◌then◌else◌}
 use Rattle.std.specs.List.{filter, list_all}
 use Rattle.wg_types.specs.declared.bindings.BindingKind.{BindingKind}
 use Rattle.wg_types.specs.declared.bindings.BindingKind.TheVariants as kind
