@@ -16,7 +16,7 @@ import textwrap
 
 TOP = pathlib.Path(__file__).resolve().parent.parent
 sys.dont_write_bytecode = True
-sys.path.insert(0, str(TOP / "tests/repository.d"))
+sys.path.insert(0, str(TOP / "tests/repository"))
 
 import cited  # noqa: E402
 

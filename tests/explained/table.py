@@ -114,7 +114,7 @@ def findings(known):
     rows = [(one["call"], row) for part in table["parts"] if "calls" in part for one in part["calls"] for row in one["rules"]]
     pairs = sorted({(number, word) for word, row in rows for number in row["rules"] if can_be_unmet(number, word)})
     have = {(case.rule, case.call) for case in cases() if not case.is_refused}
-    found = [f"tools/causes: rule {number} has no cause" for number in sorted({number for number, _ in pairs} - set(known))]
+    found = [f"tools/wgsim/causes: rule {number} has no cause" for number in sorted({number for number, _ in pairs} - set(known))]
     for number, word in pairs:
         if (number, word) not in have and not (word == "*" and any(rule == number for rule, _ in have)):
             found.append(f"tests/explained: rule {number} of {word} has no case")
