@@ -128,16 +128,20 @@ place_fits place = moved_range_fits place.moved place.resource
 abbrev pub most_groups : ℕ
 most_groups = 4
 
+-- of what each dynamic offset is a multiple
+abbrev pub offset_alignment : ℕ
+offset_alignment = 256
+
 abbrev pub offset_rules : Option GroupInfo → List ℕ → List Rule
 offset_rules None offsets = []
 offset_rules (Some group) offsets =
     (326, length offsets == dynamics group.layout_info.entries)
-    ∷ ((327, list_all (λ offset. offset % 256 == 0) offsets)
+    ∷ ((327, list_all (λ offset. offset % offset_alignment == 0) offsets)
     ∷ ((328, list_all place_fits (places_in group offsets))
     ∷ []))
 
 -- setBindGroup (WebGPU, "setBindGroup"): 325 the index is one that a device has; 326 there are as many offsets as dynamic
--- bindings; 327 each is a multiple of 256; 328 each bound range, moved by its offset, fits its buffer.
+-- bindings; 327 each is a multiple of `offset_alignment`; 328 each bound range, moved by its offset, fits its buffer.
 unfoldable pub set_rules : ℕ → Option GroupInfo → List ℕ → List Rule
 set_rules index group offsets = (325, nat_lt index most_groups) ∷ offset_rules group offsets
 
