@@ -1,7 +1,7 @@
 //! How large the numbers in the traces of histories are. The laws are the contracts of functions that do nothing.
 #![tactic(auto)]
 
-ghost use Rattle.wg_small.specs.Limits.{MappingsAreWithinLimits, ObjectsAreWithinLimits, RangesOfRecordings, ReadsBackByRecordings};
+ghost use Rattle.wg_small.specs.Limits.{MappingsAreWithinLimits, ObjectsAreWithinLimits, RangesOfRecordings, ReadsBackByRecordings, RecordersGoByLimits};
 ghost use Rattle.wg_small.specs.Small.{NumbersAreWithin, RangesOfSteps, ReadsBackByRanges};
 
 /// The operations, entries and objects in the trace of a history whose replies are the right ones are numbered within its
@@ -25,4 +25,10 @@ pub fn objects_are_within_limits()
 pub fn ranges_are_small()
     ensures steps { RangesOfRecordings }
     ensures read { ReadsBackByRecordings }
+{}
+
+/// The numbers by which the commands of recorders go, which know no device, are the limits of every device that has those which
+/// no script changes as they are by default.
+pub fn recorders_go_by_limits()
+    ensures { RecordersGoByLimits }
 {}
