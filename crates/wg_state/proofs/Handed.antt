@@ -1,7 +1,7 @@
 -- The recordings that are handed out were kept, and no submit is accepted of them any more.
 use Rattle.std.proofs.Common.{◌≡◌, ℕ, ◌+◌, ◌<◌, List, [], ◌∷◌, ◌++◌, take, length, get_or, reverse, Bool, true, false, ◌&&◌, ◌||◌, ◌==◌, Option, Some, None, option_to_list, inl, inr, refl, ap, ap₂, sym, ◌∙◌, append-nil, append_assoc, true≢false}
 use Rattle.std.specs.List.{list_any, AllByRecursion}
-use Rattle.std.proofs.lemmas.Bool.{cases_lt, eqb-refl}
+use Rattle.std.proofs.lemmas.Bool.{cases_lt, eq-eqb}
 use Rattle.std.proofs.lemmas.List.{take_more}
 use Rattle.std.proofs.lemmas.List.Folds.{list_any-append}
 use Rattle.wg_types.specs.declared.handles.ObjRef.{ObjRef}
@@ -42,7 +42,7 @@ handed_one k kept old new e = by_kept (kept_at kept k) refl e
   where
     by_kept : (o : Option RecordingValue) → kept_at kept k ≡ o → new ≡ old ++ option_to_list o → HandsOut (λ n. k == n) kept old new
     by_kept None k_is e = record { more = []; is = e; each = tt }
-    by_kept (Some recording) k_is e = record { more = recording ∷ []; is = e; each = ((k, (eqb-refl k, k_is)), tt) }
+    by_kept (Some recording) k_is e = record { more = recording ∷ []; is = e; each = ((k, (eq-eqb k k refl, k_is)), tt) }
 
 handed_as : (f g : ℕ → Bool) (kept : Kept) (old new : Recordings) → ((n : ℕ) → f n ≡ true → g n ≡ true) → HandsOut f kept old new → HandsOut g kept old new
 handed_as f g kept old new same handed = record {
@@ -82,7 +82,7 @@ pub handed_more : (test : ObjRef → ℕ → Bool) (xs : List ObjRef) (i : ℕ) 
     → HandsOut (λ n. list_any (λ y. test y n) (take (i + 1) xs)) kept old new
 handed_more test xs i d kept mid old between new lt forgets first second =
     handed_as (λ n. list_any (λ y. test y n) (take i xs) || test (get_or xs i d) n) (λ n. list_any (λ y. test y n) (take (i + 1) xs)) kept old new
-    (λ n h. sym (ap (list_any (λ y. test y n)) (take_more xs i d lt)) ∙ (list_any-append (λ y. test y n) (take i xs) (get_or xs i d ∷ []) ∙ (ap (λ b. list_any (λ y. test y n) (take i xs) || b) (or_no (test (get_or xs i d) n)) ∙ h)))
+    (λ n h. ap (list_any (λ y. test y n)) (take_more xs i d lt) ∙ (list_any-append (λ y. test y n) (take i xs) (get_or xs i d ∷ []) ∙ (ap (λ b. list_any (λ y. test y n) (take i xs) || b) (or_no (test (get_or xs i d) n)) ∙ h)))
     (handed_then (λ n. list_any (λ y. test y n) (take i xs)) (test (get_or xs i d)) kept mid old between new forgets first second)
   where
     or_no : (b : Bool) → (b || false) ≡ b
