@@ -1,6 +1,6 @@
-use Rattle.wg_ranged.proofs.recordings_are_small.Goals as goal
-use Rattle.wg_ranged.proofs.History.{recordings_are_small}
-use Rattle.wg_ranged.proofs.Texts.{steps_are_small, reads_back_by_counts, reads_back_by_length}
+use Rattle.wg_small.proofs.recordings_are_small.Goals as goal
+use Rattle.wg_small.proofs.RangedHistory.{recordings_are_small}
+use Rattle.wg_small.proofs.Texts.{steps_are_small, reads_back_by_counts, reads_back_by_length}
 
 pub returns-clause-recordings : goal.returns-clause-recordings
 returns-clause-recordings _ setup history run best fixed = recordings_are_small setup history run best fixed

@@ -17,9 +17,9 @@ use Rattle.wg_model.specs.Subresources.{copied_cells, has_no_texel}
 use Rattle.wg_model.specs.TexelCopies.{required, bytes_fit, bytes_in, whole_spot, spot_fits}
 use Rattle.wg_model.specs.Touches.{Doing, unless, copy_src_usage, copy_dst_usage, target_kind, copied_to, copied_from, layout_bytes, encoder_does}
 use Rattle.wg_model.specs.Walk.{encoder_gives}
-use Rattle.wg_ranged.proofs.Known.{IsSmallHandle, buffer_small, texture_small, queries_small}
-use Rattle.wg_ranged.proofs.Bound.{AreSmallTouches, mapped_small, both_touched}
-use Rattle.wg_ranged.proofs.Meeting.{none_met, IsSmallCommand}
+use Rattle.wg_small.proofs.Known.{IsSmallHandle, buffer_small, texture_small, queries_small}
+use Rattle.wg_small.proofs.Bound.{AreSmallTouches, mapped_small, both_touched}
+use Rattle.wg_small.proofs.Meeting.{none_met, IsSmallCommand}
 
 -- a step of small ranges
 abbrev pub IsSmallDoing : Doing → Type 0

@@ -10,7 +10,7 @@ use Rattle.wg_rows.specs.Rows.{EachRow}
 use Rattle.wg_model.specs.Rules.{Rule, first_unmet, AreMet}
 use Rattle.wg_model.specs.Commands.{common_rules}
 use Rattle.wg_model.proofs.Unmet.{all_met}
-use Rattle.wg_ranged.proofs.Known.{IsSmallHandle}
+use Rattle.wg_small.proofs.Known.{IsSmallHandle}
 
 pub none_met : (rules : List Rule) → first_unmet rules ≡ None → AreMet rules
 none_met rules e = all_met rules (ap is_none e)

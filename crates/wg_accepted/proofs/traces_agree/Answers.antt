@@ -1,5 +1,5 @@
-use Rattle.wg_judged.proofs.traces_agree.Goals as goal
-use Rattle.wg_judged.proofs.Agreeing.{seen_as_printed, none_differs, verdict_is_none}
+use Rattle.wg_accepted.proofs.traces_agree.Goals as goal
+use Rattle.wg_accepted.proofs.Agreeing.{seen_as_printed, none_differs, verdict_is_none}
 
 pub returns-clause-seen : goal.returns-clause-seen
 returns-clause-seen _ setup history c order is keeps = seen_as_printed setup history c order is keeps

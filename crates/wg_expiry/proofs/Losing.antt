@@ -28,7 +28,7 @@ use Rattle.wg_history.specs.Releases.{freed}
 use Rattle.wg_history.specs.Traces.{Trace}
 use Rattle.wg_history.proofs.Awaiting.{awaiting_lost}
 use Rattle.wg_history.proofs.Goes.{trace_goes_on}
-use Rattle.wg_lost.specs.Lost.{AddsGroups, AddsReleases, IsLostReply, host_writes, LostReplies, LostWritesBack, FaultyReleases}
+use Rattle.wg_expiry.specs.Lost.{AddsGroups, AddsReleases, IsLostReply, host_writes, LostReplies, LostWritesBack, FaultyReleases}
 
 -- ---- answers
 

@@ -23,7 +23,7 @@ use Rattle.wg_model.specs.Bound.{Place, group_in, known_group, moved_by, place_o
 use Rattle.wg_model.specs.Settings.{unsets, slot_after, group_given, group_set, groups_set}
 use Rattle.wg_model.proofs.StepLaws.{each_joined}
 use Rattle.wg_small.specs.Small.{HaveSmallRange}
-use Rattle.wg_ranged.proofs.Known.{AreSmall, IsSmallBound, AreSmallEntries, IsSmallInfo, IsSmallHandle, view_small}
+use Rattle.wg_small.proofs.Known.{AreSmall, IsSmallBound, AreSmallEntries, IsSmallInfo, IsSmallHandle, view_small}
 
 -- touches of small ranges
 abbrev pub IsSmallTouch : Touch → Type 0

@@ -24,11 +24,11 @@ use Rattle.wg_small.specs.Small.{IsSmallRange, HaveSmallRange, HasSmallRanges}
 use Rattle.wg_small.proofs.Doings.{TouchHas, doing_has}
 use Rattle.wg_small.proofs.Ranges.{ranges, ranges_closed}
 use Rattle.wg_small.proofs.Stepped.{ranges_told}
-use Rattle.wg_ranged.proofs.Known.{AreSmallTouched}
-use Rattle.wg_ranged.proofs.Bound.{AreSmallTouches}
-use Rattle.wg_ranged.proofs.Meeting.{IsSmallCommand, AreSmallCommands}
-use Rattle.wg_ranged.proofs.Copies.{IsSmallDoing}
-use Rattle.wg_ranged.proofs.Passes.{bundle_over_small}
+use Rattle.wg_small.proofs.Known.{AreSmallTouched}
+use Rattle.wg_small.proofs.Bound.{AreSmallTouches}
+use Rattle.wg_small.proofs.Meeting.{IsSmallCommand, AreSmallCommands}
+use Rattle.wg_small.proofs.Copies.{IsSmallDoing}
+use Rattle.wg_small.proofs.Passes.{bundle_over_small}
 
 -- what is touched, part and cells
 part_small : (run : Cells) → HaveSmallRange run → IsSmallRange (run_part run)

@@ -38,11 +38,11 @@ use Rattle.wg_model.specs.Settings.{pipeline_given}
 use Rattle.wg_model.specs.Walk.{begun_rule, compute_rule, render_rule, rule_in, pass_rule, bundle_rule, bundle_verdict, pass_does}
 use Rattle.wg_shaped.proofs.Recorded.{each_parts}
 use Rattle.wg_small.specs.Small.{HaveSmallRange}
-use Rattle.wg_ranged.proofs.Known.{AreSmall, AreSmallTouched, IsSmallInfo, IsSmallHandle, queries_small, attached_small, attachment_small}
-use Rattle.wg_ranged.proofs.Bound.{IsSmallTouch, AreSmallTouches, mapped_small, both_touched, IsGivenSmall, AreSetSmall, given_small, more_set, bound_small, touched_places}
+use Rattle.wg_small.proofs.Known.{AreSmall, AreSmallTouched, IsSmallInfo, IsSmallHandle, queries_small, attached_small, attachment_small}
+use Rattle.wg_small.proofs.Bound.{IsSmallTouch, AreSmallTouches, mapped_small, both_touched, IsGivenSmall, AreSetSmall, given_small, more_set, bound_small, touched_places}
 use Rattle.wg_shaped.proofs.Walked.{or_none}
-use Rattle.wg_ranged.proofs.Meeting.{none_met, met_front, met_behind, AreSmallNamed, IsSmallCommand, AreSmallCommands, AreValid, all_valid, command_valid}
-use Rattle.wg_ranged.proofs.Copies.{IsDoneSmall, range_small}
+use Rattle.wg_small.proofs.Meeting.{none_met, met_front, met_behind, AreSmallNamed, IsSmallCommand, AreSmallCommands, AreValid, all_valid, command_valid}
+use Rattle.wg_small.proofs.Copies.{IsDoneSmall, range_small}
 
 -- what is set in a compute pass
 given_met : (command : Command) → IsSmallCommand command → AreMet (given_rules (group_given command)) → IsGivenSmall (group_given command)

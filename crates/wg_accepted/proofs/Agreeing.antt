@@ -10,7 +10,7 @@ use Rattle.wg_history.specs.declared.events.Setup.{Setup}
 use Rattle.wg_history.specs.Entries.{Past}
 use Rattle.wg_history.specs.Traces.{Trace, works}
 use Rattle.wg_history.proofs.Every.{trace_works, steps_works, all_declared}
-use Rattle.wg_judged.specs.Agreeing.{SeenAsPrinted, NoneDiffers, VerdictIsNone}
+use Rattle.wg_accepted.specs.Agreeing.{SeenAsPrinted, NoneDiffers, VerdictIsNone}
 
 declared : (setup : Setup) (past : Past) → AreDeclared (works setup past)
 declared setup past k s e = all_declared setup past k s (ap (λ xs. slice_get xs k) (sym (steps_works setup past)) ∙ e)

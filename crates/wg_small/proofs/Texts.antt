@@ -17,8 +17,8 @@ use Rattle.wg_readback.specs.Printable.{step_count}
 use Rattle.wg_readback.specs.Texts.{Told, numbered, told_after, told_line, entries_text, step_after, items_text, history_text}
 use Rattle.wg_shaped.specs.Reports.{told, report_text}
 use Rattle.wg_small.proofs.Stepped.{ranges_of_recordings, reads_back_by_recordings}
-use Rattle.wg_ranged.specs.Ranged.{StepsAreSmall, ReadsBackByCounts, ReadsBackByLength}
-use Rattle.wg_ranged.proofs.History.{recordings_are_small}
+use Rattle.wg_small.specs.Ranged.{StepsAreSmall, ReadsBackByCounts, ReadsBackByLength}
+use Rattle.wg_small.proofs.RangedHistory.{recordings_are_small}
 
 -- a text behind another
 first_length : (xs ys : List ℕ) → length xs ≤ length (xs ++ ys)

@@ -48,12 +48,12 @@ use Rattle.wg_shaped.proofs.Walked.{EachKept, Does, walked, each_done, kept_reve
 use Rattle.wg_small.specs.Small.{HasSmallRanges}
 use Rattle.wg_small.specs.Limits.{RecordsSmallRanges}
 use Rattle.wg_small.proofs.Limited.{made_known}
-use Rattle.wg_ranged.specs.Ranged.{RecordingsAreSmall}
-use Rattle.wg_ranged.proofs.Known.{IsSmallTexture, AreSmallEntries, IsSmallInfo, IsSmallHandle, small_texture, no_texture_small}
-use Rattle.wg_ranged.proofs.Meeting.{AreSmallNamed, IsSmallCommand}
-use Rattle.wg_ranged.proofs.Copies.{IsSmallDoing, encoder_small}
-use Rattle.wg_ranged.proofs.Passes.{pass_does_small}
-use Rattle.wg_ranged.proofs.Bundled.{none_is, step_small, bundle_of_small}
+use Rattle.wg_small.specs.Ranged.{RecordingsAreSmall}
+use Rattle.wg_small.proofs.Known.{IsSmallTexture, AreSmallEntries, IsSmallInfo, IsSmallHandle, small_texture, no_texture_small}
+use Rattle.wg_small.proofs.Meeting.{AreSmallNamed, IsSmallCommand}
+use Rattle.wg_small.proofs.Copies.{IsSmallDoing, encoder_small}
+use Rattle.wg_small.proofs.Passes.{pass_does_small}
+use Rattle.wg_small.proofs.Bundled.{none_is, step_small, bundle_of_small}
 
 -- What is known of valid objects is small.
 abbrev AllSmall : Past → Type 0
