@@ -439,8 +439,8 @@ uint32_t wethlorn_open(uint64_t budget, uint64_t serial, const wethlorn_limit *l
     wethlorn_device *device);
 
 /* Closes a device, with all that it has. Items and settlements that were not told are lost. Status: OK,
- * CLOSED. Owner: the memory behind the device is given back, and it is {0} afterwards. Thread: any, one at
- * a time, under the caller's lock. */
+ * CLOSED. Owner: the memory behind the device is given back, which no clause says, and it is {0} afterwards,
+ * which one says. Thread: any, one at a time, under the caller's lock. */
 uint32_t wethlorn_close(wethlorn_device *device);
 
 /* ---- What is made. `who` is any number that the caller gives itself: it stands in the history alone. ---- */

@@ -1,6 +1,6 @@
 -- The reports of scripts are accepted where traces are checked.
 use Rattle.std.specs.Prelude.{◌≡◌, ℕ, ◌≤◌, List, length, Ok}
-use Rattle.wg_types.specs.declared.steps.Item.{Item}
+use Rattle.wg_trace.specs.declared.steps.Item.{Item}
 use Rattle.wg_limits.specs.Limits.{AreNoBetter, HaveFixed}
 use Rattle.wg_io.specs.Exchange.{Taking}
 use Rattle.wg_readtrace.specs.Reading.{trace_in}
@@ -24,8 +24,8 @@ pub record IsAccepted (text : List ℕ) (trace : List Item) : Type 0 where
   pub read : trace_in text ≡ Ok trace
   pub agrees : (taking : Taking) (checked : Checked) → Answers text taking checked → HasAnswered checked → checked ≡ Agrees
 
--- So is the report of a script that was read and of any history of its device whose replies are the right ones, as its trace, if it
--- has no more bytes than a text that is checked.
+-- The report of a script that was read and of any history of its device whose replies are the right ones is read as its trace,
+-- and agrees where it is checked, if it has no more bytes than a text that is checked.
 abbrev pub ReportsAreAccepted : Type 0
 ReportsAreAccepted =
     (bytes : List ℕ) (script : Script) (history : List Entry)

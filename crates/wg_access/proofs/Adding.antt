@@ -1,8 +1,8 @@
 -- The usage scope of a step of a pass.
 use Rattle.std.proofs.Common.{◌≡◌, List, [], ◌∷◌, map, Bool, true, false, ◌&&◌, if◌then◌else◌, true≢false, refl, ap, sym, ◌∙◌}
 use Rattle.std.specs.List.{filter, list_all}
-use Rattle.wg_types.specs.declared.steps.StepName.{StepName}
-use Rattle.wg_types.specs.declared.steps.Deed.{Deed}
+use Rattle.wg_trace.specs.declared.steps.StepName.{StepName}
+use Rattle.wg_trace.specs.declared.steps.Deed.{Deed}
 use Rattle.wg_rows.specs.Sets.{sets}
 use Rattle.wg_model.specs.Touches.{Touch, use_of, in_scope, scope_in, deed_of}
 use Rattle.wg_model.specs.Scopes.{clash, clash_in}

@@ -10,19 +10,19 @@ use std::alloc::Global;
 use wg_types::NoMemory;
 use wg_types::bundles::{BundleTouch, BundleUse};
 use wg_types::items::Items;
-use wg_types::parts::{Cells, Kind, PartRun};
+use wg_types::parts::{AccessKind, Cells, PartRun};
 use wg_types::steps::{Deed, StepName, Touch, Touches};
 use wg_types::usages::Usages;
 
 /// How a bundle that uses cells so uses the parts that they lie in, and how it accesses them.
-fn bundle_how(used: BundleUse) -> (Usages, Kind)
+fn bundle_how(used: BundleUse) -> (Usages, AccessKind)
     ensures { result ≡ bundle_how used }
 {
     match used {
-        BundleUse::Input => (Usages::INPUT, Kind::Read),
-        BundleUse::Constant => (Usages::CONSTANT, Kind::Read),
-        BundleUse::StorageRead => (Usages::STORAGE_READ, Kind::Read),
-        BundleUse::Storage => (Usages::STORAGE, Kind::Both),
+        BundleUse::Input => (Usages::INPUT, AccessKind::Read),
+        BundleUse::Constant => (Usages::CONSTANT, AccessKind::Read),
+        BundleUse::StorageRead => (Usages::STORAGE_READ, AccessKind::Read),
+        BundleUse::Storage => (Usages::STORAGE, AccessKind::Both),
     }
 }
 
@@ -106,7 +106,7 @@ fn push_parts(
 fn push_cells(
     found: &mut Items<BundleTouch>,
     used: BundleUse,
-    accesses: &[(Cells, Kind)],
+    accesses: &[(Cells, AccessKind)],
 ) -> Result<(), NoMemory>
     ensures { OnOk result (found.new ≡ found.old ++ map (cells_touched used) accesses.now) }
 {

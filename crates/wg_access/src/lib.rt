@@ -4,7 +4,7 @@
 
 mod bundled;
 mod deeds;
-mod done;
+mod scopes;
 mod touches;
 mod touching;
 
@@ -16,7 +16,7 @@ ghost use Rattle.wg_access.specs.Ranges.{IsInRange};
 
 pub use bundled::{bundle_touch, bundle_touches};
 pub use deeds::encoder_deed;
-pub use done::{Done, scope_of};
+pub use scopes::{scope_clash, scope_of};
 use std::alloc::Global;
 use touches::{copied_to, range_touches};
 pub use touching::deed_of;
@@ -24,9 +24,10 @@ use wg_formats::has_no_texel;
 use wg_types::NoMemory;
 use wg_types::items::Items;
 use wg_types::mappings::{MapMode, Mapping};
-use wg_types::parts::{Cells, Kind};
-use wg_types::steps::{Deed, QueueWrite, Step, StepName, StepPlace, Touches};
+use wg_types::parts::{AccessKind, Cells};
+use wg_types::steps::{Deed, Step, StepName, StepPlace, Touches};
 use wg_types::usages::Usages;
+use wg_types::writes::QueueWrite;
 
 /// The step that touches these, of which there is one.
 fn one_step(
@@ -115,12 +116,12 @@ fn host_usage(mode: MapMode) -> Usages
 
 /// How the host accesses the bytes of a mapping. One for writing shows what the buffer had, and gives
 /// it back whole.
-fn host_kind(mode: MapMode) -> Kind
+fn host_kind(mode: MapMode) -> AccessKind
     ensures { result ≡ host_kind mode }
 {
     match mode {
-        MapMode::Read => Kind::Read,
-        MapMode::Write => Kind::Both,
+        MapMode::Read => AccessKind::Read,
+        MapMode::Write => AccessKind::Both,
     }
 }
 

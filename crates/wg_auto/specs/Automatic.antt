@@ -38,14 +38,15 @@ pub record AreLeast (iface : List IfaceEntry) (layouts : List GroupLayoutInfo) :
   pub in_order : (group : ℕ) → ascends_from 0 (entries_at layouts group) ≡ true
   pub entries : (group binding : ℕ) → of_binding binding (entries_at layouts group) ≡ entries_for binding (uses_of group binding iface)
 
--- Among the entries of its group one has its binding, its kind, and at least the stages that it has.
+-- Among the entries of its group one has its binding, is of the same use, and has at least the stages that it has.
 pub record IsCovered (others : List GroupLayoutInfo) (group binding : ℕ) (entry : LayoutEntry) : Type 0 where
   pub other : LayoutEntry
   pub there : entry_of (entries_at others group) binding ≡ Some other
   pub kind : same_use other.kind entry.kind ≡ true
   pub stages : bit_or other.visibility entry.visibility ≡ other.visibility
 
--- Other layouts have each entry of these, seen by at least as many stages.
+-- For the entry of each binding of each group other layouts have one of that group and binding, of the same use, whose
+-- visibility has all its stages; of several entries of a binding the first counts.
 abbrev pub AreCovered : List GroupLayoutInfo → List GroupLayoutInfo → Type 0
 AreCovered others layouts =
     (group binding : ℕ) (entry : LayoutEntry) → entry_of (entries_at layouts group) binding ≡ Some entry → IsCovered others group binding entry

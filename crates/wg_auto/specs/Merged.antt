@@ -1,4 +1,4 @@
--- What merging answers.
+-- What merging answers (WebGPU, "Default pipeline layout").
 use Rattle.std.specs.Prelude.{◌≡◌, true, false, List}
 use Rattle.std.specs.List.{list_all}
 use Rattle.wg_types.specs.declared.bindings.IfaceEntry.{IfaceEntry}

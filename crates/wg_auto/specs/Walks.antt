@@ -46,6 +46,6 @@ entries_from group (Some entry) (used ∷ uses) =
 abbrev pub layout_from : ℕ → List IfaceEntry → GroupLayoutInfo
 layout_from group uses = record { entries = entries_from group None uses; exclusive = None; pipeline = None }
 
--- The same uses of each place.
+-- Two interfaces have the same uses of each binding of each group.
 abbrev pub SameUses : List IfaceEntry → List IfaceEntry → Type 0
 SameUses a b = (group binding : ℕ) → uses_of group binding a ≡ uses_of group binding b

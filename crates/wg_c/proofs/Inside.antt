@@ -1,18 +1,24 @@
 -- What the desk has done, as what lies behind a device shows it.
-use Rattle.std.proofs.Common.{◌≡◌, ℕ, ◌++◌, Bool, true, false, length, refl, sym, subst}
-use Rattle.std.specs.Prelude.{MatchBool, is_some, Option, Some, None}
+use Rattle.std.proofs.Common.{◌≡◌, ℕ, ◌+◌, List, [], ◌∷◌, ◌++◌, Bool, true, false, length, ap, sym, ◌∙◌, subst, append-nil, length-append, arith}
+use Rattle.std.specs.Prelude.{MatchBool}
 use Rattle.wg_types.specs.declared.commands.CommandOf.{CommandOf}
 use Rattle.wg_types.specs.declared.commands.On.{On}
-use Rattle.wg_types.specs.declared.replies.Reply.{Reply}
+use Rattle.wg_trace.specs.declared.replies.Reply.{Reply}
 use Rattle.wg_types.specs.declared.requests.RequestOf.{RequestOf}
 use Rattle.wg_types.specs.Commands.{map_refs as map_command}
+use Rattle.wg_orders.specs.Trace.{Item}
+use Rattle.wg_history.specs.declared.events.Setup.{Setup}
 use Rattle.wg_history.specs.declared.events.Event.{Event}
-use Rattle.wg_desk.specs.Desks.{HasSent, HasGrown, IsNumber}
+use Rattle.wg_history.specs.Entries.{Entry}
+use Rattle.wg_history.specs.Traces.{Trace}
+use Rattle.wg_history.specs.ReleaseLaws.{Grows}
+use Rattle.wg_history.proofs.Growing.{releases_so_far}
+use Rattle.wg_desk.specs.Desks.{DeskValue, HasSent, HasGrown, IsNumber}
 use Rattle.wg_desk.specs.Seats.{found_at, is_late_at, recorded_at}
 use Rattle.wg_desk.specs.Sent.{event_sent, seats_after}
 use Rattle.wg_told.specs.declared.replies.ToldReply.{ToldReply}
 use Rattle.wg_told.specs.Replies.{reply_told, kept_told}
-use Rattle.wg_c.specs.Inners.{InnerValue, answer_to, HasDone, HasAsked, HasComeLate, HasKept, HasRecorded, late_event, pass_begun}
+use Rattle.wg_c.specs.Inners.{InnerValue, AreWaiting, answer_to, HasDone, HasAsked, HasComeLate, HasKept, HasRecorded, late_event, pass_begun}
 
 -- an event that was sent
 done_by : (old new : InnerValue) (who : ℕ) (event : Event) (reply : Reply)
@@ -69,3 +75,37 @@ pub was_kept : (old new : InnerValue) (who encoder : ℕ) (on : On) (command : C
 was_kept old new who encoder on command out late setup history seats items still settled out_is =
     let h : HasKept old new encoder on command out = record { setup = setup; history = history; seats = seats; items = items; still = still; settled = settled; out_is = out_is } in
     subst (λ (b : Bool). MatchBool b (HasComeLate old new who encoder command out) (HasKept old new encoder on command out)) late h
+
+-- What waits to be told.
+
+pub none_waits : (setup : Setup) (history : List Entry) (items : List Item) (told : ℕ) → history ≡ [] → items ≡ [] → told ≡ 0 → AreWaiting setup history items told
+none_waits setup history items told none empty untold = record {
+  first = [];
+  is_end = empty ∙ sym (ap (Trace setup) none);
+  within = omega (arith, untold);
+}
+
+-- It does so after an event too.
+pub waits_after : (old new : DeskValue) (who : ℕ) (event : Event) (reply : Reply) (items more : List Item) (told : ℕ)
+    → new.setup ≡ old.setup → HasSent old new who event reply → HasGrown old new items more
+    → AreWaiting old.setup old.history items told → AreWaiting new.setup new.history more told
+waits_after old new who event reply items more told setup sent grown waits =
+    let entry : Entry = record { who = who; event = event; reply = reply } in
+    let before : List Item = Trace old.setup old.history in
+    let goes : Grows before (Trace old.setup (old.history ++ entry ∷ [])) = (releases_so_far old.setup old.history (entry ∷ []) 0).grows in
+    let is : waits.first ++ more ≡ Trace new.setup new.history = grown waits.first waits.is_end in
+    let whole : waits.first ++ more ≡ before ++ goes.rest
+    = is ∙ (ap (λ (s : Setup). Trace s new.history) setup ∙ (ap (Trace old.setup) sent.entered ∙ goes.grown)) in
+    let long : length waits.first + length more ≡ length before + length goes.rest
+    = sym (length-append waits.first more) ∙ (ap (λ (xs : List Item). length xs) whole ∙ length-append before goes.rest) in
+    let short : length waits.first + length items ≡ length before
+    = sym (length-append waits.first items) ∙ ap (λ (xs : List Item). length xs) waits.is_end in
+    record { first = waits.first; is_end = is; within = omega (arith, long, short, waits.within) }
+
+-- and where all were told
+pub none_left : (setup : Setup) (history : List Entry) (items left : List Item) (told : ℕ) → left ≡ [] → AreWaiting setup history items told → AreWaiting setup history left 0
+none_left setup history items left told none waits = record {
+  first = waits.first ++ items;
+  is_end = ap (λ (xs : List Item). (waits.first ++ items) ++ xs) none ∙ (append-nil (waits.first ++ items) ∙ waits.is_end);
+  within = omega arith;
+}

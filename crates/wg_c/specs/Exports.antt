@@ -1,5 +1,5 @@
 -- What the exports do, by the status that they return: 0 OK, 1 NO_MEMORY, 2 NO_OBJECT, 3 CLOSED, 4 BAD_VALUE, 5 NO_PASS, 6 END, 7 IS_OPEN.
-use Rattle.std.specs.Prelude.{◌≡◌, ℕ, ◌+◌, ◌||◌, nat_eq, Bool, true, false, List, [], slice_get, Option, Some, None, is_none, option_map, option_and_then, MatchBool, MatchOption}
+use Rattle.std.specs.Prelude.{◌≡◌, ℕ, ◌+◌, ◌||◌, nat_eq, true, [], slice_get, Option, Some, None, is_none, option_map, option_and_then, MatchBool, MatchOption}
 use Rattle.wg_types.specs.declared.commands.CommandOf.{CommandOf}
 use Rattle.wg_types.specs.declared.commands.On.{On}
 use Rattle.wg_types.specs.declared.limits.Limits.{Limits}
@@ -24,7 +24,7 @@ Over (Some a) new closed opened = MatchOption new ⊥ (λ b. opened a b)
 abbrev pub IsShut : {A : Type 0} → Option InnerValue → A → A → ℕ → Type 0
 IsShut new before after status = (status ≡ 3) × (new ≡ None) × (after ≡ before)
 
--- a call that was not made: why, and that nothing has changed
+-- A call was not made: why, and that nothing has changed.
 pub record IsRefused (cause : Type 0) (old new : InnerValue) (before after : ToldReply) : Type 0 where
   pub because : cause
   pub same : IsAsBefore old new
@@ -32,14 +32,17 @@ pub record IsRefused (cause : Type 0) (old new : InnerValue) (before after : Tol
 
 -- Calls.
 
+-- A call was one, and was made and told.
 abbrev pub IsAsked : Option (RequestOf ℕ) → ℕ → InnerValue → InnerValue → ToldReply → Type 0
 IsAsked None who old new after = ⊥
 IsAsked (Some request) who old new after = HasAsked old new who request after
 
+-- A call was one, and names a number that has no handle.
 abbrev pub Misses : Option (RequestOf ℕ) → InnerValue → Type 0
 Misses None old = ⊥
 Misses (Some request) old = any_missing old.desk.seats (named request) ≡ true
 
+-- Why a call was not made: for want of memory, a number without a handle, or a value that is none.
 abbrev pub IsAskCause : Option (RequestOf ℕ) → InnerValue → ℕ → Type 0
 IsAskCause asked old status =
     MatchBool (nat_eq status 1) (Unit {0}) (MatchBool (nat_eq status 2) (Misses asked old) (MatchBool (nat_eq status 4) (asked ≡ None) ⊥))
@@ -49,61 +52,74 @@ abbrev pub AsksOpen : Option (RequestOf ℕ) → ℕ → ToldReply → ToldReply
 AsksOpen asked who before after status old new =
     MatchBool (nat_eq status 0) (IsAsked asked who old new after) (IsRefused (IsAskCause asked old status) old new before after)
 
+-- What a call of a device does, open or not.
 abbrev pub Asks : Option (RequestOf ℕ) → ℕ → Option InnerValue → Option InnerValue → ToldReply → ToldReply → ℕ → Type 0
 Asks asked who old new before after status = Over old new (IsShut new before after status) (AsksOpen asked who before after status)
 
 -- Commands.
 
+-- A command was one, and was recorded and told.
 abbrev pub IsRecorded : Option (CommandOf ℕ) → ℕ → ℕ → On → InnerValue → InnerValue → ToldReply → Type 0
 IsRecorded None who encoder on old new after = ⊥
 IsRecorded (Some command) who encoder on old new after = HasRecorded old new who encoder on command after
 
+-- A command was one, and its encoder or a number that it names has no handle.
 abbrev pub MissesOn : Option (CommandOf ℕ) → ℕ → InnerValue → Type 0
 MissesOn None encoder old = ⊥
 MissesOn (Some command) encoder old = (is_none (handle_at old.desk.seats encoder) || any_missing old.desk.seats (command_named command)) ≡ true
 
+-- Why a command was not recorded: for want of memory, a number without a handle, a value that is none, or a pass that was
+-- not begun.
 abbrev pub IsRecordCause : Option (CommandOf ℕ) → ℕ → On → InnerValue → ℕ → Type 0
 IsRecordCause asked encoder on old status =
     MatchBool (nat_eq status 1) (Unit {0}) (MatchBool (nat_eq status 2) (MissesOn asked encoder old) (MatchBool (nat_eq status 4) (asked ≡ None)
     (MatchBool (nat_eq status 5) (is_unbegun old.desk.seats encoder on ≡ true) ⊥)))
 
+-- What a command does on a device that is open.
 abbrev pub RecordsOpen : Option (CommandOf ℕ) → ℕ → ℕ → On → ToldReply → ToldReply → ℕ → InnerValue → InnerValue → Type 0
 RecordsOpen asked who encoder on before after status old new =
     MatchBool (nat_eq status 0) (IsRecorded asked who encoder on old new after) (IsRefused (IsRecordCause asked encoder on old status) old new before after)
 
+-- What a command does, on a device that is open or not.
 abbrev pub Records : Option (CommandOf ℕ) → ℕ → ℕ → On → Option InnerValue → Option InnerValue → ToldReply → ToldReply → ℕ → Type 0
 Records asked who encoder on old new before after status =
     Over old new (IsShut new before after status) (RecordsOpen asked who encoder on before after status)
 
 -- Opening. Where the device was closed, it is opened with nothing on it, or there was no memory, or one cannot ask for such limits.
 
+-- A device was opened with limits that can be asked for.
 abbrev pub IsNew : Option Limits → ℕ → ℕ → Option InnerValue → Type 0
 IsNew None budget serial new = ⊥
 IsNew (Some limits) budget serial new = MatchOption new ⊥ (λ b. IsOpened b budget serial limits)
 
+-- Why a device was not opened: for want of memory, or limits that cannot be asked for.
 abbrev pub IsOpenCause : Option Limits → ℕ → Type 0
 IsOpenCause limits status = MatchBool (nat_eq status 1) (Unit {0}) (MatchBool (nat_eq status 4) (limits ≡ None) ⊥)
 
+-- What an open does with a pointer that has no device.
 abbrev pub OpensShut : Option Limits → ℕ → ℕ → Option InnerValue → ℕ → Type 0
 OpensShut limits budget serial new status =
     MatchBool (nat_eq status 0) (IsNew limits budget serial new) ((new ≡ None) × IsOpenCause limits status)
 
+-- What an open does; a pointer that has a device keeps it, and status 7 says so.
 abbrev pub Opens : Option Limits → ℕ → ℕ → Option InnerValue → Option InnerValue → ℕ → Type 0
 Opens limits budget serial None new status = OpensShut limits budget serial new status
 Opens limits budget serial (Some a) new status = (status ≡ 7) × (new ≡ Some a)
 
+-- What a close does: a device that was open is open no longer, and one that was not has status 3.
 abbrev pub Closes : Option InnerValue → Option InnerValue → ℕ → Type 0
 Closes None new status = (status ≡ 3) × (new ≡ None)
 Closes (Some a) new status = (status ≡ 0) × (new ≡ None)
 
 -- Drains.
 
--- the next item was told, or all were and the list is emptied
+-- The next item was told, or all were and the list is emptied.
 abbrev pub TellsItem : ToldItem → ToldItem → ℕ → InnerValue → InnerValue → Type 0
 TellsItem before after status old new =
-    MatchOption (slice_get old.items old.told) ((status ≡ 6) × (new ≡ record old { items = []; told = 0 }) × (after ≡ before))
+    MatchOption (slice_get old.items old.told) ((status ≡ 6) × (old.told ≡ length old.items) × (new ≡ record old { items = []; told = 0 }) × (after ≡ before))
     (λ item. (status ≡ 0) × (new ≡ record old { told = old.told + 1 }) × (after ≡ item_told item))
 
+-- What a call for the next item of the trace tells.
 abbrev pub NextItem : Option InnerValue → Option InnerValue → ToldItem → ToldItem → ℕ → Type 0
 NextItem old new before after status = Over old new (IsShut new before after status) (TellsItem before after status)
 
@@ -112,22 +128,27 @@ abbrev pub Tells : {A : Type 0} → (InnerValue → Option A) → A → A → �
 Tells found before after status old new =
     MatchOption (found old) ((status ≡ 6) × (new ≡ old) × (after ≡ before)) (λ told. (status ≡ 0) × (new ≡ old) × (after ≡ told))
 
+-- the use of a number of the item that was told last, as it is told, if it has one
 abbrev pub use_at : ℕ → InnerValue → Option ToldUse
 use_at at old = option_map use_told (option_and_then (λ item. slice_get (uses_of item) at) (last_of old.items old.told))
 
+-- the access of a number of the item that was told last, as it is told, if it has one
 abbrev pub access_at : ℕ → InnerValue → Option ToldAccess
 access_at at old = option_map access_told (option_and_then (λ item. slice_get (accesses_of item) at) (last_of old.items old.told))
 
+-- What a call for a use of the last item tells.
 abbrev pub ItemUse : ℕ → Option InnerValue → Option InnerValue → ToldUse → ToldUse → ℕ → Type 0
 ItemUse at old new before after status = Over old new (IsShut new before after status) (Tells (use_at at) before after status)
 
+-- What a call for an access of the last item tells.
 abbrev pub ItemAccess : ℕ → Option InnerValue → Option InnerValue → ToldAccess → ToldAccess → ℕ → Type 0
 ItemAccess at old new before after status = Over old new (IsShut new before after status) (Tells (access_at at) before after status)
 
--- the next settlement was told, or none is left
+-- The next settlement was told, or none is left.
 abbrev pub TellsSettlement : ToldSettlement → ToldSettlement → ℕ → InnerValue → InnerValue → Type 0
 TellsSettlement before after status old new =
     MatchBool (nat_eq status 0) (HasToldNext old new after) ((status ≡ 6) × (old.settled ≡ []) × (new ≡ old) × (after ≡ before))
 
+-- What a call for the next settlement tells.
 abbrev pub NextSettlement : Option InnerValue → Option InnerValue → ToldSettlement → ToldSettlement → ℕ → Type 0
 NextSettlement old new before after status = Over old new (IsShut new before after status) (TellsSettlement before after status)

@@ -1,16 +1,19 @@
 -- What contracts see of what lies behind a device, and what calls do to it.
-use Rattle.std.specs.Prelude.{◌≡◌, ℕ, zero, suc, ◌+◌, ◌++◌, ◌||◌, Bool, true, false, List, [], ◌∷◌, length, reverse, slice_get, Option, Some, None, is_none, MatchBool, IfSome, if◌then◌else◌}
+use Rattle.std.specs.Prelude.{◌≡◌, ℕ, zero, suc, ◌+◌, ◌≤◌, ◌++◌, Bool, true, false, List, [], ◌∷◌, length, reverse, slice_get, Option, None, is_none, MatchBool, IfSome, if◌then◌else◌}
 use Rattle.wg_types.specs.declared.commands.CommandOf.{CommandOf}
 use Rattle.wg_types.specs.declared.commands.On.{On}
 use Rattle.wg_types.specs.declared.limits.Limits.{Limits}
-use Rattle.wg_types.specs.declared.replies.Reply.{Reply}
-use Rattle.wg_types.specs.declared.replies.Settlement.{Settlement}
+use Rattle.wg_trace.specs.declared.replies.Reply.{Reply}
+use Rattle.wg_trace.specs.declared.replies.Settlement.{Settlement}
 use Rattle.wg_types.specs.declared.requests.RequestOf.{RequestOf}
 use Rattle.wg_types.specs.Commands.{is_begin, map_refs as map_command}
 use Rattle.wg_orders.specs.Trace.{Item}
+use Rattle.wg_history.specs.declared.events.Setup.{Setup}
 use Rattle.wg_history.specs.declared.events.Event.{Event}
 use Rattle.wg_history.specs.declared.events.Event.TheVariants.{Late}
+use Rattle.wg_history.specs.Entries.{Entry}
 use Rattle.wg_history.specs.Answers.{reply_to}
+use Rattle.wg_history.specs.Traces.{Trace}
 use Rattle.wg_desk.specs.declared.desk.DeskError.{DeskError}
 use Rattle.wg_desk.specs.declared.desk.DeskError.TheVariants.{NoMemory, NoObject, NoPass}
 use Rattle.wg_desk.specs.Desks.{DeskValue, HasSent, HasGrown, IsUnchanged, IsNumber}
@@ -27,12 +30,19 @@ pub record InnerValue : Type 0 where
   pub told : ℕ
   pub settled : List Settlement
 
--- a device with nothing on it
+-- What waits to be told after a history: the items are the end of the trace, and no more of them were told than there are.
+pub record AreWaiting (setup : Setup) (history : List Entry) (items : List Item) (told : ℕ) : Type 0 where
+  pub first : List Item
+  pub is_end : first ++ items ≡ Trace setup history
+  pub within : told ≤ length items
+
+-- a device with nothing on it, of which nothing was told
 pub record IsOpened (new : InnerValue) (budget serial : ℕ) (limits : Limits) : Type 0 where
   pub setup : new.desk.setup ≡ record { serial = serial; budget = budget; limits = limits }
   pub history : new.desk.history ≡ []
   pub seats : new.desk.seats ≡ []
   pub items : new.items ≡ []
+  pub told : new.told ≡ 0
   pub settled : new.settled ≡ []
 
 -- nothing has changed
@@ -70,11 +80,13 @@ pass_begun old encoder command = if is_begin command then passes_at old.desk.sea
 abbrev pub late_event : InnerValue → ℕ → Event
 late_event old encoder = Late (found_at old.desk.seats encoder).reference
 
+-- A late command was told as its event, and changed no seat.
 pub record HasComeLate (old new : InnerValue) (who encoder : ℕ) (command : CommandOf ℕ) (out : ToldReply) : Type 0 where
   pub done : HasDone old new who (late_event old encoder)
   pub seats : new.desk.seats ≡ old.desk.seats
   pub out_is : out ≡ reply_told (answer_to old (late_event old encoder)) (length old.desk.history) (pass_begun old encoder command)
 
+-- A command was kept by its recorder, and nothing else changed.
 pub record HasKept (old new : InnerValue) (encoder : ℕ) (on : On) (command : CommandOf ℕ) (out : ToldReply) : Type 0 where
   pub setup : new.desk.setup ≡ old.desk.setup
   pub history : new.desk.history ≡ old.desk.history
@@ -100,7 +112,7 @@ abbrev pub last_of : List Item → ℕ → Option Item
 last_of items zero = None
 last_of items (suc n) = slice_get items n
 
--- the next settlement was told
+-- The next settlement was told, and nothing else changed.
 pub record HasToldNext (old new : InnerValue) (out : ToldSettlement) : Type 0 where
   pub desk : new.desk ≡ old.desk
   pub items : new.items ≡ old.items

@@ -2,8 +2,7 @@
 ghost use Rattle.std.specs.Prelude.{◌≡◌, ◌+◌, ◌||◌, [], false, length, slice_get, Some, None, IfOk, IfErr, IfSome, IfNone, OnErr, option_map, option_and_then, is_none, if◌then◌else◌};
 ghost use Rattle.wg_types.specs.Commands.{is_begin, named as command_named};
 ghost use Rattle.wg_types.specs.Requests.{named};
-ghost use Rattle.wg_desk.specs.Seats.{any_missing, handle_at, is_late_at, is_unbegun, passes_at};
-ghost use Rattle.wg_desk.specs.Sent.{event_sent, seats_after};
+ghost use Rattle.wg_desk.specs.Seats.{any_missing, handle_at, is_unbegun, passes_at};
 ghost use Rattle.wg_told.specs.Replies.{settlement_told};
 ghost use Rattle.wg_told.specs.Items.{item_told, use_told, access_told, uses_of, accesses_of};
 ghost use Rattle.wg_c.specs.Inners.{IsOpened, HasAsked, HasRecorded, IsAsBefore, IsCause, HasToldNext, last_of};
@@ -18,7 +17,7 @@ use wg_told::{
 };
 use wg_types::commands::{CommandOf, On};
 use wg_types::limits::Limits;
-use wg_types::parts::{Cells, Kind, PartRun};
+use wg_types::parts::{AccessKind, Cells, PartRun};
 use wg_types::requests::RequestOf;
 use wg_types::steps::Item;
 use wg_types::usages::Usages;
@@ -33,11 +32,13 @@ pub struct Inner {
 }
 
 impl Model for Inner {
-    ghost use Rattle.wg_c.specs.Inners.{InnerValue};
+    ghost use Rattle.wg_c.specs.Inners.{InnerValue, AreWaiting};
 
     ghost Value = { InnerValue };
 
     ghost view = { λ i. record { desk = i.desk; items = i.items.items; told = i.told; settled = i.waiting.left } };
+
+    ghost invariant = { λ i. AreWaiting i.desk.setup i.desk.history i.items.items i.told };
 }
 
 /// An item, if there is one.
@@ -60,7 +61,7 @@ fn use_in(uses: &[(PartRun, Usages)], at: usize) -> Option<ToldUse>
 }
 
 /// An access of a list, as it is told.
-fn access_in(accesses: &[(Cells, Kind)], at: usize) -> Option<ToldAccess>
+fn access_in(accesses: &[(Cells, AccessKind)], at: usize) -> Option<ToldAccess>
     ensures { result ≡ option_map access_told (slice_get accesses.now at) }
 {
     let (cells, kind) = accesses.get(at)?;
@@ -146,7 +147,7 @@ impl Inner {
     pub fn next_item(&mut self) -> Option<ToldItem>
         ensures item { result ≡ option_map item_told (slice_get self.old.items self.old.told) }
         ensures told { IfSome result (λ _. self.new ≡ record self.old { told = self.old.told + 1 }) }
-        ensures ended { IfNone result (self.new ≡ record self.old { items = []; told = 0 }) }
+        ensures ended { IfNone result ((self.old.told ≡ length self.old.items) × (self.new ≡ record self.old { items = []; told = 0 })) }
     {
         if let Some(item) = self.items.as_slice().get(self.told) {
             let told = item_told(item);

@@ -1,3 +1,4 @@
+pub mod Begun
 pub mod Infos
 pub mod Genuine
 pub mod Owners

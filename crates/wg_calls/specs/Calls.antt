@@ -9,8 +9,8 @@ use Rattle.wg_types.specs.declared.textures.TextureInfo.{TextureInfo}
 use Rattle.wg_types.specs.declared.textures.ViewAsked.{ViewAsked}
 use Rattle.wg_types.specs.declared.textures.ViewDesc.{ViewDesc}
 use Rattle.wg_types.specs.Bindings.{map_entry}
-use Rattle.wg_types.specs.declared.replies.Answer.{Answer}
-use Rattle.wg_types.specs.declared.replies.Answer.TheVariants.{Made, Queued, Promised, Plain, BadCompletion}
+use Rattle.wg_trace.specs.declared.replies.Answer.{Answer}
+use Rattle.wg_trace.specs.declared.replies.Answer.TheVariants.{Made, Queued, Promised, Plain, BadCompletion}
 use Rattle.wg_types.specs.declared.requests.RequestOf.{RequestOf}
 use Rattle.wg_types.specs.declared.requests.RequestOf.TheVariants.{CreateBuffer, CreateTexture, CreateView, CreateSampler, CreateBindGroupLayout, CreatePipelineLayout, CreateBindGroup, CreateComputePipeline, CreateRenderPipeline, GetBindGroupLayout, CreateQuerySet, CreateEncoder, CreateBundleEncoder, Finish, FinishBundle, Submit, WriteBuffer, WriteTexture, Destroy, Drop, Complete, PushErrorScope, PopErrorScope, Lose, WorkDone, MapAsync, Unmap}
 use Rattle.wg_model.specs.Commands.{texture_of, no_texture, size_or_rest}
@@ -106,18 +106,21 @@ recording_of recorder = record { device = recorder.device; targets = recorder.ta
 -- The end of an encoder with what its recorder hands over, which is that of a bundle encoder where it has targets, and what is known
 -- of that which it makes.
 
+-- the event that ends an encoder or a bundle encoder with a recording
 abbrev pub finish_event : Option TargetInfo → ObjRef → RecordingValue → Event
 finish_event None encoder recording = event.Finish encoder recording
 finish_event (Some targets) encoder recording = event.FinishBundle encoder recording
 
+-- what is known of what an end makes: a command buffer, or the bundle of a recording
 abbrev pub finished_info : Option TargetInfo → RecordingValue → Info
 finished_info None recording = info.CommandBuffer
 finished_info (Some targets) recording = info.Bundle (bundle_of recording.device recording.targets recording.commands)
 
--- the same of a recorder, with the commands that this has kept
+-- the event that ends an encoder or a bundle encoder, with the commands that its recorder has kept
 abbrev pub finish_of : ObjRef → RecorderValue → Event
 finish_of encoder recorder = finish_event recorder.targets encoder (recording_of recorder)
 
+-- what is known of what an end makes of a recorder
 abbrev pub known_of_finish : RecorderValue → Info
 known_of_finish recorder = finished_info recorder.targets (recording_of recorder)
 
@@ -141,6 +144,6 @@ handle_made serial request answer = option_and_then (λ known. handle_of serial 
 abbrev pub opened_for : ObjRef → RecorderValue
 opened_for encoder = record { device = encoder.device; targets = None; encoder = Some encoder; commands = []; takes = 0; passes = 0 }
 
--- and one that was opened for a bundle encoder that draws to these targets
+-- a recorder that is open for a bundle encoder, draws to these targets, and has kept nothing
 abbrev pub opened_with : TargetInfo → ObjRef → RecorderValue
 opened_with targets encoder = record { device = encoder.device; targets = Some targets; encoder = Some encoder; commands = []; takes = 0; passes = 0 }

@@ -1,3 +1,4 @@
 pub mod Calls
+pub mod Encoders
 pub mod Infos
 pub mod Genuine

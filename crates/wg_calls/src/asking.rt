@@ -12,7 +12,7 @@ use wg_encoder::{Recorder, Recording, no_targets};
 use wg_entry::NoMemory;
 use wg_formats::{no_texture, size_or_rest, texture_of};
 use wg_history::events::Event;
-use wg_textures::{Asked, view_of};
+use wg_textures::view_of;
 use wg_types::bindings::map_entries;
 use wg_types::handles::{Handle, ObjRef};
 use wg_types::refs::{self, Find};
@@ -48,14 +48,6 @@ pub fn view_asked(texture: &Handle, asked: ViewAsked) -> ViewDesc
     ensures { result ≡ view_asked texture.now asked }
 {
     let known = known_texture(texture);
-    let asked = Asked {
-        dim: asked.dim,
-        aspect: asked.aspect,
-        base_mip: asked.base_mip,
-        mips: asked.mips,
-        base_layer: asked.base_layer,
-        layers: asked.layers,
-    };
     view_of(&known, asked)
 }
 

@@ -1,12 +1,12 @@
 //! What calls of a device make.
 ghost use Rattle.std.specs.Prelude.{◌≡◌, IfOk, Some};
 ghost use Rattle.std.specs.Arc.{arc_value};
-ghost use Rattle.wg_calls.specs.Calls.{known_by, info_asked, finish_event, finished_info, handle_of, opened_for, opened_with};
+ghost use Rattle.wg_calls.specs.Calls.{known_by, info_asked, finish_event, finished_info, handle_of};
 
 use crate::asking::{References, empty_bundle, view_asked};
 use std::alloc::Global;
 use std::sync::Arc;
-use wg_encoder::{Recorder, Recording};
+use wg_encoder::Recording;
 use wg_entry::NoMemory;
 use wg_groups::making::{
     Known, compute_made, group_layout_got, group_layout_made, group_made, pipeline_layout_made,
@@ -14,7 +14,6 @@ use wg_groups::making::{
 };
 use wg_history::events::Event;
 use wg_types::handles::{Handle, Info, ObjRef};
-use wg_types::render::TargetInfo;
 use wg_types::replies::Answer;
 use wg_types::requests::RequestOf;
 use wg_types::shared::Shared;
@@ -134,24 +133,4 @@ pub fn finished_info(alloc: Global, recording: &Recording) -> Result<Info, NoMem
     }
     let info = recording.bundle_info(alloc)?;
     Ok(Info::Bundle(Shared::new(alloc, info)?))
-}
-
-/// A recorder that is open for an encoder. It takes no memory.
-pub fn recorder_for(alloc: Global, encoder: &Handle) -> Recorder
-    ensures { result ≡ opened_for encoder.now.reference }
-{
-    let reference = encoder.reference();
-    let mut recorder = Recorder::new(alloc, reference.device);
-    recorder.open(reference, encoder.valid());
-    recorder
-}
-
-/// A recorder that is open for a bundle encoder, which draws to these targets. It takes no memory.
-pub fn bundle_recorder_for(alloc: Global, encoder: &Handle, targets: Shared<TargetInfo>) -> Recorder
-    ensures { result ≡ opened_with targets encoder.now.reference }
-{
-    let reference = encoder.reference();
-    let mut recorder = Recorder::bundle(alloc, reference.device, targets);
-    recorder.open(reference, encoder.valid());
-    recorder
 }

@@ -1,12 +1,13 @@
--- Canvases: what each call asks of a device, if it asks something, and what becomes of the canvas.
+-- Canvases: what each call asks of a device, if it asks something, and what becomes of the canvas (WebGPU, "Canvas Rendering"
+-- and "GPUCanvasContext").
 use Rattle.std.specs.Prelude.{◌≡◌, ℕ, ◌∷◌, [], Option, Some, None, option_map}
 use Rattle.wg_types.specs.Handles.{HandleValue}
 use Rattle.wg_types.specs.Kinds.{kind_of}
 use Rattle.wg_types.specs.declared.formats.Format.{Format}
 use Rattle.wg_types.specs.declared.formats.Format.TheVariants.{Rgba8Unorm, Bgra8Unorm, Rgba16Float}
-use Rattle.wg_types.specs.declared.replies.Answer.{Answer}
-use Rattle.wg_types.specs.declared.replies.Answer.TheVariants.{Made as AnswerMade}
-use Rattle.wg_types.specs.declared.replies.Reply.{Reply}
+use Rattle.wg_trace.specs.declared.replies.Answer.{Answer}
+use Rattle.wg_trace.specs.declared.replies.Answer.TheVariants.{Made as AnswerMade}
+use Rattle.wg_trace.specs.declared.replies.Reply.{Reply}
 use Rattle.wg_types.specs.declared.handles.Info.TheVariants.{Texture as TextureInfoOf}
 use Rattle.wg_types.specs.declared.requests.RequestOf.{RequestOf}
 use Rattle.wg_types.specs.declared.requests.RequestOf.TheVariants.{CreateTexture, Destroy}
@@ -24,12 +25,13 @@ use Rattle.wg_canvas.specs.declared.canvas.Stage.TheVariants.{Unset, Empty, Fill
 use Rattle.wg_canvas.specs.declared.canvas.Current.{Current}
 use Rattle.wg_canvas.specs.declared.canvas.Current.TheVariants.{NotConfigured, Same, Made}
 
--- A canvas has a fixed extent. It is not configured; or it is, with a format and a usage, and has no current texture, or has one.
+-- a canvas: its fixed extent, and whether it is configured, with a format and a usage, and has a current texture
 pub record CanvasValue : Type 0 where
   pub width : ℕ
   pub height : ℕ
   pub stage : Stage
 
+-- the format of textures that a format of canvases is
 abbrev pub format_of : CanvasFormat → Format
 format_of format.Rgba8unorm = Rgba8Unorm
 format_of format.Bgra8unorm = Bgra8Unorm
@@ -41,57 +43,54 @@ texture_at Unset = None
 texture_at (Empty setting) = None
 texture_at (Filled setting texture) = Some texture
 
+-- the current texture of a canvas, if it has one
 abbrev pub texture_of : CanvasValue → Option HandleValue
 texture_of canvas = texture_at canvas.stage
 
--- what it was configured with, if it was
-abbrev pub setting_at : Stage → Option Setting
-setting_at Unset = None
-setting_at (Empty setting) = Some setting
-setting_at (Filled setting texture) = Some setting
-
-abbrev pub setting_of : CanvasValue → Option Setting
-setting_of canvas = setting_at canvas.stage
-
--- what a texture of a canvas with this setting is made with: 2D, with the canvas's extent, one mip level and one sample
+-- what the texture of a canvas is made with: 2D, of the canvas's extent, with one layer, one mip level and one sample, and the
+-- format and usage with which it was configured last
 abbrev pub info_of : CanvasValue → Setting → TextureInfo
 info_of canvas setting = record { size = canvas.width ∷ (canvas.height ∷ (1 ∷ [])); usage = setting.usage; format = format_of setting.format; dim = Two; mips = 1; samples = 1 }
 
 -- ---- what a call asks
 
--- of a present and of a configure: to destroy the current texture, if there is one
+-- what a present or a configure asks: to destroy the current texture, if there is one
 abbrev pub expiry_asked : CanvasValue → Option (RequestOf HandleValue)
 expiry_asked canvas = option_map Destroy (texture_of canvas)
 
--- of a canvas that is configured and has no current texture: to make one
+-- what a call for the current texture asks of a canvas that is configured and has none: to make one
 abbrev pub asked_at : CanvasValue → Stage → Option (RequestOf HandleValue)
 asked_at canvas Unset = None
 asked_at canvas (Empty setting) = Some (CreateTexture (info_of canvas setting))
 asked_at canvas (Filled setting texture) = None
 
+-- what a call for the current texture asks of the maker: to make one, exactly where the canvas is configured and has none
 abbrev pub texture_asked : CanvasValue → Option (RequestOf HandleValue)
 texture_asked canvas = asked_at canvas canvas.stage
 
 -- ---- what becomes of it
 
--- once its current texture was destroyed
+-- what a canvas is once its current texture was destroyed
 abbrev pub expired_at : Stage → Stage
 expired_at Unset = Unset
 expired_at (Empty setting) = Empty setting
 expired_at (Filled setting texture) = Empty setting
 
+-- a canvas without its current texture
 abbrev pub expired : CanvasValue → CanvasValue
 expired canvas = record canvas { stage = expired_at canvas.stage }
 
+-- a canvas that is configured with a format and a usage, without a current texture
 abbrev pub configured : CanvasValue → CanvasFormat → ℕ → CanvasValue
 configured canvas format usage = record canvas { stage = Empty (record { format = format; usage = usage }) }
 
--- once a texture was made for it, which is then current
+-- what a canvas is once a texture was made for it, which is then current
 abbrev pub filled_at : Stage → HandleValue → Stage
 filled_at Unset texture = Unset
 filled_at (Empty setting) texture = Filled setting texture
 filled_at (Filled setting old) texture = Filled setting old
 
+-- a canvas with this current texture, where it is configured and has none
 abbrev pub filled : CanvasValue → HandleValue → CanvasValue
 filled canvas texture = record canvas { stage = filled_at canvas.stage texture }
 
@@ -104,6 +103,7 @@ IsAnswered stage NotConfigured = stage ≡ Unset
 IsAnswered stage Same = (setting : Setting) × (texture : HandleValue) × (stage ≡ Filled setting texture)
 IsAnswered stage (Made reply) = (setting : Setting) × (stage ≡ Empty setting)
 
+-- the reply that a call for the current texture got, if it asked
 abbrev pub reply_in : Current → Option Reply
 reply_in NotConfigured = None
 reply_in Same = None
@@ -123,6 +123,7 @@ HasTexture (Filled setting texture) = kind_of texture.info ≡ OfTexture
 
 -- ---- any call of a canvas
 
+-- what a call of a canvas asks of the maker, if anything
 abbrev pub act_asked : CanvasValue → CanvasCall → Option (RequestOf HandleValue)
 act_asked canvas (Configure format usage) = expiry_asked canvas
 act_asked canvas AskCurrent = texture_asked canvas
@@ -133,6 +134,7 @@ abbrev pub texture_made : ℕ → RequestOf HandleValue → Answer → Option Ha
 texture_made device (CreateTexture known) (AnswerMade number valid) = Some (record { reference = record { device = device; number = number }; valid = valid; info = TextureInfoOf known })
 texture_made device _ _ = None
 
+-- the handle of the texture that was asked for and made, if one was
 abbrev pub made_if : ℕ → Option (RequestOf HandleValue) → Option Reply → Option HandleValue
 made_if device (Some request) (Some reply) = texture_made device request reply.answer
 made_if device _ _ = None
@@ -146,6 +148,7 @@ abbrev pub filled_if : CanvasValue → Option HandleValue → CanvasValue
 filled_if canvas None = canvas
 filled_if canvas (Some texture) = filled canvas texture
 
+-- a canvas after a call of it, which made this
 abbrev pub acted : CanvasValue → CanvasCall → Option HandleValue → CanvasValue
 acted canvas (Configure format usage) made = configured canvas format usage
 acted canvas AskCurrent made = filled_if canvas made

@@ -3,7 +3,7 @@ use Rattle.std.proofs.Common.{◌≡◌, ℕ, ◌<◌, ◌≤◌, List, [], ◌�
 use Rattle.std.proofs.lemmas.Bool.{or_cases, or_left, or_right, and_parts, and_from, le-leb, lt-ltb}
 use Rattle.wg_rows.specs.Rows.{Sort, Spot, covers_spot, in_range, list_eq, printed, EachRow, Apart, has_value, Alike, Fits, AllFit, put, put_at, joined, run_before}
 use Rattle.wg_rows.specs.Runs.{Color, aspect_number, Part, Buffer, Subresource, QuerySet, PartRun, BufferPart, LayerParts, QueryPart, Cells, Bytes, Layers, Slices, Queries, Cell, Byte, Texels, Slice, Query, part_of, part_run, cell_run, cells_in, part_sort, cell_sort, part_spot, cell_spot, part_lo, part_hi, cell_lo, cell_hi, covers_part, covers, run_part}
-use Rattle.wg_rows.specs.Uses.{Kind, Write, Usages, clear_usage, same_set, same_kind, printed_accesses}
+use Rattle.wg_rows.specs.Uses.{AccessKind, Write, Usages, clear_usage, same_set, same_kind, printed_accesses}
 use Rattle.wg_orders.specs.Steps.{Step, StepPlace, reads, writes}
 use Rattle.wg_orders.specs.Trace.{Item, is_unset, steps_of, needs, cells_of, to_clear, clear_of}
 use Rattle.wg_cbtrack.specs.Cleared.{uses_of, written}
@@ -51,13 +51,13 @@ witness run p full e = absurd (tags _ _ e)
     tags true t e = true≢false (sym e)
     tags false t e = true≢false (sym e)
 
-abbrev has_part : Part → List (Cells × Kind) → Bool
+abbrev has_part : Part → List (Cells × AccessKind) → Bool
 has_part p rows = any (λ row. covers_spot part_sort (run_part row.0) (part_spot p)) rows
 
-abbrev has_at : Cell → List (Cells × Kind) → Bool
+abbrev has_at : Cell → List (Cells × AccessKind) → Bool
 has_at c rows = any (λ row. covers_spot cell_sort row.0 (cell_spot c)) rows
 
-part_from : (rows : List (Cells × Kind)) (c : Cell) → has_at c rows ≡ true → has_part (part_of c) rows ≡ true
+part_from : (rows : List (Cells × AccessKind)) (c : Cell) → has_at c rows ≡ true → has_part (part_of c) rows ≡ true
 part_from [] c e = absurd (true≢false (sym e))
 part_from (x ∷ xs) c e = by_case (or_cases (covers_spot cell_sort x.0 (cell_spot c)) (has_at c xs) e) (part_from xs c)
   where
@@ -65,12 +65,12 @@ part_from (x ∷ xs) c e = by_case (or_cases (covers_spot cell_sort x.0 (cell_sp
     by_case (inl k) rest = or_left (covers_spot part_sort (run_part x.0) (part_spot (part_of c))) (has_part (part_of c) xs) (part_covers x.0 c k)
     by_case (inr k) rest = or_right (covers_spot part_sort (run_part x.0) (part_spot (part_of c))) (has_part (part_of c) xs) (rest k)
 
-record Found (p : Part) (rows : List (Cells × Kind)) : Type 0 where
+record Found (p : Part) (rows : List (Cells × AccessKind)) : Type 0 where
   cell : Cell
   inside : has_at cell rows ≡ true
   part : part_of cell ≡ p
 
-found_from : (rows : List (Cells × Kind)) (p : Part) → Apart cell_sort rows → has_part p rows ≡ true → Found p rows
+found_from : (rows : List (Cells × AccessKind)) (p : Part) → Apart cell_sort rows → has_part p rows ≡ true → Found p rows
 found_from [] p a e = absurd (true≢false (sym e))
 found_from (x ∷ xs) p a e = by_case (or_cases (covers_spot part_sort (run_part x.0) (part_spot p)) (has_part p xs) e) (found_from xs p a.2)
   where
@@ -79,7 +79,7 @@ found_from (x ∷ xs) p a e = by_case (or_cases (covers_spot part_sort (run_part
     by_case (inr k) rest = let f : Found p xs = rest k in record { cell = f.cell; inside = or_right (covers_spot cell_sort x.0 (cell_spot f.cell)) (has_at f.cell xs) f.inside; part = f.part }
 
 -- The rows of a clear have its cells.
-written_at : (c : Cell) (rows : List (Cells × Kind)) → Each_value Write rows → has_at c rows ≡ has_value cell_sort same_kind (cell_spot c) Write rows
+written_at : (c : Cell) (rows : List (Cells × AccessKind)) → Each_value Write rows → has_at c rows ≡ has_value cell_sort same_kind (cell_spot c) Write rows
 written_at c [] h = refl
 written_at c (x ∷ xs) h = ap₂ ◌||◌ (sym (ap (λ k. covers_spot cell_sort x.0 (cell_spot c) && same_kind Write k) h.0 ∙ and_true (covers_spot cell_sort x.0 (cell_spot c)))) (written_at c xs h.1)
   where
@@ -157,7 +157,7 @@ one_fit {A} run (x ∷ xs) h = (h.0, fits xs, one_fit run xs h.1)
     fits [] = tt
     fits (y ∷ ys) = (λ spot e k. refl, fits ys)
 
-full_parts : (rows : List (Cells × Kind)) → Apart cell_sort rows → EachRow (λ row. part_lo (run_part row.0) < part_hi (run_part row.0)) rows
+full_parts : (rows : List (Cells × AccessKind)) → Apart cell_sort rows → EachRow (λ row. part_lo (run_part row.0) < part_hi (run_part row.0)) rows
 full_parts [] a = tt
 full_parts (x ∷ xs) a = (one x.0 a.0, full_parts xs a.2)
   where

@@ -2,12 +2,12 @@
 use Rattle.std.proofs.Common.{◌≡◌, ℕ, Bool, true, false, not, ◌&&◌, ◌||◌, List, [], ◌∷◌, ◌++◌, map, Option, Some, None, refl, ap, ap₂, sym, ◌∙◌, subst, if◌then◌else◌, true≢false}
 use Rattle.std.specs.Option.{option_or, option_and_then, option_map_or}
 use Rattle.std.proofs.lemmas.Bool.{and_parts}
-use Rattle.wg_types.specs.declared.steps.Deed.{Deed}
-use Rattle.wg_types.specs.declared.steps.StepPlace.TheVariants.{Host}
+use Rattle.wg_trace.specs.declared.steps.Deed.{Deed}
+use Rattle.wg_trace.specs.declared.steps.StepPlace.TheVariants.{Host}
 use Rattle.wg_rows.specs.Runs.{PartRun, BufferPart, LayerParts, QueryPart, Part, Buffer, Subresource, QuerySet, part_sort, part_line, part_lo, part_spot, run_part, covers_part, Cells, Bytes, Layers, Slices, Queries, Cell, Byte, Texels, Slice, Query, cell_sort, cell_line, cell_lo, cell_spot, covers}
 use Rattle.wg_rows.specs.Rows.{line_object, Sort, Spot, covers_spot, EachRow, Apart, any_row, has_value, printed}
 use Rattle.wg_rows.specs.Cut.{value_at, inside, gaps, choose, put_all}
-use Rattle.wg_rows.specs.Uses.{Usages, Kind, Read, Write, same_set, same_kind, same_change, clear_usage, kind_reads, kind_writes, kind_unsets, row_reads, row_writes, row_unsets, row_set, with_usage}
+use Rattle.wg_rows.specs.Uses.{Usages, AccessKind, Read, Write, same_set, same_kind, same_change, clear_usage, kind_reads, kind_writes, kind_unsets, row_reads, row_writes, row_unsets, row_set, with_usage}
 use Rattle.wg_rows.specs.Sets.{UseRow, sets}
 use Rattle.wg_orders.specs.Steps.{Step, StepPlace}
 use Rattle.wg_bars.specs.Changes.{change_from}
@@ -29,7 +29,7 @@ use Rattle.wg_cbtrack.specs.Seen.{AreSeen}
 use Rattle.wg_cbtrack.specs.Next.{clear_deed, IsKept, AreMore, AreCells, IsStep, IsSeen, HoldsAfter, FollowsNear}
 use Rattle.wg_cbtrack.proofs.Owning.{each_filter, ordered_map, exchanged_map}
 use Rattle.wg_cbtrack.proofs.Local.{Keeps, value_among, none_at, apart_ordered, apart_filter, exchanged_value, exchanged_apart, exchanged_each, inside_among, gaps_among, same_values, exchanged_is, each_shown}
-use Rattle.wg_cbtrack.proofs.Rowed.{each_put}
+use Rattle.wg_rows.proofs.Overwritten.{each_put}
 use Rattle.wg_cbtrack.proofs.Joins.{opens_are, used_are, step_used}
 use Rattle.wg_cbtrack.proofs.Leaving.{any_loose, writes_loose, unsets_loose}
 use Rattle.wg_cbtrack.proofs.Nexts.{track_next, noted_more}
@@ -45,7 +45,7 @@ part_keeps (QueryPart a) lo hi = refl
 abbrev pub AreUses : List ℕ → List UseRow → Type 0
 AreUses os us = EachRow (λ u. among os (use_object u) ≡ true) us
 
-abbrev pub AreAccesses : List ℕ → List (Cells × Kind) → Type 0
+abbrev pub AreAccesses : List ℕ → List (Cells × AccessKind) → Type 0
 AreAccesses os xs = EachRow (λ x. among os (access_object x) ≡ true) xs
 
 -- The first part of a run, and its first cell.
@@ -108,10 +108,10 @@ each_printed : (P : List ℕ → Type 0) (rows : List UseRow) → EachRow (λ (x
 each_printed P [] h = tt
 each_printed P (r ∷ rows) h = each_put part_sort same_set P part_widens r (printed part_sort same_set rows) h.0 (each_printed P rows h.1)
 
-clear_uses : (os : List ℕ) (rows : List (Cells × Kind)) → AreAccesses os rows → AreUses os (uses_of rows)
+clear_uses : (os : List ℕ) (rows : List (Cells × AccessKind)) → AreAccesses os rows → AreUses os (uses_of rows)
 clear_uses os rows h = each_printed (λ line. among os (line_object line) ≡ true) (map (λ row. (run_part row.0, clear_usage)) rows) (each rows h)
   where
-    each : (xs : List (Cells × Kind)) → AreAccesses os xs → AreUses os (map (λ row. (run_part row.0, clear_usage)) xs)
+    each : (xs : List (Cells × AccessKind)) → AreAccesses os xs → AreUses os (map (λ row. (run_part row.0, clear_usage)) xs)
     each [] k = tt
     each (x ∷ xs) k = (ap (among os) (clear_object x.0) ∙ k.0, each xs k.1)
 
@@ -183,7 +183,7 @@ kept_among os ends later d was_noted k h a is = (
 with_after : (ends later next : List UseRow) (d : Deed) (was_noted : Bool) (k : Kept) → later ≡ next → IsKept ends d was_noted k next → IsKept ends d was_noted k later
 with_after ends later next d was_noted k e is = subst (IsKept ends d was_noted k) (sym e) is
 
-more_among : (os : List ℕ) (ends near after : List UseRow) (clear : List (Cells × Kind)) (d : Deed) (more : List Kept) → AreUses os d.uses → AreAccesses os clear → Apart part_sort ends → AreMore (rows_among use_object os ends) clear d more near → AreExchanged use_object os near ends after → AreMore ends clear d more after
+more_among : (os : List ℕ) (ends near after : List UseRow) (clear : List (Cells × AccessKind)) (d : Deed) (more : List Kept) → AreUses os d.uses → AreAccesses os clear → Apart part_sort ends → AreMore (rows_among use_object os ends) clear d more near → AreExchanged use_object os near ends after → AreMore ends clear d more after
 more_among os ends near after [] d more h c a m k =
     let kept = kept_among os ends near d true m.step h a m.steps in
     record { step = m.step; more = m.more; steps = with_after ends after (used_after (sets d.uses) ends) d true m.step (next_after os ends near after (used_after (sets d.uses) ends) kept.1 a k) kept.0 }
@@ -204,7 +204,7 @@ more_among os ends near after (x ∷ rows) d more h c a m k =
 kept_apart : (ends later : List UseRow) (d : Deed) (was_noted : Bool) (k : Kept) → Apart part_sort ends → IsKept ends d was_noted k later → Apart part_sort later
 kept_apart ends later d was_noted k a is = subst (Apart part_sort) (sym is.after) (used_are (sets d.uses) ends (apart_loose part_sort (sets d.uses) (sets_are d.uses).0) a).0
 
-more_apart : (ends near : List UseRow) (clear : List (Cells × Kind)) (d : Deed) (more : List Kept) → Apart part_sort ends → AreMore ends clear d more near → Apart part_sort near
+more_apart : (ends near : List UseRow) (clear : List (Cells × AccessKind)) (d : Deed) (more : List Kept) → Apart part_sort ends → AreMore ends clear d more near → Apart part_sort near
 more_apart ends near [] d more a m = kept_apart ends near d true m.step a m.steps
 more_apart ends near (x ∷ rows) d more a m = kept_apart m.mid near d true m.step (kept_apart ends m.mid (clear_deed (x ∷ rows)) false m.clear a m.clears) m.steps
 
@@ -262,52 +262,52 @@ first_next os us rows near h a e = record { near_is = near_is ∙ small_is; far 
     small_is = same_values part_sort same_set uses_tell (put_all part_sort same_set first (rows_among use_object os rows)) (rows_among use_object os next) small.0 (apart_filter part_sort (λ x. among os (use_object x)) next all.0) (λ spot. small.1 spot ∙ (ap (option_or (value_at part_sort spot first)) (value_among part_sort os spot rows) ∙ (by_among spot (among os (line_object spot.0)) refl ∙ (ap (λ (o : Option Usages). if among os (line_object spot.0) then o else None) (sym (all.1 spot)) ∙ sym (value_among part_sort os spot next)))))
 
 -- The cells.
-tidy_among : (os : List ℕ) (wants leaves : List (Cells × Kind)) → AreTidy wants leaves → AreTidy (rows_among access_object os wants) (rows_among access_object os leaves)
+tidy_among : (os : List ℕ) (wants leaves : List (Cells × AccessKind)) → AreTidy wants leaves → AreTidy (rows_among access_object os wants) (rows_among access_object os leaves)
 tidy_among os wants leaves tidy = record {
   reads = (each_filter (λ row. row.1 ≡ Read) (λ x. among os (access_object x)) wants tidy.reads.0, apart_filter cell_sort (λ x. among os (access_object x)) wants tidy.reads.1);
   left = apart_filter cell_sort (λ x. among os (access_object x)) leaves tidy.left;
   written = λ c kind e. by_among c kind (among os (line_object ((cell_spot c).0))) (sym (value_among cell_sort os (cell_spot c) leaves) ∙ e);
 }
   where
-    by_among : (c : Cell) (kind : Kind) (b : Bool) → (if b then value_at cell_sort (cell_spot c) leaves else None) ≡ Some kind → kind_writes kind ≡ true
+    by_among : (c : Cell) (kind : AccessKind) (b : Bool) → (if b then value_at cell_sort (cell_spot c) leaves else None) ≡ Some kind → kind_writes kind ≡ true
     by_among c kind true e = tidy.written c kind e
     by_among c kind false e = absurd (cc)
 
-none_any : (os : List ℕ) (spot : Spot) (test : Kind → Bool) (xs : List (Cells × Kind)) → among os (line_object spot.0) ≡ false → AreAccesses os xs → any_row (λ run. covers_spot cell_sort run spot) test xs ≡ false
+none_any : (os : List ℕ) (spot : Spot) (test : AccessKind → Bool) (xs : List (Cells × AccessKind)) → among os (line_object spot.0) ≡ false → AreAccesses os xs → any_row (λ run. covers_spot cell_sort run spot) test xs ≡ false
 none_any os spot test [] e h = refl
 none_any os spot test (x ∷ xs) e h = ap (λ b. (b && test x.1) || any_row (λ run. covers_spot cell_sort run spot) test xs) (other_line cell_sort os x.0 spot e h.0) ∙ none_any os spot test xs e h.1
 
-none_read : (os : List ℕ) (c : Cell) (xs : List (Cells × Kind)) → among os (line_object ((cell_spot c).0)) ≡ false → AreAccesses os xs → row_reads c xs ≡ false
+none_read : (os : List ℕ) (c : Cell) (xs : List (Cells × AccessKind)) → among os (line_object ((cell_spot c).0)) ≡ false → AreAccesses os xs → row_reads c xs ≡ false
 unfolding covers
 none_read os c xs e h = none_any os (cell_spot c) kind_reads xs e h
 
-none_written : (os : List ℕ) (c : Cell) (xs : List (Cells × Kind)) → among os (line_object ((cell_spot c).0)) ≡ false → AreAccesses os xs → row_writes c xs ≡ false
+none_written : (os : List ℕ) (c : Cell) (xs : List (Cells × AccessKind)) → among os (line_object ((cell_spot c).0)) ≡ false → AreAccesses os xs → row_writes c xs ≡ false
 unfolding covers
 none_written os c xs e h = none_any os (cell_spot c) kind_writes xs e h
 
-reads_loose : (c : Cell) (rows : List (Cells × Kind)) → Loose cell_sort rows → row_reads c rows ≡ option_map_or kind_reads (value_at cell_sort (cell_spot c) rows) false
+reads_loose : (c : Cell) (rows : List (Cells × AccessKind)) → Loose cell_sort rows → row_reads c rows ≡ option_map_or kind_reads (value_at cell_sort (cell_spot c) rows) false
 unfolding covers
 reads_loose c rows l = any_loose (cell_spot c) kind_reads rows l
 
 -- The clear inside is of the objects of the accesses.
-clear_among : (os : List ℕ) (asked leaves accesses clear asked_after leaves_after : List (Cells × Kind)) → AreAccesses os accesses → AreCells asked leaves accesses clear asked_after leaves_after → AreAccesses os clear
+clear_among : (os : List ℕ) (asked leaves accesses clear asked_after leaves_after : List (Cells × AccessKind)) → AreAccesses os accesses → AreCells asked leaves accesses clear asked_after leaves_after → AreAccesses os clear
 clear_among os asked leaves accesses clear asked_after leaves_after h cells = each_shown cell_sort (λ x. among os (access_object x) ≡ true) clear (apart_loose cell_sort clear cells.apart) (λ x n e. is_true (among os (access_object x)) (λ k. not_read x k (read x e)))
   where
-    read : (x : Cells × Kind) → value_at cell_sort (cell_line x.0, cell_lo x.0) clear ≡ Some x.1 → row_reads (first_cell x.0) accesses ≡ true
+    read : (x : Cells × AccessKind) → value_at cell_sort (cell_line x.0, cell_lo x.0) clear ≡ Some x.1 → row_reads (first_cell x.0) accesses ≡ true
     read x e =
-        let has : has_value cell_sort same_kind (cell_spot (first_cell x.0)) x.1 clear ≡ true = has_at cell_sort same_kind (cell_spot (first_cell x.0)) x.1 clear (apart_loose cell_sort clear cells.apart) ∙ (ap (λ (o : Option Kind). option_map_or (same_kind x.1) o false) (ap (λ spot. value_at cell_sort spot clear) (cell_first x.0) ∙ e) ∙ accesses_tell.itself x.1) in
+        let has : has_value cell_sort same_kind (cell_spot (first_cell x.0)) x.1 clear ≡ true = has_at cell_sort same_kind (cell_spot (first_cell x.0)) x.1 clear (apart_loose cell_sort clear cells.apart) ∙ (ap (λ (o : Option AccessKind). option_map_or (same_kind x.1) o false) (ap (λ spot. value_at cell_sort spot clear) (cell_first x.0) ∙ e) ∙ accesses_tell.itself x.1) in
         (and_parts (row_reads (first_cell x.0) accesses) (row_unsets (first_cell x.0) leaves) (and_parts (row_reads (first_cell x.0) accesses && row_unsets (first_cell x.0) leaves) (same_kind x.1 Write) (sym (cells.clear (first_cell x.0) x.1) ∙ has)).0).0
 
-    not_read : (x : Cells × Kind) → among os (access_object x) ≡ false → row_reads (first_cell x.0) accesses ≡ true → ⊥
+    not_read : (x : Cells × AccessKind) → among os (access_object x) ≡ false → row_reads (first_cell x.0) accesses ≡ true → ⊥
     not_read x k e = true≢false (sym e ∙ none_read os (first_cell x.0) accesses (ap (λ (spot : Spot). among os (line_object spot.0)) (cell_first x.0) ∙ k) h)
 
-cells_among : (os : List ℕ) (wants leaves accesses clear near_wants near_leaves wants_after leaves_after : List (Cells × Kind)) → AreTidy wants leaves → AreAccesses os accesses → AreCells (rows_among access_object os wants) (rows_among access_object os leaves) accesses clear near_wants near_leaves → AreExchanged access_object os near_wants wants wants_after → AreExchanged access_object os near_leaves leaves leaves_after → AreCells wants leaves accesses clear wants_after leaves_after
+cells_among : (os : List ℕ) (wants leaves accesses clear near_wants near_leaves wants_after leaves_after : List (Cells × AccessKind)) → AreTidy wants leaves → AreAccesses os accesses → AreCells (rows_among access_object os wants) (rows_among access_object os leaves) accesses clear near_wants near_leaves → AreExchanged access_object os near_wants wants wants_after → AreExchanged access_object os near_leaves leaves leaves_after → AreCells wants leaves accesses clear wants_after leaves_after
 cells_among os wants leaves accesses clear near_wants near_leaves wants_after leaves_after tidy h cells w l = record {
   apart = cells.apart;
   clear = λ c v. cells.clear c v ∙ by_clear c v (at c) refl;
-  wants = λ c. reads_loose c wants_after (apart_loose cell_sort wants_after wants_apart) ∙ (ap (λ (o : Option Kind). option_map_or kind_reads o false) (exchanged_value cell_sort os near_wants wants wants_after (cell_spot c) w) ∙ by_wants c (at c) refl);
-  writes = λ c. writes_loose c leaves_after (apart_loose cell_sort leaves_after leaves_apart) ∙ (ap (λ (o : Option Kind). option_map_or kind_writes o false) (exchanged_value cell_sort os near_leaves leaves leaves_after (cell_spot c) l) ∙ by_writes c (at c) refl);
-  unsets = λ c. unsets_loose c leaves_after (apart_loose cell_sort leaves_after leaves_apart) ∙ (ap (λ (o : Option Kind). option_map_or kind_unsets o false) (exchanged_value cell_sort os near_leaves leaves leaves_after (cell_spot c) l) ∙ by_unsets c (at c) refl);
+  wants = λ c. reads_loose c wants_after (apart_loose cell_sort wants_after wants_apart) ∙ (ap (λ (o : Option AccessKind). option_map_or kind_reads o false) (exchanged_value cell_sort os near_wants wants wants_after (cell_spot c) w) ∙ by_wants c (at c) refl);
+  writes = λ c. writes_loose c leaves_after (apart_loose cell_sort leaves_after leaves_apart) ∙ (ap (λ (o : Option AccessKind). option_map_or kind_writes o false) (exchanged_value cell_sort os near_leaves leaves leaves_after (cell_spot c) l) ∙ by_writes c (at c) refl);
+  unsets = λ c. unsets_loose c leaves_after (apart_loose cell_sort leaves_after leaves_apart) ∙ (ap (λ (o : Option AccessKind). option_map_or kind_unsets o false) (exchanged_value cell_sort os near_leaves leaves leaves_after (cell_spot c) l) ∙ by_unsets c (at c) refl);
   tidy = record {
     reads = (exchanged_each access_object (λ row. row.1 ≡ Read) os near_wants wants wants_after cells.tidy.reads.0 tidy.reads.0 w, wants_apart);
     left = leaves_apart;
@@ -324,25 +324,25 @@ cells_among os wants leaves accesses clear near_wants near_leaves wants_after le
     leaves_apart : Apart cell_sort leaves_after
     leaves_apart = exchanged_apart cell_sort os near_leaves leaves leaves_after cells.tidy.left tidy.left l
 
-    loose : (rows : List (Cells × Kind)) → Apart cell_sort rows → Loose cell_sort rows
+    loose : (rows : List (Cells × AccessKind)) → Apart cell_sort rows → Loose cell_sort rows
     loose rows a = apart_loose cell_sort rows a
 
-    few : (rows : List (Cells × Kind)) → Apart cell_sort rows → Loose cell_sort (rows_among access_object os rows)
+    few : (rows : List (Cells × AccessKind)) → Apart cell_sort rows → Loose cell_sort (rows_among access_object os rows)
     few rows a = apart_loose cell_sort (rows_among access_object os rows) (apart_filter cell_sort (λ x. among os (access_object x)) rows a)
 
-    value_same : (c : Cell) (rows : List (Cells × Kind)) → at c ≡ true → value_at cell_sort (cell_spot c) (rows_among access_object os rows) ≡ value_at cell_sort (cell_spot c) rows
+    value_same : (c : Cell) (rows : List (Cells × AccessKind)) → at c ≡ true → value_at cell_sort (cell_spot c) (rows_among access_object os rows) ≡ value_at cell_sort (cell_spot c) rows
     value_same c rows e = value_among cell_sort os (cell_spot c) rows ∙ ap (λ b. if b then value_at cell_sort (cell_spot c) rows else None) e
 
     reads_same : (c : Cell) → at c ≡ true → row_reads c (rows_among access_object os wants) ≡ row_reads c wants
-    reads_same c e = reads_loose c (rows_among access_object os wants) (few wants tidy.reads.1) ∙ (ap (λ (o : Option Kind). option_map_or kind_reads o false) (value_same c wants e) ∙ sym (reads_loose c wants (loose wants tidy.reads.1)))
+    reads_same c e = reads_loose c (rows_among access_object os wants) (few wants tidy.reads.1) ∙ (ap (λ (o : Option AccessKind). option_map_or kind_reads o false) (value_same c wants e) ∙ sym (reads_loose c wants (loose wants tidy.reads.1)))
 
     writes_same : (c : Cell) → at c ≡ true → row_writes c (rows_among access_object os leaves) ≡ row_writes c leaves
-    writes_same c e = writes_loose c (rows_among access_object os leaves) (few leaves tidy.left) ∙ (ap (λ (o : Option Kind). option_map_or kind_writes o false) (value_same c leaves e) ∙ sym (writes_loose c leaves (loose leaves tidy.left)))
+    writes_same c e = writes_loose c (rows_among access_object os leaves) (few leaves tidy.left) ∙ (ap (λ (o : Option AccessKind). option_map_or kind_writes o false) (value_same c leaves e) ∙ sym (writes_loose c leaves (loose leaves tidy.left)))
 
     unsets_same : (c : Cell) → at c ≡ true → row_unsets c (rows_among access_object os leaves) ≡ row_unsets c leaves
-    unsets_same c e = unsets_loose c (rows_among access_object os leaves) (few leaves tidy.left) ∙ (ap (λ (o : Option Kind). option_map_or kind_unsets o false) (value_same c leaves e) ∙ sym (unsets_loose c leaves (loose leaves tidy.left)))
+    unsets_same c e = unsets_loose c (rows_among access_object os leaves) (few leaves tidy.left) ∙ (ap (λ (o : Option AccessKind). option_map_or kind_unsets o false) (value_same c leaves e) ∙ sym (unsets_loose c leaves (loose leaves tidy.left)))
 
-    by_clear : (c : Cell) (v : Kind) (b : Bool) → at c ≡ b → ((row_reads c accesses && row_unsets c (rows_among access_object os leaves)) && same_kind v Write) ≡ ((row_reads c accesses && row_unsets c leaves) && same_kind v Write)
+    by_clear : (c : Cell) (v : AccessKind) (b : Bool) → at c ≡ b → ((row_reads c accesses && row_unsets c (rows_among access_object os leaves)) && same_kind v Write) ≡ ((row_reads c accesses && row_unsets c leaves) && same_kind v Write)
     by_clear c v true e = ap (λ u. (row_reads c accesses && u) && same_kind v Write) (unsets_same c e)
     by_clear c v false e = ap (λ r. (r && row_unsets c (rows_among access_object os leaves)) && same_kind v Write) (none_read os c accesses e h) ∙ sym (ap (λ r. (r && row_unsets c leaves) && same_kind v Write) (none_read os c accesses e h))
 
@@ -363,12 +363,12 @@ cells_among os wants leaves accesses clear near_wants near_leaves wants_after le
     by_unsets c true e = sym (unsets_loose c near_leaves (loose near_leaves cells.tidy.left)) ∙ (cells.unsets c ∙ ap (λ u. if row_writes c accesses then row_unsets c accesses else (if row_reads c accesses && u then false else u)) (unsets_same c e))
     by_unsets c false e = sym (unsets_loose c leaves (loose leaves tidy.left)) ∙ ap₂ (λ (k r : Bool). if k then row_unsets c accesses else (if r && row_unsets c leaves then false else row_unsets c leaves)) (sym (none_written os c accesses e h)) (sym (none_read os c accesses e h))
 
-    by_written : (c : Cell) (kind : Kind) (b : Bool) → (if b then value_at cell_sort (cell_spot c) near_leaves else value_at cell_sort (cell_spot c) leaves) ≡ Some kind → kind_writes kind ≡ true
+    by_written : (c : Cell) (kind : AccessKind) (b : Bool) → (if b then value_at cell_sort (cell_spot c) near_leaves else value_at cell_sort (cell_spot c) leaves) ≡ Some kind → kind_writes kind ≡ true
     by_written c kind true e = cells.tidy.written c kind e
     by_written c kind false e = tidy.written c kind e
 
 -- One more step.
-pub step_among : (os : List ℕ) (ends : List UseRow) (wants leaves : List (Cells × Kind)) (d : Deed) (more : List Kept) (near_ends ends_after : List UseRow) (near_wants near_leaves wants_after leaves_after : List (Cells × Kind)) → AreUses os d.uses → AreAccesses os d.accesses → Apart part_sort ends → AreTidy wants leaves → IsStep (rows_among use_object os ends) (rows_among access_object os wants) (rows_among access_object os leaves) d more near_ends near_wants near_leaves → AreExchanged use_object os near_ends ends ends_after → AreExchanged access_object os near_wants wants wants_after → AreExchanged access_object os near_leaves leaves leaves_after → IsStep ends wants leaves d more ends_after wants_after leaves_after
+pub step_among : (os : List ℕ) (ends : List UseRow) (wants leaves : List (Cells × AccessKind)) (d : Deed) (more : List Kept) (near_ends ends_after : List UseRow) (near_wants near_leaves wants_after leaves_after : List (Cells × AccessKind)) → AreUses os d.uses → AreAccesses os d.accesses → Apart part_sort ends → AreTidy wants leaves → IsStep (rows_among use_object os ends) (rows_among access_object os wants) (rows_among access_object os leaves) d more near_ends near_wants near_leaves → AreExchanged use_object os near_ends ends ends_after → AreExchanged access_object os near_wants wants wants_after → AreExchanged access_object os near_leaves leaves leaves_after → IsStep ends wants leaves d more ends_after wants_after leaves_after
 step_among os ends wants leaves d more near_ends ends_after near_wants near_leaves wants_after leaves_after us xs a tidy step e w l =
     let cells : AreCells (rows_among access_object os wants) (rows_among access_object os leaves) d.accesses step.clear near_wants near_leaves = step.cells (tidy_among os wants leaves tidy) in
     record {
@@ -384,10 +384,10 @@ all_apart place inner [] (k ∷ more) end h a = absurd h
 all_apart place inner (s ∷ steps) [] end h a = absurd h
 all_apart place inner (s ∷ steps) (k ∷ more) end h a = all_apart place (used_after (sets s.uses) inner) steps more end h.3 (step_used s inner a).0
 
-ends_apart : (deeds : List Deed) (held : List Kept) (ends : List UseRow) (wants leaves : List (Cells × Kind)) → IsTrack deeds held ends wants leaves → Apart part_sort ends
+ends_apart : (deeds : List Deed) (held : List Kept) (ends : List UseRow) (wants leaves : List (Cells × AccessKind)) → IsTrack deeds held ends wants leaves → Apart part_sort ends
 ends_apart deeds held ends wants leaves h = all_apart (Host 0) [] (inside_at (Host 0) deeds) held ends (h.kept (Host 0)) tt
 
-needs_ordered : (wants : List (Cells × Kind)) (found : List Cells) → Apart cell_sort wants → found ≡ map (λ row. row.0) wants → Ordered cells_object found
+needs_ordered : (wants : List (Cells × AccessKind)) (found : List Cells) → Apart cell_sort wants → found ≡ map (λ row. row.0) wants → Ordered cells_object found
 needs_ordered wants found a e = subst (Ordered cells_object) (sym e) (ordered_map cells_object (λ row. row.0) wants (apart_ordered cell_sort wants a))
 
 pub holds_ordered : (deeds : List Deed) (held : List Kept) (rows : Rows) → Holds deeds held rows → AreOrdered rows
@@ -422,7 +422,7 @@ later_same deeds held os near rows now same h = λ later x. h later (record {
 })
 
 -- What follows all that a tracker holds.
-pub step_with : (ends : List UseRow) (wants leaves : List (Cells × Kind)) (ends2 : List UseRow) (wants2 leaves2 : List (Cells × Kind)) (d : Deed) (more : List Kept) (ends_after : List UseRow) (wants_after leaves_after : List (Cells × Kind)) → ends ≡ ends2 → wants ≡ wants2 → leaves ≡ leaves2 → IsStep ends wants leaves d more ends_after wants_after leaves_after → IsStep ends2 wants2 leaves2 d more ends_after wants_after leaves_after
+pub step_with : (ends : List UseRow) (wants leaves : List (Cells × AccessKind)) (ends2 : List UseRow) (wants2 leaves2 : List (Cells × AccessKind)) (d : Deed) (more : List Kept) (ends_after : List UseRow) (wants_after leaves_after : List (Cells × AccessKind)) → ends ≡ ends2 → wants ≡ wants2 → leaves ≡ leaves2 → IsStep ends wants leaves d more ends_after wants_after leaves_after → IsStep ends2 wants2 leaves2 d more ends_after wants_after leaves_after
 step_with ends wants leaves ends2 wants2 leaves2 d more ends_after wants_after leaves_after e w l h = subst (λ x. IsStep x wants2 leaves2 d more ends_after wants_after leaves_after) e (subst (λ y. IsStep ends y leaves2 d more ends_after wants_after leaves_after) w (subst (λ z. IsStep ends wants z d more ends_after wants_after leaves_after) l h))
 
 pub seen_over : (first last uses first2 last2 uses2 first_after last_after : List UseRow) → first ≡ first2 → last ≡ last2 → uses ≡ uses2 → IsSeen first last uses first_after last_after → IsSeen first2 last2 uses2 first_after last_after

@@ -1,16 +1,16 @@
 -- A tracker after one more step.
 use Rattle.std.proofs.Common.{◌≡◌, Bool, true, false, not, ◌&&◌, ◌||◌, List, [], ◌∷◌, ◌++◌, refl, ap, ap₂, sym, ◌∙◌, subst, append_assoc, append-nil, if◌then◌else◌, true≢false}
 use Rattle.std.proofs.lemmas.Bool.{and_parts}
-use Rattle.wg_types.specs.declared.steps.Deed.{Deed}
-use Rattle.wg_types.specs.declared.steps.StepName.TheVariants.{Clear}
+use Rattle.wg_trace.specs.declared.steps.Deed.{Deed}
+use Rattle.wg_trace.specs.declared.steps.StepName.TheVariants.{Clear}
 use Rattle.wg_rows.specs.Runs.{Cells, Cell, PartRun, covers}
-use Rattle.wg_rows.specs.Uses.{Kind, Write, Usages, same_kind, row_reads, row_writes, row_unsets}
+use Rattle.wg_rows.specs.Uses.{AccessKind, Write, Usages, same_kind, row_reads, row_writes, row_unsets}
 use Rattle.wg_rows.specs.Sets.{UseRow, sets}
-use Rattle.wg_orders.specs.Steps.{Step, StepPlace, reads, writes, unsets}
+use Rattle.wg_orders.specs.Steps.{Step, StepPlace, reads, writes, unsets, placed}
 use Rattle.wg_orders.specs.Trace.{clear_of, cells_of, needs}
 use Rattle.wg_cbtrack.specs.Cleared.{uses_of, written}
 use Rattle.wg_cbtrack.specs.declared.kept.Kept.{Kept}
-use Rattle.wg_cbtrack.specs.Group.{placed, placed_all, left, left_cells, clear_steps}
+use Rattle.wg_cbtrack.specs.Group.{placed_all, left, left_cells, clear_steps}
 use Rattle.wg_cbtrack.specs.Join.{inner_changes, opens, used_after}
 use Rattle.wg_cbtrack.specs.Items.{inner_steps, AreKept, noted}
 use Rattle.wg_cbtrack.specs.Track.{inside_at, IsTrack}
@@ -85,7 +85,7 @@ inner_written c (s ∷ steps) inner =
     rest = inner_steps (before ++ s ∷ []) steps
 
 -- The rows that are found are the clear inside.
-clear_is : (place : StepPlace) (deeds : List Deed) (d : Deed) (kept : List Kept) (ends : List UseRow) (wants leaves clear wants_after leaves_after : List (Cells × Kind)) → IsTrack deeds kept ends wants leaves → AreCells wants leaves d.accesses clear wants_after leaves_after → clear ≡ (clear_of place (left_cells (inside_at place deeds) (placed place d))).accesses
+clear_is : (place : StepPlace) (deeds : List Deed) (d : Deed) (kept : List Kept) (ends : List UseRow) (wants leaves clear wants_after leaves_after : List (Cells × AccessKind)) → IsTrack deeds kept ends wants leaves → AreCells wants leaves d.accesses clear wants_after leaves_after → clear ≡ (clear_of place (left_cells (inside_at place deeds) (placed place d))).accesses
 unfolding covers reads
 clear_is place deeds d kept ends wants leaves clear wants_after leaves_after track cells = accesses_printed clear (write_rows (left_cells (inside_at place deeds) (placed place d))) (write_fit (left_cells (inside_at place deeds) (placed place d))) cells.apart (alike_at_cells clear (write_rows (left_cells (inside_at place deeds) (placed place d))) (λ c v. cells.clear c v ∙ (ap (λ t. (row_reads c d.accesses && t) && same_kind v Write) (track.unsets place c) ∙ (ap (λ t. t && same_kind v Write) (sym (left_has (inside_at place deeds) (placed place d) c)) ∙ sym (write_has (left_cells (inside_at place deeds) (placed place d)) c v)))))
 
@@ -93,7 +93,7 @@ clear_is place deeds d kept ends wants leaves clear wants_after leaves_after tra
 one_more : (place : StepPlace) (inner end after : List UseRow) (steps : List Step) (kept : List Kept) (s : Step) (deed : Deed) (is_noted : Bool) (k : Kept) → AreKept place inner steps kept end → placed place deed ≡ s → IsKept end deed is_noted k after → AreKept place inner (steps ++ s ∷ []) (kept ++ k ∷ []) after
 one_more place inner end after steps kept s deed is_noted k h e is = subst (AreKept place inner (steps ++ s ∷ []) (kept ++ k ∷ [])) (sym (is.after ∙ ap (λ (t : Step). used_after (sets t.uses) end) e)) (kept_more place inner end steps kept s k h (ap (placed place) is.deed ∙ e) (is.changes ∙ ap (λ (t : Step). inner_changes end (sets t.uses)) e) (is.first ∙ ap (λ (t : Step). opens end (sets t.uses)) e))
 
-more_kept : (place : StepPlace) (steps : List Step) (kept more : List Kept) (ends after : List UseRow) (s : Step) (d : Deed) (cells : List Cell) (rows : List (Cells × Kind)) → placed place d ≡ s → rows ≡ (clear_of place cells).accesses → AreKept place [] steps kept ends → AreMore ends rows d more after → AreKept place [] (steps ++ (clear_steps place cells ++ s ∷ [])) (kept ++ more) after
+more_kept : (place : StepPlace) (steps : List Step) (kept more : List Kept) (ends after : List UseRow) (s : Step) (d : Deed) (cells : List Cell) (rows : List (Cells × AccessKind)) → placed place d ≡ s → rows ≡ (clear_of place cells).accesses → AreKept place [] steps kept ends → AreMore ends rows d more after → AreKept place [] (steps ++ (clear_steps place cells ++ s ∷ [])) (kept ++ more) after
 more_kept place steps kept more ends after s d [] [] p e h m = subst (λ xs. AreKept place [] (steps ++ s ∷ []) (kept ++ xs) after) (sym m.more) (one_more place [] ends after steps kept s d true m.step h p m.steps)
 more_kept place steps kept more ends after s d (c ∷ cells) [] p e h m = absurd (none_cleared_more (none_cleared place (c ∷ cells) (sym e)))
   where
@@ -107,10 +107,10 @@ more_kept place steps kept more ends after s d (c ∷ cells) (x ∷ rows) p e h 
     (one_more place [] m.mid after (steps ++ clear_of place (c ∷ cells) ∷ []) (kept ++ m.clear ∷ []) s d true m.step (one_more place [] ends m.mid steps kept (clear_of place (c ∷ cells)) (clear_deed (x ∷ rows)) false m.clear h clear m.clears) p m.steps)))
   where
     clear : placed place (clear_deed (x ∷ rows)) ≡ clear_of place (c ∷ cells)
-    clear = ap (λ (rows : List (Cells × Kind)). record { place = place; name = Clear; uses = uses_of rows; accesses = rows }) e ∙ ap (λ (uses : List (PartRun × Usages)). record { place = place; name = Clear; uses = uses; accesses = (clear_of place (c ∷ cells)).accesses }) (clear_uses place (c ∷ cells))
+    clear = ap (λ (rows : List (Cells × AccessKind)). record { place = place; name = Clear; uses = uses_of rows; accesses = rows }) e ∙ ap (λ (uses : List (PartRun × Usages)). record { place = place; name = Clear; uses = uses; accesses = (clear_of place (c ∷ cells)).accesses }) (clear_uses place (c ∷ cells))
 
 -- A tracker with one more step noted.
-pub track_next : (deeds : List Deed) (d : Deed) (kept more : List Kept) (ends after : List UseRow) (wants leaves clear wants_after leaves_after : List (Cells × Kind)) → IsTrack deeds kept ends wants leaves → AreCells wants leaves d.accesses clear wants_after leaves_after → AreMore ends clear d more after → IsTrack (deeds ++ d ∷ []) (kept ++ more) after wants_after leaves_after
+pub track_next : (deeds : List Deed) (d : Deed) (kept more : List Kept) (ends after : List UseRow) (wants leaves clear wants_after leaves_after : List (Cells × AccessKind)) → IsTrack deeds kept ends wants leaves → AreCells wants leaves d.accesses clear wants_after leaves_after → AreMore ends clear d more after → IsTrack (deeds ++ d ∷ []) (kept ++ more) after wants_after leaves_after
 unfolding reads writes unsets
 track_next deeds d kept more ends after wants leaves clear wants_after leaves_after track cells are = record {
   kept = λ place. subst (λ xs. AreKept place [] xs (kept ++ more) after) (sym (inside_more place)) (more_kept place (inside_at place deeds) kept more ends after (placed place d) d (left_cells (inside_at place deeds) (placed place d)) clear refl (clear_is place deeds d kept ends wants leaves clear wants_after leaves_after track cells) (track.kept place) are);
@@ -151,13 +151,13 @@ one_noted ends after d k is = ap₂ (λ (b : Bool) (x : Deed). if b then x ∷ [
 none_noted : (ends after : List UseRow) (d : Deed) (k : Kept) (more : List Kept) → IsKept ends d false k after → noted (k ∷ more) ≡ noted more
 none_noted ends after d k more is = ap (λ (b : Bool). if b then k.deed ∷ noted more else noted more) is.is_noted
 
-pub more_noted : (ends after : List UseRow) (rows : List (Cells × Kind)) (d : Deed) (more : List Kept) → AreMore ends rows d more after → noted more ≡ d ∷ []
+pub more_noted : (ends after : List UseRow) (rows : List (Cells × AccessKind)) (d : Deed) (more : List Kept) → AreMore ends rows d more after → noted more ≡ d ∷ []
 more_noted ends after [] d more m = ap noted m.more ∙ one_noted ends after d m.step m.steps
 more_noted ends after (x ∷ rows) d more m = ap noted m.more ∙ (none_noted ends m.mid (clear_deed (x ∷ rows)) m.clear (m.step ∷ []) m.clears ∙ one_noted m.mid after d m.step m.steps)
 
-pub noted_more : (ends after : List UseRow) (rows : List (Cells × Kind)) (d : Deed) (deeds : List Deed) (held more : List Kept) → AreMore ends rows d more after → deeds ≡ noted held → noted (held ++ more) ≡ deeds ++ d ∷ []
+pub noted_more : (ends after : List UseRow) (rows : List (Cells × AccessKind)) (d : Deed) (deeds : List Deed) (held more : List Kept) → AreMore ends rows d more after → deeds ≡ noted held → noted (held ++ more) ≡ deeds ++ d ∷ []
 noted_more ends after rows d deeds held more m e = noted_append held more ∙ ap₂ (λ (xs ys : List Deed). xs ++ ys) (sym e) (more_noted ends after rows d more m)
 
-pub are_more : (ends after : List UseRow) (rows : List (Cells × Kind)) (d : Deed) (more : List Kept) → (rows ≡ [] → ⊥) → WithClear ends rows d more after → AreMore ends rows d more after
+pub are_more : (ends after : List UseRow) (rows : List (Cells × AccessKind)) (d : Deed) (more : List Kept) → (rows ≡ [] → ⊥) → WithClear ends rows d more after → AreMore ends rows d more after
 are_more ends after [] d more some m = absurd (some refl)
 are_more ends after (x ∷ rows) d more some m = m

@@ -1,15 +1,15 @@
 -- The first and the last sets of parts after one more step.
 use Rattle.std.proofs.Common.{◌≡◌, List, [], ◌∷◌, ◌++◌, length, Option, Some, None, refl, ap, ap₂, sym, ◌∙◌, subst}
 use Rattle.std.specs.Option.{option_or, option_and_then, option_map_or}
-use Rattle.wg_types.specs.declared.steps.Deed.{Deed}
+use Rattle.wg_trace.specs.declared.steps.Deed.{Deed}
 use Rattle.wg_rows.specs.Rows.{Spot, Apart}
 use Rattle.wg_rows.specs.Cut.{value_at, put_all}
 use Rattle.wg_rows.specs.Runs.{Part, part_sort, part_spot}
 use Rattle.wg_rows.specs.Uses.{Usages, same_set}
 use Rattle.wg_rows.specs.Sets.{UseRow, sets}
-use Rattle.wg_orders.specs.Steps.{Step, set_of}
+use Rattle.wg_orders.specs.Steps.{Step, set_of, placed}
 use Rattle.wg_orders.specs.Trace.{last_set}
-use Rattle.wg_cbtrack.specs.Group.{placed, placed_all}
+use Rattle.wg_cbtrack.specs.Group.{placed_all}
 use Rattle.wg_cbtrack.specs.Join.{opens, used_after}
 use Rattle.wg_cbtrack.specs.Seen.{first_set, AreStarts, AreEnds, AreSeen}
 use Rattle.wg_rows.proofs.Told.{uses_tell}

@@ -1,20 +1,22 @@
 -- The rows of a tracker that a note touches: those of the objects that its step uses or accesses.
 use Rattle.std.specs.Prelude.{ℕ, ◌≡◌, ◌+◌, ◌≤◌, List, length, vec_len, vec_capacity}
 use Rattle.wg_rows.specs.Runs.{Cells, part_line, cell_line}
-use Rattle.wg_rows.specs.Uses.{Kind}
+use Rattle.wg_rows.specs.Uses.{AccessKind}
 use Rattle.wg_rows.specs.Sets.{UseRow}
 use Rattle.wg_rows.specs.Rows.{line_object}
 use Rattle.wg_cbtrack.specs.declared.kept.Rows.{Rows}
 use Rattle.wg_cbtrack.specs.Owners.{rows_among, Ordered, AreExchanged}
 
--- the object of a use, of cells and of an access
+-- the object of a use
 abbrev pub use_object : UseRow → ℕ
 use_object row = line_object (part_line row.0)
 
+-- the object of a run of cells
 abbrev pub cells_object : Cells → ℕ
 cells_object run = line_object (cell_line run)
 
-abbrev pub access_object : Cells × Kind → ℕ
+-- the object of an access
+abbrev pub access_object : Cells × AccessKind → ℕ
 access_object row = cells_object row.0
 
 -- All rows stand in the order of their objects.

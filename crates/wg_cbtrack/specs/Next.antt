@@ -1,10 +1,10 @@
 -- What one more noted step makes of a tracker.
 use Rattle.std.specs.Prelude.{ℕ, ◌≡◌, Bool, true, false, not, ◌&&◌, ◌||◌, List, [], ◌∷◌, ◌++◌, if◌then◌else◌}
-use Rattle.wg_types.specs.declared.steps.Deed.{Deed}
-use Rattle.wg_types.specs.declared.steps.StepName.TheVariants.{Clear}
+use Rattle.wg_trace.specs.declared.steps.Deed.{Deed}
+use Rattle.wg_trace.specs.declared.steps.StepName.TheVariants.{Clear}
 use Rattle.wg_rows.specs.Runs.{Cells, Cell, cell_spot, cell_sort, part_sort}
 use Rattle.wg_rows.specs.Rows.{Apart, has_value}
-use Rattle.wg_rows.specs.Uses.{Kind, Write, same_kind, same_set, row_reads, row_writes, row_unsets}
+use Rattle.wg_rows.specs.Uses.{AccessKind, Write, same_kind, same_set, row_reads, row_writes, row_unsets}
 use Rattle.wg_rows.specs.Cut.{put_all}
 use Rattle.wg_rows.specs.Sets.{UseRow, sets}
 use Rattle.wg_cbtrack.specs.Cleared.{uses_of}
@@ -17,7 +17,7 @@ use Rattle.wg_cbtrack.specs.Track.{Holds}
 use Rattle.wg_cbtrack.specs.Near.{AreOrdered, AreAllExchanged}
 
 -- a clear inside, of rows of cells
-abbrev pub clear_deed : List (Cells × Kind) → Deed
+abbrev pub clear_deed : List (Cells × AccessKind) → Deed
 clear_deed rows = record { name = Clear; uses = uses_of rows; accesses = rows }
 
 -- What is kept of a deed over rows of uses, and those after it.
@@ -29,7 +29,7 @@ pub record IsKept (ends : List UseRow) (d : Deed) (was_noted : Bool) (k : Kept) 
   pub after : later ≡ used_after (sets d.uses) ends
 
 -- What is kept of a deed and of the clear inside before it, if there is one.
-pub record WithClear (ends : List UseRow) (rows : List (Cells × Kind)) (deed : Deed) (held : List Kept) (after : List UseRow) : Type 0 where
+pub record WithClear (ends : List UseRow) (rows : List (Cells × AccessKind)) (deed : Deed) (held : List Kept) (after : List UseRow) : Type 0 where
   pub clear : Kept
   pub mid : List UseRow
   pub step : Kept
@@ -37,28 +37,30 @@ pub record WithClear (ends : List UseRow) (rows : List (Cells × Kind)) (deed : 
   pub clears : IsKept ends (clear_deed rows) false clear mid
   pub steps : IsKept mid deed true step after
 
+-- A step that needs no clear inside its command buffer is kept alone, and uses are after it as it leaves them.
 pub record WithoutClear (ends : List UseRow) (deed : Deed) (held : List Kept) (after : List UseRow) : Type 0 where
   pub step : Kept
   pub more : held ≡ step ∷ []
   pub steps : IsKept ends deed true step after
 
-abbrev pub AreMore : List UseRow → List (Cells × Kind) → Deed → List Kept → List UseRow → Type 0
+-- What a step adds to the kept steps: itself, and before it the clear that it needs, if it needs one.
+abbrev pub AreMore : List UseRow → List (Cells × AccessKind) → Deed → List Kept → List UseRow → Type 0
 AreMore ends [] deed more after = WithoutClear ends deed more after
 AreMore ends (x ∷ rows) deed more after = WithClear ends (x ∷ rows) deed more after
 
 -- The cells of one more step: those that a clear inside sets before it, those that are wanted from before all, and what
 -- is left after it.
-pub record AreCells (asked leaves accesses found asked_after leaves_after : List (Cells × Kind)) : Type 0 where
+pub record AreCells (asked leaves accesses found asked_after leaves_after : List (Cells × AccessKind)) : Type 0 where
   pub apart : Apart cell_sort found
-  pub clear : (c : Cell) (v : Kind) → has_value cell_sort same_kind (cell_spot c) v found ≡ ((row_reads c accesses && row_unsets c leaves) && same_kind v Write)
+  pub clear : (c : Cell) (v : AccessKind) → has_value cell_sort same_kind (cell_spot c) v found ≡ ((row_reads c accesses && row_unsets c leaves) && same_kind v Write)
   pub wants : (c : Cell) → row_reads c asked_after ≡ (row_reads c asked || (not (row_writes c leaves) && row_reads c accesses))
   pub writes : (c : Cell) → row_writes c leaves_after ≡ (row_writes c accesses || row_writes c leaves)
   pub unsets : (c : Cell) → row_unsets c leaves_after ≡ (if row_writes c accesses then row_unsets c accesses else (if row_reads c accesses && row_unsets c leaves then false else row_unsets c leaves))
   pub tidy : AreTidy asked_after leaves_after
 
 -- One more step over rows: the clear inside before it, what more is kept, and the rows after it.
-pub record IsStep (ends : List UseRow) (wants leaves : List (Cells × Kind)) (deed : Deed) (more : List Kept) (ends_after : List UseRow) (wants_after leaves_after : List (Cells × Kind)) : Type 0 where
-  pub clear : List (Cells × Kind)
+pub record IsStep (ends : List UseRow) (wants leaves : List (Cells × AccessKind)) (deed : Deed) (more : List Kept) (ends_after : List UseRow) (wants_after leaves_after : List (Cells × AccessKind)) : Type 0 where
+  pub clear : List (Cells × AccessKind)
   pub cells : AreTidy wants leaves → AreCells wants leaves deed.accesses clear wants_after leaves_after
   pub kept : AreMore ends clear deed more ends_after
 

@@ -8,13 +8,15 @@ abbrev pub among : List ℕ → ℕ → Bool
 among [] o = false
 among (p ∷ ps) o = (o == p) || among ps o
 
--- the rows of an object, those of lesser ones, and those of greater ones
+-- the rows of an object
 abbrev pub rows_of : {T : Type 0} → (T → ℕ) → ℕ → List T → List T
 rows_of object o rows = filter (λ x. object x == o) rows
 
+-- the rows of objects below a number
 abbrev pub rows_below : {T : Type 0} → (T → ℕ) → ℕ → List T → List T
 rows_below object o rows = filter (λ x. nat_lt (object x) o) rows
 
+-- the rows of objects above a number
 abbrev pub rows_above : {T : Type 0} → (T → ℕ) → ℕ → List T → List T
 rows_above object o rows = filter (λ x. nat_lt o (object x)) rows
 

@@ -5,7 +5,7 @@ use Rattle.wg_orders.specs.Trace.{Item, Sort, steps_of, free}
 use Rattle.wg_bars.specs.Last.{LastRows, AreSorted, KeepsLast}
 use Rattle.wg_init.specs.Rows.{SetRows, KeepsSet, RunsApart}
 
--- The last set of each part, and the cells that are set.
+-- what is kept of a tracker: the last set of each part, and the cells that are set
 pub record TrackerValue : Type 0 where
   pub last : LastRows
   pub cells : SetRows
@@ -15,11 +15,11 @@ pub record Stands (t : TrackerValue) (steps : List Step) : Type 0 where
   pub last : KeepsLast t.last steps
   pub cells : KeepsSet t.cells steps
 
--- The rows of a tracker are in order.
+-- The rows of a tracker are in order: in printed form, those of its own objects, and runs that do not touch.
 pub record IsSound (t : TrackerValue) : Type 0 where
   pub last : AreSorted t.last
   pub cells : RunsApart t.cells
 
--- The release of objects changes no steps.
+-- Releases at the end of a trace change none of its steps, so that a tracker that stands for it stands for it with them too.
 abbrev pub FreesKeep : Type 0
 FreesKeep = (trace : List Item) (freed : List (ℕ × Sort)) → steps_of (trace ++ map free freed) ≡ steps_of trace

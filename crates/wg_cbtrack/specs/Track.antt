@@ -1,8 +1,8 @@
 -- What a tracker keeps of the steps that were noted.
 use Rattle.std.specs.Prelude.{◌≡◌, List, [], map}
-use Rattle.wg_types.specs.declared.steps.Deed.{Deed}
+use Rattle.wg_trace.specs.declared.steps.Deed.{Deed}
 use Rattle.wg_rows.specs.Runs.{Cells, Cell}
-use Rattle.wg_rows.specs.Uses.{Kind, row_reads, row_writes, row_unsets}
+use Rattle.wg_rows.specs.Uses.{AccessKind, row_reads, row_writes, row_unsets}
 use Rattle.wg_rows.specs.Sets.{UseRow}
 use Rattle.wg_orders.specs.Steps.{Step, StepPlace}
 use Rattle.wg_orders.specs.Trace.{needs}
@@ -21,7 +21,7 @@ inside_at place deeds = inner_steps [] (placed_all place deeds)
 -- What is kept is that of the deeds, wherever they are placed: of each step inside its changes and first uses, with the
 -- rows of uses at the end; the cells that are needed from before; and the cells that are written, each with whether it
 -- is left unset.
-pub record IsTrack (deeds : List Deed) (held : List Kept) (ends : List UseRow) (wants leaves : List (Cells × Kind)) : Type 0 where
+pub record IsTrack (deeds : List Deed) (held : List Kept) (ends : List UseRow) (wants leaves : List (Cells × AccessKind)) : Type 0 where
   pub kept : (place : StepPlace) → AreKept place [] (inside_at place deeds) held ends
   pub needs : (place : StepPlace) (c : Cell) → row_reads c wants ≡ needs (placed_all place deeds) c
   pub writes : (place : StepPlace) (c : Cell) → row_writes c leaves ≡ written (inside_at place deeds) c

@@ -4,15 +4,16 @@ ghost use Rattle.wg_rows.specs.Cut.{inside, gaps, put_all};
 ghost use Rattle.wg_rows.specs.Rows.{Apart};
 ghost use Rattle.std.specs.List.{flat_map};
 ghost use Rattle.wg_rows.specs.Runs.{PartRun, part_sort, cell_sort};
-ghost use Rattle.wg_rows.specs.Uses.{Kind, Usages, same_set};
+ghost use Rattle.wg_rows.specs.Uses.{AccessKind, Usages, same_set};
 
-use crate::near::{cells_object, part_object};
+use crate::near::cells_object;
 use crate::owners::rows_of;
 use std::alloc::Global;
 use wg_entry::NoMemory;
+use wg_rows::part_runs::run_object;
 use wg_rows::rows::{gaps, put_all};
-use wg_types::parts::{Cells, Kind, PartRun};
-use wg_types::usages::Usages;
+use wg_trace::parts::{AccessKind, Cells, PartRun};
+use wg_trace::usages::Usages;
 
 /// The rows among which those of a run's parts are, if rows are in printed form, or else all rows.
 #[tactic(auto, using(crate::proofs::OfRuns::parts_ordered, crate::proofs::OfRuns::inside_parts, crate::proofs::OfRuns::gaps_parts))]
@@ -26,17 +27,21 @@ pub fn about_parts(
     ensures gaps { (v : Usages) → gaps part_sort ((run, v) ∷ []) result.now ≡ gaps part_sort ((run, v) ∷ []) rows.now }
 {
     if are_printed {
-        return rows_of(rows, part_object(run));
+        return rows_of(rows, run_object(run));
     }
     rows
 }
 
 /// The rows among which those of a run's cells are, if rows are in printed form, or else all rows.
 #[tactic(auto, using(crate::proofs::OfRuns::cells_ordered, crate::proofs::OfRuns::inside_cells, crate::proofs::OfRuns::gaps_cells))]
-pub fn about_cells(rows: &[(Cells, Kind)], are_printed: bool, run: Cells) -> &[(Cells, Kind)]
+pub fn about_cells(
+    rows: &[(Cells, AccessKind)],
+    are_printed: bool,
+    run: Cells,
+) -> &[(Cells, AccessKind)]
     requires { IsTrue are_printed → Apart cell_sort rows.now }
     ensures inside { inside cell_sort run result.now ≡ inside cell_sort run rows.now }
-    ensures gaps { (v : Kind) → gaps cell_sort ((run, v) ∷ []) result.now ≡ gaps cell_sort ((run, v) ∷ []) rows.now }
+    ensures gaps { (v : AccessKind) → gaps cell_sort ((run, v) ∷ []) result.now ≡ gaps cell_sort ((run, v) ∷ []) rows.now }
 {
     if are_printed {
         return rows_of(rows, cells_object(run));

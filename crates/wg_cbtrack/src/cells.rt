@@ -1,9 +1,9 @@
 //! The cells of one more noted step.
-ghost use Rattle.std.specs.Prelude.{◌≡◌, List, [], IfOk, OnOk, IsTrue, map};
+ghost use Rattle.std.specs.Prelude.{◌≡◌, List, IfOk, OnOk, IsTrue};
 ghost use Rattle.wg_rows.specs.Cut.{choose, put_all};
 ghost use Rattle.wg_rows.specs.Rows.{Apart};
 ghost use Rattle.wg_rows.specs.Runs.{cell_sort};
-ghost use Rattle.wg_rows.specs.Uses.{Kind, Read, same_kind};
+ghost use Rattle.wg_rows.specs.Uses.{AccessKind, Read, same_kind};
 ghost use Rattle.wg_cbtrack.specs.Leaves.{
   left_kind,
   left_after,
@@ -11,43 +11,51 @@ ghost use Rattle.wg_cbtrack.specs.Leaves.{
   cleared_kind,
   unset_pieces,
   unwritten_pieces,
+  pieces_of,
   AreTidy,
 };
 ghost use Rattle.wg_cbtrack.specs.Next.{AreCells};
 
 use crate::about::about_cells;
-use crate::cuts::{gaps, inside, overwrite};
 use std::alloc::Global;
 use wg_entry::NoMemory;
 use wg_rows::cell_runs::{cell_hi, cell_lo, reads, unsets, writes};
-use wg_rows::rows::{are_apart, put_all};
-use wg_types::parts::{Cells, Kind};
+use wg_rows::rows::{are_apart, gaps, inside, overwrite, put_all};
+use wg_trace::parts::{AccessKind, Cells};
 
 /// The cells that a clear inside sets, those that are wanted from before all steps, and what is left of
 /// those that are written.
 #[derive(Drop)]
 pub struct CellsAfter {
-    pub clear: Vec<(Cells, Kind)>,
-    pub wants: Vec<(Cells, Kind)>,
-    pub leaves: Vec<(Cells, Kind)>,
+    pub clear: Vec<(Cells, AccessKind)>,
+    pub wants: Vec<(Cells, AccessKind)>,
+    pub leaves: Vec<(Cells, AccessKind)>,
+}
+
+/// Which pieces of a run that is read count: those that are left unset, as they are cleared, or those that
+/// no step before wrote, as they are read.
+#[derive(Clone, Copy)]
+pub enum Pieces {
+    Unset,
+    Unwritten,
 }
 
 /// What is left of a cell that an access writes.
-fn left_kind(kind: Kind) -> Kind
+fn left_kind(kind: AccessKind) -> AccessKind
     ensures { result ≡ left_kind kind }
 {
     if unsets(kind) {
-        return Kind::Drop;
+        return AccessKind::Drop;
     }
-    Kind::Write
+    AccessKind::Write
 }
 
 /// What is left after accesses.
 fn left_after(
     alloc: Global,
-    leaves: Vec<(Cells, Kind)>,
-    accesses: &[(Cells, Kind)],
-) -> Result<Vec<(Cells, Kind)>, NoMemory>
+    leaves: Vec<(Cells, AccessKind)>,
+    accesses: &[(Cells, AccessKind)],
+) -> Result<Vec<(Cells, AccessKind)>, NoMemory>
     ensures { IfOk result (λ v. v.items ≡ left_after accesses.now leaves.items) }
 {
     let mut out = leaves;
@@ -60,13 +68,16 @@ fn left_after(
 }
 
 /// The rows of what is left unset, as they are cleared.
-fn cleared(alloc: Global, rows: &[(Cells, Kind)]) -> Result<Vec<(Cells, Kind)>, NoMemory>
+fn cleared(
+    alloc: Global,
+    rows: &[(Cells, AccessKind)],
+) -> Result<Vec<(Cells, AccessKind)>, NoMemory>
     ensures { IfOk result (λ v. v.items ≡ choose cleared_kind rows.now) }
 {
     let mut out = Vec::new(alloc);
     for row in rows {
         if unsets(row.1) {
-            out.push((row.0, Kind::Write))?;
+            out.push((row.0, AccessKind::Write))?;
         }
     }
     Ok(out)
@@ -75,10 +86,10 @@ fn cleared(alloc: Global, rows: &[(Cells, Kind)]) -> Result<Vec<(Cells, Kind)>, 
 /// What of a run is left unset, as it is cleared.
 fn unset_pieces(
     alloc: Global,
-    leaves: &[(Cells, Kind)],
+    leaves: &[(Cells, AccessKind)],
     are_printed: bool,
     run: Cells,
-) -> Result<Vec<(Cells, Kind)>, NoMemory>
+) -> Result<Vec<(Cells, AccessKind)>, NoMemory>
     requires { IsTrue are_printed → Apart cell_sort leaves.now }
     ensures { IfOk result (λ v. v.items ≡ unset_pieces leaves.now run) }
 {
@@ -90,13 +101,13 @@ fn unset_pieces(
 /// printed form.
 #[tactic(auto, using(wg_rows::proofs::Chained::put_all_more))]
 fn push_unset(
-    found: &mut Vec<(Cells, Kind)>,
-    leaves: &[(Cells, Kind)],
+    found: &mut Vec<(Cells, AccessKind)>,
+    leaves: &[(Cells, AccessKind)],
     are_printed: bool,
     run: Cells,
 ) -> Result<(), NoMemory>
     requires { IsTrue are_printed → Apart cell_sort leaves.now }
-    ensures { OnOk result ((rows : List (Cells × Kind)) → put_all cell_sort same_kind found.new.items rows
+    ensures { OnOk result ((rows : List (Cells × AccessKind)) → put_all cell_sort same_kind found.new.items rows
         ≡ put_all cell_sort same_kind (unset_pieces leaves.now run) (put_all cell_sort same_kind found.old.items rows)) }
 {
     let more = unset_pieces(*found.allocator(), leaves, are_printed, run)?;
@@ -104,56 +115,53 @@ fn push_unset(
     Ok(())
 }
 
-/// What accesses read of the cells that are left unset: the accesses of the clear inside before them.
-#[tactic(auto, using(crate::proofs::OfRuns::cells_printed))]
-fn clear_of(
-    alloc: Global,
-    leaves: &[(Cells, Kind)],
-    accesses: &[(Cells, Kind)],
-) -> Result<Vec<(Cells, Kind)>, NoMemory>
-    ensures { IfOk result (λ v. v.items ≡ with_pieces (unset_pieces leaves.now) accesses.now []) }
-{
-    let are_printed = are_apart(leaves);
-    let mut found = Vec::new(alloc);
-    let mut i = accesses.len();
-    while i > 0 {
-        i -= 1;
-        let access = accesses[i];
-        if reads(access.1) && cell_lo(access.0) < cell_hi(access.0) {
-            push_unset(&mut found, leaves, are_printed, access.0)?;
-        }
-    }
-    put_all(alloc, Vec::new(alloc), found.as_slice())
-}
-
 /// Adds what of a run is not written, as it is read, at the end of others that are yet to be put in printed
 /// form.
 #[tactic(auto, using(wg_rows::proofs::Chained::put_all_more))]
 fn push_unwritten(
-    found: &mut Vec<(Cells, Kind)>,
-    leaves: &[(Cells, Kind)],
+    found: &mut Vec<(Cells, AccessKind)>,
+    leaves: &[(Cells, AccessKind)],
     are_printed: bool,
     run: Cells,
 ) -> Result<(), NoMemory>
     requires { IsTrue are_printed → Apart cell_sort leaves.now }
-    ensures { OnOk result ((rows : List (Cells × Kind)) → put_all cell_sort same_kind found.new.items rows
+    ensures { OnOk result ((rows : List (Cells × AccessKind)) → put_all cell_sort same_kind found.new.items rows
         ≡ put_all cell_sort same_kind (unwritten_pieces leaves.now run) (put_all cell_sort same_kind found.old.items rows)) }
 {
     let rows = about_cells(leaves, are_printed, run);
-    let more = gaps(*found.allocator(), (run, Kind::Read), rows)?;
+    let more = gaps(*found.allocator(), (run, AccessKind::Read), rows)?;
     found.extend_from_slice(more.as_slice())?;
     Ok(())
 }
 
-/// What is wanted from before all steps, with what accesses read and no step before them writes.
+/// Adds pieces of a run at the end of others that are yet to be put in printed form.
+fn push_pieces(
+    found: &mut Vec<(Cells, AccessKind)>,
+    pieces: Pieces,
+    leaves: &[(Cells, AccessKind)],
+    are_printed: bool,
+    run: Cells,
+) -> Result<(), NoMemory>
+    requires { IsTrue are_printed → Apart cell_sort leaves.now }
+    ensures { OnOk result ((rows : List (Cells × AccessKind)) → put_all cell_sort same_kind found.new.items rows
+        ≡ put_all cell_sort same_kind (pieces_of pieces leaves.now run) (put_all cell_sort same_kind found.old.items rows)) }
+{
+    match pieces {
+        Pieces::Unset => push_unset(found, leaves, are_printed, run),
+        Pieces::Unwritten => push_unwritten(found, leaves, are_printed, run),
+    }
+}
+
+/// Rows with pieces of the runs that accesses read, the last access first.
 #[tactic(auto, using(crate::proofs::OfRuns::cells_printed))]
-fn wanted_after(
+fn with_pieces(
     alloc: Global,
-    wants: Vec<(Cells, Kind)>,
-    leaves: &[(Cells, Kind)],
-    accesses: &[(Cells, Kind)],
-) -> Result<Vec<(Cells, Kind)>, NoMemory>
-    ensures { IfOk result (λ v. v.items ≡ with_pieces (unwritten_pieces leaves.now) accesses.now wants.items) }
+    pieces: Pieces,
+    rows: Vec<(Cells, AccessKind)>,
+    leaves: &[(Cells, AccessKind)],
+    accesses: &[(Cells, AccessKind)],
+) -> Result<Vec<(Cells, AccessKind)>, NoMemory>
+    ensures { IfOk result (λ v. v.items ≡ with_pieces (pieces_of pieces leaves.now) accesses.now rows.items) }
 {
     let are_printed = are_apart(leaves);
     let mut found = Vec::new(alloc);
@@ -162,25 +170,26 @@ fn wanted_after(
         i -= 1;
         let access = accesses[i];
         if reads(access.1) && cell_lo(access.0) < cell_hi(access.0) {
-            push_unwritten(&mut found, leaves, are_printed, access.0)?;
+            push_pieces(&mut found, pieces, leaves, are_printed, access.0)?;
         }
     }
-    put_all(alloc, wants, found.as_slice())
+    put_all(alloc, rows, found.as_slice())
 }
 
 /// The cells of one more step that accesses these.
 pub fn cells_after(
     alloc: Global,
-    wants: &[(Cells, Kind)],
-    leaves: &[(Cells, Kind)],
-    accesses: &[(Cells, Kind)],
+    wants: &[(Cells, AccessKind)],
+    leaves: &[(Cells, AccessKind)],
+    accesses: &[(Cells, AccessKind)],
 ) -> Result<CellsAfter, NoMemory>
     ensures { IfOk result (λ r. AreTidy wants.now leaves.now →
         AreCells wants.now leaves.now accesses.now r.clear.items r.wants.items r.leaves.items) }
 {
-    let clear = clear_of(alloc, leaves, accesses)?;
+    let none = Vec::new(alloc);
+    let clear = with_pieces(alloc, Pieces::Unset, none, leaves, accesses)?;
     let before = Vec::from_slice(alloc, wants)?;
-    let wanted = wanted_after(alloc, before, leaves, accesses)?;
+    let wanted = with_pieces(alloc, Pieces::Unwritten, before, leaves, accesses)?;
     let held = Vec::from_slice(alloc, leaves)?;
     let set = left_after(alloc, held, clear.as_slice())?;
     let left = left_after(alloc, set, accesses)?;

@@ -3,7 +3,7 @@
 ghost use Rattle.std.specs.Prelude.{◌≡◌, [], ◌∷◌, List, IfOk};
 ghost use Rattle.wg_orders.specs.Steps.{Step};
 ghost use Rattle.wg_orders.specs.Trace.{Item, add_step, add_clear, to_clear, add_group};
-ghost use Rattle.wg_types.specs.declared.steps.Deed.{Deed};
+ghost use Rattle.wg_trace.specs.declared.steps.Deed.{Deed};
 ghost use Rattle.wg_cbtrack.specs.Cleared.{AreNeeded, uses_of};
 ghost use Rattle.wg_cbtrack.specs.Adds.{now_of, HasAdded};
 ghost use Rattle.wg_cbtrack.specs.Group.{placed_all};
@@ -21,10 +21,10 @@ use wg_init::{CellRow, CellState, noting};
 use wg_num::RunSet;
 use wg_rows::cell_runs::run_part;
 use wg_rows::rows::printed;
-use wg_types::items::Items;
-use wg_types::parts::{Cells, Kind, PartRun};
-use wg_types::steps::{Item, Step, StepName, StepPlace};
-use wg_types::usages::Usages;
+use wg_trace::items::Items;
+use wg_trace::parts::{AccessKind, Cells, PartRun};
+use wg_trace::steps::{Item, Step, StepName, StepPlace};
+use wg_trace::usages::Usages;
 
 /// The items found so far, and the notes of their steps over the rows of the states.
 #[derive(Drop)]
@@ -39,12 +39,15 @@ pub struct Draft {
 pub struct Track<'a> {
     pub kept: &'a [Kept],
     pub ends: &'a [(PartRun, Usages)],
-    pub wants: &'a [(Cells, Kind)],
-    pub leaves: &'a [(Cells, Kind)],
+    pub wants: &'a [(Cells, AccessKind)],
+    pub leaves: &'a [(Cells, AccessKind)],
 }
 
 /// The uses of a clear of rows, as they are printed.
-pub fn uses_of(alloc: Global, rows: &[(Cells, Kind)]) -> Result<Vec<(PartRun, Usages)>, NoMemory>
+pub fn uses_of(
+    alloc: Global,
+    rows: &[(Cells, AccessKind)],
+) -> Result<Vec<(PartRun, Usages)>, NoMemory>
     ensures { IfOk result (λ v. v.items ≡ uses_of rows.now) }
 {
     let mut uses = Vec::with_capacity(alloc, rows.len())?;
@@ -82,7 +85,7 @@ fn add_clear(
     set_rows: &[Items<(CellRow, RunSet)>],
     draft: Draft,
     place: StepPlace,
-    rows: Vec<(Cells, Kind)>,
+    rows: Vec<(Cells, AccessKind)>,
 ) -> Result<Draft, NoMemory>
     ensures { IfOk result (λ d. (f : List Item → List Item) (steps : List Step) →
         AreNeeded (now_of (record { last = last_rows.now; cells = set_rows.now }) draft).cells steps rows.items → HasAdded (record { last = last_rows.now; cells = set_rows.now }) draft f →

@@ -1,9 +1,9 @@
 //! What a tracker keeps of each step of a command buffer.
 use wg_bars::barriers::Change;
-use wg_types::items::Items;
-use wg_types::parts::{Cells, Kind, PartRun};
-use wg_types::steps::Deed;
-use wg_types::usages::Usages;
+use wg_trace::items::Items;
+use wg_trace::parts::{AccessKind, Cells, PartRun};
+use wg_trace::steps::Deed;
+use wg_trace::usages::Usages;
 
 /// A step without a place: what is done, its changes of parts that earlier steps of the command buffer
 /// use, and its uses that are the first of their parts inside. A clear inside is kept likewise, and was
@@ -22,8 +22,8 @@ pub struct Kept {
 #[derive(Drop)]
 pub struct Rows {
     pub ends: Vec<(PartRun, Usages)>,
-    pub wants: Vec<(Cells, Kind)>,
-    pub leaves: Vec<(Cells, Kind)>,
+    pub wants: Vec<(Cells, AccessKind)>,
+    pub leaves: Vec<(Cells, AccessKind)>,
     pub starts: Vec<(PartRun, Usages)>,
     pub last: Vec<(PartRun, Usages)>,
     pub needs: Vec<Cells>,

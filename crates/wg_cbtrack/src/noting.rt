@@ -14,10 +14,10 @@ use std::alloc::Global;
 use wg_entry::NoMemory;
 use wg_init::unset::cells_of;
 use wg_rows::uses::sets;
-use wg_types::items::Items;
-use wg_types::parts::{Cells, Kind, PartRun};
-use wg_types::steps::{Deed, StepName};
-use wg_types::usages::Usages;
+use wg_trace::items::Items;
+use wg_trace::parts::{AccessKind, Cells, PartRun};
+use wg_trace::steps::{Deed, StepName};
+use wg_trace::usages::Usages;
 
 /// What is kept of a step, and the uses after it.
 #[derive(Drop)]
@@ -61,7 +61,7 @@ fn keep(
 fn keep_more(
     alloc: Global,
     ends: Vec<(PartRun, Usages)>,
-    rows: Vec<(Cells, Kind)>,
+    rows: Vec<(Cells, AccessKind)>,
     deed: Deed,
 ) -> Result<More, NoMemory>
     ensures { IfOk result (λ more. AreMore ends.items rows.items deed more.kept.items more.ends.items) }
@@ -96,8 +96,8 @@ fn keep_more(
 struct Next {
     pub kept: Vec<Kept>,
     pub ends: Vec<(PartRun, Usages)>,
-    pub wants: Vec<(Cells, Kind)>,
-    pub leaves: Vec<(Cells, Kind)>,
+    pub wants: Vec<(Cells, AccessKind)>,
+    pub leaves: Vec<(Cells, AccessKind)>,
 }
 
 /// An equal deed.
@@ -117,8 +117,8 @@ pub fn copy_of(alloc: Global, deed: &Deed) -> Result<Deed, NoMemory>
 fn find_next(
     alloc: Global,
     ends: &[(PartRun, Usages)],
-    wants: &[(Cells, Kind)],
-    leaves: &[(Cells, Kind)],
+    wants: &[(Cells, AccessKind)],
+    leaves: &[(Cells, AccessKind)],
     deed: &Deed,
 ) -> Result<Next, NoMemory>
     ensures { IfOk result (λ next. IsStep ends.now wants.now leaves.now deed.now next.kept.items next.ends.items next.wants.items next.leaves.items) }

@@ -15,10 +15,10 @@ use wg_bars::kept::room_for;
 use wg_entry::NoMemory;
 use wg_init::{CellRow, CellState};
 use wg_num::RunSet;
-use wg_types::items::Items;
-use wg_types::parts::PartRun;
-use wg_types::steps::{Item, StepPlace};
-use wg_types::usages::Usages;
+use wg_trace::items::Items;
+use wg_trace::parts::PartRun;
+use wg_trace::steps::{Item, StepPlace};
+use wg_trace::usages::Usages;
 
 /// Adds what one command buffer of a tracker's steps adds, at a place.
 fn add_to(

@@ -7,8 +7,8 @@ use std::alloc::Global;
 use wg_entry::NoMemory;
 use wg_rows::rows::put_all;
 use wg_rows::uses::sets;
-use wg_types::parts::PartRun;
-use wg_types::usages::Usages;
+use wg_trace::parts::PartRun;
+use wg_trace::usages::Usages;
 
 /// The first and the last sets of parts.
 #[derive(Drop)]

@@ -18,10 +18,10 @@ use crate::noting::{After, copy_of, step_after};
 use std::alloc::Global;
 use std::marker::Model;
 use wg_entry::NoMemory;
-use wg_types::items::Items;
-use wg_types::parts::{Cells, PartRun};
-use wg_types::steps::{Deed, Deeds};
-use wg_types::usages::Usages;
+use wg_trace::items::Items;
+use wg_trace::parts::{Cells, PartRun};
+use wg_trace::steps::{Deed, Deeds};
+use wg_trace::usages::Usages;
 
 /// What is found of the steps of a command buffer, outside any trace. It is seen as the list of what was
 /// noted.
@@ -34,7 +34,7 @@ pub struct CbTrack {
 
 impl Model for CbTrack {
     ghost use Rattle.std.specs.Prelude.{List};
-    ghost use Rattle.wg_types.specs.declared.steps.Deed.{Deed};
+    ghost use Rattle.wg_trace.specs.declared.steps.Deed.{Deed};
     ghost use Rattle.wg_cbtrack.specs.Track.{Holds};
     ghost use Rattle.wg_cbtrack.specs.Items.{noted};
 

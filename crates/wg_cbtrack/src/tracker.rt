@@ -13,7 +13,7 @@ use std::marker::Model;
 use wg_bars::LastUse;
 use wg_entry::NoMemory;
 use wg_init::CellState;
-use wg_types::steps::{Deed, Item, Step, StepPlace};
+use wg_trace::steps::{Deed, Item, Step, StepPlace};
 
 /// The last set with which each part was used, and the cells that are set. It stands for a trace
 /// where it keeps exactly those of the trace.

@@ -1,7 +1,7 @@
 -- The events of a trace give each cell its story.
 use Rattle.std.proofs.Common.{◌≡◌, ℕ, suc, List, [], ◌∷◌, ◌++◌, Bool, true, false, ◌&&◌, ◌||◌, refl, ap, ap₂, sym, ◌∙◌, if◌then◌else◌}
 use Rattle.wg_rows.specs.Runs.{Cell, Cells, Bytes, Layers, Slices, Queries, covers, covers_part, part_of}
-use Rattle.wg_rows.specs.Uses.{Kind, Read, Write, Both, Drop, ReadDrop, kind_reads, kind_writes, row_reads, row_writes}
+use Rattle.wg_rows.specs.Uses.{AccessKind, Read, Write, Both, Drop, ReadDrop, kind_reads, kind_writes, row_reads, row_writes}
 use Rattle.wg_rows.specs.Once.{NoneCovers, OneCovers, AreOnce}
 use Rattle.wg_orders.specs.Steps.{reads, writes}
 use Rattle.wg_orders.specs.Trace.{Item, Bar, StepItem, Free}
@@ -22,12 +22,12 @@ on_row k e n r w (Layers object aspect mip lo hi) tail = refl
 on_row k e n r w (Slices object mip lo hi) tail = refl
 on_row k e n r w (Queries object lo hi) tail = refl
 
-record Quiet (c : Cell) (n e : ℕ) (rest : List KeyEvent) (rows : List (Cells × Kind)) : Type 0 where
+record Quiet (c : Cell) (n e : ℕ) (rest : List KeyEvent) (rows : List (Cells × AccessKind)) : Type 0 where
   same : key_story (cell_key c) e (row_events n rows ++ rest) ≡ key_story (cell_key c) e rest
   reads : row_reads c rows ≡ false
   writes : row_writes c rows ≡ false
 
-quiet : (c : Cell) (n e : ℕ) (rest : List KeyEvent) (rows : List (Cells × Kind)) → NoneCovers c rows → Quiet c n e rest rows
+quiet : (c : Cell) (n e : ℕ) (rest : List KeyEvent) (rows : List (Cells × AccessKind)) → NoneCovers c rows → Quiet c n e rest rows
 quiet c n e rest [] h = record { same = refl; reads = refl; writes = refl }
 quiet c n e rest (row ∷ rows) h = with_rest (quiet c n e rest rows h.1)
   where
@@ -41,14 +41,14 @@ quiet c n e rest (row ∷ rows) h = with_rest (quiet c n e rest rows h.1)
       writes = ap₂ (λ (t u : Bool). (t && kind_writes row.1) || u) h.0 q.writes;
     }
 
-kinds : (n e : ℕ) (kind : Kind) (rest : List Access) → told n e ((true && kind_reads kind) || false) ((true && kind_writes kind) || false) rest ≡ (record { place = n; reads = kind_reads kind; writes = kind_writes kind; epoch = e }) ∷ rest
+kinds : (n e : ℕ) (kind : AccessKind) (rest : List Access) → told n e ((true && kind_reads kind) || false) ((true && kind_writes kind) || false) rest ≡ (record { place = n; reads = kind_reads kind; writes = kind_writes kind; epoch = e }) ∷ rest
 kinds n e Read rest = refl
 kinds n e Write rest = refl
 kinds n e Both rest = refl
 kinds n e Drop rest = refl
 kinds n e ReadDrop rest = refl
 
-rows_on : (c : Cell) (n e : ℕ) (rest : List KeyEvent) (rows : List (Cells × Kind)) → OneCovers c rows → key_story (cell_key c) e (row_events n rows ++ rest) ≡ told n e (row_reads c rows) (row_writes c rows) (key_story (cell_key c) e rest)
+rows_on : (c : Cell) (n e : ℕ) (rest : List KeyEvent) (rows : List (Cells × AccessKind)) → OneCovers c rows → key_story (cell_key c) e (row_events n rows ++ rest) ≡ told n e (row_reads c rows) (row_writes c rows) (key_story (cell_key c) e rest)
 rows_on c n e rest [] h = refl
 rows_on c n e rest (row ∷ rows) h = on_row (cell_key c) e n (kind_reads row.1) (kind_writes row.1) row.0 (row_events n rows ++ rest) ∙ (ap (λ (t : Bool). if t then (record { place = n; reads = kind_reads row.1; writes = kind_writes row.1; epoch = e }) ∷ key_story (cell_key c) e (row_events n rows ++ rest) else key_story (cell_key c) e (row_events n rows ++ rest)) (run_covers row.0 c (Act n (kind_reads row.1) (kind_writes row.1))) ∙ by_cover (covers row.0 c) h.0 (rows_on c n e rest rows h.1))
   where

@@ -1,13 +1,13 @@
 -- Each segment with an access has a cell, which stands at the end that begins it.
-use Rattle.std.proofs.Common.{◌≡◌, ◌≢◌, ℕ, zero, suc, ◌+◌, ◌-◌, ◌<◌, ◌≤◌, List, [], ◌∷◌, ◌++◌, length, map, Bool, true, false, not, ◌&&◌, ◌||◌, ◌==◌, nat_lt, nat_le, Option, Some, None, refl, ap, ap₂, sym, subst, ◌∙◌, ◌⊎◌, inl, inr, arith, slice_get, if◌then◌else◌, true≢false}
+use Rattle.std.proofs.Common.{◌≡◌, ◌≢◌, ℕ, zero, suc, ◌+◌, ◌-◌, ◌<◌, ◌≤◌, List, [], ◌∷◌, ◌++◌, length, map, Bool, true, false, ◌&&◌, ◌||◌, ◌==◌, nat_lt, nat_le, Option, Some, None, refl, ap, sym, subst, ◌∙◌, ◌⊎◌, inl, inr, arith, slice_get, if◌then◌else◌, true≢false}
 use Rattle.std.specs.Option.{option_or, option_map}
-use Rattle.std.proofs.lemmas.Bool.{and_parts, and_from, or_cases, cases_Bool, cases_lt, eqb-true, eq-eqb, ne_eqb, ltb-true, leb-true}
-use Rattle.wg_rows.specs.Rows.{in_range, any_row}
+use Rattle.std.proofs.lemmas.Bool.{and_parts, cases_lt, eqb-true, eq-eqb, ne_eqb, ltb-true, leb-true}
+use Rattle.wg_rows.specs.Rows.{in_range}
 use Rattle.wg_rows.specs.Runs.{Aspect, Color, Depth, Stencil, PartRun, BufferPart, QueryPart, LayerParts, Cell, Byte, Texels, Slice, Query, Cells, Bytes, Layers, Slices, Queries, covers, cell_run, aspect_number}
-use Rattle.wg_rows.specs.Uses.{Kind, kind_reads, kind_writes, row_writes}
+use Rattle.wg_rows.specs.Uses.{AccessKind, kind_reads, kind_writes, row_writes}
 use Rattle.wg_rows.specs.Once.{AreOnce}
-use Rattle.wg_orders.specs.Steps.{Step, writes}
-use Rattle.wg_orders.specs.Trace.{Item, Bar, StepItem, Free, steps_of, writes_at, at_place}
+use Rattle.wg_orders.specs.Steps.{writes}
+use Rattle.wg_orders.specs.Trace.{Item, Bar, StepItem, Free, steps_of, writes_at}
 use Rattle.wg_check.specs.declared.stories.Access.{Access}
 use Rattle.wg_check.specs.declared.events.Deed.{Deed}
 use Rattle.wg_check.specs.declared.events.Deed.TheVariants.{Fence, Act}
@@ -19,7 +19,7 @@ use Rattle.wg_check.specs.Cells.{place_in, cell_in, row_cell, cell_from}
 use Rattle.wg_check.specs.Ends.{Ascending}
 use Rattle.wg_check.proofs.Between.{key_between, run_covers}
 use Rattle.wg_check.proofs.Bridge.{on_row, stories}
-use Rattle.wg_check.proofs.Ranks.{story_ranked, rank_within, rank_less}
+use Rattle.wg_check.proofs.Ranks.{story_ranked, rank_within}
 use Rattle.wg_check.proofs.Sorting.{rank_at, itself}
 use Rattle.wg_check.proofs.Telling.{cell_story}
 
@@ -56,7 +56,7 @@ run_cell k (Slices o mip lo hi) deed e = let l : InLine k 3 0 mip = in_line k o 
 abbrev Filled : Key → List KeyEvent → Type 0
 Filled k events = (e : ℕ) (a : Access) (rest : List Access) → key_story k e events ≡ a ∷ rest → HasCell k
 
-rows_filled : (k : Key) (n : ℕ) (rows : List (Cells × Kind)) (tail : List KeyEvent) → Filled k tail → Filled k (row_events n rows ++ tail)
+rows_filled : (k : Key) (n : ℕ) (rows : List (Cells × AccessKind)) (tail : List KeyEvent) → Filled k tail → Filled k (row_events n rows ++ tail)
 rows_filled k n [] tail filled e a rest h = filled e a rest h
 rows_filled k n (row ∷ rows) tail filled e a rest h = by_cover (lies_in k (run_event row.0 (Act n (kind_reads row.1) (kind_writes row.1)))) refl (sym (on_row k e n (kind_reads row.1) (kind_writes row.1) row.0 (row_events n rows ++ tail)) ∙ h) (rows_filled k n rows tail filled)
   where
@@ -236,7 +236,7 @@ cell_in_is run c = cell_in_run run (cell_key c) ∙ by_cover (lies_in (cell_key 
     by_cover true e same = ap Some (made_is run c e) ∙ ap (λ (t : Bool). if t then Some (cell_run c) else None) (sym e ∙ same)
     by_cover false e same = ap (λ (t : Bool). if t then Some (cell_run c) else None) (sym e ∙ same)
 
-row_cell_is : (c : Cell) (rows : List (Cells × Kind)) → row_writes c rows ≡ true → row_cell (cell_key c) rows ≡ Some (cell_run c)
+row_cell_is : (c : Cell) (rows : List (Cells × AccessKind)) → row_writes c rows ≡ true → row_cell (cell_key c) rows ≡ Some (cell_run c)
 row_cell_is c [] e = absurd (true≢false (sym e))
 row_cell_is c (row ∷ rows) e = ap (λ (o : Option Cells). option_or o (row_cell (cell_key c) rows)) (cell_in_is row.0 c) ∙ by_cover (covers row.0 c) e (row_cell_is c rows)
   where

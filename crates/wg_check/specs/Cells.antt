@@ -3,7 +3,7 @@ use Rattle.std.specs.Prelude.{ℕ, zero, suc, slice_get, ◌+◌, ◌&&◌, ◌=
 use Rattle.std.specs.Option.{option_or, option_map, option_and_then}
 use Rattle.wg_rows.specs.Rows.{in_range}
 use Rattle.wg_rows.specs.Runs.{Cells, Bytes, Layers, Slices, Queries, aspect_number}
-use Rattle.wg_rows.specs.Uses.{Kind}
+use Rattle.wg_rows.specs.Uses.{AccessKind}
 use Rattle.wg_orders.specs.Trace.{Item, Bar, StepItem, Free}
 use Rattle.wg_check.specs.declared.segments.Spotted.{Spotted}
 use Rattle.wg_check.specs.declared.clashes.Clash.{Clash}
@@ -20,11 +20,12 @@ cell_in (Queries object lo hi) k = option_map (λ x. Queries object x (x + 1)) (
 cell_in (Layers object aspect mip lo hi) k = option_map (λ x. Layers object aspect mip x (x + 1)) (place_in k object 2 (aspect_number aspect) mip lo hi)
 cell_in (Slices object mip lo hi) k = option_map (λ x. Slices object mip x (x + 1)) (place_in k object 3 0 mip lo hi)
 
-abbrev pub row_cell : Key → List (Cells × Kind) → Option Cells
+-- the first cell of a step's accesses that stands at a key, if one does
+abbrev pub row_cell : Key → List (Cells × AccessKind) → Option Cells
 row_cell k [] = None
 row_cell k (row ∷ rows) = option_or (cell_in row.0 k) (row_cell k rows)
 
--- the same among the rows of a step, behind n steps
+-- the first cell that stands at a key among the accesses of a step, behind n steps
 abbrev pub cell_from : ℕ → ℕ → Key → List Item → Option Cells
 cell_from n step k [] = None
 cell_from n step k (Bar parts from to ∷ items) = cell_from n step k items
@@ -36,6 +37,7 @@ abbrev pub end_at : List Key → ℕ → Option Key
 end_at ends zero = None
 end_at ends (suc i) = slice_get ends i
 
+-- a clash of what was spotted, with its cell
 abbrev pub with_cell : Spotted → Option Cells → Option Clash
 with_cell s None = None
 with_cell s (Some cell) = Some (record { reader = s.reader; writer = s.writer; cell = cell })

@@ -14,18 +14,21 @@ epoch p (StepItem s ∷ items) zero = 0
 epoch p (StepItem s ∷ items) (suc k) = epoch p items k
 epoch p (Free object sort ∷ items) k = epoch p items k
 
+-- what the steps of a trace do to a cell, and how many barriers on it stand before each
 abbrev pub doings : Cell → List Item → Doings
 doings c trace = record { reads = reads_at c (steps_of trace); writes = writes_at c (steps_of trace); epoch = epoch (part_of c) trace }
 
+-- the access of a step to a cell, behind so many barriers
 abbrev pub access : Cell → Step → ℕ → ℕ → Access
 access c s n e = record { place = n; reads = reads s c; writes = writes s c; epoch = e }
 
--- The accesses to a cell, behind n steps and e barriers.
+-- the accesses to a cell, behind n steps and e barriers
 abbrev pub story_from : Cell → ℕ → ℕ → List Item → List Access
 story_from c n e [] = []
 story_from c n e (Bar parts from to ∷ items) = if covers_part parts (part_of c) then story_from c n (suc e) items else story_from c n e items
 story_from c n e (StepItem s ∷ items) = if reads s c || writes s c then access c s n e ∷ story_from c (suc n) e items else story_from c (suc n) e items
 story_from c n e (Free object sort ∷ items) = story_from c n e items
 
+-- the accesses of a trace to a cell, in their order
 abbrev pub story : Cell → List Item → List Access
 story c trace = story_from c 0 0 trace

@@ -1,5 +1,5 @@
 -- What a list of deeds on a cell tells of its least reader that clashes, so that lists of deeds can be told together.
-use Rattle.std.specs.Prelude.{ℕ, zero, suc, Bool, true, false, ◌||◌, ◌&&◌, not, nat_lt, nat_le, List, [], ◌∷◌, Option, Some, None, if◌then◌else◌}
+use Rattle.std.specs.Prelude.{ℕ, zero, suc, Bool, true, false, ◌||◌, ◌&&◌, nat_le, List, [], ◌∷◌, Option, Some, None, if◌then◌else◌}
 use Rattle.std.specs.Option.{option_or}
 use Rattle.wg_rows.specs.Rows.{in_range}
 use Rattle.wg_check.specs.declared.events.Deed.{Deed}
@@ -16,14 +16,16 @@ use Rattle.wg_check.specs.declared.segments.Spotted.{Spotted}
 use Rattle.wg_check.specs.Stories.{writer_met}
 use Rattle.wg_check.specs.Segments.{story_at, touches, earlier}
 
--- A stretch of accesses with no barrier between them: whether a step writes, whether two do, the first reader, and the
--- first reader beside which another step of the stretch writes.
+-- The stretch of no access; a stretch of accesses with no barrier between them has whether a step writes, whether two do, the
+-- first reader, and the first reader beside which another step of the stretch writes.
 abbrev pub no_access : Stretch
 no_access = record { writes = false; many = false; first = None; met = None }
 
+-- the stretch of one access
 abbrev pub one_access : ℕ → Bool → Bool → Stretch
 one_access place reads writes = record { writes = writes; many = false; first = if reads then Some place else None; met = None }
 
+-- two stretches with no barrier between them, as one
 abbrev pub stretched : Stretch → Stretch → Stretch
 stretched x y =
     record {
@@ -33,24 +35,30 @@ stretched x y =
       met = option_or (if y.writes then x.first else x.met) (if x.writes then y.first else y.met);
     }
 
--- A course of whole stretches: its least reader that clashes where the last stretch before it that writes does so once,
--- or never; the same where it does so by two steps; and whether its own last stretch that writes does so by two.
+-- The course of no stretch; a course of whole stretches has its least reader that clashes where the last stretch before it
+-- that writes does so once, or never; the same where it does so by two steps; and whether its own last stretch that writes
+-- does so by two.
 abbrev pub no_stretch : Course
 no_stretch = record { calm = None; alarmed = None; leaves = None }
 
+-- the course of one stretch
 abbrev pub one_stretch : Stretch → Course
 one_stretch s = record { calm = s.met; alarmed = s.first; leaves = if s.writes then Some s.many else None }
 
+-- the least reader of a course that clashes, by whether the last stretch before it that writes does so by two steps
 abbrev pub met_in : Course → Bool → Option ℕ
 met_in course alarm = if alarm then course.alarmed else course.calm
 
+-- whether the last stretch that writes does so by two steps, behind a course that leaves that open or says it
 abbrev pub left_after : Option Bool → Bool → Bool
 left_after None alarm = alarm
 left_after (Some many) alarm = many
 
+-- whether the last stretch that writes does so by two steps, behind a course
 abbrev pub left_by : Course → Bool → Bool
 left_by course alarm = left_after course.leaves alarm
 
+-- two courses one after another, as one
 abbrev pub followed : Course → Course → Course
 followed x y =
     record {
@@ -59,14 +67,16 @@ followed x y =
       leaves = option_or y.leaves x.leaves;
     }
 
--- What deeds tell: one stretch, or with a barrier among them the first, those between, and the last.
+-- What no deed tells; what deeds tell is one stretch, or with a barrier among them the first, those between, and the last.
 abbrev pub nothing : Digest
 nothing = Open no_access
 
+-- what one deed tells
 abbrev pub deed_digest : Deed → Digest
 deed_digest Fence = Parted no_access no_stretch no_access
 deed_digest (Act place reads writes) = Open (one_access place reads writes)
 
+-- what two lists of deeds tell one after another
 abbrev pub joined : Digest → Digest → Digest
 joined (Open x) (Open y) = Open (stretched x y)
 joined (Open x) (Parted head course tail) = Parted (stretched x head) course tail
@@ -78,6 +88,7 @@ abbrev pub end_met : Bool → Option (Option ℕ)
 end_met true = Some None
 end_met false = None
 
+-- a reader, or else what is given
 abbrev pub or_else : Option ℕ → Option (Option ℕ) → Option (Option ℕ)
 or_else None rest = rest
 or_else (Some k) rest = Some (Some k)
@@ -86,6 +97,7 @@ or_else (Some k) rest = Some (Some k)
 abbrev pub reader_of : Course → Option (Option ℕ)
 reader_of course = or_else course.calm (end_met (left_by course false))
 
+-- the least reader of what is told from the beginning, the end last
 abbrev pub least_reader : Digest → Option (Option ℕ)
 least_reader (Open s) = reader_of (one_stretch s)
 least_reader (Parted head course tail) = reader_of (followed (followed (one_stretch head) course) (one_stretch tail))
@@ -96,7 +108,7 @@ digest_at n [] = nothing
 digest_at n (Known digest ∷ entries) = joined digest (digest_at n entries)
 digest_at n (Run v ∷ entries) = if in_range v.lo v.hi n then joined (deed_digest v.deed) (digest_at n entries) else digest_at n entries
 
--- the same behind what was told before
+-- what entries tell of a segment behind what was told before
 abbrev pub digest_onto : ℕ → Digest → List Entry → Digest
 digest_onto n digest [] = digest
 digest_onto n digest (Known other ∷ entries) = digest_onto n (joined digest other) entries
@@ -115,10 +127,12 @@ narrowed lo hi digest (Run v ∷ entries) =
     then (if spans lo hi v then narrowed lo hi (joined digest (deed_digest v.deed)) entries else Known digest ∷ (Run v ∷ narrowed lo hi nothing entries))
     else narrowed lo hi digest entries
 
+-- what is found in a segment, if a reader is
 abbrev pub found_here : ℕ → Option (Option ℕ) → Option Found
 found_here n None = None
 found_here n (Some reader) = Some (record { reader = reader; segment = n })
 
+-- what entries find in a segment
 abbrev pub found_at : List Entry → ℕ → Option Found
 found_at entries n = found_here n (least_reader (digest_onto n nothing entries))
 

@@ -9,6 +9,7 @@ pub record Doings : Type 0 where
   pub writes : ℕ → Bool
   pub epoch : ℕ → ℕ
 
+-- Later steps stand behind no fewer barriers.
 abbrev pub Rising : Doings → Type 0
 Rising d = (x y : ℕ) → x ≤ y → d.epoch x ≤ d.epoch y
 
@@ -20,6 +21,7 @@ pub record Tells (d : Doings) (n : ℕ) (a : Access) : Type 0 where
   pub writes : d.writes a.place ≡ a.writes
   pub epoch : d.epoch a.place ≡ a.epoch
 
+-- A list has the accesses of the steps from n on, in order, and no others.
 abbrev pub IsStory : Doings → ℕ → List Access → Type 0
 IsStory d n [] = (k : ℕ) → n ≤ k → (d.reads k ≡ false) × (d.writes k ≡ false)
 IsStory d n (a ∷ later) = Tells d n a × IsStory d (suc a.place) later
@@ -42,10 +44,12 @@ pub data Unordered (d : Doings) (j : ℕ) : Option ℕ → Type 0 where
   Behind_reader : {k : ℕ} → k < j → d.epoch j ≡ d.epoch k → Unordered d j (Some k)
   Beside_end : (p : ℕ) → IsEnd d p → j < p → d.epoch j ≡ d.epoch p → Unordered d j None
 
+-- A reader is the end, or a step that reads.
 abbrev pub ReadsAt : Doings → Option ℕ → Type 0
 ReadsAt d None = Unit {0}
 ReadsAt d (Some k) = d.reads k ≡ true
 
+-- A reader and a writer that may come between it and what it sees.
 pub record Meets (d : Doings) (reader : Option ℕ) (j : ℕ) : Type 0 where
   pub reads : ReadsAt d reader
   pub writes : d.writes j ≡ true
@@ -58,10 +62,12 @@ NotAfter (Some k) j None j2 = Unit {0}
 NotAfter None j (Some k2) j2 = ⊥
 NotAfter None j None j2 = j ≤ j2
 
+-- A reader is the end, or a step from n on.
 abbrev pub FromStep : ℕ → Option ℕ → Type 0
 FromStep n None = Unit {0}
 FromStep n (Some k) = n ≤ k
 
+-- A meeting whose reader is from n on, and before which, by reader and then by writer, no other stands.
 pub record IsLeast (d : Doings) (n : ℕ) (m : Meeting) : Type 0 where
   pub meets : Meets d m.reader m.writer
   pub least : (reader : Option ℕ) (j : ℕ) → FromStep n reader → Meets d reader j → NotAfter m.reader m.writer reader j

@@ -8,7 +8,7 @@ abbrev pub ends_of : List KeyEvent → List Key
 ends_of [] = []
 ends_of (v ∷ events) = v.lo ∷ (v.hi ∷ ends_of events)
 
--- those keys that stand behind all that came before them
+-- those of some keys that stand behind all that came before them
 abbrev pub apart_from : Option Key → List Key → List Key
 apart_from last [] = []
 apart_from None (k ∷ keys) = k ∷ apart_from (Some k) keys

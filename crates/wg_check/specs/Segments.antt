@@ -25,14 +25,17 @@ abbrev pub Rises : ℕ → List Access → Type 0
 Rises n [] = Unit {0}
 Rises n (a ∷ story) = (n ≤ a.place) × Rises (suc a.place) story
 
+-- whether an event is on some of the segments from lo up to but not including hi
 abbrev pub touches : ℕ → ℕ → Event → Bool
 touches lo hi v = nat_lt v.lo hi && nat_lt lo v.hi
 
+-- whether a reader comes before another, the end last
 abbrev pub earlier : Option ℕ → Option ℕ → Bool
 earlier None reader = false
 earlier (Some k) None = true
 earlier (Some k) (Some k2) = nat_lt k k2
 
+-- a meeting, with its segment
 abbrev pub at_segment : ℕ → Option Meeting → Option Spotted
 at_segment n None = None
 at_segment n (Some m) = Some (record { reader = m.reader; segment = n; writer = m.writer })
@@ -43,6 +46,7 @@ better None b = b
 better (Some a) None = Some a
 better (Some a) (Some b) = if earlier b.reader a.reader then Some b else Some a
 
+-- the least clash of a segment, if it has one
 abbrev pub clash_at : List Event → ℕ → Option Spotted
 clash_at events n = at_segment n (clash_from None (story_at n 0 events))
 
@@ -55,6 +59,7 @@ clash_among events lo (suc n) = better (clash_at events lo) (clash_among events 
 abbrev pub numbers : Key → List ℕ
 numbers k = k.object ∷ (k.sort ∷ (k.aspect ∷ (k.mip ∷ (k.at ∷ []))))
 
+-- whether a key stands before another
 abbrev pub before : Key → Key → Bool
 before a b = list_before (numbers a) (numbers b)
 
@@ -67,13 +72,16 @@ rank (e ∷ ends) k = if before k e then rank ends k else suc (rank ends k)
 abbrev pub lies_in : Key → KeyEvent → Bool
 lies_in k v = not (before k v.lo) && before k v.hi
 
+-- the accesses to a key, behind e barriers
 abbrev pub key_story : Key → ℕ → List KeyEvent → List Access
 key_story k e [] = []
 key_story k e (v ∷ events) = if lies_in k v then then_on v.deed e (key_story k (suc e) events) (key_story k e events) else key_story k e events
 
+-- an event on segments in place of keys
 abbrev pub ranked : List Key → KeyEvent → Event
 ranked ends v = record { lo = rank ends v.lo; hi = rank ends v.hi; deed = v.deed }
 
+-- One of some keys is this.
 abbrev pub Among : Key → List Key → Type 0
 Among k [] = ⊥
 Among k (e ∷ ends) = (k ≡ e) ⊎ Among k ends

@@ -9,6 +9,7 @@ pub record Meeting : Type 0 where
   pub reader : Option ℕ
   pub writer : ℕ
 
+-- the next access that writes, if there is one
 abbrev pub next_writer : List Access → Option Access
 next_writer [] = None
 next_writer (a ∷ story) = if a.writes then Some a else next_writer story
@@ -18,6 +19,7 @@ abbrev pub first_of : Option Past → Access → ℕ
 first_of None a = a.place
 first_of (Some p) a = if p.epoch == a.epoch then p.first else a.place
 
+-- what was written so far, after one more access
 abbrev pub after : Option Past → Access → Option Past
 after past a = if a.writes then Some (record { last = a.place; first = first_of past a; epoch = a.epoch }) else past
 
@@ -36,6 +38,7 @@ abbrev pub at_end : Option Past → Option ℕ
 at_end None = None
 at_end (Some p) = if p.first == p.last then None else Some p.first
 
+-- the meeting of a reader with a writer, or else what is given
 abbrev pub or_on : ℕ → Option ℕ → Option Meeting → Option Meeting
 or_on k None rest = rest
 or_on k (Some j) rest = Some (record { reader = Some k; writer = j })
@@ -50,7 +53,7 @@ abbrev pub is_step : Option ℕ → ℕ → Bool
 is_step None place = false
 is_step (Some k) place = k == place
 
--- the least writer that may disturb a reader
+-- the least writer that may disturb a reader, by what was written before it since the last fence, and by the next writer
 abbrev pub writer_met : Option Past → Option ℕ → List Access → Option ℕ
 writer_met past reader [] = at_end past
 writer_met past reader (a ∷ story) = if is_step reader a.place then writer_for past a (next_writer story) else writer_met (after past a) reader story

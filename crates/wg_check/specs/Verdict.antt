@@ -1,15 +1,14 @@
 -- The verdict on a trace: whether some reader sees another write than the printed one in some order that keeps the
 -- barriers, and the least such reader.
-use Rattle.std.specs.Prelude.{ℕ, ◌<◌, ◌≤◌, suc, true, List, length, map, Option, Some, None, ◌≡◌, ◌⊎◌, slice_get}
+use Rattle.std.specs.Prelude.{ℕ, ◌<◌, ◌≤◌, true, List, Option, Some, None, ◌≡◌, ◌⊎◌}
 use Rattle.wg_rows.specs.Runs.{Cell, cell_run}
-use Rattle.wg_rows.specs.Once.{AreOnce}
 use Rattle.wg_orders.specs.Trace.{Item, steps_of}
 use Rattle.wg_orders.specs.Orders.{IsOrder, Keeps, Same, SameAt, Reads, Differs}
 use Rattle.wg_check.specs.declared.segments.Spotted.{Spotted}
 pub use Rattle.wg_check.specs.declared.clashes.Clash.{Clash}
 use Rattle.wg_check.specs.Clashes.{story}
-use Rattle.wg_check.specs.Keys.{cell_key, key_events}
-use Rattle.wg_check.specs.Segments.{before, earlier, clash_among, Key, rank, ranked, KeyEvent, key_story, EndsIn}
+use Rattle.wg_check.specs.Keys.{cell_key}
+use Rattle.wg_check.specs.Segments.{before, earlier, Key, rank, KeyEvent, key_story, EndsIn}
 
 -- The cell stands before another in printed order.
 abbrev pub StandsBefore : Cell → Cell → Type 0
@@ -26,6 +25,7 @@ pub record IsLeastClash (trace : List Item) (clash : Clash) : Type 0 where
   pub differs : Differs trace clash.reader at clash.writer
   pub least : (reader : Option ℕ) (c : Cell) (writer : ℕ) → Differs trace reader c writer → IsAtMost clash.reader at clash.writer reader c writer
 
+-- A verdict is none where no writer differs at any reader and cell, and else the least clash.
 abbrev pub IsVerdict : List Item → Option Clash → Type 0
 IsVerdict trace None = (reader : Option ℕ) (c : Cell) (writer : ℕ) → Differs trace reader c writer → ⊥
 IsVerdict trace (Some clash) = IsLeastClash trace clash
@@ -62,6 +62,7 @@ pub record IsLeastSpotted (trace : List Item) (key : Cell → Key) (ends : List 
   pub differs : (c : Cell) → rank ends (key c) ≡ s.segment → Differs trace s.reader c s.writer
   pub first : (c : Cell) (reader : Option ℕ) (j : ℕ) → Differs trace reader c j → IsFirst s reader (rank ends (key c)) j
 
+-- What is spotted in segments tells of all cells: none where no writer differs, and else the least.
 abbrev pub SegmentsTell : List Item → (Cell → Key) → List Key → Option Spotted → Type 0
 SegmentsTell trace key ends None = (c : Cell) (reader : Option ℕ) (j : ℕ) → Differs trace reader c j → ⊥
 SegmentsTell trace key ends (Some s) = IsLeastSpotted trace key ends s

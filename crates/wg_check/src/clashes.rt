@@ -13,13 +13,13 @@ use crate::events::{KeyEvent, aspect_number, key_events};
 use crate::keys::Key;
 use crate::segments::{Spotted, clash_among};
 use std::alloc::Global;
-use wg_types::parts::{Cells, Kind};
-use wg_types::steps::Item;
+use wg_trace::parts::{AccessKind, Cells};
+use wg_trace::steps::Item;
 
 /// A reader of a cell, the end of the trace as `None`, that sees another write than the printed one in
 /// some order that keeps the barriers; and a writer that may come between it and that write, or is
 /// that write and may come behind it. Steps go by their numbers; the cell is a run of length one.
-#[derive(Clone, Copy, PartialEq, Eq, Debug)]
+#[derive(Clone, Copy, PartialEq, Eq)]
 pub struct Clash {
     pub reader: Option<u64>,
     pub writer: u64,
@@ -83,7 +83,7 @@ fn cell_in(run: Cells, key: &Key) -> Option<Cells>
 }
 
 /// The cell of some rows that stands at a key.
-fn row_cell(key: &Key, rows: &[(Cells, Kind)]) -> Option<Cells>
+fn row_cell(key: &Key, rows: &[(Cells, AccessKind)]) -> Option<Cells>
     ensures { result ≡ row_cell key.now rows.now }
 {
     for row in rows {

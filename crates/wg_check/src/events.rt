@@ -8,8 +8,8 @@ ghost use Rattle.wg_check.specs.declared.events.Deed.TheVariants.{Fence};
 use crate::NoMemory;
 use crate::keys::Key;
 use std::alloc::Global;
-use wg_types::parts::{Aspect, Cells, Kind, PartRun};
-use wg_types::steps::Item;
+use wg_trace::parts::{AccessKind, Aspect, Cells, PartRun};
+use wg_trace::steps::Item;
 
 /// What an item does to the cells of its run: a barrier parts what stands before it from what comes
 /// behind it, and a step accesses them.
@@ -42,16 +42,19 @@ pub fn aspect_number(aspect: Aspect) -> u64
     }
 }
 
-fn reads(kind: Kind) -> bool
+fn reads(kind: AccessKind) -> bool
     ensures { result ≡ kind_reads kind }
 {
-    matches!(kind, Kind::Read | Kind::Both | Kind::ReadDrop)
+    matches!(
+        kind,
+        AccessKind::Read | AccessKind::Both | AccessKind::ReadDrop
+    )
 }
 
-fn writes(kind: Kind) -> bool
+fn writes(kind: AccessKind) -> bool
     ensures { result ≡ kind_writes kind }
 {
-    !matches!(kind, Kind::Read)
+    !matches!(kind, AccessKind::Read)
 }
 
 /// A deed on the places of a line from `lo` up to but not including `hi`.
@@ -137,7 +140,11 @@ fn run_event(run: Cells, deed: Deed) -> KeyEvent
 }
 
 /// Adds the accesses of the step with this number.
-fn push_rows(events: &mut Vec<KeyEvent>, place: u64, rows: &[(Cells, Kind)]) -> Result<(), NoMemory>
+fn push_rows(
+    events: &mut Vec<KeyEvent>,
+    place: u64,
+    rows: &[(Cells, AccessKind)],
+) -> Result<(), NoMemory>
     ensures { OnOk result (events.new.items ≡ events.old.items ++ row_events place rows.now) }
 {
     for row in rows {

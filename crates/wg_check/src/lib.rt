@@ -1,5 +1,5 @@
 //! Whether the barriers of a trace are enough: the least reader that sees another write than the
-//! printed one in some order that keeps them.
+//! printed one in some order that keeps them. `wg_checker` does so for a text.
 #![tactic(auto)]
 
 mod clashes;

@@ -1,7 +1,7 @@
 -- How a check ends, and why.
 use Rattle.std.specs.Prelude.{◌≡◌, ℕ, List, Option, Some, None, Result, Ok, Err}
 use Rattle.std.specs.Io.KnownBytes.{Appends}
-use Rattle.wg_types.specs.declared.steps.Item.{Item}
+use Rattle.wg_trace.specs.declared.steps.Item.{Item}
 use Rattle.wg_io.specs.Causes.{Rose}
 use Rattle.wg_io.specs.Exchange.{Giving, Taking, IsUntouched}
 use Rattle.wg_io.specs.Reading.{GaveAll, GaveMore, GaveWithin}
@@ -17,6 +17,7 @@ use Rattle.wg_checker.specs.Texts.{verdict_text, fault_text}
 abbrev pub limit : ℕ
 limit = 67108864
 
+-- what is answered of a verdict
 abbrev pub told : Option Clash → Checked
 told None = Agrees
 told (Some clash) = Differs clash

@@ -3,11 +3,12 @@ use Rattle.std.specs.Prelude.{ℕ, List, ◌++◌, codes, decimal, Option, Some,
 use Rattle.wg_check.specs.declared.clashes.Clash.{Clash}
 use Rattle.wg_print.specs.Parts.{cells_text}
 
--- The reader of a clash: a step by its number, or the end.
+-- the reader of a clash, as it is printed: a step by its number, or the end
 abbrev pub reader_text : Option ℕ → List ℕ
 reader_text None = codes "end"
 reader_text (Some step) = decimal step
 
+-- the line of a clash
 abbrev pub clash_text : Clash → List ℕ
 clash_text clash = codes "differs " ++ reader_text clash.reader ++ codes " " ++ decimal clash.writer ++ codes " " ++ cells_text clash.cell ++ codes "\n"
 

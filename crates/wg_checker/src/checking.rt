@@ -9,7 +9,7 @@ use std::alloc::Global;
 use wg_check::{Clash, verdict};
 use wg_io::{ReadError, Sink, Source, read_all};
 use wg_readtrace::{TraceFault, read};
-use wg_types::steps::Item;
+use wg_trace::steps::Item;
 
 /// The bytes that a text may have.
 const LIMIT: usize = 67_108_864;

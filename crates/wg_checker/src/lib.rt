@@ -1,4 +1,5 @@
-//! Reads a trace from a source, judges its barriers, and writes what is found to a sink.
+//! Checks a text: reads a trace from a source, has `wg_check` judge its barriers, and writes what is found
+//! to a sink. `wg_check` sees no text, and reads and writes nothing.
 #![tactic(auto)]
 
 mod checking;

@@ -1,7 +1,9 @@
 -- What a command does to what is set in a pass.
 use Rattle.std.specs.Prelude.{ℕ, ◌+◌, Bool, List, [], ◌∷◌, Option, None, if◌then◌else◌}
 use Rattle.std.specs.Option.{option_or}
+use Rattle.wg_trace.specs.declared.steps.StepName.TheVariants.{Dispatch}
 use Rattle.wg_types.specs.Commands.{Command}
+use Rattle.wg_model.specs.Touches.{Touch, Doing}
 use Rattle.wg_model.specs.Settings.{Settings, pipeline_given, slot_after, group_given, unsets, depth_after}
 
 -- what stands in slots after one more command, which may put something into a slot; the first of them has this number
@@ -22,3 +24,7 @@ settings_after set command =
       groups = emptied (unsets command) (slots_after (group_given command) 0 set.groups);
       depth = depth_after set.depth command;
     }
+
+-- what is done by a dispatch that touches these
+abbrev pub dispatching : List Touch → Doing
+dispatching touches = (Dispatch, touches)

@@ -1,11 +1,10 @@
 //! Compute passes: the rules of their commands, and what these do.
-ghost use Rattle.std.specs.Prelude.{◌≡◌, ◌∷◌, ◌++◌, [], IfOk, OnOk, OnErr};
-ghost use Rattle.std.specs.Option.{option_or};
+ghost use Rattle.std.specs.Prelude.{◌≡◌, ◌∷◌, ◌++◌, [], true, is_some, IfOk, OnOk, OnErr};
+ghost use Rattle.std.specs.Option.{option_map, option_or};
 ghost use Rattle.wg_model.specs.Rules.{first_unmet};
 ghost use Rattle.wg_model.specs.Settings.{ready_rules, indirect_touch};
 ghost use Rattle.wg_model.specs.Compute.{dispatch_rules, compute_rules, dispatch_touches, compute_does};
-ghost use Rattle.wg_access.specs.Done.{done_by_pass};
-ghost use Rattle.wg_compute.specs.After.{settings_after};
+ghost use Rattle.wg_compute.specs.After.{settings_after, dispatching};
 
 use crate::brackets::{check_end, check_group};
 use crate::dispatches::check_counts;
@@ -14,12 +13,11 @@ use crate::indirect::{check_indirect, indirect_touch};
 use crate::settings::Settings;
 use std::alloc::Global;
 use std::marker::Model;
-use wg_access::Done;
 use wg_layouts::bound_touches;
 use wg_types::NoMemory;
 use wg_types::commands::Command;
 use wg_types::handles::Handle;
-use wg_types::steps::{StepName, Touches};
+use wg_types::steps::Touches;
 
 /// How many bytes an indirect dispatch reads.
 const INDIRECT_BYTES: u64 = 12;
@@ -114,30 +112,27 @@ impl ComputeState {
         Ok(touches)
     }
 
-    /// Takes a command no rule of which is unmet, and adds the step that it completes to what is done.
-    /// Ranges that end past every number, which such commands don't have, are answered as want of memory.
+    /// What a dispatch touches that no rule of which is unmet; a dispatch sets nothing. Ranges that end past
+    /// every number, which such commands don't have, are answered as want of memory.
     #[tactic(auto, unfolding(wg_model::specs::Compute::compute_does), using(crate::proofs::Slots::slots_unset, crate::proofs::Slots::none_emptied))]
-    pub fn take(
-        &mut self,
-        done: &mut Done,
-        alloc: Global,
-        command: &Command,
-    ) -> Result<(), NoMemory>
-        ensures set { OnOk result (self.new ≡ settings_after self.old command.now) }
-        ensures done { OnOk result (done.new ≡ done_by_pass done.old (compute_does self.old command.now)) }
-        ensures unchanged { OnErr result (self.new ≡ self.old) }
-        ensures none_done { OnErr result (done.new ≡ done.old) }
+    pub fn dispatched(&self, alloc: Global, command: &Command) -> Result<Option<Touches>, NoMemory>
+        ensures does { IfOk result (λ touches. compute_does self.now command.now ≡ option_map dispatching touches) }
+        ensures sets { IfOk result (λ touches. is_some touches ≡ true → settings_after self.now command.now ≡ self.now) }
     {
         match command {
-            Command::Dispatch { .. } => {
-                let touches = self.touches(alloc)?;
-                return done.add(alloc, StepName::Dispatch, touches.as_slice());
-            }
+            Command::Dispatch { .. } => Ok(Some(self.touches(alloc)?)),
             Command::DispatchIndirect { buffer, offset } => {
-                let touches = self.indirect_touches(alloc, buffer, *offset)?;
-                return done.add(alloc, StepName::Dispatch, touches.as_slice());
+                Ok(Some(self.indirect_touches(alloc, buffer, *offset)?))
             }
-            _ => return self.set.take(command),
+            _ => Ok(None),
         }
+    }
+
+    /// Takes what a command sets no rule of which is unmet.
+    pub fn take(&mut self, command: &Command) -> Result<(), NoMemory>
+        ensures set { OnOk result (self.new ≡ settings_after self.old command.now) }
+        ensures unchanged { OnErr result (self.new ≡ self.old) }
+    {
+        self.set.take(command)
     }
 }

@@ -13,8 +13,9 @@ use wg_history::events::{Event, Setup};
 use wg_state::Spent;
 use wg_turn::Logged;
 use wg_types::limits::Limits;
-use wg_types::replies::{Reply, Verb};
+use wg_types::replies::Reply;
 use wg_types::steps::Item;
+use wg_types::words::Verb;
 
 /// What a log keeps of an entry: the number of the caller, the word of its call, and the reply.
 #[derive(Drop)]

@@ -2,8 +2,8 @@
 use Rattle.std.specs.Prelude.{◌≡◌, ℕ, zero, suc, ◌+◌, ◌-◌, Bool, true, not, ◌&&◌, ◌||◌, ◌==◌, nat_lt, List, [], ◌∷◌, ◌++◌, length, slice_index_or, if◌then◌else◌}
 use Rattle.wg_model.specs.Holding.{Node, is_among, is_held_among}
 
--- How many holds each object has that are no objects, and to which objects each refers, by number; which objects fell since
--- that list was cleared, in some order; for how many more objects, and for how many more holds, there is room.
+-- what is kept of counts: how many holds each object has that are no objects, to which objects each refers, by number, which
+-- objects fell since that list was cleared, in some order, and for how many more objects and holds there is room
 pub record CountsValue : Type 0 where
   pub own : List ℕ
   pub refers : List (List ℕ)
@@ -11,15 +11,19 @@ pub record CountsValue : Type 0 where
   pub spare : ℕ
   pub room : ℕ
 
+-- the holds of object n that are no objects, or 0
 abbrev pub own_at : List ℕ → ℕ → ℕ
 own_at own n = slice_index_or own n 0
 
+-- the objects to which object n refers, or none
 abbrev pub refers_in : List (List ℕ) → ℕ → List ℕ
 refers_in refers n = slice_index_or refers n []
 
+-- object n as a plain object: held by itself where it has a hold that is no object
 abbrev pub node_at : List ℕ → List (List ℕ) → ℕ → Node
 node_at own refers n = record { held = nat_lt 0 (own_at own n); refers = refers_in refers n }
 
+-- the first n objects as plain objects
 abbrev pub counted_below : List ℕ → List (List ℕ) → ℕ → List Node
 counted_below own refers zero = []
 counted_below own refers (suc n) = counted_below own refers n ++ node_at own refers n ∷ []
@@ -28,13 +32,15 @@ counted_below own refers (suc n) = counted_below own refers n ++ node_at own ref
 unfoldable pub is_counted : List ℕ → List (List ℕ) → ℕ → Bool
 is_counted own refers n = is_held_among (counted_below own refers (length own)) n
 
+-- whether object n is held by counts
 abbrev pub is_held : CountsValue → ℕ → Bool
 is_held v n = is_counted v.own v.refers n
 
--- the holds after one of object k more, and after one less
+-- the holds of each object after one of object k more
 abbrev pub one_more : ℕ → ℕ → ℕ → ℕ
 one_more k n holds = if k == n then holds + 1 else holds
 
+-- the holds of each object after one of object k less
 abbrev pub one_less : ℕ → ℕ → ℕ → ℕ
 one_less k n holds = if k == n then holds - 1 else holds
 
@@ -48,7 +54,7 @@ pub record Owns (note : ℕ → ℕ → ℕ) (old new : List ℕ) : Type 0 where
   pub len : length new ≡ length old
   pub each : (n : ℕ) → own_at new n ≡ (if nat_lt n (length old) then note n (own_at old n) else 0)
 
--- what fell is listed, once more than it was, and nothing that was not held is held
+-- What fell, which was held and is not, is listed, once more than it was, and nothing that was not held is held.
 pub record Falls (old new : CountsValue) : Type 0 where
   pub listed : (n : ℕ) → is_among new.fallen n ≡ is_among old.fallen n || (is_held old n && not (is_held new n))
   pub once : (n : ℕ) → times n new.fallen ≡ times n old.fallen + (if is_held old n && not (is_held new n) then 1 else 0)

@@ -3,9 +3,11 @@ use Rattle.std.specs.Prelude.{◌≡◌, ℕ, zero, suc, ◌+◌, ◌<◌, ◌�
 use Rattle.wg_model.specs.Holding.{is_among}
 use Rattle.wg_counts.specs.Counts.{own_at, refers_in, times}
 
+-- the count of object n, or 0
 abbrev pub count_at : List ℕ → ℕ → ℕ
 count_at counts n = slice_index_or counts n 0
 
+-- whether the count of object n is not 0
 abbrev pub is_alive : List ℕ → ℕ → Bool
 is_alive counts n = nat_lt 0 (count_at counts n)
 
@@ -26,6 +28,7 @@ living counts = sum_alive (is_alive counts) (λ m. 1) (length counts)
 pub record AreHolders (own : ℕ → ℕ) (refers : ℕ → List ℕ) (counts : List ℕ) : Type 0 where
   pub each : (n : ℕ) → count_at counts n ≡ own n + references counts refers n
 
+-- Each object refers to earlier ones alone.
 pub record GoBack (refers : ℕ → List ℕ) : Type 0 where
   pub back : (m n : ℕ) → is_among (refers m) n ≡ true → n < m
 
@@ -33,13 +36,14 @@ pub record GoBack (refers : ℕ → List ℕ) : Type 0 where
 pub record AreWithin (taken : ℕ) (counts : List ℕ) : Type 0 where
   pub each : (n : ℕ) → count_at counts n ≤ taken
 
--- The references of each object are kept while it is alive, and those of a list until they are gone through. What is listed is not
--- alive, and stands there once.
+-- The references of each object are kept while it is alive, and those of a list until they are gone through; what is listed is
+-- not alive, and stands there once.
 pub record ReferencesAreKept (referred : ℕ → List ℕ) (counts later : List ℕ) (refers : List (List ℕ)) : Type 0 where
   pub len : length refers ≡ length counts
   pub once : (n : ℕ) → times n later + (if is_alive counts n then 1 else 0) ≤ 1
   pub each : (n : ℕ) → refers_in refers n ≡ (if is_alive counts n || is_among later n then referred n else [])
 
+-- Counts are those of the holds: each is that of its holders, references go back, and there is one for each object.
 pub record IsKept (own : List ℕ) (refers : List (List ℕ)) (counts : List ℕ) : Type 0 where
   pub holders : AreHolders (own_at own) (refers_in refers) counts
   pub back : GoBack (refers_in refers)

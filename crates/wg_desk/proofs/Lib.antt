@@ -1,5 +1,3 @@
-pub mod Asking
-pub mod Begun
 pub mod Lists
 pub mod Naming
 pub mod Refusing

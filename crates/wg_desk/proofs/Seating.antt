@@ -11,9 +11,9 @@ use Rattle.wg_types.specs.declared.commands.On.TheVariants.{Encoder, Pass}
 use Rattle.wg_types.specs.declared.handles.Info.{Info}
 use Rattle.wg_types.specs.declared.handles.Info.TheVariants as info
 use Rattle.wg_types.specs.declared.handles.ObjRef.{ObjRef}
-use Rattle.wg_types.specs.declared.replies.Answer.{Answer}
-use Rattle.wg_types.specs.declared.replies.Answer.TheVariants.{Made, Queued, Promised, Plain, BadCompletion}
-use Rattle.wg_types.specs.declared.replies.Reply.{Reply}
+use Rattle.wg_trace.specs.declared.replies.Answer.{Answer}
+use Rattle.wg_trace.specs.declared.replies.Answer.TheVariants.{Made, Queued, Promised, Plain, BadCompletion}
+use Rattle.wg_trace.specs.declared.replies.Reply.{Reply}
 use Rattle.wg_encoder.specs.Recorders.{RecorderValue, is_late, recorded}
 use Rattle.wg_history.specs.declared.events.Setup.{Setup}
 use Rattle.wg_history.specs.declared.events.Event.{Event}
@@ -24,7 +24,8 @@ use Rattle.wg_history.specs.Answers.{reply_to}
 use Rattle.wg_calls.specs.Calls.{handle_of}
 use Rattle.wg_calls.proofs.Genuine.{genuine_more, is_answered}
 use Rattle.wg_desk.specs.declared.seats.Seat.{Seat}
-use Rattle.wg_desk.specs.Seats.{handle_at, recorder_at, changed_at, closed, closed_at, reopened, reopened_at, emptied, emptied_at, recorded_in, recorded_at, is_late_at, recorder_by, seat_of, seat_made, IsSeated, AreSeated}
+use Rattle.wg_calls.specs.Encoders.{recorder_of}
+use Rattle.wg_desk.specs.Seats.{handle_at, recorder_at, changed_at, closed, closed_at, reopened, reopened_at, emptied, emptied_at, recorded_in, recorded_at, is_late_at, seat_of, seat_made, IsSeated, AreSeated}
 use Rattle.wg_desk.specs.Coming.{known_of, seat_from}
 use Rattle.wg_desk.specs.Desks.{MakesGenuine, IsNumber}
 use Rattle.wg_desk.proofs.Lists.{set_cases, more_cases, changed_length, changed_same, changed_twice}
@@ -48,7 +49,7 @@ still_seated setup history entry n seat is = record {
 
 -- What a call makes is seated.
 
-new_open : (reference : ObjRef) (known : Info) → IfSome (recorder_by reference known) (λ recorder. recorder.takes ≡ 0)
+new_open : (reference : ObjRef) (known : Info) → IfSome (recorder_of reference known) (λ recorder. recorder.takes ≡ 0)
 new_open reference info.Encoder = refl
 new_open reference (info.BundleEncoder targets) = refl
 new_open reference (info.Buffer known) = tt
@@ -134,7 +135,7 @@ pub prepared_seat : (serial n : ℕ) (known : Option Info) (answer : Answer) →
     → seat_from serial (option_map (known_of (record { device = serial; number = n })) known) answer ≡ seat_made serial known answer
 prepared_seat serial n None answer numbered = refl
 prepared_seat serial n (Some known) (Made number valid) numbered =
-    ap (λ (k : ℕ). Some (record { handle = Some (record { reference = record { device = serial; number = number }; valid = valid; info = known }); recorder = recorder_by (record { device = serial; number = k }) known })) (sym (numbered number valid refl))
+    ap (λ (k : ℕ). Some (record { handle = Some (record { reference = record { device = serial; number = number }; valid = valid; info = known }); recorder = recorder_of (record { device = serial; number = k }) known })) (sym (numbered number valid refl))
 prepared_seat serial n (Some known) (Queued op) numbered = refl
 prepared_seat serial n (Some known) Promised numbered = refl
 prepared_seat serial n (Some known) Plain numbered = refl
@@ -231,9 +232,6 @@ late_same setup history seats n on command seated late =
     (ap (λ (o : Option Seat). option_map_or (λ r. is_late r on) (option_and_then (λ (s : Seat). s.recorder) o) true) (sym at) ∙ late))))
 
 -- What a desk that sends an event keeps.
-
-pub none_seated : (setup : Setup) → AreSeated setup [] []
-none_seated setup = record { count_is = refl; each = λ n seat is. absurd (cc (is)) }
 
 pub made_is : (setup : Setup) (history : List Entry) (seats : List Seat) (serial n : ℕ) (event : Event) (reply : Reply) (known : Option Info) (prepared : Option (Info × Option RecorderValue))
     → serial ≡ setup.serial → n ≡ length seats → AreSeated setup history seats → reply ≡ reply_to setup (reverse history) event

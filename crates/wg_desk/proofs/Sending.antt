@@ -8,14 +8,13 @@ use Rattle.wg_types.specs.declared.handles.Info.{Info}
 use Rattle.wg_types.specs.declared.handles.Info.TheVariants as info
 use Rattle.wg_types.specs.declared.handles.ObjRef.{ObjRef}
 use Rattle.wg_types.specs.declared.render.TargetInfo.{TargetInfo}
-use Rattle.wg_types.specs.declared.replies.Answer.TheVariants.{Made, Plain, BadCompletion}
+use Rattle.wg_trace.specs.declared.replies.Answer.TheVariants.{Made, Plain, BadCompletion}
 use Rattle.wg_types.specs.declared.wanted.Wanted.{Wanted}
 use Rattle.wg_types.specs.declared.requests.RequestOf.{RequestOf}
 use Rattle.wg_types.specs.declared.requests.RequestOf.TheVariants.{CreateBuffer, CreateTexture, CreateView, CreateSampler, CreateBindGroupLayout, CreatePipelineLayout, CreateBindGroup, CreateComputePipeline, CreateRenderPipeline, GetBindGroupLayout, CreateQuerySet, CreateEncoder, CreateBundleEncoder, Finish, FinishBundle, Submit, WriteBuffer, WriteTexture, Destroy, Drop, Complete, PushErrorScope, PopErrorScope, Lose, WorkDone, MapAsync, Unmap}
 use Rattle.wg_encoder.specs.Recorders.{RecordingValue}
 use Rattle.wg_history.specs.declared.events.Setup.{Setup}
 use Rattle.wg_history.specs.declared.events.Event.{Event}
-use Rattle.wg_history.specs.declared.events.Event.TheVariants.{Late}
 use Rattle.wg_history.specs.declared.events.Form.{Form}
 use Rattle.wg_history.specs.declared.events.Form.TheVariants.{Making, Queue, Promise as Promising, Completion, Plain as Plainly}
 use Rattle.wg_history.specs.Entries.{effects_of, Entry, Past}
@@ -84,10 +83,6 @@ finish_genuine setup history targets encoder recording = record {
   genuine = λ who reply handle replied made.
       genuine_finish setup (record { who = who; event = finish_event targets encoder recording; reply = reply }) (reverse history) targets encoder recording handle refl replied made;
 }
-
--- A late command makes nothing.
-pub late_genuine : (setup : Setup) (history : List Entry) (encoder : ObjRef) → MakesGenuine setup history (Late encoder) None
-late_genuine setup history encoder = record { making = refl; genuine = λ who reply handle replied made. absurd (cc (made)) }
 
 -- The end of an encoder hands over its recording.
 pub is_handed_over : (targets : Option TargetInfo) (encoder : ObjRef) (recording : RecordingValue) → handed_over (finish_event targets encoder recording) ≡ Some recording

@@ -1,22 +1,21 @@
 -- What is kept of objects, by their numbers.
-use Rattle.std.specs.Prelude.{◌≡◌, ℕ, nat_lt, not, Bool, true, false, List, length, reverse, slice_get, slice_set, Option, Some, None, IfSome, is_none, unwrap_or, option_map, option_and_then}
+use Rattle.std.specs.Prelude.{◌≡◌, ℕ, not, Bool, true, false, List, length, reverse, slice_get, slice_set, Option, Some, None, IfSome, is_none, unwrap_or, option_map, option_and_then}
 use Rattle.std.specs.List.{list_any}
 use Rattle.std.specs.Option.{option_map_or}
 use Rattle.wg_types.specs.Handles.{HandleValue}
 use Rattle.wg_types.specs.Commands.{Command}
-use Rattle.wg_types.specs.declared.handles.ObjRef.{ObjRef}
 use Rattle.wg_types.specs.declared.handles.Info.{Info}
 use Rattle.wg_types.specs.declared.handles.Info.TheVariants as info
 use Rattle.wg_types.specs.declared.commands.On.{On}
-use Rattle.wg_types.specs.declared.commands.On.TheVariants.{Encoder, Pass}
-use Rattle.wg_types.specs.declared.replies.Answer.{Answer}
+use Rattle.wg_trace.specs.declared.replies.Answer.{Answer}
 use Rattle.wg_types.specs.declared.wanted.Wanted.{Wanted}
 use Rattle.wg_encoder.specs.Recorders.{RecorderValue, is_late, recorded}
 use Rattle.wg_history.specs.declared.events.Setup.{Setup}
 use Rattle.wg_history.specs.Entries.{Entry}
 use Rattle.wg_history.specs.Objects.{count}
 use Rattle.wg_history.specs.Rules.{is_genuine}
-use Rattle.wg_calls.specs.Calls.{handle_of, opened_for, opened_with}
+use Rattle.wg_calls.specs.Calls.{handle_of}
+use Rattle.wg_calls.specs.Encoders.{recorder_of, is_begun}
 use Rattle.wg_desk.specs.declared.seats.Seat.{Seat}
 
 -- the handle at a number, until its object is dropped
@@ -39,6 +38,7 @@ found_at seats n = unwrap_or (handle_at seats n) no_object
 abbrev pub is_missing : List Seat → ℕ × Wanted → Bool
 is_missing seats used = is_none (handle_at seats used.0)
 
+-- whether some number that a call names has no handle
 abbrev pub any_missing : List Seat → List (ℕ × Wanted) → Bool
 any_missing seats useds = list_any (is_missing seats) useds
 
@@ -46,14 +46,9 @@ any_missing seats useds = list_any (is_missing seats) useds
 abbrev pub passes_at : List Seat → ℕ → ℕ
 passes_at seats n = option_map_or (λ recorder. recorder.passes) (recorder_at seats n) 0
 
--- whether a command stands on a pass that was not begun
-abbrev pub is_beyond : On → ℕ → Bool
-is_beyond Encoder passes = false
-is_beyond (Pass pass) passes = not (nat_lt pass passes)
-
--- the same of the encoder of a number, which is open
+-- whether a command stands on a pass that was not begun on the encoder of a number, which is open
 abbrev pub is_unbegun : List Seat → ℕ → On → Bool
-is_unbegun seats n on = option_map_or (λ recorder. is_beyond on recorder.passes) (recorder_at seats n) false
+is_unbegun seats n on = option_map_or (λ recorder. not (is_begun on recorder.passes)) (recorder_at seats n) false
 
 -- A command is late where its encoder is not open, or its pass has ended.
 abbrev pub is_late_at : List Seat → ℕ → On → Bool
@@ -63,54 +58,41 @@ is_late_at seats n on = option_map_or (λ recorder. is_late recorder on) (record
 abbrev pub changed_at : List Seat → ℕ → (Seat → Seat) → List Seat
 changed_at seats n change = option_map_or (λ seat. slice_set seats n (change seat)) (slice_get seats n) seats
 
--- with a command on its recorder
+-- a seat with a command on its recorder
 abbrev pub recorded_in : On → Command → Seat → Seat
 recorded_in on command seat = record { handle = seat.handle; recorder = option_map (λ recorder. recorded recorder on command) seat.recorder }
 
+-- the seats after a command on the recorder of a number
 abbrev pub recorded_at : List Seat → ℕ → On → Command → List Seat
 recorded_at seats n on command = changed_at seats n (recorded_in on command)
 
--- with its recorder taken out
+-- a seat with its recorder taken out
 abbrev pub closed : Seat → Seat
 closed seat = record { handle = seat.handle; recorder = None }
 
+-- the seats without the recorder of a number
 abbrev pub closed_at : List Seat → ℕ → List Seat
 closed_at seats n = changed_at seats n closed
 
--- with a recorder put in
+-- a seat with a recorder put in
 abbrev pub reopened : RecorderValue → Seat → Seat
 reopened recorder seat = record { handle = seat.handle; recorder = Some recorder }
 
+-- the seats with this recorder at a number
 abbrev pub reopened_at : List Seat → ℕ → RecorderValue → List Seat
 reopened_at seats n recorder = changed_at seats n (reopened recorder)
 
--- with nothing kept there
+-- a seat with nothing kept there
 abbrev pub emptied : Seat → Seat
 emptied seat = record { handle = None; recorder = None }
 
+-- the seats without the object of a number
 abbrev pub emptied_at : List Seat → ℕ → List Seat
 emptied_at seats n = changed_at seats n emptied
 
--- the recorder of a new object, if it is an encoder: one that is open for it and has kept nothing
-abbrev pub recorder_by : ObjRef → Info → Option RecorderValue
-recorder_by reference info.Encoder = Some (opened_for reference)
-recorder_by reference (info.BundleEncoder targets) = Some (opened_with targets reference)
-recorder_by reference (info.Buffer known) = None
-recorder_by reference (info.Texture known) = None
-recorder_by reference (info.View known) = None
-recorder_by reference (info.Sampler known) = None
-recorder_by reference (info.GroupLayout known) = None
-recorder_by reference (info.PipelineLayout known) = None
-recorder_by reference (info.Group known) = None
-recorder_by reference (info.Compute known) = None
-recorder_by reference (info.Render known) = None
-recorder_by reference (info.Queries known) = None
-recorder_by reference info.CommandBuffer = None
-recorder_by reference (info.Bundle known) = None
-
 -- what is kept of an object that was made
 abbrev pub seat_of : HandleValue → Seat
-seat_of handle = record { handle = Some handle; recorder = recorder_by handle.reference handle.info }
+seat_of handle = record { handle = Some handle; recorder = recorder_of handle.reference handle.info }
 
 -- what is kept of what an answer made, of which so much is known
 abbrev pub seat_made : ℕ → Option Info → Answer → Option Seat
@@ -123,7 +105,7 @@ pub record IsSeated (setup : Setup) (history : List Entry) (n : ℕ) (seat : Sea
   pub number : IfSome seat.handle (λ handle. handle.reference.number ≡ n)
   pub open_still : IfSome seat.recorder (λ recorder. recorder.takes ≡ 0)
 
--- There is a seat for each object that was made.
+-- There is a seat for each object that was made, and each handle is genuine and of the object of its number.
 pub record AreSeated (setup : Setup) (history : List Entry) (seats : List Seat) : Type 0 where
   pub count_is : length seats ≡ count (reverse history)
   pub each : (n : ℕ) (seat : Seat) → slice_get seats n ≡ Some seat → IsSeated setup history n seat

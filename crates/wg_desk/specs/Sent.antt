@@ -5,45 +5,16 @@ use Rattle.wg_types.specs.Handles.{HandleValue}
 use Rattle.wg_types.specs.Requests.{map_refs}
 use Rattle.wg_types.specs.declared.handles.Info.{Info}
 use Rattle.wg_types.specs.declared.handles.Info.TheVariants as info
-use Rattle.wg_types.specs.declared.replies.Answer.{Answer}
+use Rattle.wg_trace.specs.declared.replies.Answer.{Answer}
 use Rattle.wg_types.specs.declared.requests.RequestOf.{RequestOf}
 use Rattle.wg_types.specs.declared.requests.RequestOf.TheVariants.{CreateBuffer, CreateTexture, CreateView, CreateSampler, CreateBindGroupLayout, CreatePipelineLayout, CreateBindGroup, CreateComputePipeline, CreateRenderPipeline, GetBindGroupLayout, CreateQuerySet, CreateEncoder, CreateBundleEncoder, Finish, FinishBundle, Submit, WriteBuffer, WriteTexture, Destroy, Drop, Complete, PushErrorScope, PopErrorScope, Lose, WorkDone, MapAsync, Unmap}
 use Rattle.wg_encoder.specs.Recorders.{RecorderValue, RecordingValue}
 use Rattle.wg_history.specs.declared.events.Event.{Event}
 use Rattle.wg_history.specs.declared.events.Event.TheVariants as event
 use Rattle.wg_calls.specs.Calls.{event_asked, info_asked, finish_of, known_of_finish}
+use Rattle.wg_calls.specs.Encoders.{ended_by}
 use Rattle.wg_desk.specs.declared.seats.Seat.{Seat}
 use Rattle.wg_desk.specs.Seats.{found_at, recorder_at, closed_at, emptied_at, seat_made}
-
--- the encoder that a call ends, if it ends one
-abbrev pub ended_by : RequestOf ℕ → Option ℕ
-ended_by (Finish encoder) = Some encoder
-ended_by (FinishBundle encoder) = Some encoder
-ended_by (CreateBuffer known) = None
-ended_by (CreateTexture known) = None
-ended_by (CreateView texture asked) = None
-ended_by (CreateSampler known) = None
-ended_by (CreateBindGroupLayout entries) = None
-ended_by (CreatePipelineLayout layouts) = None
-ended_by (CreateBindGroup layout entries) = None
-ended_by (CreateComputePipeline layout iface) = None
-ended_by (CreateRenderPipeline layout desc) = None
-ended_by (GetBindGroupLayout pipeline index) = None
-ended_by (CreateQuerySet known) = None
-ended_by CreateEncoder = None
-ended_by (CreateBundleEncoder targets) = None
-ended_by (Submit buffers) = None
-ended_by (WriteBuffer buffer offset size) = None
-ended_by (WriteTexture texture spot layout size data_size) = None
-ended_by (Destroy object) = None
-ended_by (Drop object) = None
-ended_by (Complete op) = None
-ended_by (PushErrorScope filter) = None
-ended_by PopErrorScope = None
-ended_by Lose = None
-ended_by WorkDone = None
-ended_by (MapAsync buffer mode offset size) = None
-ended_by (Unmap buffer) = None
 
 -- the object that a call drops, if it drops one
 abbrev pub dropped_by : RequestOf ℕ → Option ℕ
@@ -92,6 +63,7 @@ ending_by encoder (info.Queries known) = Finish encoder
 ending_by encoder info.CommandBuffer = Finish encoder
 ending_by encoder (info.Bundle known) = Finish encoder
 
+-- the end of an encoder or a bundle encoder, as a call
 abbrev pub ending_asked : HandleValue → RequestOf HandleValue
 ending_asked encoder = ending_by encoder encoder.info
 
@@ -104,9 +76,11 @@ handed_over _ = None
 -- The end of the encoder of a number: it hands over what the recorder has kept, and nothing where the encoder is not open. And what
 -- is known of that which it makes.
 
+-- the event that ends the encoder of a number
 abbrev pub ending_at : List Seat → ℕ → Event
 ending_at seats n = option_map_or (λ (recorder : RecorderValue). finish_of (found_at seats n).reference recorder) (recorder_at seats n) (event_asked (ending_asked (found_at seats n)))
 
+-- what is known of what the end of the encoder of a number makes
 abbrev pub ending_known_at : List Seat → ℕ → Option Info
 ending_known_at seats n = option_map_or (λ (recorder : RecorderValue). Some (known_of_finish recorder)) (recorder_at seats n) (info_asked (ending_asked (found_at seats n)))
 
@@ -117,14 +91,18 @@ event_sent seats request = option_map_or (ending_at seats) (ended_by request) (e
 -- The seats after a call that was answered so: what it makes is seated at the next number. The encoder that it ends is closed, and of
 -- the object that it drops nothing is kept.
 
+-- the seats after an end that was answered so
 abbrev pub seats_ended : ℕ → List Seat → ℕ → Answer → List Seat
 seats_ended serial seats encoder answer = closed_at seats encoder ++ option_to_list (seat_made serial (ending_known_at seats encoder) answer)
 
+-- the seats with what a call made that was answered so
 abbrev pub seats_asked : ℕ → List Seat → RequestOf ℕ → Answer → List Seat
 seats_asked serial seats request answer = seats ++ option_to_list (seat_made serial (info_asked (map_refs (found_at seats) request)) answer)
 
+-- the seats after a call that was answered so, without the object that it drops
 abbrev pub seats_left : ℕ → List Seat → RequestOf ℕ → Answer → List Seat
 seats_left serial seats request answer = option_map_or (emptied_at (seats_asked serial seats request answer)) (dropped_by request) (seats_asked serial seats request answer)
 
+-- the seats after any call that was answered so
 abbrev pub seats_after : ℕ → List Seat → RequestOf ℕ → Answer → List Seat
 seats_after serial seats request answer = option_map_or (λ encoder. seats_ended serial seats encoder answer) (ended_by request) (seats_left serial seats request answer)

@@ -3,7 +3,7 @@ ghost use Rattle.std.specs.Prelude.{◌≡◌, IfOk};
 ghost use Rattle.wg_types.specs.Commands.{named as command_named, map_refs as map_command};
 ghost use Rattle.wg_types.specs.Requests.{named, map_refs};
 ghost use Rattle.wg_desk.specs.Seats.{found_at, is_missing, any_missing};
-ghost use Rattle.wg_desk.specs.Sent.{ended_by, dropped_by};
+ghost use Rattle.wg_desk.specs.Sent.{dropped_by};
 
 use crate::seats::{Seat, handle_at};
 use std::alloc::Global;
@@ -88,16 +88,6 @@ pub fn command_over(
     ensures { IfOk result (λ asked. asked ≡ map_command (found_at seats.now) command.now) }
 {
     command.map(alloc, &Found { alloc, seats })
-}
-
-/// The encoder that a call ends, if it ends one.
-pub fn ended_by(request: &RequestOf<u64>) -> Option<u64>
-    ensures { result ≡ ended_by request.now }
-{
-    match request {
-        RequestOf::Finish { encoder } | RequestOf::FinishBundle { encoder } => Some(*encoder),
-        _ => None,
-    }
 }
 
 /// The object that a call drops, if it drops one.

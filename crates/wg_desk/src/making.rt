@@ -1,12 +1,11 @@
 //! What a call will make, prepared before the event is sent.
 ghost use Rattle.std.specs.Prelude.{◌≡◌, IfOk, option_map};
-ghost use Rattle.wg_desk.specs.Seats.{recorder_by};
 ghost use Rattle.wg_desk.specs.Coming.{known_of, expected, seat_from};
 
 use crate::seats::Seat;
 use std::alloc::Global;
 use std::sync::Arc;
-use wg_calls::handle_of;
+use wg_calls::{handle_of, recorder_of};
 use wg_encoder::Recorder;
 use wg_entry::NoMemory;
 use wg_types::handles::{Info, ObjRef};
@@ -20,32 +19,6 @@ pub struct Coming {
     recorder: Option<Recorder>,
 }
 
-/// The recorder of an object of which this is known, if it is an encoder.
-fn recorder_by(alloc: Global, reference: ObjRef, info: &Info) -> Result<Option<Recorder>, NoMemory>
-    ensures { IfOk result (λ recorder. recorder ≡ recorder_by reference info.now) }
-{
-    let mut recorder = match info {
-        Info::Encoder => Recorder::new(alloc, reference.device),
-        Info::BundleEncoder(targets) => {
-            Recorder::bundle(alloc, reference.device, targets.share()?)
-        }
-        Info::Buffer(_)
-        | Info::Texture(_)
-        | Info::View(_)
-        | Info::Sampler(_)
-        | Info::GroupLayout(_)
-        | Info::PipelineLayout(_)
-        | Info::Group(_)
-        | Info::Compute(_)
-        | Info::Render(_)
-        | Info::Queries(_)
-        | Info::CommandBuffer
-        | Info::Bundle(_) => return Ok(None),
-    };
-    recorder.open(reference, true);
-    Ok(Some(recorder))
-}
-
 /// What will be kept of an object of which so much is known, if a call makes one.
 pub fn prepare(
     alloc: Global,
@@ -57,7 +30,7 @@ pub fn prepare(
     let Some(info) = info else {
         return Ok(None);
     };
-    let recorder = recorder_by(alloc, reference, &info)?;
+    let recorder = recorder_of(alloc, reference, &info)?;
     let info = Arc::new(alloc, info)?;
     Ok(Some(Coming { info, recorder }))
 }

@@ -1,10 +1,12 @@
 //! What is kept of each object, by its number.
-ghost use Rattle.std.specs.Prelude.{◌≡◌, ◌<◌, ◌++◌, true, false, Some, length, vec_len, vec_capacity, OnOk, OnErr, IfOk, option_copied, option_to_list};
+ghost use Rattle.std.specs.Prelude.{◌≡◌, ◌<◌, ◌++◌, not, true, false, Some, length, vec_len, vec_capacity, OnOk, OnErr, IfOk, option_copied, option_to_list};
 ghost use Rattle.std.specs.Option.{option_map_or};
 ghost use Rattle.wg_encoder.specs.Recorders.{noted, is_late};
-ghost use Rattle.wg_desk.specs.Seats.{handle_at, recorder_at, passes_at, is_beyond, is_unbegun, is_late_at, recorded_in, recorded_at, closed_at, emptied_at, reopened_at};
+ghost use Rattle.wg_calls.specs.Encoders.{is_begun};
+ghost use Rattle.wg_desk.specs.Seats.{handle_at, recorder_at, passes_at, is_unbegun, is_late_at, recorded_in, recorded_at, closed_at, emptied_at, reopened_at};
 
 use std::mem;
+use wg_calls::is_begun;
 use wg_encoder::{Noted, Recorder};
 use wg_entry::NoMemory;
 use wg_types::commands::{Command, On};
@@ -54,18 +56,15 @@ pub fn is_unbegun(seats: &[Seat], number: u64, on: On) -> bool
                 recorder: Some(recorder),
                 ..
             },
-        ) => match on {
-            On::Encoder => false,
-            On::Pass(pass) => pass >= recorder.passes(),
-        },
+        ) => !is_begun(on, recorder.passes()),
         _ => false,
     }
 }
 
 /// Records a command on the recorder of a seat. Where it has none the command is late.
-#[tactic(auto, using(crate::proofs::Begun::begun_on))]
+#[tactic(auto, using(wg_calls::proofs::Begun::not_beyond))]
 fn record_in(seat: &mut Seat, on: On, command: Command) -> Result<Noted, NoMemory>
-    requires { option_map_or (λ recorder. is_beyond on recorder.passes) seat.old.recorder false ≡ false }
+    requires { option_map_or (λ recorder. not (is_begun on recorder.passes)) seat.old.recorder false ≡ false }
     ensures noted { IfOk result (λ answer. answer ≡ noted (option_map_or (λ recorder. is_late recorder on) seat.old.recorder true)) }
     ensures after { OnOk result (seat.new ≡ recorded_in on command seat.old) }
     ensures unchanged { OnErr result (seat.new ≡ seat.old) }

@@ -1,7 +1,7 @@
 -- What a clause of a device says of its passes.
 use Rattle.std.specs.Prelude.{◌≡◌, ◌+◌, ◌^◌, ◌<◌, ◌≤◌, ◌++◌, [], ◌∷◌, List}
 use mathlib.Core.List.{IsPrefix}
-use Rattle.wg_types.specs.declared.replies.Reply.{Reply}
+use Rattle.wg_trace.specs.declared.replies.Reply.{Reply}
 use Rattle.wg_history.specs.declared.events.Setup.{Setup}
 use Rattle.wg_history.specs.declared.events.Event.{Event}
 use Rattle.wg_history.specs.Entries.{Entry}
@@ -12,12 +12,15 @@ use Rattle.wg_turn.specs.declared.lock.Pass.{Pass}
 use Rattle.wg_turn.specs.Entries.{entry, EndsWith}
 use Rattle.wg_turn.specs.Passes.{IsPassOf, IsSound, front_of, own_of, number_of, calls_of, opened_with}
 
+-- the turn lock of a device
 abbrev pub Lock : Type 0
 Lock = TurnLock CoreValue Setup Event Reply SpentValue
 
+-- a pass of a device's lock
 abbrev pub DevicePass : Type 0
 DevicePass = Pass CoreValue Setup Event Reply SpentValue
 
+-- the history of a core
 abbrev pub history_of : CoreValue → List Entry
 history_of core = core.history
 

@@ -4,7 +4,7 @@ use Rattle.wg_types.specs.Handles.{HandleValue}
 use Rattle.wg_types.specs.declared.textures.ViewAsked.{ViewAsked}
 use Rattle.wg_types.specs.declared.textures.ViewDesc.{ViewDesc}
 use Rattle.wg_types.specs.declared.wanted.Wanted.{Wanted}
-use Rattle.wg_types.specs.declared.replies.Reply.{Reply}
+use Rattle.wg_trace.specs.declared.replies.Reply.{Reply}
 use Rattle.wg_types.specs.declared.requests.RequestOf.{RequestOf}
 use Rattle.wg_history.specs.declared.events.Setup.{Setup}
 use Rattle.wg_history.specs.Entries.{Entry}
@@ -20,14 +20,15 @@ IsHandleOf lock request reply handle = handle_made (setup_of lock).serial reques
 abbrev pub IsGenuine : Setup → List Entry → HandleValue → Type 0
 IsGenuine setup history handle = is_genuine setup (reverse history) handle ≡ true
 
--- so are all handles that are named
+-- All handles that are named are genuine in a history.
 abbrev pub AreGenuine : Setup → List Entry → List (HandleValue × Wanted) → Type 0
 AreGenuine setup history handles = All (λ used. IsGenuine setup history used.0) handles
 
--- and so they are in what a pass has seen
+-- A handle is genuine in what a pass has seen.
 abbrev pub IsGenuineIn : Lock → DevicePass → HandleValue → Type 0
 IsGenuineIn lock pass handle = IsGenuine (setup_of lock) (front_in lock pass) handle
 
+-- All handles that are named are genuine in what a pass has seen.
 abbrev pub AreGenuineIn : Lock → DevicePass → List (HandleValue × Wanted) → Type 0
 AreGenuineIn lock pass handles = AreGenuine (setup_of lock) (front_in lock pass) handles
 

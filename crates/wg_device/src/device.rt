@@ -1,11 +1,11 @@
 //! The device and its passes.
-ghost use Rattle.std.specs.Prelude.{◌≡◌, ◌+◌, ◌^◌, ◌<◌, ◌≤◌, ◌⊎◌, [], true, reverse, vec_len, Some, None, IfOk, IfErr, IfSome, OnErr, option_and_then};
+ghost use Rattle.std.specs.Prelude.{◌≡◌, ◌<◌, ◌≤◌, ◌⊎◌, [], true, vec_len, Some, None, IfOk, IfErr, IfSome, OnErr, option_and_then};
 ghost use Rattle.std.specs.Option.{is_some, option_map};
 ghost use Rattle.std.specs.Arc.{arc_value};
 ghost use mathlib.Core.List.{IsPrefix};
 ghost use Rattle.wg_types.specs.Requests.{named, kind_made};
 ghost use Rattle.wg_encoder.specs.Recorders.{most_takes};
-ghost use Rattle.wg_turn.specs.Passes.{IsPassOf, AreFresh, AreSound, AreInOrder, FrontsAre, IsSamePass, IsWhole, callers_of, own_of, opened_with};
+ghost use Rattle.wg_turn.specs.Passes.{IsPassOf, AreFresh, AreSound, AreInOrder, FrontsAre, IsSamePass, IsWhole, callers_of, opened_with};
 ghost use Rattle.wg_turn.specs.Closings.{entries_of, passes_of, state_of};
 ghost use Rattle.wg_calls.specs.Calls.{event_asked, info_asked, handle_of, handle_made, finish_of, finished_info, known_of_finish, taken_out};
 ghost use Rattle.wg_device.specs.Fronts.{front_in, history_of, setup_of, CanCall, HasCalled, HasNotMade, IsAct, IsSoundIn};
@@ -116,12 +116,7 @@ impl Device {
     }
 
     /// Sends an event, once the pass's turn has come.
-    pub(crate) fn send(
-        &self,
-        rt: &impl Wait,
-        pass: &mut DevicePass,
-        event: Event,
-    ) -> Result<Reply, NoMemory>
+    fn send(&self, rt: &impl Wait, pass: &mut DevicePass, event: Event) -> Result<Reply, NoMemory>
         requires { CanCall self.now.lock pass.old }
         ensures called { HasCalled self.now.lock pass.old pass.new }
         ensures done { IfOk result (λ reply. IsAct self.now.lock pass.old pass.new event reply) }
@@ -155,32 +150,9 @@ impl Device {
         Ok((handle, reply))
     }
 
-    /// A call that makes an object.
+    /// A call that makes an object, which is handed over and dropped here, so that no caller drops one at its ways out.
     #[tactic(auto, using(crate::proofs::Calling::asked_gives))]
     pub(crate) fn make(
-        &self,
-        rt: &impl Wait,
-        pass: &mut DevicePass,
-        request: &RequestOf<Handle>,
-    ) -> Result<(Handle, Reply), NoMemory>
-        requires pass { CanCall self.now.lock pass.old }
-        requires makes { is_some (kind_made request.now) ≡ true }
-        ensures called { HasCalled self.now.lock pass.old pass.new }
-        ensures done { IfOk result (λ t. IsAct self.now.lock pass.old pass.new (event_asked request.now) t.1) }
-        ensures handle { IfOk result (λ t. IsHandleOf self.now.lock request.now t.1 t.0) }
-        ensures genuine { IfOk result (λ t. AreGenuineIn self.now.lock pass.new (named request.now)
-            → IsGenuineIn self.now.lock pass.new t.0) }
-        ensures refused { IfErr result (λ _. HasNotMade self.now.lock pass.old pass.new) }
-    {
-        let (made, reply) = self.ask(rt, pass, request)?;
-        match made {
-            Some(handle) => Ok((handle, reply)),
-            None => unreachable!(),
-        }
-    }
-
-    /// A call that makes an object, which is handed over and dropped here, so that no caller drops one at its ways out.
-    pub(crate) fn make_of(
         &self,
         rt: &impl Wait,
         pass: &mut DevicePass,
@@ -195,7 +167,13 @@ impl Device {
             → IsGenuineIn self.now.lock pass.new t.0) }
         ensures refused { IfErr result (λ _. HasNotMade self.now.lock pass.old pass.new) }
     {
-        self.make(rt, pass, &request)
+        match self.ask(rt, pass, &request) {
+            Ok((made, reply)) => match made {
+                Some(handle) => Ok((handle, reply)),
+                None => unreachable!(),
+            },
+            Err(error) => Err(error),
+        }
     }
 
     /// Ends the encoder of a recorder, by a finish, or by a finishBundle where the recorder is that of a bundle

@@ -1,6 +1,6 @@
 //! The calls of a device that make no objects.
 ghost use Rattle.std.specs.Prelude.{◌≡◌, map, IfOk, IfErr};
-ghost use Rattle.wg_calls.specs.Calls.{reference_of};
+ghost use Rattle.wg_calls.specs.Calls.{reference_of, event_asked};
 ghost use Rattle.wg_device.specs.Fronts.{CanCall, HasCalled, HasNotMade, IsAct};
 
 use crate::device::{Device, DevicePass};
@@ -8,23 +8,42 @@ use std::alloc::Global;
 use std::sync::Wait;
 use wg_core::Event;
 use wg_entry::NoMemory;
-use wg_types::handles::{Handle, ObjRef};
+use wg_types::handles::Handle;
 use wg_types::items::Items;
 use wg_types::replies::{Filter, Reply};
+use wg_types::requests::RequestOf;
 use wg_types::textures::{DataLayout, TextureSpot};
 
-/// The objects of handles.
-fn references(alloc: Global, handles: &[Handle]) -> Result<Items<ObjRef>, NoMemory>
-    ensures { IfOk result (λ references. references ≡ map reference_of handles.now) }
+/// Other handles of the same objects.
+fn shared_all(alloc: Global, handles: &[Handle]) -> Result<Items<Handle>, NoMemory>
+    ensures { IfOk result (λ shared. shared ≡ handles.now) }
 {
-    let mut references = Items::new(alloc);
+    let mut shared = Items::new(alloc);
     for handle in handles {
-        references.push(handle.reference())?;
+        shared.push(handle.share()?)?;
     }
-    Ok(references)
+    Ok(shared)
 }
 
 impl Device {
+    /// A call of which the reply alone is told.
+    fn tell(
+        &self,
+        rt: &impl Wait,
+        pass: &mut DevicePass,
+        request: RequestOf<Handle>,
+    ) -> Result<Reply, NoMemory>
+        requires { CanCall self.now.lock pass.old }
+        ensures called { HasCalled self.now.lock pass.old pass.new }
+        ensures done { IfOk result (λ reply. IsAct self.now.lock pass.old pass.new (event_asked request) reply) }
+        ensures refused { IfErr result (λ _. HasNotMade self.now.lock pass.old pass.new) }
+    {
+        match self.ask(rt, pass, &request) {
+            Ok((_, reply)) => Ok(reply),
+            Err(error) => Err(error),
+        }
+    }
+
     /// Submits command buffers (WebGPU, "submit").
     pub fn submit(
         &self,
@@ -37,8 +56,8 @@ impl Device {
         ensures done { IfOk result (λ reply. IsAct self.now.lock pass.old pass.new (Event.Submit (map reference_of buffers.now)) reply) }
         ensures refused { IfErr result (λ _. HasNotMade self.now.lock pass.old pass.new) }
     {
-        let buffers = references(self.alloc, buffers)?;
-        self.send(rt, pass, Event::Submit { buffers })
+        let buffers = shared_all(self.alloc, buffers)?;
+        self.tell(rt, pass, RequestOf::Submit { buffers })
     }
 
     /// Writes to a buffer (WebGPU, "writeBuffer"). Offset and size are in bytes.
@@ -55,13 +74,13 @@ impl Device {
         ensures done { IfOk result (λ reply. IsAct self.now.lock pass.old pass.new (Event.WriteBuffer buffer.now.reference offset size) reply) }
         ensures refused { IfErr result (λ _. HasNotMade self.now.lock pass.old pass.new) }
     {
-        let buffer = buffer.reference();
-        let event = Event::WriteBuffer {
+        let buffer = buffer.share()?;
+        let request = RequestOf::WriteBuffer {
             buffer,
             offset,
             size,
         };
-        self.send(rt, pass, event)
+        self.tell(rt, pass, request)
     }
 
     /// Writes to a texture (WebGPU, "writeTexture"). The size is in texels, that of the data in bytes.
@@ -81,15 +100,15 @@ impl Device {
             (Event.WriteTexture texture.now.reference spot layout size data_size) reply) }
         ensures refused { IfErr result (λ _. HasNotMade self.now.lock pass.old pass.new) }
     {
-        let texture = texture.reference();
-        let event = Event::WriteTexture {
+        let texture = texture.share()?;
+        let request = RequestOf::WriteTexture {
             texture,
             spot,
             layout,
             size,
             data_size,
         };
-        self.send(rt, pass, event)
+        self.tell(rt, pass, request)
     }
 
     /// Asks to map a range of a buffer (WebGPU, "mapAsync"), in bytes. The mode is its bits (WebGPU, "GPUMapMode").
@@ -107,14 +126,14 @@ impl Device {
         ensures done { IfOk result (λ reply. IsAct self.now.lock pass.old pass.new (Event.MapAsync buffer.now.reference mode offset size) reply) }
         ensures refused { IfErr result (λ _. HasNotMade self.now.lock pass.old pass.new) }
     {
-        let buffer = buffer.reference();
-        let event = Event::MapAsync {
+        let buffer = buffer.share()?;
+        let request = RequestOf::MapAsync {
             buffer,
             mode,
             offset,
-            size,
+            size: Some(size),
         };
-        self.send(rt, pass, event)
+        self.tell(rt, pass, request)
     }
 
     /// Unmaps a buffer (WebGPU, "unmap").
@@ -129,8 +148,8 @@ impl Device {
         ensures done { IfOk result (λ reply. IsAct self.now.lock pass.old pass.new (Event.Unmap buffer.now.reference) reply) }
         ensures refused { IfErr result (λ _. HasNotMade self.now.lock pass.old pass.new) }
     {
-        let buffer = buffer.reference();
-        self.send(rt, pass, Event::Unmap { buffer })
+        let buffer = buffer.share()?;
+        self.tell(rt, pass, RequestOf::Unmap { buffer })
     }
 
     /// Asks to be told once all operations that were issued are complete (WebGPU, "onSubmittedWorkDone").
@@ -140,7 +159,7 @@ impl Device {
         ensures done { IfOk result (λ reply. IsAct self.now.lock pass.old pass.new Event.WorkDone reply) }
         ensures refused { IfErr result (λ _. HasNotMade self.now.lock pass.old pass.new) }
     {
-        self.send(rt, pass, Event::WorkDone)
+        self.tell(rt, pass, RequestOf::WorkDone)
     }
 
     /// Destroys a resource (WebGPU, "destroy" of a buffer, a texture or a query set).
@@ -155,8 +174,8 @@ impl Device {
         ensures done { IfOk result (λ reply. IsAct self.now.lock pass.old pass.new (Event.Destroy object.now.reference) reply) }
         ensures refused { IfErr result (λ _. HasNotMade self.now.lock pass.old pass.new) }
     {
-        let object = object.reference();
-        self.send(rt, pass, Event::Destroy { object })
+        let object = object.share()?;
+        self.tell(rt, pass, RequestOf::Destroy { object })
     }
 
     /// Says that the caller lets go of an object, which it will not name again.
@@ -171,8 +190,8 @@ impl Device {
         ensures done { IfOk result (λ reply. IsAct self.now.lock pass.old pass.new (Event.Drop object.now.reference) reply) }
         ensures refused { IfErr result (λ _. HasNotMade self.now.lock pass.old pass.new) }
     {
-        let object = object.reference();
-        self.send(rt, pass, Event::Drop { object })
+        let object = object.share()?;
+        self.tell(rt, pass, RequestOf::Drop { object })
     }
 
     /// Opens an error scope (WebGPU, "pushErrorScope").
@@ -187,7 +206,7 @@ impl Device {
         ensures done { IfOk result (λ reply. IsAct self.now.lock pass.old pass.new (Event.PushErrorScope filter) reply) }
         ensures refused { IfErr result (λ _. HasNotMade self.now.lock pass.old pass.new) }
     {
-        self.send(rt, pass, Event::PushErrorScope { filter })
+        self.tell(rt, pass, RequestOf::PushErrorScope { filter })
     }
 
     /// Closes the innermost error scope (WebGPU, "popErrorScope").
@@ -197,7 +216,7 @@ impl Device {
         ensures done { IfOk result (λ reply. IsAct self.now.lock pass.old pass.new Event.PopErrorScope reply) }
         ensures refused { IfErr result (λ _. HasNotMade self.now.lock pass.old pass.new) }
     {
-        self.send(rt, pass, Event::PopErrorScope)
+        self.tell(rt, pass, RequestOf::PopErrorScope)
     }
 
     /// Says that all operations up to a number are complete.
@@ -212,7 +231,7 @@ impl Device {
         ensures done { IfOk result (λ reply. IsAct self.now.lock pass.old pass.new (Event.Complete op) reply) }
         ensures refused { IfErr result (λ _. HasNotMade self.now.lock pass.old pass.new) }
     {
-        self.send(rt, pass, Event::Complete { op })
+        self.tell(rt, pass, RequestOf::Complete { op })
     }
 
     /// Says that the device is lost (WebGPU, "lost" of a device).
@@ -222,6 +241,6 @@ impl Device {
         ensures done { IfOk result (λ reply. IsAct self.now.lock pass.old pass.new Event.Lose reply) }
         ensures refused { IfErr result (λ _. HasNotMade self.now.lock pass.old pass.new) }
     {
-        self.send(rt, pass, Event::Lose)
+        self.tell(rt, pass, RequestOf::Lose)
     }
 }

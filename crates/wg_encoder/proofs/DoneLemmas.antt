@@ -1,12 +1,12 @@
 -- What is done after one more command.
 use Rattle.std.proofs.Common.{◌≡◌, List, [], ◌∷◌, ◌++◌, map, Option, Some, None, refl, ap, ap₂, sym, ◌∙◌, append-nil}
 use Rattle.std.specs.Option.{option_to_list, option_or}
-use Rattle.wg_types.specs.declared.steps.Deed.{Deed}
-use Rattle.wg_types.specs.declared.parts.Part.{Part}
+use Rattle.wg_trace.specs.declared.steps.Deed.{Deed}
+use Rattle.wg_trace.specs.declared.parts.Part.{Part}
 use Rattle.wg_model.specs.Touches.{Doing, scope_in, deed_of}
 use Rattle.wg_model.specs.Scopes.{Use, clash, first_clash}
-use Rattle.wg_access.specs.declared.done.Done.{Done}
-use Rattle.wg_access.specs.Done.{done_by_encoder, done_by_pass}
+use Rattle.wg_encoder.specs.declared.done.Done.{Done}
+use Rattle.wg_encoder.specs.Done.{done_by_encoder, done_by_pass}
 
 or_assoc : {X : Type 0} (a b c : Option X) → option_or (option_or a b) c ≡ option_or a (option_or b c)
 or_assoc None b c = refl

@@ -4,16 +4,18 @@ use Rattle.std.specs.List.{list_any, flat_map}
 use Rattle.std.proofs.lemmas.Bool.{and_parts, eqb-true}
 use Rattle.std.proofs.lemmas.List.Folds.{list_any-append}
 use Rattle.std.proofs.lemmas.Grind.{flat_map-append}
+use Rattle.std.proofs.lemmas.Simd.{map-map}
 use Rattle.indexmap.specs.IndexSet.{insert_all}
 use Rattle.wg_types.specs.Members.{SameMembers}
 use Rattle.wg_types.specs.Handles.{HandleValue}
+use Rattle.wg_types.specs.declared.handles.ObjRef.{ObjRef}
 use Rattle.wg_types.specs.declared.commands.On.{On}
 use Rattle.wg_types.specs.Commands.{Command, named}
 use Rattle.wg_types.specs.declared.wanted.Wanted.{Wanted}
-use Rattle.wg_types.specs.declared.steps.Used.{Used}
-use Rattle.wg_types.specs.declared.steps.Sort.{Sort}
-use Rattle.wg_types.specs.declared.steps.Sort.TheVariants.{Buffer, Texture, Queries}
-use Rattle.wg_types.specs.contracts.steps.UsedPartialEq.TheImpl.{eq-value}
+use Rattle.wg_trace.specs.declared.steps.Used.{Used}
+use Rattle.wg_trace.specs.declared.steps.Sort.{Sort}
+use Rattle.wg_trace.specs.declared.steps.Sort.TheVariants.{Buffer, Texture, Queries}
+use Rattle.wg_trace.specs.contracts.steps.UsedPartialEq.TheImpl.{eq-value}
 use Rattle.wg_model.specs.Recorded.{names_within}
 use Rattle.wg_encoder.specs.Once.{with_one, each_once}
 use Rattle.wg_encoder.specs.Uses.{uses_in, uses_within, is_sort, same_used}
@@ -51,16 +53,22 @@ used_more old new xs ys e is = once_more same_used old new xs ys e (is ∙ ap (�
 more_within : {T : Type 0} (f : On × Command → List T) (commands : List (On × Command)) (kept : On × Command) → flat_map f (commands ++ kept ∷ []) ≡ flat_map f commands ++ f kept
 more_within f commands kept = flat_map-append f commands (kept ∷ []) ∙ ap (λ rest. flat_map f commands ++ rest) (append-nil (f kept))
 
+abbrev number_of : ObjRef → ℕ
+number_of object = object.number
+
 pub named_more : (commands : List (On × Command)) (on : On) (command : Command) (old new : Naming) (one : Named) → AreNamedOnce commands old → IsNamedBy command one
-    → new.uses.keys ≡ insert_all eq-value.it old.uses.keys one.uses.items → new.objects.keys ≡ insert_all nat_eq old.objects.keys one.objects.items → AreNamedOnce (commands ++ (on, command) ∷ []) new
+    → new.uses.keys ≡ insert_all eq-value.it old.uses.keys one.uses.items → new.objects.keys ≡ insert_all nat_eq old.objects.keys (map number_of one.objects.items) → AreNamedOnce (commands ++ (on, command) ∷ []) new
 named_more commands on command old new one are is uses objects = record {
   uses =
       used_more old.uses.keys new.uses.keys (uses_within commands) one.uses.items are.uses uses
       ∙ ap (each_once same_used) (ap (λ more. uses_within commands ++ more) is.uses ∙ sym (more_within (λ (kept : On × Command). uses_in (named kept.1)) commands (on, command)));
   objects =
-      once_more nat_eq old.objects.keys new.objects.keys (names_within commands) one.objects.items are.objects objects
-      ∙ ap (each_once nat_eq) (ap (λ more. names_within commands ++ more) is.objects ∙ sym (more_within (λ (kept : On × Command). map (λ (object : HandleValue × Wanted). object.0.reference.number) (named kept.1)) commands (on, command)));
+      once_more nat_eq old.objects.keys new.objects.keys (names_within commands) (map number_of one.objects.items) are.objects objects
+      ∙ ap (each_once nat_eq) (ap (λ more. names_within commands ++ more) numbers ∙ sym (more_within (λ (kept : On × Command). map (λ (object : HandleValue × Wanted). object.0.reference.number) (named kept.1)) commands (on, command)));
 }
+  where
+    numbers : map number_of one.objects.items ≡ map (λ (object : HandleValue × Wanted). object.0.reference.number) (named command)
+    numbers = ap (map number_of) is.objects ∙ map-map number_of (λ (object : HandleValue × Wanted). object.0.reference) (named command)
 
 -- Each once, they are the same members.
 

@@ -9,17 +9,17 @@ use Rattle.wg_encoder.specs.Uses.{uses_in, used_once, named_once}
 use Rattle.wg_encoder.specs.declared.naming.Naming.{Naming}
 use Rattle.wg_encoder.specs.declared.naming.Named.{Named}
 
--- These are the resources and the objects of a command.
+-- What is kept of one command is the resources that it uses and the numbers of the objects that it names.
 pub record IsNamedBy (command : Command) (one : Named) : Type 0 where
   pub uses : one.uses.items ≡ uses_in (named command)
-  pub objects : one.objects.items ≡ map (λ (object : HandleValue × Wanted). object.0.reference.number) (named command)
+  pub objects : one.objects.items ≡ map (λ (object : HandleValue × Wanted). object.0.reference) (named command)
 
 -- There is room for so many more.
 pub record HasRoomFor (naming : Naming) (one : Named) : Type 0 where
   pub uses : length one.uses.items ≤ spare naming.uses
   pub objects : length one.objects.items ≤ spare naming.objects
 
--- The same is kept, whatever room there is beside it.
+-- Two keep the same names, whatever room there is beside them.
 pub record AreSameNames (old new : Naming) : Type 0 where
   pub uses : new.uses.keys ≡ old.uses.keys
   pub objects : new.objects.keys ≡ old.objects.keys

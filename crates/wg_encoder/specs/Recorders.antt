@@ -1,4 +1,4 @@
--- What contracts see of recorders and their recordings, and what calls of a recorder do.
+-- What contracts see of recorders and their recordings, and what calls of a recorder do (WebGPU, "Command Encoding").
 use Rattle.std.specs.Prelude.{◌≡◌, ℕ, ◌+◌, ◌-◌, ◌<◌, nat_lt, ◌++◌, Bool, true, false, ◌||◌, List, [], ◌∷◌, Option, Some, None, is_some, reverse, if◌then◌else◌}
 use Rattle.wg_types.specs.declared.handles.ObjRef.{ObjRef}
 use Rattle.wg_types.specs.declared.commands.On.{On}
@@ -32,12 +32,12 @@ has_taken recorder = nat_lt 0 recorder.takes
 
 -- Passes of a recording. A bundle encoder is one place, and has none.
 
--- whether a pass is open
+-- whether a pass of a recording is open; a bundle encoder has no passes
 abbrev pub has_open_pass : Option TargetInfo → List (On × Command) → Bool
 has_open_pass None commands = is_some (open_pass (reverse commands))
 has_open_pass (Some targets) commands = false
 
--- whether a pass has ended
+-- whether a pass of a recording has ended; a bundle encoder has no passes
 abbrev pub pass_ended : Option TargetInfo → List (On × Command) → ℕ → Bool
 pass_ended None commands pass = has_ended (reverse commands) pass
 pass_ended (Some targets) commands pass = false
@@ -51,6 +51,7 @@ on_ended (Pass pass) targets commands = pass_ended targets commands pass
 abbrev pub is_late : RecorderValue → On → Bool
 is_late recorder on = has_taken recorder || on_ended on recorder.targets recorder.commands
 
+-- how a recorder noted a command: kept, or late
 abbrev pub noted : Bool → Noted
 noted true = Late
 noted false = Kept
@@ -71,6 +72,7 @@ IsBegunOn (Pass pass) passes = pass < passes
 abbrev pub most_takes : ℕ
 most_takes = 18446744073709551615
 
+-- the count of takes after one more
 abbrev pub after_take : ℕ → ℕ
 after_take takes = if nat_lt takes most_takes then takes + 1 else takes
 
@@ -87,6 +89,8 @@ pub record IsTakenAt (takes passes : ℕ) (targets : Option TargetInfo) (command
   pub later : nat_lt 1 takes ≡ true → commands ≡ []
   pub later_left : nat_lt 1 takes ≡ true → targets ≡ targets_left targets
 
+-- A recording is what the last take of a recorder gave, and nothing came since that could count: of the first take the
+-- commands, which begin as many passes as the recorder has, of a later one none, and the targets that are left.
 abbrev pub IsTakenFrom : RecordingValue → RecorderValue → Type 0
 IsTakenFrom recording recorder =
     (recording.device ≡ recorder.device) × IsTakenAt recorder.takes recorder.passes recording.targets recording.commands

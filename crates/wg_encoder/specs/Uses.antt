@@ -12,15 +12,15 @@ use Rattle.wg_types.specs.declared.bindings.BoundEntry.{BoundEntry}
 use Rattle.wg_types.specs.declared.textures.ViewInfo.{ViewInfo}
 use Rattle.wg_types.specs.declared.bundles.BundleInfo.{BundleInfo}
 use Rattle.wg_types.specs.declared.bundles.BundleTouch.{BundleTouch}
-use Rattle.wg_types.specs.declared.parts.Cells.{Cells}
-use Rattle.wg_types.specs.declared.parts.Cells.TheVariants.{Bytes, Layers, Slices, Queries as QueryCells}
+use Rattle.wg_trace.specs.declared.parts.Cells.{Cells}
+use Rattle.wg_trace.specs.declared.parts.Cells.TheVariants.{Bytes, Layers, Slices, Queries as QueryCells}
 use Rattle.wg_model.specs.Bound.{known_group}
 use Rattle.wg_model.specs.Attachments.{attached_view}
 use Rattle.wg_model.specs.Bundles.{known_bundle}
 use Rattle.wg_model.specs.Recorded.{Reaching, own_buffer, own_texture, own_queries, viewed_texture, bound_resources, bundled_resources, no_resource, reaching, names_within}
-use Rattle.wg_types.specs.declared.steps.Sort.{Sort}
-use Rattle.wg_types.specs.declared.steps.Sort.TheVariants.{Buffer, Texture, Queries}
-use Rattle.wg_types.specs.declared.steps.Used.{Used}
+use Rattle.wg_trace.specs.declared.steps.Sort.{Sort}
+use Rattle.wg_trace.specs.declared.steps.Sort.TheVariants.{Buffer, Texture, Queries}
+use Rattle.wg_trace.specs.declared.steps.Used.{Used}
 use Rattle.wg_encoder.specs.Once.{each_once}
 
 -- the resource that an entry of a bind group binds, or of which it binds a view
@@ -62,6 +62,7 @@ uses_reached bound_resources object = group_uses (known_group object)
 uses_reached bundled_resources object = bundle_uses (known_bundle object)
 uses_reached no_resource object = []
 
+-- the resources that are reached through an object, each as what it is used, by what is wanted of the object
 abbrev pub uses_as : Wanted → HandleValue → List Used
 uses_as asked object = uses_reached (reaching asked) object
 
@@ -69,9 +70,11 @@ uses_as asked object = uses_reached (reaching asked) object
 abbrev pub uses_in : List (HandleValue × Wanted) → List Used
 uses_in objects = flat_map (λ (object : HandleValue × Wanted). uses_as object.1 object.0) objects
 
+-- the resources that recorded commands use, each as what it is used, as they come
 abbrev pub uses_within : List (On × Command) → List Used
 uses_within commands = flat_map (λ kept. uses_in (named kept.1)) commands
 
+-- whether two sorts of resources are the same
 abbrev pub is_sort : Sort → Sort → Bool
 is_sort Buffer Buffer = true
 is_sort Buffer Texture = false
@@ -95,6 +98,6 @@ same_used x y = x.number == y.number && is_sort x.sort y.sort
 abbrev pub used_once : List (On × Command) → List Used
 used_once commands = each_once same_used (uses_within commands)
 
--- and the numbers of the objects that they name
+-- the numbers of the objects that recorded commands name, each once, as they first come
 abbrev pub named_once : List (On × Command) → List ℕ
 named_once commands = each_once nat_eq (names_within commands)

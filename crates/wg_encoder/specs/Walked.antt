@@ -1,4 +1,4 @@
--- What a recorder keeps in place of a walk over its commands, and that it is what the walk finds.
+-- What a recorder keeps in place of a walk over its commands, and that it is what the walk finds (WebGPU, "Command Encoding").
 use Rattle.std.specs.Prelude.{◌≡◌, ℕ, ◌<◌, false, List, ◌∷◌, map, Option, Some, None, length, slice_index_or}
 use Rattle.std.specs.Option.{option_or}
 use Rattle.wg_types.specs.Commands.{Command, bracket, named_on}
@@ -13,8 +13,8 @@ use Rattle.wg_model.specs.Settings.{Settings, settings, debug_depth}
 use Rattle.wg_model.specs.Attachments.{RenderBegin, begin_of}
 use Rattle.wg_model.specs.Render.{RenderSet, render_set, bundle_set, render_rules}
 use Rattle.wg_model.specs.Walk.{Kept, PassSoFar, pass_rule, pass_does, begins, open_pass, has_ended, encoder_depth, verdict, bundle_verdict}
-use Rattle.wg_access.specs.Done.{done_by_pass, done_of}
-use Rattle.wg_access.specs.declared.done.Done.{Done}
+use Rattle.wg_encoder.specs.Done.{done_by_pass, done_of}
+use Rattle.wg_encoder.specs.declared.done.Done.{Done}
 use Rattle.wg_encoder.specs.declared.pass.PassState.{PassState}
 use Rattle.wg_encoder.specs.declared.pass.PassState.TheVariants.{Refused, Compute, Render}
 use Rattle.wg_encoder.specs.declared.walk.Opened.{Opened}
@@ -24,6 +24,7 @@ use Rattle.wg_encoder.specs.declared.bundle.BundleState.TheVariants as drawn
 use Rattle.wg_encoder.specs.declared.known.Known.{Known}
 use Rattle.wg_encoder.specs.declared.known.Known.TheVariants as known
 
+-- What is set is what the commands of a pass set that was begun so, as a compute pass.
 abbrev pub IsComputeBy : Bracket → List Command → Settings → Type 0
 IsComputeBy brackets.BeginComputePass earlier set = set ≡ settings earlier
 IsComputeBy brackets.BeginRenderPass earlier set = ⊥
@@ -32,9 +33,11 @@ IsComputeBy brackets.PushGroup earlier set = ⊥
 IsComputeBy brackets.PopGroup earlier set = ⊥
 IsComputeBy brackets.Neither earlier set = ⊥
 
+-- What is set is what the commands of a compute pass set.
 abbrev pub IsComputeOf : Command → List Command → Settings → Type 0
 IsComputeOf begin earlier set = IsComputeBy (bracket begin) earlier set
 
+-- What is set is what the commands of a pass set that was begun so, as a render pass.
 abbrev pub IsRenderBy : RenderBegin → Bracket → List Command → RenderSet → Type 0
 IsRenderBy begin brackets.BeginComputePass earlier set = ⊥
 IsRenderBy begin brackets.BeginRenderPass earlier set = set ≡ render_set begin earlier
@@ -43,6 +46,7 @@ IsRenderBy begin brackets.PushGroup earlier set = ⊥
 IsRenderBy begin brackets.PopGroup earlier set = ⊥
 IsRenderBy begin brackets.Neither earlier set = ⊥
 
+-- What is set is what the commands of a render pass set.
 abbrev pub IsRenderOf : Command → List Command → RenderSet → Type 0
 IsRenderOf begin earlier set = IsRenderBy (begin_of begin) (bracket begin) earlier set
 
@@ -52,6 +56,7 @@ IsStateOf device begin earlier (Refused rule) = pass_rule device begin earlier �
 IsStateOf device begin earlier (Compute set) = (pass_rule device begin earlier ≡ None) × IsComputeOf begin earlier set
 IsStateOf device begin earlier (Render set) = (pass_rule device begin earlier ≡ None) × IsRenderOf begin earlier set
 
+-- The pass that is kept as open is the one that is, with its state, or none is.
 abbrev pub IsOpenOf : ℕ → Option PassSoFar → Option Opened → Type 0
 IsOpenOf device None None = Unit {0}
 IsOpenOf device (Some pass) (Some opened) = (opened.number ≡ pass.number) × IsStateOf device pass.begin pass.earlier opened.state
@@ -63,6 +68,8 @@ abbrev pub open_rule : ℕ → Option PassSoFar → Option ℕ
 open_rule device None = None
 open_rule device (Some pass) = pass_rule device pass.begin pass.earlier
 
+-- What a recorder keeps in place of a walk (which passes have ended, the verdict, the open groups, the open pass with its
+-- state, and what is done as long as no rule was unmet) is what the walk over its commands finds.
 pub record IsWalkOf (device : ℕ) (kept : Kept) (walk : Walk) : Type 0 where
   pub count : length walk.ended ≡ begins kept
   pub ended_is : (number : ℕ) → number < begins kept → slice_index_or walk.ended number false ≡ has_ended kept number
@@ -93,6 +100,7 @@ abbrev pub IsBundleOf : ℕ → TargetInfo → List Command → BundleState → 
 IsBundleOf device targets earlier (drawn.Refused rule depth) = (bundle_verdict device targets earlier ≡ Some rule) × (depth ≡ debug_depth earlier)
 IsBundleOf device targets earlier (drawn.Drawing set) = (bundle_verdict device targets earlier ≡ None) × (set ≡ bundle_set targets earlier)
 
+-- What the recorder of a bundle encoder keeps is what its commands give.
 abbrev pub IsDrawnOf : ℕ → Option TargetInfo → Kept → BundleState → Type 0
 IsDrawnOf device None kept state = ⊥
 IsDrawnOf device (Some targets) kept state = IsBundleOf device targets (map (λ (one : On × Command). one.1) kept) state

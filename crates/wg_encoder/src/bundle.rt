@@ -5,12 +5,11 @@ ghost use Rattle.wg_types.specs.declared.render.TargetInfo.{TargetInfo};
 ghost use Rattle.wg_model.specs.Scopes.{first_clash};
 ghost use Rattle.wg_model.specs.Settings.{debug_depth};
 ghost use Rattle.wg_model.specs.Walk.{bundle_verdict, bundle_scopes, recorded_touches};
-ghost use Rattle.wg_render.specs.After.{render_after};
 ghost use Rattle.wg_encoder.specs.Walked.{drawn_rule, IsBundleOf};
 
 use crate::named::check_named_on;
 use std::alloc::Global;
-use wg_access::{Done, bundle_touches, scope_of};
+use wg_access::{bundle_touches, scope_of};
 use wg_compute::depth_after;
 use wg_render::RenderState;
 use wg_types::NoMemory;
@@ -37,15 +36,6 @@ fn check_drawn(set: &RenderState, device: u64, command: &Command) -> Option<u16>
         return Some(rule);
     }
     set.rule(command)
-}
-
-/// Takes a command no rule of which is unmet. Bundle encoders do nothing themselves.
-fn draw(set: &mut RenderState, alloc: Global, command: &Command) -> Result<(), NoMemory>
-    ensures ok { OnOk result (set.new ≡ render_after set.old command.now) }
-    ensures err { OnErr result (set.new ≡ set.old) }
-{
-    let mut done = Done::new(alloc);
-    set.take(&mut done, alloc, command)
 }
 
 impl BundleState {
@@ -94,7 +84,7 @@ impl BundleState {
                     *self = BundleState::Refused { rule, depth: after };
                     return Ok(());
                 }
-                return draw(set, alloc, command);
+                return set.take(alloc, command);
             }
         }
     }

@@ -1,5 +1,5 @@
 //! What is known of kept commands.
-ghost use Rattle.std.specs.Prelude.{◌≡◌, ◌∷◌, [], ℕ, List, Option, Some, reverse, nat_lt, MatchOption, IfOk, OnOk, OnErr};
+ghost use Rattle.std.specs.Prelude.{◌≡◌, ◌∷◌, [], ℕ, List, Option, Some, reverse, MatchOption, IfOk, OnOk, OnErr};
 ghost use Rattle.wg_types.specs.Commands.{Command};
 ghost use Rattle.wg_types.specs.declared.commands.On.{On};
 ghost use Rattle.wg_types.specs.declared.render.TargetInfo.{TargetInfo};

@@ -1,20 +1,20 @@
 //! What kept commands name.
-ghost use Rattle.std.specs.Prelude.{◌≡◌, ◌∷◌, ◌++◌, ◌≤◌, [], List, map, length, OnOk, IfOk};
+ghost use Rattle.std.specs.Prelude.{◌≡◌, ◌∷◌, ◌++◌, ◌≤◌, [], List, map, length, nat_eq, IfOk};
 ghost use Rattle.indexmap.specs.IndexSet.{insert_all, spare};
 ghost use Rattle.wg_types.specs.declared.commands.On.{On as OnOf};
-ghost use Rattle.wg_types.specs.Commands.{Command as CommandOf, named};
+ghost use Rattle.wg_types.specs.declared.handles.ObjRef.{ObjRef as ObjRefOf};
+ghost use Rattle.wg_types.specs.Commands.{Command as CommandOf};
 ghost use Rattle.wg_encoder.specs.Naming.{IsNamedBy, HasRoomFor, AreSameNames, AreNamedOnce};
 
+use crate::references::push_references;
 use crate::uses::push_uses;
 use indexmap::IndexSet;
 use std::alloc::Global;
 use std::hash::Hash;
 use wg_types::NoMemory;
 use wg_types::commands::Command;
-use wg_types::handles::Handle;
-use wg_types::refs::Gather;
+use wg_types::handles::ObjRef;
 use wg_types::steps::Used;
-use wg_types::wanted::Wanted;
 
 /// The resources that commands use, and the numbers of the objects that they name. Each is there once, in the
 /// order in which they first came.
@@ -24,38 +24,11 @@ pub struct Naming {
     pub objects: IndexSet<u64>,
 }
 
-/// The resources that one command uses, and the numbers of the objects that it names.
+/// The resources that one command uses, and the objects that it names.
 #[derive(Drop)]
 pub struct Named {
     pub uses: Vec<Used>,
-    pub objects: Vec<u64>,
-}
-
-/// The number of each object.
-#[derive(Drop)]
-struct Numbers;
-
-impl Gather<Handle, u64> for Numbers {
-    ghost gathers = { λ _ object. object.0.reference.number ∷ [] };
-
-    #[tactic(auto, using(wg_types::proofs::Beginnings::begins_one, wg_types::proofs::Beginnings::begins_same))]
-    fn gather(
-        &self,
-        found: &mut Vec<u64>,
-        object: &Handle,
-        _wanted: Wanted,
-    ) -> Result<(), NoMemory> {
-        found.push(object.reference().number)?;
-        Ok(())
-    }
-}
-
-/// Adds the numbers of the objects that a command names to a list.
-#[tactic(auto, using(std::proofs::lemmas::List::Concat::flat_map_single))]
-fn push_numbers(numbers: &mut Vec<u64>, command: &Command) -> Result<(), NoMemory>
-    ensures { OnOk result (numbers.new.items ≡ numbers.old.items ++ map (λ object. object.0.reference.number) (named command.now)) }
-{
-    command.gather(&Numbers, numbers)
+    pub objects: Vec<ObjRef>,
 }
 
 /// Adds each of a list that is not there, in room that there is for all.
@@ -65,6 +38,18 @@ fn add_each<T: Copy + Eq + Hash>(set: &mut IndexSet<T>, items: &[T])
 {
     for item in items {
         let Ok(_) = set.insert(*item) else {
+            unreachable!();
+        };
+    }
+}
+
+/// The same with the numbers of objects.
+fn add_numbers(set: &mut IndexSet<u64>, objects: &[ObjRef])
+    requires { length objects.now ≤ spare set.old }
+    ensures { set.new.keys ≡ insert_all nat_eq set.old.keys (map (λ (object : ObjRefOf). object.number) objects.now) }
+{
+    for object in objects {
+        let Ok(_) = set.insert(object.number) else {
             unreachable!();
         };
     }
@@ -90,7 +75,7 @@ impl Naming {
         let mut uses = Vec::new(alloc);
         push_uses(&mut uses, command)?;
         let mut objects = Vec::new(alloc);
-        push_numbers(&mut objects, command)?;
+        push_references(&mut objects, command)?;
         self.uses.reserve(uses.len())?;
         self.objects.reserve(objects.len())?;
         Ok(Named { uses, objects })
@@ -102,6 +87,6 @@ impl Naming {
         ensures { (commands : List (OnOf × CommandOf)) (on : OnOf) (command : CommandOf) → AreNamedOnce commands self.old → IsNamedBy command named.now → AreNamedOnce (commands ++ (on, command) ∷ []) self.new }
     {
         add_each(&mut self.uses, named.uses.as_slice());
-        add_each(&mut self.objects, named.objects.as_slice());
+        add_numbers(&mut self.objects, named.objects.as_slice());
     }
 }

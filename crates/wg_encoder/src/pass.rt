@@ -1,16 +1,22 @@
 //! One pass: its state, in place of a walk over its commands.
-ghost use Rattle.std.specs.Prelude.{◌≡◌, ◌∷◌, [], ℕ, List, true, IfOk, OnErr};
+ghost use Rattle.std.specs.Prelude.{◌≡◌, [], List, true, IfOk, OnOk, OnErr};
 ghost use Rattle.wg_types.specs.Commands.{Command, is_begin};
+ghost use Rattle.wg_model.specs.Compute.{compute_does};
+ghost use Rattle.wg_model.specs.Render.{render_does};
 ghost use Rattle.wg_model.specs.Walk.{compute_rule, render_rule};
+ghost use Rattle.wg_compute.specs.After.{settings_after};
+ghost use Rattle.wg_render.specs.After.{render_after};
+ghost use Rattle.wg_encoder.specs.Done.{done_by_pass};
 ghost use Rattle.wg_encoder.specs.Walked.{IsStateOf, IsTaken};
 
+use crate::done::Done;
 use crate::named::{check_named, check_named_on};
 use std::alloc::Global;
-use wg_access::Done;
 use wg_compute::ComputeState;
 use wg_render::{RenderState, check_begin};
 use wg_types::NoMemory;
 use wg_types::commands::Command;
+use wg_types::steps::StepName;
 use wg_types::wanted::Kind;
 
 /// The state of a pass: its first unmet rule, or what is set in it.
@@ -60,6 +66,45 @@ fn check_render(set: &RenderState, device: u64, command: &Command) -> Option<u16
     set.rule(command)
 }
 
+/// Takes a command of a compute pass no rule of which is unmet, and adds the step of a dispatch to what is done.
+#[tactic(auto, using(crate::proofs::PassLemmas::none_dispatched))]
+fn take_compute(
+    set: &mut ComputeState,
+    done: &mut Done,
+    alloc: Global,
+    command: &Command,
+) -> Result<(), NoMemory>
+    ensures set { OnOk result (set.new ≡ settings_after set.old command.now) }
+    ensures done { OnOk result (done.new ≡ done_by_pass done.old (compute_does set.old command.now)) }
+    ensures unchanged { OnErr result (set.new ≡ set.old) }
+    ensures none_done { OnErr result (done.new ≡ done.old) }
+{
+    let Some(touches) = set.dispatched(alloc, command)? else {
+        return set.take(command);
+    };
+    done.add(alloc, StepName::Dispatch, touches.as_slice())
+}
+
+/// Takes a command of a render pass no rule of which is unmet, and adds the step of the whole pass to what is
+/// done where the command ends it.
+#[tactic(auto, using(crate::proofs::PassLemmas::end_keeps, crate::proofs::PassLemmas::end_does, crate::proofs::PassLemmas::no_end_does))]
+fn take_render(
+    pass: &mut RenderState,
+    done: &mut Done,
+    alloc: Global,
+    command: &Command,
+) -> Result<(), NoMemory>
+    ensures set { OnOk result (pass.new ≡ render_after pass.old command.now) }
+    ensures done { OnOk result (done.new ≡ done_by_pass done.old (render_does pass.old command.now)) }
+    ensures unchanged { OnErr result (pass.new ≡ pass.old) }
+    ensures none_done { OnErr result (done.new ≡ done.old) }
+{
+    if command.is_end() {
+        return done.add(alloc, StepName::RenderPass, pass.touches());
+    }
+    pass.take(alloc, command)
+}
+
 /// Takes a command, and gives the rule of the pass after it. Where no rule is unmet, the step that it
 /// completes is added to what is done.
 pub fn take(
@@ -80,7 +125,7 @@ pub fn take(
                 *state = PassState::Refused(rule);
                 return Ok(Some(rule));
             }
-            set.take(done, alloc, command)?;
+            take_compute(set, done, alloc, command)?;
             return Ok(None);
         }
         PassState::Render(pass) => {
@@ -88,7 +133,7 @@ pub fn take(
                 *state = PassState::Refused(rule);
                 return Ok(Some(rule));
             }
-            pass.take(done, alloc, command)?;
+            take_render(pass, done, alloc, command)?;
             return Ok(None);
         }
     }

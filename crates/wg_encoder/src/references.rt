@@ -1,4 +1,4 @@
-//! The objects that recorded commands name.
+//! The objects that commands name.
 ghost use Rattle.std.specs.Prelude.{◌≡◌, ◌∷◌, ◌++◌, [], map, IfOk, OnOk};
 ghost use Rattle.wg_types.specs.Commands.{named};
 ghost use Rattle.wg_model.specs.Bundles.{references_within};
@@ -18,7 +18,7 @@ struct References;
 impl Gather<Handle, ObjRef> for References {
     ghost gathers = { λ _ object. object.0.reference ∷ [] };
 
-    #[tactic(auto, using(wg_types::proofs::Beginnings::begins_one, wg_types::proofs::Beginnings::begins_same))]
+    #[tactic(auto, using(wg_trace::proofs::Beginnings::begins_one, wg_trace::proofs::Beginnings::begins_same))]
     fn gather(
         &self,
         found: &mut Vec<ObjRef>,
@@ -30,9 +30,9 @@ impl Gather<Handle, ObjRef> for References {
     }
 }
 
-/// Adds the objects that a command names.
+/// Adds the objects that a command names to a list.
 #[tactic(auto, using(std::proofs::lemmas::List::Concat::flat_map_single))]
-fn push_named(found: &mut Vec<ObjRef>, command: &Command) -> Result<(), NoMemory>
+pub fn push_references(found: &mut Vec<ObjRef>, command: &Command) -> Result<(), NoMemory>
     ensures { OnOk result (found.new.items ≡ found.old.items ++ map (λ object. object.0.reference) (named command.now)) }
 {
     command.gather(&References, found)
@@ -47,7 +47,7 @@ pub fn references_within(
 {
     let mut found = Vec::new(alloc);
     for kept in commands {
-        push_named(&mut found, &kept.1)?;
+        push_references(&mut found, &kept.1)?;
     }
     Ok(Items::from_vec(found))
 }

@@ -1,6 +1,6 @@
 //! The resources that a command uses.
 ghost use Rattle.std.specs.Prelude.{◌≡◌, ◌∷◌, ◌++◌, [], OnOk};
-ghost use Rattle.wg_types.specs.Added.{BeginsWith};
+ghost use Rattle.wg_trace.specs.Added.{BeginsWith};
 ghost use Rattle.wg_types.specs.Commands.{named};
 ghost use Rattle.std.specs.Prelude.{option_to_list};
 ghost use Rattle.std.specs.List.{flat_map};
@@ -23,7 +23,7 @@ use wg_types::steps::{Sort, Used};
 use wg_types::wanted::Wanted;
 
 /// Adds a resource to a list.
-#[tactic(auto, using(wg_types::proofs::Beginnings::begins_one, wg_types::proofs::Beginnings::begins_same))]
+#[tactic(auto, using(wg_trace::proofs::Beginnings::begins_one, wg_trace::proofs::Beginnings::begins_same))]
 fn push_used(uses: &mut Vec<Used>, object: &Handle, sort: Sort) -> Result<(), NoMemory>
     ensures added { OnOk result (uses.new.items ≡ uses.old.items ++ (record { number = object.now.reference.number; sort = sort }) ∷ []) }
     ensures begins { BeginsWith uses.new.items uses.old.items }
@@ -53,7 +53,7 @@ fn resource_used(resource: BoundResource) -> Option<Used>
 }
 
 /// Adds the resources of the entries of a bind group to a list.
-#[tactic(auto, using(wg_types::proofs::Beginnings::begins_self, wg_types::proofs::Beginnings::begins_same, wg_types::proofs::Beginnings::begins_one, wg_types::proofs::Beginnings::begins_then))]
+#[tactic(auto, using(wg_trace::proofs::Beginnings::begins_self, wg_trace::proofs::Beginnings::begins_same, wg_trace::proofs::Beginnings::begins_one, wg_trace::proofs::Beginnings::begins_then))]
 fn push_entries(uses: &mut Vec<Used>, entries: &[BoundEntry]) -> Result<(), NoMemory>
     ensures added { OnOk result (uses.new.items ≡ uses.old.items ++ flat_map (λ (entry : BoundEntryOf). resource_uses entry.resource) entries.now) }
     ensures begins { BeginsWith uses.new.items uses.old.items }
@@ -67,7 +67,7 @@ fn push_entries(uses: &mut Vec<Used>, entries: &[BoundEntry]) -> Result<(), NoMe
 }
 
 /// Adds the resources of a bind group to a list; nothing is known of an invalid one.
-#[tactic(auto, using(wg_types::proofs::Beginnings::begins_self))]
+#[tactic(auto, using(wg_trace::proofs::Beginnings::begins_self))]
 fn push_group(uses: &mut Vec<Used>, group: &Handle) -> Result<(), NoMemory>
     ensures added { OnOk result (uses.new.items ≡ uses.old.items ++ group_uses (known_group group.now)) }
     ensures begins { BeginsWith uses.new.items uses.old.items }
@@ -82,7 +82,7 @@ fn push_group(uses: &mut Vec<Used>, group: &Handle) -> Result<(), NoMemory>
 }
 
 /// Adds the texture of a view to a list; nothing is known of an invalid one.
-#[tactic(auto, using(wg_types::proofs::Beginnings::begins_self, wg_types::proofs::Beginnings::begins_one, wg_types::proofs::Beginnings::begins_same))]
+#[tactic(auto, using(wg_trace::proofs::Beginnings::begins_self, wg_trace::proofs::Beginnings::begins_one, wg_trace::proofs::Beginnings::begins_same))]
 fn push_view(uses: &mut Vec<Used>, view: &Handle) -> Result<(), NoMemory>
     ensures added { OnOk result (uses.new.items ≡ uses.old.items ++ view_uses (attached_view view.now)) }
     ensures begins { BeginsWith uses.new.items uses.old.items }
@@ -123,7 +123,7 @@ fn cells_used(cells: Cells) -> Used
 }
 
 /// Adds the resources of what a bundle touches to a list.
-#[tactic(auto, using(wg_types::proofs::Beginnings::begins_self, wg_types::proofs::Beginnings::begins_same, wg_types::proofs::Beginnings::begins_one, wg_types::proofs::Beginnings::begins_then))]
+#[tactic(auto, using(wg_trace::proofs::Beginnings::begins_self, wg_trace::proofs::Beginnings::begins_same, wg_trace::proofs::Beginnings::begins_one, wg_trace::proofs::Beginnings::begins_then))]
 fn push_touches(uses: &mut Vec<Used>, touches: &[BundleTouch]) -> Result<(), NoMemory>
     ensures added { OnOk result (uses.new.items ≡ uses.old.items ++ flat_map (λ (touch : BundleTouchOf). cells_uses touch.cells) touches.now) }
     ensures begins { BeginsWith uses.new.items uses.old.items }
@@ -135,7 +135,7 @@ fn push_touches(uses: &mut Vec<Used>, touches: &[BundleTouch]) -> Result<(), NoM
 }
 
 /// Adds the resources that a bundle uses to a list; nothing is known of an invalid one.
-#[tactic(auto, using(wg_types::proofs::Beginnings::begins_self))]
+#[tactic(auto, using(wg_trace::proofs::Beginnings::begins_self))]
 fn push_bundle(uses: &mut Vec<Used>, bundle: &Handle) -> Result<(), NoMemory>
     ensures added { OnOk result (uses.new.items ≡ uses.old.items ++ bundle_uses (known_bundle bundle.now)) }
     ensures begins { BeginsWith uses.new.items uses.old.items }
@@ -153,7 +153,7 @@ struct Resources;
 impl Gather<Handle, Used> for Resources {
     ghost gathers = { λ _ object. uses_as object.1 object.0 };
 
-    #[tactic(auto, using(wg_types::proofs::Beginnings::begins_self))]
+    #[tactic(auto, using(wg_trace::proofs::Beginnings::begins_self))]
     fn gather(
         &self,
         found: &mut Vec<Used>,

@@ -2,13 +2,13 @@
 use Rattle.std.proofs.Common.{◌≡◌, ℕ, zero, suc, List, [], ◌∷◌, ◌++◌, length, map, reverse, Bool, true, false, Option, Some, None, slice_get, get_or, refl, sym, ap, ◌∙◌, if◌then◌else◌}
 use Rattle.std.proofs.lemmas.List.{reverse-append, length-map, map-append}
 use Rattle.std.proofs.Math.Seq.{map-set_same}
-use Rattle.wg_types.specs.declared.replies.FaultKind.{FaultKind}
-use Rattle.wg_types.specs.declared.replies.FaultKind.TheVariants as kind
-use Rattle.wg_types.specs.declared.replies.Filter.{Filter}
-use Rattle.wg_types.specs.declared.replies.First.{First}
-use Rattle.wg_types.specs.declared.replies.Scope.{Scope}
-use Rattle.wg_types.specs.declared.replies.Caught.{Caught}
-use Rattle.wg_types.specs.declared.replies.Caught.TheVariants.{Scope as CaughtBy, Uncaptured}
+use Rattle.wg_trace.specs.declared.replies.FaultKind.{FaultKind}
+use Rattle.wg_trace.specs.declared.replies.FaultKind.TheVariants as kind
+use Rattle.wg_trace.specs.declared.replies.Filter.{Filter}
+use Rattle.wg_trace.specs.declared.replies.First.{First}
+use Rattle.wg_trace.specs.declared.replies.Scope.{Scope}
+use Rattle.wg_trace.specs.declared.replies.Caught.{Caught}
+use Rattle.wg_trace.specs.declared.replies.Caught.TheVariants.{Scope as CaughtBy, Uncaptured}
 use Rattle.wg_model.specs.ErrorScopes.{catches, catcher_back, caught_by, deliver, kept_first, filled, caught_in}
 use Rattle.wg_errors.specs.declared.Catchers.{Catchers}
 use Rattle.wg_errors.specs.Catching.{filters, pick, top, within, told}

@@ -1,11 +1,11 @@
 -- Where faults go while each scope of a stack is the innermost one, told scope by scope.
 use Rattle.std.specs.Prelude.{ℕ, List, [], ◌∷◌, length, map, if◌then◌else◌}
-use Rattle.wg_types.specs.declared.replies.FaultKind.{FaultKind}
-use Rattle.wg_types.specs.declared.replies.FaultKind.TheVariants as kind
-use Rattle.wg_types.specs.declared.replies.Filter.{Filter}
-use Rattle.wg_types.specs.declared.replies.Scope.{Scope}
-use Rattle.wg_types.specs.declared.replies.Caught.{Caught}
-use Rattle.wg_types.specs.declared.replies.Caught.TheVariants.{Scope as CaughtBy, Uncaptured}
+use Rattle.wg_trace.specs.declared.replies.FaultKind.{FaultKind}
+use Rattle.wg_trace.specs.declared.replies.FaultKind.TheVariants as kind
+use Rattle.wg_trace.specs.declared.replies.Filter.{Filter}
+use Rattle.wg_trace.specs.declared.replies.Scope.{Scope}
+use Rattle.wg_trace.specs.declared.replies.Caught.{Caught}
+use Rattle.wg_trace.specs.declared.replies.Caught.TheVariants.{Scope as CaughtBy, Uncaptured}
 use Rattle.wg_model.specs.ErrorScopes.{catches}
 use Rattle.wg_errors.specs.declared.Catchers.{Catchers}
 
@@ -23,7 +23,7 @@ abbrev pub top : List Catchers → Catchers
 top [] = record { validation = Uncaptured; memory = Uncaptured }
 top (catchers ∷ outer) = catchers
 
--- the same in a scope with this filter, which has so many around it
+-- what catches faults inside a scope with this filter, which has so many around it
 abbrev pub within : Filter → ℕ → Catchers → Catchers
 within filter place outer = record {
   validation = if catches filter kind.Validation then CaughtBy place else outer.validation;

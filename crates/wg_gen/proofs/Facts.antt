@@ -6,9 +6,9 @@ use Rattle.wg_types.specs.declared.commands.CommandOf.TheVariants.{CopyBufferToB
 use Rattle.wg_types.specs.declared.commands.On.TheVariants as on
 use Rattle.wg_types.specs.declared.handles.Info.TheVariants as info
 use Rattle.wg_types.specs.declared.handles.ObjRef.{ObjRef}
-use Rattle.wg_types.specs.declared.replies.Answer.TheVariants.{Made, Queued, Plain}
-use Rattle.wg_types.specs.declared.replies.Reply.{Reply}
-use Rattle.wg_types.specs.declared.steps.Sort.TheVariants as sort
+use Rattle.wg_trace.specs.declared.replies.Answer.TheVariants.{Made, Queued, Plain}
+use Rattle.wg_trace.specs.declared.replies.Reply.{Reply}
+use Rattle.wg_trace.specs.declared.steps.Sort.TheVariants as sort
 use Rattle.wg_types.specs.Commands.{Command}
 use Rattle.wg_limits.specs.Limits.{default_limits}
 use Rattle.wg_history.specs.declared.events.Event.{Event}

@@ -9,8 +9,8 @@ use Rattle.wg_types.specs.declared.commands.On.TheVariants as on
 use Rattle.wg_types.specs.declared.handles.Info.{Info}
 use Rattle.wg_types.specs.declared.handles.Info.TheVariants as info
 use Rattle.wg_types.specs.declared.handles.ObjRef.{ObjRef}
-use Rattle.wg_types.specs.declared.replies.Reply.{Reply}
-use Rattle.wg_types.specs.declared.steps.Sort.{Sort}
+use Rattle.wg_trace.specs.declared.replies.Reply.{Reply}
+use Rattle.wg_trace.specs.declared.steps.Sort.{Sort}
 use Rattle.wg_types.specs.Commands.{Command}
 use Rattle.wg_rows.specs.Rows.{printed}
 use Rattle.wg_rows.specs.Runs.{Cell, PartRun, part_sort}

@@ -10,7 +10,7 @@ use Rattle.wg_gen.specs.Counts.{Counts, counts_in}
 abbrev pub counts_for : ℕ → ℕ → Counts
 counts_for count lanes = record { entries = 17 + 4 * (count * lanes); ops = 2 * (count * lanes); faults = 0; frees = 8 }
 
--- so many iterations in so many lanes may be asked for
+-- So many iterations in so many lanes may be asked for: at least one of each, and at most 64 lanes.
 pub record MayGenerate (count lanes : ℕ) : Type 0 where
   pub some : 1 ≤ count
   pub any : 1 ≤ lanes

@@ -11,31 +11,36 @@ use Rattle.wg_history.specs.Traces.{Trace}
 abbrev pub is_issue : Entry → Bool
 is_issue entry = is_queued entry.reply.answer
 
+-- whether an entry has a fault
 abbrev pub is_fault : Entry → Bool
 is_fault entry = is_some entry.reply.fault
 
+-- whether an item is a release
 abbrev pub is_free : Item → Bool
 is_free (Free object sort) = true
 is_free _ = false
 
+-- whether an item is a barrier
 abbrev pub is_bar : Item → Bool
 is_bar (Bar parts from to) = true
 is_bar _ = false
 
+-- whether an item is a clear
 abbrev pub is_clear_step : Item → Bool
 is_clear_step (StepItem step) = is_clear step
 is_clear_step _ = false
 
--- the entries of a history, the operations that were issued, the faults, and the releases
+-- what is counted: the entries of a history, the operations that were issued, the faults, and the releases
 pub record Counts : Type 0 where
   pub entries : ℕ
   pub ops : ℕ
   pub faults : ℕ
   pub frees : ℕ
 
+-- what is counted of a history and its trace: entries, operations, faults and releases
 abbrev pub counts_of : List Entry → List Item → Counts
 counts_of history trace = record { entries = length history; ops = count_by is_issue history; faults = count_by is_fault history; frees = count_by is_free trace }
 
--- of a history on a device that was opened so
+-- what is counted of a history on a device that was opened so
 abbrev pub counts_in : Setup → List Entry → Counts
 counts_in setup history = counts_of history (Trace setup history)

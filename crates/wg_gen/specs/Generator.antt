@@ -11,10 +11,11 @@ use Rattle.wg_gen.specs.declared.draws.Spot.{Spot}
 
 -- ---- draws
 
--- A draw takes a state to the next one, and gives that divided by 65536, rounded down.
+-- the state after a draw, which gives that state divided by 65536, rounded down
 abbrev pub next : ℕ → ℕ
 next state = (state * 1103515245 + 12345) % 2147483648
 
+-- the number that is drawn of a state
 abbrev pub drawn : ℕ → ℕ
 drawn state = next state / 65536
 
@@ -22,10 +23,11 @@ drawn state = next state / 65536
 abbrev pub spot_by : ℕ → ℕ → ℕ → Spot
 spot_by first second third = record { source = first % 8; target = (first % 8 + 1 + second % 7) % 8; offset = 4 * (third % 256) }
 
+-- where an iteration writes and copies, by the state of its draws
 abbrev pub spot_at : ℕ → Spot
 spot_at state = spot_by (drawn state) (drawn (next state)) (drawn (next (next state)))
 
--- so many of them, one after another, from a state on
+-- where so many iterations write and copy, one after another, from a state on
 abbrev pub spots : ℕ → ℕ → List Spot
 spots zero state = []
 spots (suc count) state = spot_at state ∷ spots count (next (next (next state)))
@@ -36,13 +38,15 @@ spots (suc count) state = spot_at state ∷ spots count (next (next (next state)
 abbrev pub eight : List ℕ
 eight = 0 ∷ 1 ∷ 2 ∷ 3 ∷ 4 ∷ 5 ∷ 6 ∷ 7 ∷ []
 
--- each is copied from and to
+-- what each of the eight buffers is made with: it is copied from and to
 abbrev pub buffer_info : BufferInfo
 buffer_info = record { size = 4096; usage = 12; mapped = false }
 
+-- the call that makes the buffer of a slot
 abbrev pub creation : ℕ → BoundCall
 creation slot = Ask (CreateBuffer buffer_info) (Some slot)
 
+-- the call that destroys the buffer of a slot
 abbrev pub destruction : ℕ → BoundCall
 destruction slot = Ask (Destroy slot) None
 
@@ -66,15 +70,17 @@ iterations slot (spot ∷ more) = iteration slot spot ++ iterations (slot + 2) m
 abbrev pub lane_of : ℕ → ℕ → List BoundCall
 lane_of count lane = iterations (8 + 2 * (lane * count)) (spots count (lane + 1))
 
--- so many lanes, from one of them on
+-- so many lanes of iterations, from one of them on
 abbrev pub lanes_from : ℕ → ℕ → ℕ → List (List BoundCall)
 lanes_from count lane zero = []
 lanes_from count lane (suc lanes) = lane_of count lane ∷ lanes_from count (suc lane) lanes
 
--- at the end all operations are complete, two an iteration, and the buffers are destroyed
+-- the calls at the end, by which all operations are complete, two an iteration, and the buffers are destroyed
 abbrev pub ending : ℕ → List BoundCall
 ending iterations_made = Ask (Complete (2 * iterations_made)) None ∷ map destruction eight
 
+-- the phases of the generated script: buffers are made, the lanes go through their iterations, and the buffers are
+-- destroyed
 abbrev pub phases_of : ℕ → ℕ → List (List (List BoundCall))
 phases_of count lanes = (map creation eight ∷ []) ∷ lanes_from count 0 lanes ∷ (ending (count * lanes) ∷ []) ∷ []
 

@@ -2,12 +2,12 @@
 ghost use Rattle.std.specs.Prelude.{◌≡◌, ◌+◌, ◌*◌, ◌^◌, ◌≤◌, ◌<◌, ◌++◌, ◌∷◌, [], IfOk, map};
 ghost use Rattle.wg_names.specs.Bound.{IsBound};
 ghost use Rattle.wg_gen.specs.Alike.{MayGenerate};
-ghost use Rattle.wg_gen.specs.Generator.{eight, creation, destruction, iteration, iterations, lane_of, lanes_from, ending, phases_of, spots, generated};
+ghost use Rattle.wg_gen.specs.Generator.{eight, creation, iteration, iterations, lane_of, lanes_from, ending, generated};
 
 use crate::draws::{Draws, Spot};
 use std::alloc::Global;
 use wg_limits::default_limits;
-use wg_script::{BoundCall, BoundLane, BoundPhase, CallOf, NoMemory, Script};
+use wg_script::{BoundLane, BoundPhase, CallOf, NoMemory, Script};
 use wg_types::commands::CommandOf;
 use wg_types::handles::BufferInfo;
 use wg_types::items::Items;

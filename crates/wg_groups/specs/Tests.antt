@@ -9,6 +9,7 @@ use Rattle.wg_model.specs.Groups.{sort_fits, usage_fits, range_fits, size_fits, 
 use Rattle.wg_groups.specs.declared.fits.Test.{Test}
 use Rattle.wg_groups.specs.declared.fits.Test.TheVariants as tests
 
+-- the test of a rule on an entry of a bind group
 abbrev pub passes : Test → Limits → BindingKind → BoundResource → Bool
 passes tests.Sort limits = sort_fits
 passes tests.Usage limits = usage_fits

@@ -2,10 +2,10 @@
 -- lost device none waits.
 use Rattle.std.proofs.Common.{◌≡◌, ℕ, suc, ◌+◌, ◌<◌, ◌≤◌, Bool, true, false, not, ◌||◌, List, [], ◌∷◌, ◌++◌, length, filter, Option, is_none, refl, ap, ap₂, sym, ◌∙◌, arith, append-nil, if◌then◌else◌, true≢false, subst}
 use Rattle.std.proofs.lemmas.Bool.{eq-eqb, ne_eqb}
-use Rattle.wg_types.specs.declared.replies.Reply.{Reply}
-use Rattle.wg_types.specs.declared.replies.How.{How}
-use Rattle.wg_types.specs.declared.replies.How.TheVariants.{Done, Aborted}
-use Rattle.wg_types.specs.declared.replies.Settlement.{Settlement}
+use Rattle.wg_trace.specs.declared.replies.Reply.{Reply}
+use Rattle.wg_trace.specs.declared.replies.How.{How}
+use Rattle.wg_trace.specs.declared.replies.How.TheVariants.{Done, Aborted}
+use Rattle.wg_trace.specs.declared.replies.Settlement.{Settlement}
 use Rattle.wg_types.specs.declared.handles.ObjRef.{ObjRef}
 use Rattle.wg_history.specs.declared.events.Setup.{Setup}
 use Rattle.wg_history.specs.Entries.{Event, Form, Making, Queue, Promising, Completion, Plainly, ForWork, ForError, ForMap, effects_of, Lose, Past}

@@ -33,7 +33,7 @@ use Rattle.wg_types.specs.declared.bundles.BundleUse.{BundleUse}
 use Rattle.wg_types.specs.declared.bundles.BundleUse.TheVariants.{Input, Constant, StorageRead, Storage}
 use Rattle.wg_rows.specs.Rows.{EachRow, numbers}
 use Rattle.wg_rows.specs.Runs.{Aspect, Color, Depth, Stencil, PartRun, BufferPart, LayerParts, QueryPart, Cells, Bytes, Layers, Slices, Queries, part_sort, cell_sort, run_part}
-use Rattle.wg_rows.specs.Uses.{Kind, same_kind, printed_accesses}
+use Rattle.wg_rows.specs.Uses.{AccessKind, same_kind, printed_accesses}
 use Rattle.wg_rows.specs.Sets.{UseRow, sets}
 use Rattle.wg_rows.proofs.Cut.{each_append}
 use Rattle.wg_model.specs.Formats.{named_aspects}
@@ -175,7 +175,7 @@ parts_known : (word : Word) (n : ℕ) (used : BundleUse) (rows : List UseRow) �
 parts_known word n used [] each = tt
 parts_known word n used (x ∷ xs) each = (each.0, parts_known word n used xs each.1)
 
-cells_known : (word : Word) (n : ℕ) (used : BundleUse) (rows : List (Cells × Kind)) → EachRun (Spares word n) rows → KnownSpared word n (map (cells_touched used) rows)
+cells_known : (word : Word) (n : ℕ) (used : BundleUse) (rows : List (Cells × AccessKind)) → EachRun (Spares word n) rows → KnownSpared word n (map (cells_touched used) rows)
 cells_known word n used [] each = tt
 cells_known word n used (x ∷ xs) each = (each.0, cells_known word n used xs each.1)
 
@@ -184,11 +184,11 @@ unfolding deed_of
 used_spared word n used touches each =
     let those : List Touch = filter (is_used_so used) touches in
     let spared : AreSpared word n those = each_filtered (λ (touch : Touch). Spares word n touch.0) (is_used_so used) touches each in
-    let accesses : List (Cells × Kind) = filter has_cells (map access_of those) in
+    let accesses : List (Cells × AccessKind) = filter has_cells (map access_of those) in
     each_append (λ (touch : BundleTouch). Spares word n touch.cells) (map (part_touched used) (sets (map use_of those))) (map (cells_touched used) (printed_accesses accesses))
     (parts_known word n used (sets (map use_of those)) (sets_each (SparesPart word n) (parts_widened word n) (map use_of those) (uses_spared word n those spared)))
     (cells_known word n used (printed_accesses accesses) (printed_each cell_sort same_kind (Spares word n) (cells_widened word n) accesses
-    (each_filtered (λ (access : Cells × Kind). Spares word n access.0) has_cells (map access_of those) (accesses_spared word n those spared))))
+    (each_filtered (λ (access : Cells × AccessKind). Spares word n access.0) has_cells (map access_of those) (accesses_spared word n those spared))))
 
 known_spared : (word : Word) (n : ℕ) (touches : List Touch) → AreSpared word n touches → KnownSpared word n (bundle_touches touches)
 unfolding bundle_touches

@@ -4,10 +4,10 @@ use Rattle.std.proofs.Common.{◌≡◌, ℕ, ◌≤◌, List, [], ◌∷◌, �
 use Rattle.std.specs.List.{list_any}
 use Rattle.std.proofs.lemmas.List.Folds.{list_any-append}
 use Rattle.std.proofs.lemmas.Bool.{and_parts, eqb-true, leb-true, le-leb}
-use Rattle.wg_types.specs.declared.replies.Reply.{Reply}
-use Rattle.wg_types.specs.declared.replies.How.{How}
-use Rattle.wg_types.specs.declared.replies.How.TheVariants.{Mapped, Aborted, Rejected}
-use Rattle.wg_types.specs.declared.replies.Settlement.{Settlement}
+use Rattle.wg_trace.specs.declared.replies.Reply.{Reply}
+use Rattle.wg_trace.specs.declared.replies.How.{How}
+use Rattle.wg_trace.specs.declared.replies.How.TheVariants.{Mapped, Aborted, Rejected}
+use Rattle.wg_trace.specs.declared.replies.Settlement.{Settlement}
 use Rattle.wg_model.proofs.Sparing.{or_first}
 use Rattle.wg_history.specs.Entries.{Setup, Event, Complete, MapAsync, Form, Making, Queue, Promising, Completion, Plainly, ForWork, ForError, ForMap, effects_of, Past}
 use Rattle.wg_history.specs.Operations.{completion, completed, last_use}

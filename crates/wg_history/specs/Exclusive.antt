@@ -2,6 +2,7 @@
 -- pipeline they are exclusive, and so which pipelines the bind groups serve that were made for them.
 use Rattle.std.specs.Prelude.{◌≡◌, ◌↔◌, ℕ, ◌==◌, true, false, List, reverse, Option, Some, None, option_map, slice_get, slice_index_or}
 use Rattle.std.specs.Option.{option_map_or}
+use Rattle.wg_rules.specs.declared.TheConstants.{GROUPS_FIT_PIPELINE}
 use Rattle.wg_types.specs.Handles.{HandleValue}
 use Rattle.wg_types.specs.declared.handles.Info.TheVariants.{GroupLayout, Group}
 use Rattle.wg_types.specs.declared.bindings.GroupEntryOf.{GroupEntryOf}
@@ -34,7 +35,7 @@ pub record IsGroupOf (setup : Setup) (past : Past) (group pipeline : ℕ) : Type
   pub made : event_at past group ≡ Some (CreateBindGroup layout entries)
   pub of_automatic : IsOfAutomatic setup past layout.number pipeline
 
--- These are the entries of one of the layouts of a pipeline.
+-- The entries of a layout are those of the layout at an index of a pipeline.
 pub record AreEntriesAt (layout : GroupLayoutInfo) (layouts : List GroupLayoutInfo) (index : ℕ) : Type 0 where
   pub one : GroupLayoutInfo
   pub there : slice_get layouts index ≡ Some one
@@ -53,7 +54,8 @@ LayoutsAreExclusive = (setup : Setup) (history : List Entry) (n pipeline : ℕ) 
     → Run setup history → is_valid (reverse history) n ≡ true → info_at (reverse history) n ≡ Some (GroupLayout layout)
     → (layout.exclusive ≡ Some pipeline) ↔ IsOfAutomatic setup (reverse history) n pipeline
 
--- So what a valid bind group knows of its layout is exclusive to a pipeline exactly where the group was made for such a layout.
+-- In a run, what a valid bind group knows of its layout is exclusive to a pipeline exactly where the group was made for a
+-- layout that was got of the pipeline, which derived its layouts itself.
 abbrev pub GroupsAreExclusive : Type 0
 GroupsAreExclusive = (setup : Setup) (history : List Entry) (n pipeline : ℕ) (group : GroupInfo)
     → Run setup history → is_valid (reverse history) n ≡ true → info_at (reverse history) n ≡ Some (Group group)
@@ -69,4 +71,4 @@ GroupsServeOne = (setup : Setup) (history : List Entry) (set : Settings) (pipeli
     → slice_index_or set.groups index None ≡ Some bound → is_genuine setup (reverse history) bound.group ≡ true
     → IsGroupOf setup (reverse history) bound.group.reference.number other
     → (pipeline.reference.number == other) ≡ false
-    → first_unmet (ready_rules set) ≡ Some 341
+    → first_unmet (ready_rules set) ≡ Some GROUPS_FIT_PIPELINE

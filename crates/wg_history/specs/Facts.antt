@@ -30,6 +30,7 @@ pub record Facts : Type 0 where
   pub targets : Option TargetInfo
   pub bundle : Option BundleInfo
 
+-- nothing is known of any sort
 abbrev pub no_facts : Facts
 no_facts = record {
   buffer = None;
@@ -46,6 +47,7 @@ no_facts = record {
   bundle = None;
 }
 
+-- what is known of an object, under its sort
 abbrev pub facts_of : Info → Facts
 facts_of (Buffer known) = record no_facts { buffer = Some known }
 facts_of (Texture known) = record no_facts { texture = Some known }

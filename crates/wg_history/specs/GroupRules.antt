@@ -1,5 +1,7 @@
--- The first unmet rule of an event that makes a bind group, a layout or a pipeline.
+-- The first unmet rule of an event that makes a bind group, a layout or a pipeline (WebGPU, "Bind Group Creation", "Pipeline
+-- Layout Creation", "Compute Pipeline Creation" and "Render Pipeline Creation").
 use Rattle.std.specs.Prelude.{ℕ, not, List, [], ◌∷◌, ◌++◌, Option}
+use Rattle.wg_rules.specs.declared.TheConstants.{OBJECT_IS_OF_DEVICE, OBJECT_IS_NOT_DROPPED, OBJECT_IS_VALID}
 use Rattle.wg_types.specs.Wanted.{admits}
 use Rattle.wg_types.specs.Kinds.{kind_of}
 use Rattle.wg_types.specs.Refs.{all_wanted, maybe_wanted}
@@ -26,9 +28,9 @@ use Rattle.wg_history.specs.Rules.{is_dropped}
 abbrev pub named_rules : Setup → Past → List (ObjRef × Wanted) → List Rule
 named_rules setup past [] = []
 named_rules setup past (object ∷ objects) =
-    (10, is_own setup past (λ known. admits object.1 (kind_of known)) object.0)
-    ∷ ((11, not (is_dropped setup past object.0.number))
-    ∷ ((12, is_valid past object.0.number)
+    (OBJECT_IS_OF_DEVICE, is_own setup past (λ known. admits object.1 (kind_of known)) object.0)
+    ∷ ((OBJECT_IS_NOT_DROPPED, not (is_dropped setup past object.0.number))
+    ∷ ((OBJECT_IS_VALID, is_valid past object.0.number)
     ∷ named_rules setup past objects))
 
 -- createBindGroupLayout names no object.
@@ -45,6 +47,7 @@ create_pipeline_layout_rule setup past layouts =
 abbrev pub group_named : ObjRef → List (GroupEntryOf ObjRef) → List (ObjRef × Wanted)
 group_named layout entries = (layout, wanted.GroupLayout) ∷ entries_named entries
 
+-- the first unmet rule of a createBindGroup: those on the objects that it names, and then its own
 unfoldable pub create_bind_group_rule : Setup → Past → ObjRef → List (GroupEntryOf ObjRef) → Option ℕ
 create_bind_group_rule setup past layout entries =
     first_unmet (named_rules setup past (group_named layout entries)

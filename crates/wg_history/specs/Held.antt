@@ -46,6 +46,7 @@ refers_of (Bundle info) = map (λ (object : ObjRef). object.number) info.named
 abbrev pub refers_made : Event → List ℕ
 refers_made event = option_map_or refers_of (info_made unknown event) []
 
+-- the objects to which object n refers, if it is valid, and else none
 abbrev pub refers_at : Past → ℕ → List ℕ
 refers_at past n = if is_valid past n then option_map_or (λ entry. refers_made entry.event) (maker past n) [] else []
 
@@ -70,8 +71,8 @@ holds_of setup past n = record { dropped = dropped_at setup past n; opened = is_
 unfoldable pub is_held : Setup → Past → ℕ → Bool
 is_held setup past n = is_held_in (holds_of setup past) (count past) n
 
--- The same as the least relation: an object is held where it was made and is not dropped; where a held object refers to it,
--- being valid; where a pending command buffer names it; and where an encoder that was made before its drop is open.
+-- What holds an object, as the least relation: it was made and is not dropped; a held object refers to it, being valid; a
+-- pending command buffer names it; or an encoder that was made before its drop is open.
 pub data Held (setup : Setup) (past : Past) : ℕ → Type 0 where
   undropped : {n : ℕ} → n < count past → is_dropped setup past n ≡ false → Held setup past n
   referred : {m n : ℕ} → Held setup past m → is_among (refers_at past m) n ≡ true → Held setup past n

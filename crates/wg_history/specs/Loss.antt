@@ -1,11 +1,11 @@
--- Loss of the device, the stack of error scopes, and the promises that wait (WebGPU, "Error Scopes",
--- "Buffer Mapping" and "onSubmittedWorkDone").
+-- Loss of the device, the stack of error scopes, and the promises that wait (WebGPU, "Error Scopes", "Buffer Mapping" and
+-- "onSubmittedWorkDone"). Also WebGPU, "Device Loss".
 use Rattle.std.specs.Prelude.{ℕ, suc, ◌+◌, ◌≤◌, Bool, false, not, ◌||◌, ◌==◌, List, [], ◌∷◌, ◌++◌, filter, length, Option, Some, None, if◌then◌else◌}
 use Rattle.std.specs.List.{list_any}
-use Rattle.wg_types.specs.declared.replies.Fault.{Fault}
-use Rattle.wg_types.specs.declared.replies.Filter.{Filter}
-use Rattle.wg_types.specs.declared.replies.Scope.{Scope}
-use Rattle.wg_types.specs.declared.replies.Settlement.{Settlement}
+use Rattle.wg_trace.specs.declared.replies.Fault.{Fault}
+use Rattle.wg_trace.specs.declared.replies.Filter.{Filter}
+use Rattle.wg_trace.specs.declared.replies.Scope.{Scope}
+use Rattle.wg_trace.specs.declared.replies.Settlement.{Settlement}
 use Rattle.wg_types.specs.declared.mappings.Mapping.{Mapping}
 use Rattle.wg_types.specs.declared.mappings.MapMode.TheVariants.{Read as ReadMode, Write as WriteMode}
 use Rattle.wg_model.specs.Buffers.{read_mode}
@@ -23,10 +23,12 @@ abbrev pub caught : Option Fault → List Scope → List Scope
 caught None scopes = scopes
 caught (Some fault) scopes = caught_in fault.caught (record { kind = fault.kind; rule = fault.rule }) scopes
 
+-- the open error scopes after a push, if there is one
 abbrev pub pushed_on : Option Filter → List Scope → List Scope
 pushed_on None scopes = scopes
 pushed_on (Some filter) scopes = scopes ++ record { filter = filter; first = None } ∷ []
 
+-- the open error scopes after a pop, if the event is one
 abbrev pub popped_off : Form → Bool → List Scope → List Scope
 popped_off (Promising ForError) lost scopes = popped lost scopes
 popped_off (Promising ForWork) lost scopes = scopes
@@ -40,7 +42,9 @@ popped_off Plainly lost scopes = scopes
 abbrev pub stacked : Bool → Effects → List Scope → List Scope
 stacked lost effects scopes = pushed_on effects.pushed (popped_off effects.form lost scopes)
 
--- the stack of error scopes, outermost first
+-- the stack of open error scopes, outermost first, each with its filter and the first fault that it received: a pushErrorScope
+-- adds one, also on a lost device; a popErrorScope takes the last away, but not on a lost device; the fault of an entry goes
+-- into the scope that caught it, unless that has one already
 abbrev pub error_scopes : Past → List Scope
 error_scopes [] = []
 error_scopes (entry ∷ older) = caught entry.reply.fault (stacked (is_lost older) (effects_of entry.event) (error_scopes older))
@@ -83,8 +87,9 @@ settles settled promise = list_any (λ (s : Settlement). s.promise == promise) s
 abbrev pub unsettled : List Settlement → List Wait → List Wait
 unsettled settled waits = filter (λ (w : Wait). not (settles settled w.promise)) waits
 
--- The promises that were made and that no entry has settled, in their order. Those that are refused, aborted or kept at once are
--- settled by their own entry.
+-- the promises of workDones and of mapAsyncs that no entry has settled, in the order of their numbers, each with what it waits
+-- for: a workDone for the operation that was issued last at its entry; a mapAsync, with its buffer and mapping, for the last
+-- operation that uses the buffer, or 0
 abbrev pub awaiting : Past → List Wait
 awaiting [] = []
 awaiting (entry ∷ older) = unsettled entry.reply.settled (awaiting older ++ promised older (effects_of entry.event).form)
@@ -94,6 +99,7 @@ abbrev pub is_of : ℕ → Awaited → Bool
 is_of n (mapping buffer last m) = buffer == n
 is_of n (work ops) = false
 
+-- whether a promise that waits is of a map of buffer n
 abbrev pub is_map_of : ℕ → Wait → Bool
 is_map_of n wait = is_of n wait.awaited
 

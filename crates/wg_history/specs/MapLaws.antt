@@ -9,11 +9,11 @@ use Rattle.wg_history.specs.Loss.{Awaited, mapping, work, Wait, awaiting, is_map
 use Rattle.wg_history.specs.Rules.{mapped_at}
 use Rattle.wg_history.specs.Answers.{Run}
 
--- In a run at most one map of a buffer is pending,
+-- In a run at most one map of a buffer is pending.
 abbrev pub MapsAreSingle : Type 0
 MapsAreSingle = (setup : Setup) (history : List Entry) (n : ℕ) → Run setup history → count_by (is_map_of n) (awaiting (reverse history)) ≤ 1
 
--- and none of a buffer that is mapped.
+-- In a run a buffer of which a map is pending is not mapped.
 abbrev pub PendingIsUnmapped : Type 0
 PendingIsUnmapped =
     (setup : Setup) (history : List Entry) (n : ℕ) → Run setup history → is_pending (reverse history) n ≡ true → mapped_at setup (reverse history) n ≡ None
@@ -38,8 +38,9 @@ abbrev pub IsLast : Past → Awaited → Type 0
 IsLast past (mapping buffer last m) = last ≡ last_use past buffer
 IsLast past (work ops) = Unit {0}
 
--- It is so in a run of recordings that recorders kept: the commands of one that is accepted use no buffer as a texture or a query set,
--- directly or through a bundle, so no submit or write that meets its rules uses a buffer while a map of it is pending.
+-- In a run of recordings that recorders kept, a map waits for the last operation that uses its buffer: commands that are
+-- accepted use no buffer as a texture or a query set, so no submit or write that meets its rules uses a buffer while a map of
+-- it is pending.
 abbrev pub MapsWaitForLast : Type 0
 MapsWaitForLast = (setup : Setup) (history : List Entry) → Run setup history → AreRecorded (reverse history)
     → All (λ (wait : Wait). IsLast (reverse history) wait.awaited) (awaiting (reverse history))

@@ -1,7 +1,9 @@
--- The first unmet rule of an event that names objects.
+-- The first unmet rule of an event that names objects (WebGPU, "Finalization", "submit", "Buffer Destruction", "Texture
+-- Destruction", "Query Set Destruction" and "Internal Objects").
 use Rattle.std.specs.Prelude.{ℕ, Bool, true, false, not, ◌&&◌, ◌||◌, ◌==◌, nat_lt, List, [], ◌∷◌, ◌++◌, Option, Some, None, is_none, is_some, option_and_then, unwrap_or, if◌then◌else◌}
 use Rattle.std.specs.List.{list_any}
 use Rattle.std.specs.Option.{option_map_or, option_or}
+use Rattle.wg_rules.specs.declared.TheConstants.{OBJECT_IS_OF_DEVICE, OBJECT_IS_NOT_DROPPED, OBJECT_IS_VALID, ENCODER_HAS_NOT_ENDED, EVERY_PASS_HAS_ENDED, EVERY_DEBUG_GROUP_OF_ENCODER_IS_CLOSED, USAGE_SCOPES_ARE_COMPATIBLE, COMMAND_BUFFERS_ARE_NOT_CONSUMED, COMMAND_BUFFERS_ARE_DISTINCT, SUBMITTED_BUFFERS_ARE_NOT_BUSY, SUBMITTED_OBJECTS_ARE_NOT_DESTROYED, WRITTEN_BUFFER_IS_NOT_BUSY, WRITTEN_TEXTURE_IS_NOT_DESTROYED, MAPPED_BUFFER_IS_NOT_BUSY}
 use Rattle.wg_types.specs.Handles.{HandleValue}
 use Rattle.wg_types.specs.declared.textures.ViewDesc.{ViewDesc}
 use Rattle.wg_types.specs.declared.textures.TextureSpot.{TextureSpot}
@@ -23,17 +25,17 @@ use Rattle.wg_history.specs.Objects.{ObjRef, BufferInfo, is_making, count, info_
 use Rattle.wg_types.specs.declared.handles.Info.{Info}
 use Rattle.wg_types.specs.declared.mappings.Mapping.{Mapping}
 use Rattle.wg_types.specs.declared.mappings.MapMode.TheVariants.{Write as WriteMode}
-use Rattle.wg_types.specs.declared.replies.Answer.{Answer}
-use Rattle.wg_types.specs.declared.replies.Settlement.{Settlement}
-use Rattle.wg_types.specs.declared.replies.How.{How}
-use Rattle.wg_types.specs.declared.replies.How.TheVariants.{Mapped, Done, Aborted, Rejected, Null, Error}
+use Rattle.wg_trace.specs.declared.replies.Answer.{Answer}
+use Rattle.wg_trace.specs.declared.replies.Settlement.{Settlement}
+use Rattle.wg_trace.specs.declared.replies.How.{How}
+use Rattle.wg_trace.specs.declared.replies.How.TheVariants.{Mapped, Done, Aborted, Rejected, Null, Error}
 use Rattle.wg_history.specs.Loss.{Awaited, mapping, work, Wait, promised, awaiting, is_pending}
 use Rattle.wg_model.specs.Equality.{same_bool}
 use Rattle.wg_history.specs.Infos.{same_kind, same_info}
 
 -- drop: 10 the object is one of this device, of any kind, valid or not; 11 it was not dropped before
 abbrev pub drop_list : Bool → Setup → Past → ObjRef → List Rule
-drop_list dropped setup past object = (10, is_own setup past is_any object) ∷ ((11, not dropped) ∷ [])
+drop_list dropped setup past object = (OBJECT_IS_OF_DEVICE, is_own setup past is_any object) ∷ ((OBJECT_IS_NOT_DROPPED, not dropped) ∷ [])
 
 -- whether an event that comes after a past drops object n, where that was dropped before or was not
 abbrev pub drops : Bool → Setup → Past → Event → ℕ → Bool
@@ -48,9 +50,11 @@ dropped_at setup (entry ∷ older) n =
     if drops (is_some (dropped_at setup older n)) setup older entry.event n then Some (count older)
     else dropped_at setup older n
 
+-- whether object n was dropped
 abbrev pub is_dropped : Setup → Past → ℕ → Bool
 is_dropped setup past n = is_some (dropped_at setup past n)
 
+-- the first unmet rule of a drop
 unfoldable pub drop_rule : Setup → Past → ObjRef → Option ℕ
 drop_rule setup past object = first_unmet (drop_list (is_dropped setup past object.number) setup past object)
 
@@ -58,18 +62,22 @@ drop_rule setup past object = first_unmet (drop_list (is_dropped setup past obje
 -- the texture is
 abbrev pub create_view_list : Setup → Past → ObjRef → ViewDesc → List Rule
 create_view_list setup past texture desc =
-    (10, is_own setup past is_texture_info texture)
-    ∷ ((11, not (is_dropped setup past texture.number))
-    ∷ ((12, is_valid past texture.number)
+    (OBJECT_IS_OF_DEVICE, is_own setup past is_texture_info texture)
+    ∷ ((OBJECT_IS_NOT_DROPPED, not (is_dropped setup past texture.number))
+    ∷ ((OBJECT_IS_VALID, is_valid past texture.number)
     ∷ create_view_rules (texture_or_none_at past texture.number) desc))
 
+-- the first unmet rule of a createView
 unfoldable pub create_view_rule : Setup → Past → ObjRef → ViewDesc → Option ℕ
 create_view_rule setup past texture desc = first_unmet (create_view_list setup past texture desc)
 
 -- destroy (WebGPU, "Buffer Destruction", "Texture Destruction" and "Query Set Destruction"): 10 the object is a resource of this
 -- device, valid or not; 11 it is not dropped
 unfoldable pub destroy_rule : Setup → Past → ObjRef → Option ℕ
-destroy_rule setup past object = first_unmet ((10, is_own setup past has_memory object) ∷ ((11, not (is_dropped setup past object.number)) ∷ []))
+destroy_rule setup past object =
+    first_unmet ((OBJECT_IS_OF_DEVICE, is_own setup past has_memory object)
+    ∷ ((OBJECT_IS_NOT_DROPPED, not (is_dropped setup past object.number))
+    ∷ []))
 
 -- whether an event that comes after a past destroys object n
 abbrev pub destroys : Setup → Past → Event → ℕ → Bool
@@ -82,7 +90,10 @@ is_destroyed setup (entry ∷ older) n = destroys setup older entry.event n || i
 
 -- unmap (WebGPU, "unmap"): 10 the buffer is one of this device, valid or not; 11 it is not dropped
 unfoldable pub unmap_rule : Setup → Past → ObjRef → Option ℕ
-unmap_rule setup past buffer = first_unmet ((10, is_own setup past is_buffer buffer) ∷ ((11, not (is_dropped setup past buffer.number)) ∷ []))
+unmap_rule setup past buffer =
+    first_unmet ((OBJECT_IS_OF_DEVICE, is_own setup past is_buffer buffer)
+    ∷ ((OBJECT_IS_NOT_DROPPED, not (is_dropped setup past buffer.number))
+    ∷ []))
 
 -- whether an event that comes after a past unmaps buffer n, as its unmap does that meets its rules, and its destroy
 abbrev pub unmaps : Setup → Past → Event → ℕ → Bool
@@ -93,12 +104,15 @@ unmaps setup past event n =
 abbrev pub mapped_whole : Answer → BufferInfo → Option Mapping
 mapped_whole answer info = if info.mapped && is_made_valid answer then Some (record { mode = WriteMode; lo = 0; hi = info.size }) else None
 
+-- how a new buffer is mapped: for writing and whole, where it is valid and mapped at creation
 abbrev pub mapped_with : Answer → Option Info → Option Mapping
 mapped_with answer known = option_and_then (mapped_whole answer) (option_and_then as_buffer known)
 
+-- how the buffer is mapped that an entry makes, if it makes one
 abbrev pub mapped_made : Entry → Option Mapping
 mapped_made entry = mapped_with entry.reply.answer (info_made unknown entry.event)
 
+-- whether a settlement is that of a map that is mapped
 abbrev pub is_mapped_how : How → Bool
 is_mapped_how Mapped = true
 is_mapped_how Done = false
@@ -125,7 +139,8 @@ mapped_now settled (wait ∷ waits) n = option_or (mapped_now settled waits n) (
 abbrev pub waits_of : Entry → Past → List Wait
 waits_of entry older = awaiting older ++ promised older (effects_of entry.event).form
 
--- How buffer n is mapped, if it is: what the last entry left that made it so or that unmapped it.
+-- how a buffer is mapped, if it is, by which mode and over which range: the last entry says it that made the buffer (for
+-- writing and whole, where it was made valid and mapped), that unmapped it, or that settled a map of it as mapped
 abbrev pub mapped_at : Setup → Past → ℕ → Option Mapping
 mapped_at setup [] n = None
 mapped_at setup (entry ∷ older) n =
@@ -141,12 +156,13 @@ is_busy setup past n = is_destroyed setup past n || (is_some (mapped_at setup pa
 -- is and what is asked, and 225 it is not mapped, pending or destroyed
 abbrev pub map_async_list : Setup → Past → ObjRef → ℕ → ℕ → ℕ → List Rule
 map_async_list setup past buffer mode offset size =
-    (10, is_own setup past is_buffer buffer)
-    ∷ ((11, not (is_dropped setup past buffer.number))
-    ∷ ((12, is_valid past buffer.number)
+    (OBJECT_IS_OF_DEVICE, is_own setup past is_buffer buffer)
+    ∷ ((OBJECT_IS_NOT_DROPPED, not (is_dropped setup past buffer.number))
+    ∷ ((OBJECT_IS_VALID, is_valid past buffer.number)
     ∷ (map_rules (unwrap_or (buffer_at past buffer.number) no_buffer) mode offset size
-    ++ (225, not (is_busy setup past buffer.number)) ∷ [])))
+    ++ (MAPPED_BUFFER_IS_NOT_BUSY, not (is_busy setup past buffer.number)) ∷ [])))
 
+-- the first unmet rule of a mapAsync
 unfoldable pub map_async_rule : Setup → Past → ObjRef → ℕ → ℕ → ℕ → Option ℕ
 map_async_rule setup past buffer mode offset size = first_unmet (map_async_list setup past buffer mode offset size)
 
@@ -154,12 +170,13 @@ map_async_rule setup past buffer mode offset size = first_unmet (map_async_list 
 -- its size and usage, and 203 it is not mapped, pending or destroyed
 abbrev pub write_buffer_list : Setup → Past → ObjRef → ℕ → ℕ → List Rule
 write_buffer_list setup past buffer offset size =
-    (10, is_own setup past is_buffer buffer)
-    ∷ ((11, not (is_dropped setup past buffer.number))
-    ∷ ((12, is_valid past buffer.number)
+    (OBJECT_IS_OF_DEVICE, is_own setup past is_buffer buffer)
+    ∷ ((OBJECT_IS_NOT_DROPPED, not (is_dropped setup past buffer.number))
+    ∷ ((OBJECT_IS_VALID, is_valid past buffer.number)
     ∷ (write_buffer_rules (unwrap_or (buffer_at past buffer.number) no_buffer) offset size
-    ++ (203, not (is_busy setup past buffer.number)) ∷ [])))
+    ++ (WRITTEN_BUFFER_IS_NOT_BUSY, not (is_busy setup past buffer.number)) ∷ [])))
 
+-- the first unmet rule of a writeBuffer
 unfoldable pub write_buffer_rule : Setup → Past → ObjRef → ℕ → ℕ → Option ℕ
 write_buffer_rule setup past buffer offset size = first_unmet (write_buffer_list setup past buffer offset size)
 
@@ -167,12 +184,13 @@ write_buffer_rule setup past buffer offset size = first_unmet (write_buffer_list
 -- by what it is, and 210 it is not destroyed
 abbrev pub write_texture_list : Setup → Past → ObjRef → TextureSpot → DataLayout → List ℕ → ℕ → List Rule
 write_texture_list setup past texture spot layout size data_size =
-    (10, is_own setup past is_texture_info texture)
-    ∷ ((11, not (is_dropped setup past texture.number))
-    ∷ ((12, is_valid past texture.number)
+    (OBJECT_IS_OF_DEVICE, is_own setup past is_texture_info texture)
+    ∷ ((OBJECT_IS_NOT_DROPPED, not (is_dropped setup past texture.number))
+    ∷ ((OBJECT_IS_VALID, is_valid past texture.number)
     ∷ (write_texture_rules (texture_or_none_at past texture.number) spot layout size data_size
-    ++ (210, not (is_destroyed setup past texture.number)) ∷ [])))
+    ++ (WRITTEN_TEXTURE_IS_NOT_DESTROYED, not (is_destroyed setup past texture.number)) ∷ [])))
 
+-- the first unmet rule of a writeTexture
 unfoldable pub write_texture_rule : Setup → Past → ObjRef → TextureSpot → DataLayout → List ℕ → ℕ → Option ℕ
 write_texture_rule setup past texture spot layout size data_size = first_unmet (write_texture_list setup past texture spot layout size data_size)
 
@@ -189,11 +207,11 @@ abbrev pub may_name : Setup → Past → ℕ → ℕ → Bool
 may_name setup past encoder n = option_map_or (nat_lt encoder) (dropped_at setup past n) true
 
 -- whether a handle that a recorded command of an encoder names is not genuine, or its object was dropped before the encoder
--- was made
+-- was made; what a group binds, of what a view is, or of what a pipeline is made, is not asked
 abbrev pub is_barred : Setup → Past → ℕ → HandleValue × Wanted → Bool
 is_barred setup past encoder object = not (is_genuine setup past object.0 && may_name setup past encoder object.0.reference.number)
 
--- whether some handle that recorded commands of an encoder name is
+-- whether some handle that recorded commands of an encoder name is barred
 abbrev pub any_barred : Setup → Past → ℕ → List (On × Command) → Bool
 any_barred setup past encoder commands = list_any (λ kept. list_any (is_barred setup past encoder) (named kept.1)) commands
 
@@ -203,6 +221,7 @@ any_barred setup past encoder commands = list_any (λ kept. list_any (is_barred 
 abbrev pub ends_encoder : Setup → Past → Event → ℕ → Bool
 ends_encoder setup past event n = option_map_or (λ encoder. encoder.number == n && is_own setup past takes_commands encoder) (effects_of event).ended false
 
+-- whether a finish or finishBundle named the encoder n of this device, accepted or not
 abbrev pub has_finished : Setup → Past → ℕ → Bool
 has_finished setup [] n = false
 has_finished setup (entry ∷ older) n = ends_encoder setup older entry.event n || has_finished setup older n
@@ -211,33 +230,36 @@ has_finished setup (entry ∷ older) n = ends_encoder setup older entry.event n 
 -- the kind that the call ends; 11 it is not dropped; 12 it is valid; 180 it has not ended.
 abbrev pub encoder_rules : Setup → Past → (Info → Bool) → ObjRef → List Rule
 encoder_rules setup past kind encoder =
-    (10, is_own setup past kind encoder)
-    ∷ ((11, not (is_dropped setup past encoder.number))
-    ∷ ((12, is_valid past encoder.number)
-    ∷ ((180, not (has_finished setup past encoder.number))
+    (OBJECT_IS_OF_DEVICE, is_own setup past kind encoder)
+    ∷ ((OBJECT_IS_NOT_DROPPED, not (is_dropped setup past encoder.number))
+    ∷ ((OBJECT_IS_VALID, is_valid past encoder.number)
+    ∷ ((ENCODER_HAS_NOT_ENDED, not (has_finished setup past encoder.number))
     ∷ [])))
 
--- and those after them: 183 no debug group of the encoder is open; 11 each handle that a command names is genuine, and its object
--- was not dropped before the encoder was made; 184 every usage scope is compatible.
+-- the rules of a recording that is ended: 183 no debug group of the encoder is open; 11 each handle that a command names is
+-- genuine, and its object was not dropped before the encoder was made; 184 every usage scope is compatible
 abbrev pub kept_rules : Setup → Past → ℕ → RecordingValue → List Rule
 kept_rules setup past encoder recording =
-    (183, open_depth recording.targets recording.commands == 0)
-    ∷ ((11, not (any_barred setup past encoder recording.commands))
-    ∷ ((184, is_none (first_clash (ScopesOf recording.device recording.targets recording.commands)))
+    (EVERY_DEBUG_GROUP_OF_ENCODER_IS_CLOSED, open_depth recording.targets recording.commands == 0)
+    ∷ ((OBJECT_IS_NOT_DROPPED, not (any_barred setup past encoder recording.commands))
+    ∷ ((USAGE_SCOPES_ARE_COMPATIBLE, is_none (first_clash (ScopesOf recording.device recording.targets recording.commands)))
     ∷ []))
 
--- of finish first 182 no pass is open
+-- the rules of the recording of a finish: 182 no pass is open, and then those of any recording that is ended
 abbrev pub recording_rules : Setup → Past → ℕ → RecordingValue → List Rule
-recording_rules setup past encoder recording = (182, not (has_open_pass recording.targets recording.commands)) ∷ kept_rules setup past encoder recording
+recording_rules setup past encoder recording =
+    (EVERY_PASS_HAS_ENDED, not (has_open_pass recording.targets recording.commands)) ∷ kept_rules setup past encoder recording
 
--- finish: the rules of the encoder, then the rule that invalidated it first, then those of the recording
+-- the first unmet rule of a finish (WebGPU, "Finalization"): those of the encoder, 10, 11, 12 and 180 that it has not ended,
+-- then the rule that invalidated it first, then those of the recording
 unfoldable pub finish_rule : Setup → Past → ObjRef → RecordingValue → Option ℕ
 finish_rule setup past encoder recording =
     option_or (first_unmet (encoder_rules setup past is_encoder encoder))
     (option_or (Verdict recording.device recording.targets recording.commands)
     (first_unmet (recording_rules setup past encoder.number recording)))
 
--- finishBundle (WebGPU, "finish" of a render bundle encoder): likewise. It has no passes.
+-- the first unmet rule of a finishBundle (WebGPU, "finish" of "GPURenderBundleEncoder"): those of the bundle encoder, then the
+-- rule that invalidated it first, then those of the recording, of which 182 is none, since it has no passes
 unfoldable pub finish_bundle_rule : Setup → Past → ObjRef → RecordingValue → Option ℕ
 finish_bundle_rule setup past encoder recording =
     option_or (first_unmet (encoder_rules setup past is_bundle_encoder encoder))
@@ -249,6 +271,7 @@ finish_bundle_rule setup past encoder recording =
 abbrev pub consumes : Setup → Past → Event → ℕ → Bool
 consumes setup past event n = list_any (λ buffer. buffer.number == n && is_own setup past is_command_buffer buffer) (submitted event)
 
+-- whether a submit listed the command buffer n of this device, accepted or not
 abbrev pub is_consumed : Setup → Past → ℕ → Bool
 is_consumed setup [] n = false
 is_consumed setup (entry ∷ older) n = consumes setup older entry.event n || is_consumed setup older n
@@ -263,28 +286,34 @@ are_distinct (buffer ∷ buffers) = not (list_any (λ other. other.number == buf
 abbrev pub listed_rules : Setup → Past → List ObjRef → List Rule
 listed_rules setup past [] = []
 listed_rules setup past (buffer ∷ buffers) =
-    (10, is_own setup past is_command_buffer buffer)
-    ∷ ((11, not (is_dropped setup past buffer.number))
-    ∷ ((12, is_valid past buffer.number)
+    (OBJECT_IS_OF_DEVICE, is_own setup past is_command_buffer buffer)
+    ∷ ((OBJECT_IS_NOT_DROPPED, not (is_dropped setup past buffer.number))
+    ∷ ((OBJECT_IS_VALID, is_valid past buffer.number)
     ∷ listed_rules setup past buffers))
 
 -- whether one of the objects that the commands of these command buffers name passes the test
 abbrev pub any_used : (Command → List ℕ) → (ℕ → Bool) → Past → List ObjRef → Bool
 any_used names test past buffers = list_any (λ buffer. any_named names test (commands_at past buffer.number)) buffers
 
--- and those on all of them: 190 none was consumed; 191 none is named twice; 192 no buffer that they use is mapped, pending or
--- destroyed; 193 no texture or query set that they use is destroyed.
+-- the rules of a submit on all of its command buffers: 190 none was consumed; 191 none is named twice; 192 no buffer that they
+-- use is mapped, pending or destroyed; 193 no texture or query set that they use is destroyed
 abbrev pub together_rules : Setup → Past → List ObjRef → List Rule
 together_rules setup past buffers =
-    (190, not (list_any (λ buffer. is_consumed setup past buffer.number) buffers))
-    ∷ ((191, are_distinct buffers)
-    ∷ ((192, not (any_used buffers_of (is_busy setup past) past buffers))
-    ∷ ((193, not (any_used textures_of (is_destroyed setup past) past buffers || any_used query_sets_of (is_destroyed setup past) past buffers))
+    (COMMAND_BUFFERS_ARE_NOT_CONSUMED, not (list_any (λ buffer. is_consumed setup past buffer.number) buffers))
+    ∷ ((COMMAND_BUFFERS_ARE_DISTINCT, are_distinct buffers)
+    ∷ ((SUBMITTED_BUFFERS_ARE_NOT_BUSY, not (any_used buffers_of (is_busy setup past) past buffers))
+    ∷ ((
+      SUBMITTED_OBJECTS_ARE_NOT_DESTROYED,
+      not (any_used textures_of (is_destroyed setup past) past buffers
+          || any_used query_sets_of (is_destroyed setup past) past buffers),
+    )
     ∷ [])))
 
 -- submit
 abbrev pub submit_list : Setup → Past → List ObjRef → List Rule
 submit_list setup past buffers = listed_rules setup past buffers ++ together_rules setup past buffers
 
+-- the first unmet rule of a submit (WebGPU, "submit"): 10, 11 and 12 of each command buffer in turn, and then those on all
+-- together
 unfoldable pub submit_rule : Setup → Past → List ObjRef → Option ℕ
 submit_rule setup past buffers = first_unmet (submit_list setup past buffers)

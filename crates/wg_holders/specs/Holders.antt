@@ -1,36 +1,42 @@
--- Who holds which objects.
+-- Who holds which objects (WebGPU, "Internal Objects").
 use Rattle.std.specs.Prelude.{◌≡◌, ℕ, ◌+◌, ◌<◌, Bool, true, false, not, ◌&&◌, ◌||◌, List, [], ◌∷◌, ◌++◌, length, Some, None, is_some, slice_index_or, if◌then◌else◌}
 use Rattle.wg_model.specs.Holding.{Holds, is_among, is_held_in}
 use Rattle.wg_counts.specs.Counts.{times}
 use Rattle.wg_holders.specs.declared.marks.Mark.{Mark}
 use Rattle.wg_holders.specs.declared.marks.Links.{Links}
 
--- what was noted of each object by number; the objects that a valid command buffer names, until it is consumed or dropped; those
--- to which a valid object refers
+-- who holds which objects: what was noted of each object by number, the objects that a valid command buffer names, until it is
+-- consumed or dropped, and those to which a valid object refers
 pub record Holdings : Type 0 where
   pub marks : List Mark
   pub names : List (List ℕ)
   pub refers : List (List ℕ)
 
+-- holdings of no object
 abbrev pub no_holdings : Holdings
 no_holdings = record { marks = []; names = []; refers = [] }
 
--- with which objects fell since that list was cleared, and for how many more objects and holds there is room
+-- what is kept of holders: the holdings, which objects fell since that list was cleared, and for how many more objects and
+-- holds there is room
 pub record HoldersValue : Type 0 where
   pub holdings : Holdings
   pub fallen : List ℕ
   pub spare : ℕ
   pub room : ℕ
 
+-- the mark of a new object, an encoder or not
 abbrev pub new_mark : Bool → Mark
 new_mark encoder = record { encoder = encoder; ended = false; consumed = false; dropped = None }
 
+-- the mark of no object
 abbrev pub no_mark : Mark
 no_mark = new_mark false
 
+-- the mark of object n
 abbrev pub mark_at : List Mark → ℕ → Mark
 mark_at marks n = slice_index_or marks n no_mark
 
+-- the list of object n among lists, or an empty one
 abbrev pub list_at : List (List ℕ) → ℕ → List ℕ
 list_at lists n = slice_index_or lists n []
 
@@ -55,13 +61,15 @@ holds_at h n = record {
 unfoldable pub is_held : Holdings → ℕ → Bool
 is_held h n = is_held_in (holds_at h) (length h.marks) n
 
--- with one object more
+-- holdings with one object more
 abbrev pub with_made : Bool → Links → Holdings → Holdings
 with_made encoder links h = record { marks = h.marks ++ new_mark encoder ∷ []; names = h.names ++ links.names ∷ []; refers = h.refers ++ links.refers ∷ [] }
 
+-- a mark, ended where that is said
 abbrev pub with_ended : Bool → Mark → Mark
 with_ended b mark = record mark { ended = b || mark.ended }
 
+-- a mark, consumed where that is said
 abbrev pub with_consumed : Bool → Mark → Mark
 with_consumed b mark = record mark { consumed = b || mark.consumed }
 
@@ -84,7 +92,7 @@ pub record Marks (note : ℕ → Mark → Mark) (old new : Holdings) : Type 0 wh
   pub given_back : AreGivenBack old.marks old.names → AreGivenBack new.marks new.names
   pub refers : new.refers ≡ old.refers
 
--- what fell is listed, once more than it was, and nothing that was not held is held
+-- What fell, which was held and is not, is listed, once more than it was, and nothing that was not held is held.
 pub record Falls (old new : HoldersValue) : Type 0 where
   pub listed : (n : ℕ) → is_among new.fallen n ≡ is_among old.fallen n || (is_held old.holdings n && not (is_held new.holdings n))
   pub once : (n : ℕ) → times n new.fallen ≡ times n old.fallen + (if is_held old.holdings n && not (is_held new.holdings n) then 1 else 0)

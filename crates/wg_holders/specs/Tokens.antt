@@ -8,13 +8,14 @@ use Rattle.wg_holders.specs.declared.marks.Mark.{Mark}
 use Rattle.wg_holders.specs.declared.tokens.Awaited.{Awaited}
 use Rattle.wg_holders.specs.Holders.{mark_at, list_at, is_open, is_unspent}
 
--- marks and what a note makes of them, by number
+-- Marks are what a note makes of marks before, by number.
 pub record Notes (note : ℕ → Mark → Mark) (old new : List Mark) : Type 0 where
   pub len : length new ≡ length old
   pub each : (n : ℕ) → n < length old → mark_at new n ≡ note n (mark_at old n)
 
 -- Numbers.
 
+-- the sum of a function over the numbers below n
 abbrev pub sum_below : (ℕ → ℕ) → ℕ → ℕ
 sum_below f zero = 0
 sum_below f (suc m) = sum_below f m + f m
@@ -47,7 +48,8 @@ abbrev pub waits : List Awaited → ℕ → ℕ
 waits [] n = 0
 waits (wait ∷ awaited) n = (if wait.number == n then 1 else 0) + waits awaited n
 
--- Each object has the holds that are told by the marks, the names and what waits.
+-- Each object has one hold for not being dropped, one for waiting for an open encoder, and one for each time that a pending
+-- command buffer names it.
 pub record IsOwned (marks : List Mark) (names : List (List ℕ)) (awaited : List Awaited) (own : List ℕ) : Type 0 where
   pub own_len : length own ≡ length marks
   pub names_len : length names ≡ length marks
@@ -55,9 +57,11 @@ pub record IsOwned (marks : List Mark) (names : List (List ℕ)) (awaited : List
 
 -- Encoders.
 
+-- whether an object is an encoder that is open
 abbrev pub is_open_at : List Mark → ℕ → Bool
 is_open_at marks e = is_open (mark_at marks e)
 
+-- whether the first of a list of encoders is open, if it has one
 abbrev pub starts_open : List Mark → List ℕ → Bool
 starts_open marks [] = true
 starts_open marks (e ∷ opened) = is_open_at marks e
@@ -87,18 +91,19 @@ abbrev pub InOrder : List Mark → ℕ → List Awaited → Type 0
 InOrder marks low [] = Unit {0}
 InOrder marks low (wait ∷ awaited) = (low ≤ wait.made) × ((mark_at marks wait.number).dropped ≡ Some wait.made) × InOrder marks wait.made awaited
 
+-- whether the first of what waits is awaited by an encoder that is open, if there is one
 abbrev pub starts_awaited : List ℕ → List Awaited → Bool
 starts_awaited opened [] = true
 starts_awaited opened (wait ∷ awaited) = first_below opened wait.made
 
--- All that waits for an open encoder is listed, and nothing twice.
+-- All dropped objects that wait for an open encoder are listed, in the order of their drops, and nothing twice.
 pub record Drops (marks : List Mark) (awaited : List Awaited) : Type 0 where
   pub made_before : (n k : ℕ) → (mark_at marks n).dropped ≡ Some k → k ≤ length marks
   pub in_order : InOrder marks 0 awaited
   pub once : (n : ℕ) → waits awaited n ≤ 1
   pub are_listed : (n : ℕ) → is_awaited_at marks n ≡ true → 0 < waits awaited n
 
--- Both lists, with nothing at their fronts that is over.
+-- The lists of open encoders and of what waits for them are in order, with nothing at their fronts that is over.
 pub record IsTidy (marks : List Mark) (opened : List ℕ) (awaited : List Awaited) : Type 0 where
   pub opens : Opens marks opened
   pub open_first : starts_open marks opened ≡ true

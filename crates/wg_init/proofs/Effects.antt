@@ -3,7 +3,7 @@ use Rattle.std.proofs.Common.{◌≡◌, ℕ, List, [], ◌∷◌, ◌++◌, Boo
 use Rattle.std.proofs.lemmas.Bool.{eq-eqb}
 use Rattle.std.proofs.lemmas.Bool.Decides.{nat_tests}
 use Rattle.wg_rows.specs.Runs.{Cells, Bytes, Layers, Slices, Queries, Cell, cell_sort, cell_line, cell_lo, cell_hi, cell_spot, covers}
-use Rattle.wg_rows.specs.Uses.{Kind, kind_writes, kind_unsets, row_writes, row_unsets}
+use Rattle.wg_rows.specs.Uses.{AccessKind, kind_writes, kind_unsets, row_writes, row_unsets}
 use Rattle.wg_orders.specs.Steps.{Step, writes, unsets}
 use Rattle.wg_rows.specs.Rows.{line_object, list_eq, Spot, in_range, covers_spot}
 use Rattle.wg_orders.specs.Trace.{is_unset}
@@ -27,7 +27,7 @@ row_object_is (Layers o a m lo hi) = refl
 row_object_is (Slices o m lo hi) = refl
 row_object_is (Queries o lo hi) = refl
 
-effect_in : (kind : Kind) (lo hi n : ℕ) (runs : Runs) → nat_lt lo hi ≡ true → is_in (effect kind lo hi runs) n ≡ (if in_run lo hi n then not (kind_unsets kind) else is_in runs n)
+effect_in : (kind : AccessKind) (lo hi n : ℕ) (runs : Runs) → nat_lt lo hi ≡ true → is_in (effect kind lo hi runs) n ≡ (if in_run lo hi n then not (kind_unsets kind) else is_in runs n)
 effect_in kind lo hi n runs full = by_kind (kind_unsets kind)
   where
     taken : (a b : Bool) → (a && not b) ≡ (if b then false else a)
@@ -45,7 +45,7 @@ effect_in kind lo hi n runs full = by_kind (kind_unsets kind)
     by_kind false = ap (λ t. is_in (if t then with_run lo hi runs else runs) n) full ∙ (with_in lo hi n runs ∙ added (is_in runs n) (in_run lo hi n))
 
 -- The runs of a line after one access.
-pub runs_with : (run : Cells) (kind : Kind) (rows : List SetRow) (line : List ℕ) → runs_in (with_effect run kind rows) line ≡ (if list_eq (cell_line run) line then effect kind (cell_lo run) (cell_hi run) (runs_in rows line) else runs_in rows line)
+pub runs_with : (run : Cells) (kind : AccessKind) (rows : List SetRow) (line : List ℕ) → runs_in (with_effect run kind rows) line ≡ (if list_eq (cell_line run) line then effect kind (cell_lo run) (cell_hi run) (runs_in rows line) else runs_in rows line)
 runs_with run kind [] line = ap (λ l. if list_eq l line then effect kind (cell_lo run) (cell_hi run) [] else []) (row_line_is run)
 runs_with run kind (x ∷ xs) line = by_row (list_eq (row_line x.0) (cell_line run)) refl (runs_with run kind xs line)
   where
@@ -67,14 +67,14 @@ runs_with run kind (x ∷ xs) line = by_row (list_eq (row_line x.0) (cell_line r
     by_row false e h = ap (λ r. if list_eq (row_line x.0) line then x.1 else r) h ∙ other e (list_eq (row_line x.0) line) (list_eq (cell_line run) line) refl refl
 
 -- what accesses make of a cell that is set or not
-abbrev pub after : Spot → List (Cells × Kind) → Bool → Bool
+abbrev pub after : Spot → List (Cells × AccessKind) → Bool → Bool
 after spot [] b = b
 after spot (x ∷ xs) b = after spot xs (if kind_writes x.1 && covers_spot cell_sort x.0 spot then not (kind_unsets x.1) else b)
 
 empty_covers : (lo hi n : ℕ) → nat_lt lo hi ≡ false → in_range lo hi n ≡ false
 empty_covers lo hi n e = grind (arith, nat_tests)
 
-rows_are : (object : ℕ) (xs : List (Cells × Kind)) (rows : List SetRow) (spot : Spot) → line_object spot.0 ≡ object → is_in (runs_in (rows_after object xs rows) spot.0) spot.1 ≡ after spot xs (is_in (runs_in rows spot.0) spot.1)
+rows_are : (object : ℕ) (xs : List (Cells × AccessKind)) (rows : List SetRow) (spot : Spot) → line_object spot.0 ≡ object → is_in (runs_in (rows_after object xs rows) spot.0) spot.1 ≡ after spot xs (is_in (runs_in rows spot.0) spot.1)
 rows_are object [] rows spot e = refl
 rows_are object (x ∷ xs) rows spot e = rows_are object xs (if changes_at object x then with_effect x.0 x.1 rows else rows) spot e ∙ ap (after spot xs) (by_tests (kind_writes x.1) (is_full x.0) (row_object (row_of x.0) == object) refl refl)
   where
@@ -108,7 +108,7 @@ rows_are object (x ∷ xs) rows spot e = rows_are object xs (if changes_at objec
         ∙ (ap (λ t. if list_eq (cell_line x.0) spot.0 then t else is_in (runs_in rows spot.0) spot.1) (effect_in x.1 (cell_lo x.0) (cell_hi x.0) spot.1 (runs_in rows spot.0) g)
         ∙ in_line (list_eq (cell_line x.0) spot.0) (in_run (cell_lo x.0) (cell_hi x.0) spot.1) (not (kind_unsets x.1)) (is_in (runs_in rows spot.0) spot.1)))
 
-after_is : (c : Cell) (xs : List (Cells × Kind)) (b : Bool) → after (cell_spot c) xs b ≡ (if row_writes c xs then not (row_unsets c xs) else b)
+after_is : (c : Cell) (xs : List (Cells × AccessKind)) (b : Bool) → after (cell_spot c) xs b ≡ (if row_writes c xs then not (row_unsets c xs) else b)
 unfolding covers
 after_is c [] b = refl
 after_is c (x ∷ xs) b = after_is c xs (if kind_writes x.1 && covers_spot cell_sort x.0 (cell_spot c) then not (kind_unsets x.1) else b) ∙ by_tests (row_writes c xs) (covers_spot cell_sort x.0 (cell_spot c)) (kind_writes x.1)
@@ -123,7 +123,7 @@ after_is c (x ∷ xs) b = after_is c xs (if kind_writes x.1 && covers_spot cell_
     by_tests false false false = refl
 
 -- The cells that are set after accesses.
-pub set_after : (kept noted : SetRows) (xs : List (Cells × Kind)) (c : Cell) → IsAfter kept xs noted → set_at noted (cell_spot c) ≡ (if row_writes c xs then not (row_unsets c xs) else set_at kept (cell_spot c))
+pub set_after : (kept noted : SetRows) (xs : List (Cells × AccessKind)) (c : Cell) → IsAfter kept xs noted → set_at noted (cell_spot c) ≡ (if row_writes c xs then not (row_unsets c xs) else set_at kept (cell_spot c))
 set_after kept noted xs c is =
     ap (λ rows. is_in (runs_in rows (cell_spot c).0) (cell_spot c).1) (is (line_object (cell_spot c).0))
     ∙ (rows_are (line_object (cell_spot c).0) xs (rows_in kept (line_object (cell_spot c).0)) (cell_spot c) refl

@@ -2,7 +2,7 @@
 use Rattle.std.proofs.Common.{◌≡◌, ℕ, ◌+◌, ◌<◌, ◌&&◌, List, [], ◌∷◌, length, drop, get_or, Bool, true, false, ◌==◌, refl, ap, sym, ◌∙◌, if◌then◌else◌, subst, eqb-true, true≢false, nat_lt, arith}
 use Rattle.std.proofs.lemmas.List.{at_drop_more}
 use Rattle.wg_rows.specs.Runs.{Cells, cell_spot, cell_line, cell_lo, cell_hi}
-use Rattle.wg_rows.specs.Uses.{Kind, kind_writes, kind_unsets}
+use Rattle.wg_rows.specs.Uses.{AccessKind, kind_writes, kind_unsets}
 use Rattle.wg_orders.specs.Steps.{Step}
 use Rattle.std.proofs.lemmas.Bool.{ltb-true, lt-leb}
 use Rattle.wg_rows.specs.Rows.{line_object, list_eq}
@@ -15,7 +15,7 @@ use Rattle.wg_init.specs.Effects.{effect, with_effect, is_full, changes_at, rows
 use Rattle.wg_bars.proofs.Notes.{noted_rows}
 use Rattle.wg_bars.proofs.Noted.{placed}
 
-pub one_noted : (kept : SetRows) (fresh set : List (ℕ × List SetRow)) (x : Cells × Kind) (rows : List SetRow) → kind_writes x.1 ≡ true → is_full x.0 ≡ true → rows ≡ with_effect x.0 x.1 (over fresh (row_object (row_of x.0)) (rows_in kept (row_object (row_of x.0)))) → SetsNote fresh (row_object (row_of x.0)) rows set → NotesOne kept fresh x set
+pub one_noted : (kept : SetRows) (fresh set : List (ℕ × List SetRow)) (x : Cells × AccessKind) (rows : List SetRow) → kind_writes x.1 ≡ true → is_full x.0 ≡ true → rows ≡ with_effect x.0 x.1 (over fresh (row_object (row_of x.0)) (rows_in kept (row_object (row_of x.0)))) → SetsNote fresh (row_object (row_of x.0)) rows set → NotesOne kept fresh x set
 one_noted kept fresh set x rows w f e sets object =
     sets object (rows_in kept object)
     ∙ (ap (λ (r : List SetRow). if row_object (row_of x.0) == object then r else over fresh object (rows_in kept object)) e
@@ -30,7 +30,7 @@ one_noted kept fresh set x rows w f e sets object =
     by_same false e = refl
 
 -- Covered cells stay as they are,
-pub effect_same : (run : Cells) (kind : Kind) (rows : List SetRow) → kind_unsets kind ≡ false → cell_lo run < cell_hi run → covers_run (cell_lo run) (cell_hi run) (runs_in rows (cell_line run)) ≡ true → insert_run (cell_lo run) (cell_hi run) (runs_in rows (cell_line run)) ≡ runs_in rows (cell_line run) → with_effect run kind rows ≡ rows
+pub effect_same : (run : Cells) (kind : AccessKind) (rows : List SetRow) → kind_unsets kind ≡ false → cell_lo run < cell_hi run → covers_run (cell_lo run) (cell_hi run) (runs_in rows (cell_line run)) ≡ true → insert_run (cell_lo run) (cell_hi run) (runs_in rows (cell_line run)) ≡ runs_in rows (cell_line run) → with_effect run kind rows ≡ rows
 effect_same run kind [] sets full covers same = absurd (true≢false (sym covers ∙ lt-leb (cell_hi run) (cell_lo run) full))
 effect_same run kind (x ∷ xs) sets full covers same = by_row (list_eq (row_line x.0) (cell_line run)) covers same (effect_same run kind xs sets full)
   where
@@ -39,7 +39,7 @@ effect_same run kind (x ∷ xs) sets full covers same = by_row (list_eq (row_lin
     by_row false c h rest = ap (λ more. x ∷ more) (rest c h)
 
 -- so that their write is no note.
-pub same_noted : (kept : SetRows) (fresh : List (ℕ × List SetRow)) (x : Cells × Kind) → with_effect x.0 x.1 (over fresh (row_object (row_of x.0)) (rows_in kept (row_object (row_of x.0)))) ≡ over fresh (row_object (row_of x.0)) (rows_in kept (row_object (row_of x.0))) → NotesOne kept fresh x fresh
+pub same_noted : (kept : SetRows) (fresh : List (ℕ × List SetRow)) (x : Cells × AccessKind) → with_effect x.0 x.1 (over fresh (row_object (row_of x.0)) (rows_in kept (row_object (row_of x.0)))) ≡ over fresh (row_object (row_of x.0)) (rows_in kept (row_object (row_of x.0))) → NotesOne kept fresh x fresh
 same_noted kept fresh x same object = by_parts (kind_writes x.1 && is_full x.0) (row_object (row_of x.0) == object) refl
   where
     by_parts : (w b : Bool) → (row_object (row_of x.0) == object) ≡ b → over fresh object (rows_in kept object) ≡ (if w && b then with_effect x.0 x.1 (over fresh object (rows_in kept object)) else over fresh object (rows_in kept object))
@@ -47,24 +47,24 @@ same_noted kept fresh x same object = by_parts (kind_writes x.1 && is_full x.0) 
     by_parts true false e = refl
     by_parts true true e = subst (λ n. over fresh n (rows_in kept n) ≡ with_effect x.0 x.1 (over fresh n (rows_in kept n))) (eqb-true (row_object (row_of x.0)) object e) (sym same)
 
-pub none_noted : (kept : SetRows) (fresh : List (ℕ × List SetRow)) (x : Cells × Kind) → (kind_writes x.1 && is_full x.0) ≡ false → NotesOne kept fresh x fresh
+pub none_noted : (kept : SetRows) (fresh : List (ℕ × List SetRow)) (x : Cells × AccessKind) → (kind_writes x.1 && is_full x.0) ≡ false → NotesOne kept fresh x fresh
 none_noted kept fresh x e object = sym (ap (λ t. if t && (row_object (row_of x.0) == object) then with_effect x.0 x.1 (over fresh object (rows_in kept object)) else over fresh object (rows_in kept object)) e)
 
 -- One more access.
-pub access_step : (kept : SetRows) (old fresh noted : List (ℕ × List SetRow)) (xs : List (Cells × Kind)) (i : ℕ) (d : Cells × Kind) → i < length xs → NotesOne kept fresh (get_or xs i d) noted → ((object : ℕ) → rows_after object (drop i xs) (over fresh object (rows_in kept object)) ≡ rows_after object xs (over old object (rows_in kept object))) → (object : ℕ) → rows_after object (drop (i + 1) xs) (over noted object (rows_in kept object)) ≡ rows_after object xs (over old object (rows_in kept object))
+pub access_step : (kept : SetRows) (old fresh noted : List (ℕ × List SetRow)) (xs : List (Cells × AccessKind)) (i : ℕ) (d : Cells × AccessKind) → i < length xs → NotesOne kept fresh (get_or xs i d) noted → ((object : ℕ) → rows_after object (drop i xs) (over fresh object (rows_in kept object)) ≡ rows_after object xs (over old object (rows_in kept object))) → (object : ℕ) → rows_after object (drop (i + 1) xs) (over noted object (rows_in kept object)) ≡ rows_after object xs (over old object (rows_in kept object))
 access_step kept old fresh noted xs i d l one h object =
     ap (rows_after object (drop (i + 1) xs)) (one object)
     ∙ (sym (at_drop_more (λ ys. rows_after object ys (over fresh object (rows_in kept object))) xs i d l) ∙ h object)
 
 -- Notes of accesses are what these make of rows with earlier notes.
-pub over_is : (kept : SetRows) (old new : List (ℕ × List SetRow)) (xs : List (Cells × Kind)) → AreNotes kept old xs new → IsAfter (with_notes kept old) xs (with_notes kept new)
+pub over_is : (kept : SetRows) (old new : List (ℕ × List SetRow)) (xs : List (Cells × AccessKind)) → AreNotes kept old xs new → IsAfter (with_notes kept old) xs (with_notes kept new)
 over_is kept old new xs notes object =
     noted_rows kept new object
     ∙ (notes object
     ∙ ap (rows_after object xs) (sym (noted_rows kept old object)))
 
 -- The steps of a note.
-pub note_is : (kept reserved grown applied : SetRows) (xs : List (Cells × Kind)) (fresh : List (ℕ × List SetRow)) (top : ℕ) → AreNotes kept [] xs fresh → top ≡ most fresh → reserved ≡ kept → SameRows reserved grown → top < length grown → applied ≡ apply_all fresh grown → IsAfter kept xs applied
+pub note_is : (kept reserved grown applied : SetRows) (xs : List (Cells × AccessKind)) (fresh : List (ℕ × List SetRow)) (top : ℕ) → AreNotes kept [] xs fresh → top ≡ most fresh → reserved ≡ kept → SameRows reserved grown → top < length grown → applied ≡ apply_all fresh grown → IsAfter kept xs applied
 note_is kept reserved grown applied xs fresh top notes t r same l a object =
     placed kept grown applied fresh (subst (λ rows. SameRows rows grown) r same) (subst (λ n. n < length grown) t l) a object
     ∙ over_is kept [] fresh xs notes object
@@ -77,7 +77,7 @@ pub same_keeps : (kept other : SetRows) (steps : List Step) → SameRows kept ot
 same_keeps kept other steps same keeps c = ap (λ rows. is_in (runs_in rows (cell_spot c).0) (cell_spot c).1) (same (line_object (cell_spot c).0)) ∙ keeps c
 
 -- The runs stay apart.
-effect_apart : (kind : Kind) (lo hi : ℕ) (runs : Runs) → AreApart 0 runs → AreApart 0 (effect kind lo hi runs)
+effect_apart : (kind : AccessKind) (lo hi : ℕ) (runs : Runs) → AreApart 0 runs → AreApart 0 (effect kind lo hi runs)
 effect_apart kind lo hi runs a = by_kind (kind_unsets kind) (nat_lt lo hi) refl
   where
     by_kind : (u b : Bool) → nat_lt lo hi ≡ b → AreApart 0 (if u then (if b then cut_runs lo hi runs else runs) else (if b then with_run lo hi runs else runs))
@@ -89,7 +89,7 @@ effect_apart kind lo hi runs a = by_kind (kind_unsets kind) (nat_lt lo hi) refl
 abbrev LinesApart : List SetRow → Type 0
 LinesApart rows = (line : List ℕ) → AreApart 0 (runs_in rows line)
 
-rows_apart : (object : ℕ) (xs : List (Cells × Kind)) (rows : List SetRow) → LinesApart rows → LinesApart (rows_after object xs rows)
+rows_apart : (object : ℕ) (xs : List (Cells × AccessKind)) (rows : List SetRow) → LinesApart rows → LinesApart (rows_after object xs rows)
 rows_apart object [] rows a = a
 rows_apart object (x ∷ xs) rows a = rows_apart object xs (if changes_at object x then with_effect x.0 x.1 rows else rows) (by_change (changes_at object x))
   where
@@ -101,5 +101,5 @@ rows_apart object (x ∷ xs) rows a = rows_apart object xs (if changes_at object
     by_change true line = subst (AreApart 0) (sym (runs_with x.0 x.1 rows line)) (by_line (list_eq (cell_line x.0) line) line)
     by_change false line = a line
 
-pub after_apart : (kept noted : SetRows) (xs : List (Cells × Kind)) → IsAfter kept xs noted → RunsApart kept → RunsApart noted
+pub after_apart : (kept noted : SetRows) (xs : List (Cells × AccessKind)) → IsAfter kept xs noted → RunsApart kept → RunsApart noted
 after_apart kept noted xs is apart object line = subst (λ rows. AreApart 0 (runs_in rows line)) (sym (is object)) (rows_apart object xs (rows_in kept object) (apart object) line)

@@ -2,7 +2,7 @@
 use Rattle.std.proofs.Common.{◌≡◌, ℕ, ◌+◌, ◌<◌, ◌≤◌, min, max, List, [], ◌∷◌, ◌++◌, map, Bool, true, false, not, ◌&&◌, ◌||◌, refl, ap, ap₂, sym, ◌∙◌, ◌⊎◌, inl, inr, arith, if◌then◌else◌, true≢false, nat_lt, filter}
 use Rattle.std.proofs.lemmas.Bool.{lt-ltb, or_cases, and_parts}
 use Rattle.wg_rows.specs.Runs.{Cells, Bytes, Layers, Slices, Queries, Cell, Byte, Texels, Slice, Query, cell_sort, cell_line, cell_lo, cell_hi, cell_widen, cell_spot, cell_run, covers}
-use Rattle.wg_rows.specs.Uses.{Kind, Write, kind_reads, same_kind, printed_accesses}
+use Rattle.wg_rows.specs.Uses.{AccessKind, Write, kind_reads, same_kind, printed_accesses}
 use Rattle.wg_orders.specs.Steps.{Step, reads, writes}
 use Rattle.wg_orders.specs.Trace.{Item, is_unset, steps_of, needs, cells_of, to_clear}
 use Rattle.wg_rows.specs.Rows.{line_object, list_eq, Spot, in_range, covers_spot, put, EachRow, Apart, any_row, has_value, Alike, Fits, AllFit}
@@ -55,7 +55,7 @@ widen_full (Slices o m lo hi) a b l = l
 widen_full (Queries o lo hi) a b l = l
 
 -- Runs as cells.
-at_value : (run : Cells) (from : ℕ) (runs : Runs) (spot : Spot) (v : Kind) → AreApart from runs → AllUpTo (cell_hi run) runs → has_value cell_sort same_kind spot v (cells_at run runs) ≡ ((list_eq (cell_line run) spot.0 && is_in runs spot.1) && same_kind v Write)
+at_value : (run : Cells) (from : ℕ) (runs : Runs) (spot : Spot) (v : AccessKind) → AreApart from runs → AllUpTo (cell_hi run) runs → has_value cell_sort same_kind spot v (cells_at run runs) ≡ ((list_eq (cell_line run) spot.0 && is_in runs spot.1) && same_kind v Write)
 at_value run from [] spot v a u = none (list_eq (cell_line run) spot.0) (same_kind v Write)
   where
     none : (k s : Bool) → false ≡ ((k && false) && s)
@@ -77,20 +77,20 @@ at_value run from (x ∷ xs) spot v a u = ap₂ (λ p q. (p && same_kind v Write
     by_all false i r s = refl
 
 -- Rows that are each written.
-abbrev pub Written : List (Cells × Kind) → Type 0
+abbrev pub Written : List (Cells × AccessKind) → Type 0
 Written rows = Each_value Write rows × Apart cell_sort rows
 
-pub fits_written : (r : Cells × Kind) (rows : List (Cells × Kind)) → r.1 ≡ Write → Each_value Write rows → EachRow (Fits cell_sort r) rows
+pub fits_written : (r : Cells × AccessKind) (rows : List (Cells × AccessKind)) → r.1 ≡ Write → Each_value Write rows → EachRow (Fits cell_sort r) rows
 fits_written r [] e h = tt
 fits_written r (y ∷ ys) e h = (λ spot p q. e ∙ sym h.0, fits_written r ys e h.1)
 
-all_written : (run : Cells) (from : ℕ) (runs : Runs) (rows : List (Cells × Kind)) → AreApart from runs → AllUpTo (cell_hi run) runs → Written rows → Written (put_all cell_sort same_kind (cells_at run runs) rows)
+all_written : (run : Cells) (from : ℕ) (runs : Runs) (rows : List (Cells × AccessKind)) → AreApart from runs → AllUpTo (cell_hi run) runs → Written rows → Written (put_all cell_sort same_kind (cells_at run runs) rows)
 all_written run from [] rows a u w = w
 all_written run from (x ∷ xs) rows a u w =
     let full : min x.0 (cell_hi run) < min x.1 (cell_hi run) = omega (arith, a.1, u.0) in
     all_written run (x.1 + 1) xs (put cell_sort same_kind (cell_widen run (min x.0 (cell_hi run)) (min x.1 (cell_hi run)), Write) rows) a.2 u.1 (put_const cell_sort same_kind Write (cell_widen run (min x.0 (cell_hi run)) (min x.1 (cell_hi run)), Write) rows refl w.0, put_apart cell_sort same_kind accesses_tell (cell_widen run (min x.0 (cell_hi run)) (min x.1 (cell_hi run)), Write) rows (widen_full run (min x.0 (cell_hi run)) (min x.1 (cell_hi run)) full) w.1 (fits_written (cell_widen run (min x.0 (cell_hi run)) (min x.1 (cell_hi run)), Write) rows refl w.0))
 
-pub put_all_any : (ps rows : List (Cells × Kind)) (spot : Spot) (v : Kind) → has_value cell_sort same_kind spot v (put_all cell_sort same_kind ps rows) ≡ (has_value cell_sort same_kind spot v ps || has_value cell_sort same_kind spot v rows)
+pub put_all_any : (ps rows : List (Cells × AccessKind)) (spot : Spot) (v : AccessKind) → has_value cell_sort same_kind spot v (put_all cell_sort same_kind ps rows) ≡ (has_value cell_sort same_kind spot v ps || has_value cell_sort same_kind spot v rows)
 put_all_any [] rows spot v = refl
 put_all_any (p ∷ ps) rows spot v = put_all_any ps (put cell_sort same_kind p rows) spot v ∙ (ap (λ t. has_value cell_sort same_kind spot v ps || t) (put_any cell_sort same_kind spot (same_kind v) cell_widens (respects cell_sort same_kind accesses_tell v) p rows) ∙ moved (has_value cell_sort same_kind spot v ps) (covers_spot cell_sort p.0 spot && same_kind v p.1) (has_value cell_sort same_kind spot v rows))
   where
@@ -100,7 +100,7 @@ put_all_any (p ∷ ps) rows spot v = put_all_any ps (put cell_sort same_kind p r
     moved false true c = refl
     moved false false c = refl
 
-pub unset_written : (kept : SetRows) (xs : List (Cells × Kind)) → RunsApart kept → Written (unset_rows kept xs)
+pub unset_written : (kept : SetRows) (xs : List (Cells × AccessKind)) → RunsApart kept → Written (unset_rows kept xs)
 unset_written kept [] apart = (tt, tt)
 unset_written kept (x ∷ xs) apart = by_test (kind_reads x.1 && is_full x.0) (unset_written kept xs apart)
   where
@@ -109,18 +109,18 @@ unset_written kept (x ∷ xs) apart = by_test (kind_reads x.1 && is_full x.0) (u
     by_test false w = w
 
 -- Rows that are each written are their cells written.
-cells_written : (rows : List (Cells × Kind)) → Each_value Write rows → map written (map (λ row. row.0) rows) ≡ rows
+cells_written : (rows : List (Cells × AccessKind)) → Each_value Write rows → map written (map (λ row. row.0) rows) ≡ rows
 cells_written [] h = refl
-cells_written (x ∷ xs) h = ap₂ ◌∷◌ (ap (λ (kind : Kind). (x.0, kind)) (sym h.0)) (cells_written xs h.1)
+cells_written (x ∷ xs) h = ap₂ ◌∷◌ (ap (λ (kind : AccessKind). (x.0, kind)) (sym h.0)) (cells_written xs h.1)
 
-pub written_again : (kept : SetRows) (xs : List (Cells × Kind)) → RunsApart kept → map written (map (λ row. row.0) (unset_rows kept xs)) ≡ unset_rows kept xs
+pub written_again : (kept : SetRows) (xs : List (Cells × AccessKind)) → RunsApart kept → map written (map (λ row. row.0) (unset_rows kept xs)) ≡ unset_rows kept xs
 written_again kept xs apart = cells_written (unset_rows kept xs) (unset_written kept xs apart).0
 
 -- whether some row that passes covers
-abbrev pub reads_at : Spot → List (Cells × Kind) → Bool
+abbrev pub reads_at : Spot → List (Cells × AccessKind) → Bool
 reads_at spot rows = any_row (λ run. covers_spot cell_sort run spot) kind_reads rows
 
-pub unset_value : (kept : SetRows) (xs : List (Cells × Kind)) (spot : Spot) (v : Kind) → RunsApart kept → has_value cell_sort same_kind spot v (unset_rows kept xs) ≡ ((reads_at spot xs && not (set_at kept spot)) && same_kind v Write)
+pub unset_value : (kept : SetRows) (xs : List (Cells × AccessKind)) (spot : Spot) (v : AccessKind) → RunsApart kept → has_value cell_sort same_kind spot v (unset_rows kept xs) ≡ ((reads_at spot xs && not (set_at kept spot)) && same_kind v Write)
 unset_value kept [] spot v apart = refl
 unset_value kept (x ∷ xs) spot v apart = by_tests (kind_reads x.1) (is_full x.0) refl (unset_value kept xs spot v apart)
   where
@@ -196,7 +196,7 @@ to_clear_has trace s c = filter_has (λ c. needs (s ∷ []) c && is_unset (steps
         and_true false = refl
     by_read false e = refl
 
-pub write_has : (cells : List Cell) (c : Cell) (v : Kind) → has_value cell_sort same_kind (cell_spot c) v (write_rows cells) ≡ (has_cell c cells && same_kind v Write)
+pub write_has : (cells : List Cell) (c : Cell) (v : AccessKind) → has_value cell_sort same_kind (cell_spot c) v (write_rows cells) ≡ (has_cell c cells && same_kind v Write)
 unfolding covers
 write_has [] c v = refl
 write_has (d ∷ cells) c v = ap (λ t. (covers_spot cell_sort (cell_run d) (cell_spot c) && same_kind v Write) || t) (write_has cells c v) ∙ share (covers_spot cell_sort (cell_run d) (cell_spot c)) (any (λ d. covers_spot cell_sort (cell_run d) (cell_spot c)) cells) (same_kind v Write)
@@ -224,7 +224,7 @@ cell_at (Layers o a m lo hi) spot e = (Texels o a m spot.1, ap (λ (line : List 
 cell_at (Slices o m lo hi) spot e = (Slice o m spot.1, ap (λ (line : List ℕ). (line, spot.1)) (covered cell_sort (Slices o m lo hi) spot e).0)
 cell_at (Queries o lo hi) spot e = (Query o spot.1, ap (λ (line : List ℕ). (line, spot.1)) (covered cell_sort (Queries o lo hi) spot e).0)
 
-has_at_cell : (spot : Spot) (v : Kind) (rows : List (Cells × Kind)) → has_value cell_sort same_kind spot v rows ≡ true → (c : Cell) × (cell_spot c ≡ spot)
+has_at_cell : (spot : Spot) (v : AccessKind) (rows : List (Cells × AccessKind)) → has_value cell_sort same_kind spot v rows ≡ true → (c : Cell) × (cell_spot c ≡ spot)
 has_at_cell spot v [] e = absurd (true≢false (sym e))
 has_at_cell spot v (x ∷ xs) e = by_case (or_cases (covers_spot cell_sort x.0 spot && same_kind v x.1) (has_value cell_sort same_kind spot v xs) e) (has_at_cell spot v xs)
   where
@@ -232,7 +232,7 @@ has_at_cell spot v (x ∷ xs) e = by_case (or_cases (covers_spot cell_sort x.0 s
     by_case (inl k) rest = cell_at x.0 spot (and_parts (covers_spot cell_sort x.0 spot) (same_kind v x.1) k).0
     by_case (inr k) rest = rest k
 
-pub alike_at_cells : (xs ys : List (Cells × Kind)) → ((c : Cell) (v : Kind) → has_value cell_sort same_kind (cell_spot c) v xs ≡ has_value cell_sort same_kind (cell_spot c) v ys) → Alike cell_sort same_kind xs ys
+pub alike_at_cells : (xs ys : List (Cells × AccessKind)) → ((c : Cell) (v : AccessKind) → has_value cell_sort same_kind (cell_spot c) v xs ≡ has_value cell_sort same_kind (cell_spot c) v ys) → Alike cell_sort same_kind xs ys
 alike_at_cells xs ys h spot v = by_values (has_value cell_sort same_kind spot v xs) (has_value cell_sort same_kind spot v ys) refl refl
   where
     at_cell : (c : Cell) × (cell_spot c ≡ spot) → has_value cell_sort same_kind spot v xs ≡ has_value cell_sort same_kind spot v ys
@@ -248,7 +248,7 @@ pub unset_is : (kept : SetRows) (trace : List Item) (s : Step) → RunsApart kep
 unfolding covers reads
 unset_is kept trace s apart keeps = accesses_printed (unset_rows kept s.accesses) (write_rows (to_clear trace (s ∷ []))) (write_fit (to_clear trace (s ∷ []))) (unset_written kept s.accesses apart).1 (alike_at_cells (unset_rows kept s.accesses) (write_rows (to_clear trace (s ∷ []))) at_cell)
   where
-    at_cell : (c : Cell) (v : Kind) → has_value cell_sort same_kind (cell_spot c) v (unset_rows kept s.accesses) ≡ has_value cell_sort same_kind (cell_spot c) v (write_rows (to_clear trace (s ∷ [])))
+    at_cell : (c : Cell) (v : AccessKind) → has_value cell_sort same_kind (cell_spot c) v (unset_rows kept s.accesses) ≡ has_value cell_sort same_kind (cell_spot c) v (write_rows (to_clear trace (s ∷ [])))
     at_cell c v =
         unset_value kept s.accesses (cell_spot c) v apart
         ∙ (ap (λ t. (reads_at (cell_spot c) s.accesses && not t) && same_kind v Write) (keeps c)

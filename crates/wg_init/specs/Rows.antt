@@ -16,12 +16,14 @@ row_line (QueryRow object) = object ∷ (1 ∷ [])
 row_line (LayerRow object aspect mip) = object ∷ (2 ∷ (aspect_number aspect ∷ (mip ∷ [])))
 row_line (SliceRow object mip) = object ∷ (3 ∷ (mip ∷ []))
 
+-- the row in which a run of cells is kept
 abbrev pub row_of : Cells → CellRow
 row_of (Bytes object lo hi) = BufferRow object
 row_of (Queries object lo hi) = QueryRow object
 row_of (Layers object aspect mip lo hi) = LayerRow object aspect mip
 row_of (Slices object mip lo hi) = SliceRow object mip
 
+-- the object of a row of cells
 abbrev pub row_object : CellRow → ℕ
 row_object (BufferRow object) = object
 row_object (QueryRow object) = object

@@ -1,4 +1,4 @@
-use wg_types::parts::Aspect;
+use wg_trace::parts::Aspect;
 
 /// A row of cells: the bytes of a buffer, the queries of a query set, the layers of a mip level and
 /// aspect of a texture, or the slices of a mip level of a 3D texture.

@@ -5,7 +5,7 @@ ghost use Rattle.wg_init.specs.Rows.{row_of, row_line, row_object};
 
 use crate::cell_row::CellRow;
 use wg_rows::part_runs::aspect_number;
-use wg_types::parts::Cells;
+use wg_trace::parts::Cells;
 
 /// The row in which a run lies.
 pub fn row_of(run: Cells) -> CellRow

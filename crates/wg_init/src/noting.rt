@@ -15,11 +15,11 @@ use wg_bars::kept::{Notes, apply, current, grow, most, reserve_to, set_note};
 use wg_entry::NoMemory;
 use wg_num::RunSet;
 use wg_rows::cell_runs::{cell_hi, cell_lo, unsets, writes};
-use wg_types::items::Items;
-use wg_types::parts::{Cells, Kind};
+use wg_trace::items::Items;
+use wg_trace::parts::{AccessKind, Cells};
 
 /// The runs of a row after an access that writes.
-fn effect(set: &RunSet, kind: Kind, lo: u64, hi: u64) -> Result<RunSet, NoMemory>
+fn effect(set: &RunSet, kind: AccessKind, lo: u64, hi: u64) -> Result<RunSet, NoMemory>
     requires { lo ≤ hi }
     ensures { IfOk result (λ other. other ≡ effect kind lo hi set.now) }
 {
@@ -47,7 +47,7 @@ fn with_effect(
     alloc: Global,
     rows: &[(CellRow, RunSet)],
     run: Cells,
-    kind: Kind,
+    kind: AccessKind,
 ) -> Result<Vec<(CellRow, RunSet)>, NoMemory>
     requires { cell_lo run ≤ cell_hi run }
     ensures { IfOk result (λ v. v.items ≡ with_effect run kind rows.now) }
@@ -82,7 +82,7 @@ fn covers(rows: &[(CellRow, RunSet)], run: Cells) -> bool
 }
 
 /// Whether an access that writes leaves an object's rows as they are, since it sets what is set.
-fn sets_what_is_set(rows: &[(CellRow, RunSet)], run: Cells, kind: Kind) -> bool
+fn sets_what_is_set(rows: &[(CellRow, RunSet)], run: Cells, kind: AccessKind) -> bool
     requires { cell_lo run < cell_hi run }
     ensures test { result ≡ (not (kind_unsets kind)
         && covers_run (cell_lo run) (cell_hi run) (runs_in rows.now (cell_line run))) }
@@ -96,7 +96,7 @@ fn note_one(
     alloc: Global,
     kept: &[Items<(CellRow, RunSet)>],
     fresh: &mut Notes<(CellRow, RunSet)>,
-    access: (Cells, Kind),
+    access: (Cells, AccessKind),
 ) -> Result<(), NoMemory>
     ensures { OnOk result (NotesOne kept.now fresh.old access fresh.new) }
 {
@@ -121,7 +121,7 @@ pub fn notes_of(
     alloc: Global,
     kept: &[Items<(CellRow, RunSet)>],
     fresh: Notes<(CellRow, RunSet)>,
-    accesses: &[(Cells, Kind)],
+    accesses: &[(Cells, AccessKind)],
 ) -> Result<Notes<(CellRow, RunSet)>, NoMemory>
     ensures notes { IfOk result (λ v. AreNotes kept.now fresh accesses.now v) }
     ensures noted { IfOk result (λ v.
@@ -137,7 +137,7 @@ pub fn notes_of(
 /// Notes accesses in kept rows.
 pub fn note_in(
     kept: &mut Vec<Items<(CellRow, RunSet)>>,
-    accesses: &[(Cells, Kind)],
+    accesses: &[(Cells, AccessKind)],
 ) -> Result<(), NoMemory>
     ensures noted { OnOk result (IsAfter kept.old.items accesses.now kept.new.items) }
     ensures unchanged { OnErr result (kept.new.items ≡ kept.old.items) }

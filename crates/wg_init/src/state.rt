@@ -17,9 +17,9 @@ use std::marker::Model;
 use wg_bars::kept::{Notes, place, rows_in};
 use wg_entry::NoMemory;
 use wg_num::RunSet;
-use wg_types::items::Items;
-use wg_types::parts::Cells;
-use wg_types::steps::Step;
+use wg_trace::items::Items;
+use wg_trace::parts::Cells;
+use wg_trace::steps::Step;
 
 /// The cells that are set, in runs by object and row. It stands for a trace where it keeps exactly
 /// the cells that are not unset in the trace, and it keeps its allocator.

@@ -16,8 +16,8 @@ use wg_entry::NoMemory;
 use wg_num::RunSet;
 use wg_rows::cell_runs::{cell_hi, cell_lo, cells_to, reads};
 use wg_rows::rows::put_all;
-use wg_types::items::Items;
-use wg_types::parts::{Cells, Kind};
+use wg_trace::items::Items;
+use wg_trace::parts::{AccessKind, Cells};
 
 /// The set cells of a row of an object's rows, if that has the row.
 pub fn set_in(rows: &[(CellRow, RunSet)], row: CellRow) -> Option<&RunSet>
@@ -53,12 +53,16 @@ fn missing_in(alloc: Global, rows: &[(CellRow, RunSet)], run: Cells) -> Result<R
 }
 
 /// Runs as cells of the row of a run, each written.
-fn cells_at(alloc: Global, run: Cells, runs: &[(u64, u64)]) -> Result<Vec<(Cells, Kind)>, NoMemory>
+fn cells_at(
+    alloc: Global,
+    run: Cells,
+    runs: &[(u64, u64)],
+) -> Result<Vec<(Cells, AccessKind)>, NoMemory>
     ensures { IfOk result (λ v. v.items ≡ cells_at run runs.now) }
 {
     let mut out = Vec::with_capacity(alloc, runs.len())?;
     for part in runs {
-        out.push((cells_to(run, part.0, part.1), Kind::Write))?;
+        out.push((cells_to(run, part.0, part.1), AccessKind::Write))?;
     }
     Ok(out)
 }
@@ -66,7 +70,7 @@ fn cells_at(alloc: Global, run: Cells, runs: &[(u64, u64)]) -> Result<Vec<(Cells
 /// Adds runs of the row of a run at the end of other cells.
 #[tactic(auto, using(wg_rows::proofs::Chained::put_all_more))]
 fn push_cells(
-    cells: &mut Vec<(Cells, Kind)>,
+    cells: &mut Vec<(Cells, AccessKind)>,
     run: Cells,
     runs: &[(u64, u64)],
 ) -> Result<(), NoMemory>
@@ -85,8 +89,8 @@ pub fn unset_rows(
     alloc: Global,
     kept: &[Items<(CellRow, RunSet)>],
     fresh: &Notes<(CellRow, RunSet)>,
-    accesses: &[(Cells, Kind)],
-) -> Result<Vec<(Cells, Kind)>, NoMemory>
+    accesses: &[(Cells, AccessKind)],
+) -> Result<Vec<(Cells, AccessKind)>, NoMemory>
     ensures { IfOk result
         (λ v. v.items ≡ unset_rows (with_notes kept.now fresh.now) accesses.now) }
 {
@@ -105,7 +109,7 @@ pub fn unset_rows(
 }
 
 /// The cells of rows.
-pub fn cells_of(alloc: Global, rows: &[(Cells, Kind)]) -> Result<Vec<Cells>, NoMemory>
+pub fn cells_of(alloc: Global, rows: &[(Cells, AccessKind)]) -> Result<Vec<Cells>, NoMemory>
     ensures { IfOk result (λ v. v.items ≡ map (λ row. row.0) rows.now) }
 {
     let mut out = Vec::with_capacity(alloc, rows.len())?;

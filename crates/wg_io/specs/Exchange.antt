@@ -20,6 +20,6 @@ pub record Taking : Type 0 where
 abbrev pub IsUnread : Giving → Type 0
 IsUnread giving = (giving.new ≡ giving.old) × (giving.after ≡ giving.before)
 
--- and nothing was written.
+-- Nothing was written, and the count of faults stands.
 abbrev pub IsUntouched : Taking → Type 0
 IsUntouched taking = (taking.new ≡ taking.old) × (taking.after ≡ taking.before)

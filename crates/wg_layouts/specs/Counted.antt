@@ -24,6 +24,7 @@ abbrev pub is_counted : Counted → Sort → LayoutEntry → Bool
 is_counted (SeenBy stage) sort entry = is_seen_by stage entry && is_of sort entry.kind
 is_counted Dynamic sort entry = is_dynamic entry.kind && is_of sort entry.kind
 
+-- how many entries are counted of a sort
 abbrev pub counted : Counted → Sort → List LayoutEntry → ℕ
 counted which sort entries = count_by (is_counted which sort) entries
 

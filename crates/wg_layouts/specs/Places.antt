@@ -9,6 +9,7 @@ use Rattle.wg_model.specs.Bound.{Place, entry_places, layouts_places, are_clear}
 use Rattle.wg_layouts.specs.declared.places.SetGroup.{SetGroup}
 use Rattle.wg_layouts.specs.declared.overlaps.Behind.{Behind}
 
+-- what some entries of a group bind that is set with offsets
 abbrev pub entries_places : List LayoutEntry → List ℕ → List BoundEntry → List Place
 entries_places layout offsets entries = flat_map (entry_places layout offsets) entries
 
@@ -20,10 +21,11 @@ set_places_from set from = entries_places set.layout set.offsets.now (drop from 
 abbrev pub places_from : List GroupLayoutInfo → List (Option BoundGroup) → ℕ → List Place
 places_from layouts groups from = layouts_places (drop from layouts) groups from
 
+-- what the groups bind from an index on
 abbrev pub places_behind : Behind → List Place
 places_behind behind = places_from behind.layouts.now behind.groups.now behind.from
 
--- the same, and what the groups behind it bind
+-- what a group binds from one of its entries on, and what the groups behind it bind
 abbrev pub places_after : SetGroup → ℕ → Behind → List Place
 places_after set next behind = set_places_from set next ++ places_behind behind
 

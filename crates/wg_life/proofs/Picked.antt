@@ -8,7 +8,7 @@ use Rattle.std.proofs.lemmas.List.{append_assoc, length_push, get_or_append_left
 use Rattle.std.proofs.lemmas.List.Sorted.{IsNonDecreasingBy-short, IsNonDecreasingBy-push, IsNonDecreasingBy-drop, sum_by-IsPermutation}
 use Rattle.std.specs.List.{sum_by}
 use Rattle.std.proofs.lemmas.List.Sums.{sum_by-append}
-use Rattle.wg_types.specs.declared.steps.Sort.{Sort}
+use Rattle.wg_trace.specs.declared.steps.Sort.{Sort}
 use Rattle.wg_orders.specs.Trace.{Free, free}
 use Rattle.wg_counts.specs.Counts.{times}
 use Rattle.wg_counts.proofs.Sums.{times_here}

@@ -12,7 +12,7 @@ pub record IsKept (rows : List Row) (live : Live) : Type 0 where
   pub len : length live.keys.items ≡ length rows
   pub under_key : (n : ℕ) → n < length rows → is_live (row_at rows n) ≡ true → get live.slab (slice_index live.keys.items n) ≡ Some n
 
--- so many more objects can be added
+-- So many more objects can be added to what is kept of live resources.
 pub record HasPlacesFor (live : Live) (more : ℕ) : Type 0 where
   pub slab : HasRoomFor live.slab more
   pub keys : vec_len live.keys + more ≤ vec_capacity live.keys

@@ -2,7 +2,7 @@
 use Rattle.std.specs.Prelude.{◌≡◌, ℕ, zero, suc, ◌+◌, ◌<◌, ◌≤◌, Bool, true, false, not, ◌&&◌, ◌||◌, ◌==◌, nat_le, nat_lt, List, [], ◌∷◌, ◌++◌, length, filter, is_some, option_map, option_to_list, slice_index_or, if◌then◌else◌}
 use Rattle.std.specs.List.{list_any}
 use Rattle.std.specs.List.Sorted.{IsNonDecreasingBy}
-use Rattle.wg_types.specs.declared.steps.Sort.{Sort}
+use Rattle.wg_trace.specs.declared.steps.Sort.{Sort}
 use Rattle.wg_counts.specs.Counts.{times}
 use Rattle.wg_holders.specs.Holders.{Holdings, is_held}
 use Rattle.wg_life.specs.declared.rows.Row.{Row}
@@ -23,10 +23,11 @@ pub record IsGone (rows : List Row) (h : Holdings) (gone : List Bool) : Type 0 w
   pub made : length h.marks ≡ length rows
   pub each : (n : ℕ) → n < length rows → gone_at gone n ≡ is_gone (row_at rows n) (is_held h n)
 
--- A resource waits for its release where it is gone and was not released.
+-- whether a row waits for its release: it is of a resource that is gone and was not released
 abbrev pub waits : Row → Bool → Bool
 waits row gone = is_some row.resource && gone && not row.released
 
+-- whether object n is a resource that is gone and not released
 abbrev pub is_waiting : List Row → List Bool → ℕ → Bool
 is_waiting rows gone n = waits (row_at rows n) (gone_at gone n)
 
@@ -34,7 +35,7 @@ is_waiting rows gone n = waits (row_at rows n) (gone_at gone n)
 abbrev pub will_wait : Row → Bool → Bool
 will_wait row gone = is_some row.resource && not gone && not row.released
 
--- It is due where every operation that uses it is complete.
+-- A row whose object is gone, or not, is due where it is a resource and every operation that uses it is complete.
 abbrev pub is_due_where : ℕ → Bool → Row → Bool
 is_due_where done gone row = is_some row.resource && gone && nat_le row.last done
 
@@ -64,9 +65,11 @@ with_number n (m ∷ ms) = if nat_lt n m then n ∷ m ∷ ms else m ∷ with_num
 abbrev pub is_early : ℕ → Wait → Bool
 is_early done wait = nat_le wait.last done
 
+-- how many of what waits are due, where the operations up to this one are complete
 abbrev pub early : ℕ → List Wait → ℕ
 early done listed = length (filter (is_early done) listed)
 
+-- whether the first of what waits is not due, if there is one
 abbrev pub starts_late : ℕ → List Wait → Bool
 starts_late done [] = true
 starts_late done (wait ∷ listed) = not (is_early done wait)
@@ -82,7 +85,8 @@ pub record IsInserted (wait : Wait) (old new : List Wait) : Type 0 where
 abbrev pub stands_for : List Row → ℕ → Wait → Bool
 stands_for rows n wait = wait.number == n && nat_le wait.last (row_at rows n).last
 
--- All that waits is listed, and no more than that many.
+-- All resources that are gone and not released are listed, in the order of the operations that they wait for, and no more than
+-- that many.
 pub record IsTidy (rows : List Row) (gone : List Bool) (listed : List Wait) : Type 0 where
   pub both : length gone ≡ length rows
   pub in_order : IsNonDecreasingBy (λ (wait : Wait). wait.last) listed
@@ -100,5 +104,6 @@ pub record IsReleasing (done : ℕ) (first rows : List Row) (gone : List Bool) (
   pub due_len : length due ≡ length (picked (is_taken_out first rows gone) (length first))
   pub due_are : (n : ℕ) → times n due ≡ times n (picked (is_taken_out first rows gone) (length first))
 
+-- object n with its sort of resource, if it is one
 abbrev pub sort_at : List Row → ℕ → List (ℕ × Sort)
 sort_at rows n = option_to_list (option_map (λ (sort : Sort). (n, sort)) (sort_of (row_at rows n)))

@@ -85,7 +85,7 @@ limit_of MaxBufferSize limits = limits.max_buffer_size
 limit_of MaxColorAttachments limits = limits.max_color_attachments
 limit_of MaxComputeWorkgroupsPerDimension limits = limits.max_compute_workgroups_per_dimension
 
--- Of an alignment the smaller value is the better one, of any other limit the greater.
+-- whether a limit is an alignment: of those the smaller value is the better one, of any other limit the greater
 abbrev pub is_alignment : LimitName → Bool
 is_alignment MinUniformBufferOffsetAlignment = true
 is_alignment MinStorageBufferOffsetAlignment = true
@@ -150,7 +150,8 @@ limits_asked values = if list_all can_ask values then Some (limits_for values) e
 abbrev pub IsNoBetter : LimitName → ℕ → Type 0
 IsNoBetter name value = IsTrue (no_better name value (limit_of name best_limits))
 
--- and no worse than the default
+-- A value is no worse than the default and no better than the best: the law that each limit is which is given for what is
+-- asked.
 abbrev pub IsBetween : LimitName → ℕ → Type 0
 IsBetween name value = IsTrue (no_better name (limit_of name default_limits) value) × IsNoBetter name value
 

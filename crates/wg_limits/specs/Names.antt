@@ -30,7 +30,7 @@ limit_text MaxBufferSize = codes "maxBufferSize"
 limit_text MaxColorAttachments = codes "maxColorAttachments"
 limit_text MaxComputeWorkgroupsPerDimension = codes "maxComputeWorkgroupsPerDimension"
 
--- all names
+-- all names, in the order in which callers in C number them
 abbrev pub limit_names : List LimitName
 limit_names =
     MaxTextureDimension1d ∷ MaxTextureDimension2d ∷ MaxTextureDimension3d ∷

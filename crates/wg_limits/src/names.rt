@@ -1,6 +1,6 @@
 //! The names of limits, as one asks for them.
 ghost use Rattle.std.specs.Prelude.{◌≡◌, Some};
-ghost use Rattle.wg_limits.specs.Names.{limit_text, limit_named};
+ghost use Rattle.wg_limits.specs.Names.{limit_names, limit_text, limit_named};
 ghost use Rattle.wg_limits.specs.declared.names.LimitName.{LimitName};
 
 /// A limit that one can ask for (WebGPU, "Limits").
@@ -59,6 +59,13 @@ const NAMES: [LimitName; 23] = [
 ];
 
 impl LimitName {
+    /// All of them, in the order in which callers in C number them.
+    pub fn all() -> &'static [LimitName]
+        ensures { result.now ≡ limit_names }
+    {
+        &NAMES
+    }
+
     /// How the name is spelled.
     pub fn as_str(self) -> &'static str
         ensures { result.now ≡ limit_text self }

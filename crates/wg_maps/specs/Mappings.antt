@@ -19,11 +19,13 @@ use Rattle.wg_types.specs.declared.mappings.PendingMap.{PendingMap}
 abbrev pub Mappings : Type 0
 Mappings = FinMap nat_cmp Mapping
 
+-- the mapped buffers that are kept, and the room for more
 pub record MappedValue : Type 0 where
   pub buffers : Mappings
   -- for how many more there is room
   pub spare : ℕ
 
+-- the pending maps and mapped buffers that are kept, and the room for more
 pub record MapsValue : Type 0 where
   -- the maps that are pending, in the order of their promises
   pub pending : List PendingMap
@@ -34,11 +36,13 @@ pub record MapsValue : Type 0 where
 
 -- by which a proof tells values apart
 
+-- how a proof tells kept mapped buffers apart
 abbrev pub mapped_code : Coded Mapping → Coded MappedValue
 mapped_code mapping =
     code_by (Mappings × ℕ) (coded× (table.code coded_ℕ mapping) coded_ℕ)
     (λ v. (v.buffers, v.spare)) (λ p. record { buffers = p.0; spare = p.1 }) (λ _. refl)
 
+-- how a proof tells kept maps apart
 abbrev pub maps_code : Coded PendingMap → Coded Mapping → Coded MapsValue
 maps_code wait mapping =
     code_by (List PendingMap × (Mappings × ℕ)) (coded× (coded_list wait) (coded× (table.code coded_ℕ mapping) coded_ℕ))
@@ -48,6 +52,7 @@ maps_code wait mapping =
 abbrev pub pending_of : List PendingMap → ℕ → Option PendingMap
 pending_of pending buffer = find (λ wait. wait.buffer == buffer) pending
 
+-- whether a map of the buffer is pending
 abbrev pub has_pending : List PendingMap → ℕ → Bool
 has_pending pending buffer = is_some (pending_of pending buffer)
 
@@ -61,6 +66,7 @@ state_with (Some wait) mapping = Pending
 state_with None (Some mapping) = Mapped
 state_with None None = IsUnmapped
 
+-- how a buffer stands: unmapped, pending or mapped
 abbrev pub state_of : MapsValue → ℕ → MapState
 state_of maps buffer = state_with (pending_of maps.pending buffer) (table.get maps.mapped buffer)
 
@@ -69,6 +75,7 @@ abbrev pub left_of_mapping : MapMode → ℕ → ℕ → Unmapped
 left_of_mapping ReadMode lo hi = Read
 left_of_mapping WriteMode lo hi = Written lo hi
 
+-- what a buffer with this pending map and this mapping leaves when it is unmapped
 abbrev pub left_with : Option PendingMap → Option Mapping → Unmapped
 left_with (Some wait) mapping = Aborted wait.promise
 left_with None (Some mapping) = left_of_mapping mapping.mode mapping.lo mapping.hi
@@ -78,11 +85,11 @@ left_with None None = Nothing
 abbrev pub left_of : MapsValue → ℕ → Unmapped
 left_of maps buffer = left_with (pending_of maps.pending buffer) (table.get maps.mapped buffer)
 
--- without those of a buffer
+-- pending maps without those of a buffer
 abbrev pub without : List PendingMap → ℕ → List PendingMap
 without pending buffer = filter (λ wait. not (wait.buffer == buffer)) pending
 
--- with one more, which comes before those of later promises
+-- pending maps with one more, which comes before those of later promises
 abbrev pub with_map : List PendingMap → PendingMap → List PendingMap
 with_map [] new = new ∷ []
 with_map (wait ∷ later) new = if nat_lt new.promise wait.promise then new ∷ wait ∷ later else wait ∷ with_map later new
@@ -100,6 +107,7 @@ maps_of pending buffer = filter (λ wait. wait.buffer == buffer) pending
 abbrev pub is_due : ℕ → PendingMap → Bool
 is_due completed wait = nat_le wait.last completed
 
+-- what one is told of a map that is settled
 abbrev pub map_done : PendingMap → MapDone
 map_done wait = record { buffer = wait.buffer; promise = wait.promise; mode = wait.mapping.mode; lo = wait.mapping.lo; hi = wait.mapping.hi }
 
@@ -107,7 +115,7 @@ map_done wait = record { buffer = wait.buffer; promise = wait.promise; mode = wa
 abbrev pub due_maps : ℕ → List PendingMap → List PendingMap
 due_maps completed pending = filter (is_due completed) pending
 
--- those that wait on
+-- the pending maps that wait on after a completion
 abbrev pub still_pending : ℕ → List PendingMap → List PendingMap
 still_pending completed pending = filter (λ wait. not (is_due completed wait)) pending
 
@@ -124,9 +132,10 @@ is_buffer_due completed buffer pending = list_any (λ wait. is_due completed wai
 abbrev pub still_pending_of : ℕ → List PendingMap → ℕ → Option PendingMap
 still_pending_of completed pending buffer = if is_buffer_due completed buffer pending then None else pending_of pending buffer
 
--- with the maps mapped that are due
+-- what is kept of maps after a completion, with those mapped that are due
 abbrev pub settled_up_to : ℕ → MapsValue → MapsValue
 settled_up_to completed maps = record maps { pending = still_pending completed maps.pending; mapped = with_due completed maps.pending maps.mapped }
 
+-- the promises of pending maps, in their order
 abbrev pub promises : List PendingMap → List ℕ
 promises pending = map (λ (wait : PendingMap). wait.promise) pending

@@ -5,12 +5,14 @@ use Rattle.std.specs.Map.{lookup}
 use Rattle.wg_types.specs.declared.mappings.PendingMap.{PendingMap}
 use Rattle.wg_maps.specs.Mappings.{MappedValue, pending_of, with_map, still_pending, with_due, is_due}
 
+-- the pending maps that are kept, and the room for more
 pub record WaitsValue : Type 0 where
   -- the maps that are pending, in the order of their promises
   pub pending : List PendingMap
   -- for how many more there is room
   pub spare : ℕ
 
+-- the promise of the pending map of a buffer, if there is one
 abbrev pub promise_of : List PendingMap → ℕ → Option ℕ
 promise_of pending buffer = option_map (λ (wait : PendingMap). wait.promise) (pending_of pending buffer)
 
@@ -27,10 +29,12 @@ pub record IsKept (pending : List PendingMap) (promises : List (ℕ × ℕ)) : T
 
 -- A map that is listed waits as long as its buffer has its promise.
 
+-- whether a promise is this one
 abbrev pub has_promise : Option ℕ → ℕ → Bool
 has_promise None promise = false
 has_promise (Some its) promise = its == promise
 
+-- whether a map is the one of its buffer that waits, by the promises of buffers
 abbrev pub is_waiting : List (ℕ × ℕ) → PendingMap → Bool
 is_waiting promises wait = has_promise (lookup (nat_eq wait.buffer) promises) wait.promise
 

@@ -5,7 +5,7 @@ use Rattle.std.specs.Option.{option_map_or}
 use Rattle.std.specs.List.{list_any}
 use Rattle.std.proofs.lemmas.List.{reverse-append}
 use Rattle.std.proofs.lemmas.List.Folds.{list_any-append}
-use Rattle.wg_types.specs.declared.steps.StepName.TheVariants as name
+use Rattle.wg_trace.specs.declared.steps.StepName.TheVariants as name
 use Rattle.wg_types.specs.declared.commands.On.{On}
 use Rattle.wg_types.specs.declared.commands.On.TheVariants.{Encoder, Pass}
 use Rattle.wg_types.specs.Commands.{Command}
@@ -39,7 +39,7 @@ use Rattle.wg_types.specs.declared.commands.Bracket.{Bracket}
 use Rattle.wg_types.specs.declared.commands.Bracket.TheVariants as brackets
 use Rattle.wg_types.specs.declared.wanted.Wanted.{Wanted}
 use Rattle.wg_types.specs.declared.wanted.Wanted.TheVariants as wanted
-use Rattle.wg_rows.specs.Uses.{Usages, Kind, Write}
+use Rattle.wg_rows.specs.Uses.{Usages, AccessKind, Write}
 use Rattle.wg_model.specs.Subresources.{level_runs, aspect_runs, view_runs, view_cells, run_cells}
 use Rattle.wg_model.specs.Formats.{named_aspects}
 use Rattle.wg_model.specs.Textures.{layer_count}
@@ -273,7 +273,7 @@ views_parted n (x ∷ xs) ys e =
     let rest = views_parted n xs ys both.1 in
     (none_both n (textures_as x.1 x.0) (numbers_by textures_as xs) both.0 rest.0, rest.1)
 
-attached_away : (n : ℕ) (how : Usages × Kind) (cells : List Cells) → CellsAway n cells → AreAway n (map (attached how) cells)
+attached_away : (n : ℕ) (how : Usages × AccessKind) (cells : List Cells) → CellsAway n cells → AreAway n (map (attached how) cells)
 attached_away n how [] each = tt
 attached_away n how (run ∷ cells) each = (each.0, attached_away n how cells each.1)
 

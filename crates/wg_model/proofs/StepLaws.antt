@@ -1,8 +1,8 @@
 -- The steps of queue writes and of recorded commands are as the table of uses has them.
 use Rattle.std.proofs.Common.{◌≡◌, ℕ, ◌*◌, zero, suc, Bool, true, false, ◌==◌, ◌&&◌, List, [], ◌∷◌, ◌++◌, map, Option, Some, None, is_none, option_to_list, refl, ap, sym, ◌∙◌, subst, slice_get, reverse, if◌then◌else◌}
 use Rattle.std.specs.List.{flat_map}
-use Rattle.wg_types.specs.declared.steps.QueueWrite.TheVariants.{Buffer as BufferWrite, Texture as TextureWrite}
-use Rattle.wg_types.specs.declared.steps.StepName.TheVariants as name
+use Rattle.wg_types.specs.declared.writes.QueueWrite.TheVariants.{Buffer as BufferWrite, Texture as TextureWrite}
+use Rattle.wg_trace.specs.declared.steps.StepName.TheVariants as name
 use Rattle.wg_types.specs.declared.commands.On.{On}
 use Rattle.wg_types.specs.declared.commands.On.TheVariants.{Encoder, Pass}
 use Rattle.wg_types.specs.Commands.{Command}
@@ -14,7 +14,7 @@ use Rattle.wg_types.specs.declared.textures.TextureInfo.{TextureInfo}
 use Rattle.wg_types.specs.declared.textures.TextureSpot.{TextureSpot}
 use Rattle.wg_types.specs.declared.textures.DataLayout.{DataLayout}
 use Rattle.wg_rows.specs.Runs.{Cells}
-use Rattle.wg_rows.specs.Uses.{Kind, Write}
+use Rattle.wg_rows.specs.Uses.{AccessKind, Write}
 use Rattle.wg_orders.specs.Steps.{Step, StepPlace}
 use Rattle.wg_model.specs.Formats.{texel_to}
 use Rattle.wg_model.specs.Subresources.{copied_cells, has_no_texel}
@@ -45,8 +45,8 @@ use Rattle.wg_types.specs.declared.bundles.BundleUse.TheVariants.{Input, Constan
 use Rattle.wg_model.specs.Bundles.{known_bundle, bundle_how, bundle_touch, known_touches, executed_touches}
 use Rattle.wg_model.specs.Queries.{set_of_pass, query_begun_touches}
 use Rattle.wg_types.specs.Handles.{HandleValue}
-use Rattle.wg_types.specs.declared.parts.Aspect.{Aspect}
-use Rattle.wg_types.specs.declared.parts.Aspect.TheVariants as aspect
+use Rattle.wg_trace.specs.declared.parts.Aspect.{Aspect}
+use Rattle.wg_trace.specs.declared.parts.Aspect.TheVariants as aspect
 use Rattle.wg_types.specs.declared.commands.Bracket.{Bracket}
 use Rattle.wg_types.specs.declared.commands.Bracket.TheVariants as brackets
 use Rattle.wg_types.specs.Commands.{bracket}
@@ -58,7 +58,7 @@ use Rattle.wg_model.specs.StepLaws.{IsOwnStep, WritesAreDeclared, RecordedAreDec
 use Rattle.wg_model.proofs.Touching.{IsProper, AreProper, touching_own, read_proper, written_proper, joined_proper}
 
 -- What each step touches is proper.
-written_one : (kind : Kind) (cells : Cells) → AreProper (written_cells kind cells ∷ [])
+written_one : (kind : AccessKind) (cells : Cells) → AreProper (written_cells kind cells ∷ [])
 written_one kind cells = (λ e. refl, tt)
 
 read_first : (cells : Cells) (touches : List Touch) → AreProper touches → AreProper (read_cells cells ∷ touches)
@@ -176,10 +176,10 @@ compute_own set (DispatchIndirect buffer offset) = ((refl, joined_proper (dispat
 compute_own set _ = tt
 
 -- What attachments touch.
-abbrev IsFair : Usages × Kind → Type 0
+abbrev IsFair : Usages × AccessKind → Type 0
 IsFair how = kind_writes how.1 ≡ true → only_reads how.0 ≡ false
 
-attached_own : (how : Usages × Kind) → IsFair how → (cells : List Cells) → AreProper (map (attached how) cells)
+attached_own : (how : Usages × AccessKind) → IsFair how → (cells : List Cells) → AreProper (map (attached how) cells)
 attached_own how fair [] = tt
 attached_own how fair (run ∷ cells) = (fair, attached_own how fair cells)
 

@@ -1,16 +1,18 @@
 -- The attachments of render passes (WebGPU, "Render Pass Encoder Creation" and "Render Pass Attachments"): the rules of the
--- begin, to what the pass draws, and what the attachments touch.
+-- begin, to what the pass draws, and what the attachments touch. Also WebGPU, "Color Attachments", "Depth/Stencil
+-- Attachments", "Load & Store Operations", "Render Pass Layout".
 use Rattle.std.specs.Prelude.{ℕ, ◌+◌, ◌==◌, nat_le, nat_lt, Bool, true, false, not, ◌&&◌, ◌||◌, List, [], ◌∷◌, ◌++◌, map, Option, Some, None, is_some, unwrap_or, option_map, length, if◌then◌else◌}
 use Rattle.std.specs.List.{list_all, list_any, flat_map}
 use Rattle.std.specs.Option.{option_map_or, option_to_list}
+use Rattle.wg_rules.specs.declared.TheConstants.{PASS_COLORS_ARE_WITHIN_LIMIT, PASS_HAS_ATTACHMENT, COLOR_VIEWS_ARE_RENDERABLE, DEPTH_VIEW_IS_RENDERABLE, DEPTH_OPERATIONS_FIT_FORMAT, ATTACHMENTS_AGREE_IN_EXTENT_AND_SAMPLES, NOTHING_IS_ATTACHED_TWICE, RESOLVE_VIEWS_FIT_COLORS, DEPTH_SLICES_FIT_VIEWS}
 use Rattle.wg_types.specs.Handles.{HandleValue}
 use Rattle.wg_types.specs.Commands.{Command, render_begun}
 use Rattle.wg_types.specs.Formats.{row, same_format}
 use Rattle.wg_types.specs.Textures.{width, height, depth}
 use Rattle.wg_types.specs.declared.handles.Info.{Info}
 use Rattle.wg_types.specs.declared.handles.Info.TheVariants as info
-use Rattle.wg_types.specs.declared.parts.Aspect.{Aspect}
-use Rattle.wg_types.specs.declared.parts.Aspect.TheVariants as aspect
+use Rattle.wg_trace.specs.declared.parts.Aspect.{Aspect}
+use Rattle.wg_trace.specs.declared.parts.Aspect.TheVariants as aspect
 use Rattle.wg_types.specs.declared.textures.AspectWord.TheVariants.{All}
 use Rattle.wg_types.specs.declared.textures.ViewDim.{ViewDim}
 use Rattle.wg_types.specs.declared.textures.ViewDim.TheVariants.{One, Two, TwoArray, Cube, CubeArray, Three}
@@ -24,7 +26,7 @@ use Rattle.wg_types.specs.declared.render.DepthTargetOf.{DepthTargetOf}
 use Rattle.wg_types.specs.declared.render.RenderBeginOf.{RenderBeginOf}
 use Rattle.wg_types.specs.declared.render.TargetInfo.{TargetInfo}
 use Rattle.wg_rows.specs.Runs.{Cells, Bytes, Layers, Slices, Queries}
-use Rattle.wg_rows.specs.Uses.{Usages, Kind, Read, Write, Both, Drop, ReadDrop}
+use Rattle.wg_rows.specs.Uses.{Usages, AccessKind, Read, Write, Both, Drop, ReadDrop}
 use Rattle.wg_model.specs.Rules.{Rule}
 use Rattle.wg_model.specs.Equality.{same_bool}
 use Rattle.wg_model.specs.Buffers.{has_usage}
@@ -34,12 +36,15 @@ use Rattle.wg_model.specs.Subresources.{views_meet, view_cells}
 use Rattle.wg_model.specs.Making.{no_view}
 use Rattle.wg_model.specs.Touches.{Touch}
 
+-- the attachments with which a command over handles begins a render pass
 abbrev pub RenderBegin : Type 0
 RenderBegin = RenderBeginOf HandleValue
 
+-- a color attachment over handles
 abbrev pub ColorTarget : Type 0
 ColorTarget = ColorTargetOf HandleValue
 
+-- a depth attachment over handles
 abbrev pub DepthTarget : Type 0
 DepthTarget = DepthTargetOf HandleValue
 
@@ -64,18 +69,21 @@ view_in (info.Bundle known) = None
 abbrev pub attached_view : HandleValue → Option ViewInfo
 attached_view handle = if handle.valid then view_in handle.info else None
 
--- the same where rules 10 and 12 have found a valid view
+-- what is known of a view that is attached, where rules 10 and 12 have found a valid one, and else a view of nothing
 abbrev pub attachment_of : HandleValue → ViewInfo
 attachment_of handle = unwrap_or (attached_view handle) no_view
 
 -- Lists of attachments: those that are not left out, and the views of all.
 
+-- the color attachments that are not left out
 abbrev pub colors_given : RenderBegin → List ColorTarget
 colors_given begin = flat_map (λ (color : Option ColorTarget). option_to_list color) begin.colors
 
+-- what is known of the view of a depth attachment
 abbrev pub depth_view : DepthTarget → ViewInfo
 depth_view target = attachment_of target.view
 
+-- what is known of the view of a color attachment
 abbrev pub color_view : ColorTarget → ViewInfo
 color_view target = attachment_of target.view
 
@@ -87,6 +95,7 @@ drawn_views begin = map color_view (colors_given begin) ++ option_to_list (optio
 abbrev pub Attached : Type 0
 Attached = ViewInfo × Option ℕ
 
+-- a view that is attached as a whole
 abbrev pub attached_whole : ViewInfo → Attached
 attached_whole view = (view, None)
 
@@ -106,6 +115,7 @@ attached_views begin =
 -- What a view has to be that is drawn to: of a texture with RENDER_ATTACHMENT, of dimension 2d or 2d-array, or for colors 3d,
 -- with one mip level and one layer.
 
+-- whether a dimension is 2d or 2d-array
 abbrev pub is_flat : ViewDim → Bool
 is_flat One = false
 is_flat Two = true
@@ -114,6 +124,7 @@ is_flat Cube = false
 is_flat CubeArray = false
 is_flat Three = false
 
+-- whether a dimension is 3d
 abbrev pub is_deep : ViewDim → Bool
 is_deep One = false
 is_deep Two = false
@@ -122,9 +133,11 @@ is_deep Cube = false
 is_deep CubeArray = false
 is_deep Three = true
 
+-- whether a view can be drawn to: its texture has RENDER_ATTACHMENT, and it has one mip level and one layer
 abbrev pub is_renderable : ViewInfo → Bool
 is_renderable view = has_usage view.texture_info.usage render_attachment && (view.mips == 1 && view.layers == 1)
 
+-- whether a view can be a color attachment: it can be drawn to, is 2d, 2d-array or 3d, and has a color format
 abbrev pub color_fits : ViewInfo → Bool
 color_fits view = is_renderable view && ((is_flat view.dim || is_deep view.dim) && is_color view.texture_info.format)
 
@@ -138,6 +151,8 @@ abbrev pub has_all_aspects : ViewInfo → Bool
 has_all_aspects view =
     length (named_aspects view.aspect (row view.texture_info.format).aspects) == length (named_aspects All (row view.texture_info.format).aspects)
 
+-- whether a view can be the depth attachment: it can be drawn to, is 2d or 2d-array, and has all aspects of a format with
+-- depth or stencil
 abbrev pub depth_attachment_fits : ViewInfo → Bool
 depth_attachment_fits view = is_renderable view && (is_flat view.dim && (not (is_color view.texture_info.format) && has_all_aspects view))
 
@@ -145,18 +160,21 @@ depth_attachment_fits view = is_renderable view && (is_flat view.dim && (not (is
 abbrev pub ops_fit : Bool → Option LoadOp → Option StoreOp → Bool
 ops_fit wanted load store = same_bool (is_some load) wanted && same_bool (is_some store) wanted
 
+-- whether load and store of depth and of stencil are given exactly where the format has the aspect and it is not only read
 abbrev pub depth_ops_fit : DepthTarget → Bool
 depth_ops_fit target =
     ops_fit (has_depth (row (depth_view target).texture_info.format).aspects && not target.depth_read_only) target.depth_load target.depth_store
     && ops_fit (has_stencil (row (depth_view target).texture_info.format).aspects && not target.stencil_read_only) target.stencil_load target.stencil_store
 
--- the extent of the mip level of a view: a view has the width and the height of its first level
+-- the width of a view: that of its first mip level
 abbrev pub view_width : ViewInfo → ℕ
 view_width view = width (extent view.texture_info view.base_mip)
 
+-- the height of a view: that of its first mip level
 abbrev pub view_height : ViewInfo → ℕ
 view_height view = height (extent view.texture_info view.base_mip)
 
+-- whether two views have the same width and height
 abbrev pub same_extent : ViewInfo → ViewInfo → Bool
 same_extent a b = view_width a == view_width b && view_height a == view_height b
 
@@ -164,7 +182,7 @@ same_extent a b = view_width a == view_width b && view_height a == view_height b
 abbrev pub are_alike : ViewInfo → ViewInfo → Bool
 are_alike a b = same_extent a b && a.texture_info.samples == b.texture_info.samples
 
--- whether all views are
+-- whether all views are of one extent and one count of samples
 abbrev pub all_alike : List ViewInfo → Bool
 all_alike [] = true
 all_alike (view ∷ views) = list_all (are_alike view) views
@@ -193,6 +211,7 @@ resolves_to view target =
     && (is_flat target.dim
     && (same_format view.texture_info.format target.texture_info.format && same_extent view target))))
 
+-- whether a color attachment may be resolved to the view that is given for it, if one is
 abbrev pub resolve_fits : ColorTarget → Bool
 resolve_fits target = option_map_or (λ (resolve : HandleValue). resolves_to (color_view target) (attachment_of resolve)) target.resolve true
 
@@ -208,32 +227,35 @@ most_colors = 8
 -- what is resolved goes to a view that will do.
 unfoldable pub begin_rules : RenderBegin → List Rule
 begin_rules begin =
-    (300, nat_le (length begin.colors) most_colors)
-    ∷ ((301, list_any (λ (color : Option ColorTarget). is_some color) begin.colors || is_some begin.depth)
-    ∷ ((302, list_all (λ (target : ColorTarget). color_fits (color_view target)) (colors_given begin))
-    ∷ ((308, list_all (λ (target : ColorTarget). slice_fits (color_attached target)) (colors_given begin))
-    ∷ ((303, option_map_or (λ (target : DepthTarget). depth_attachment_fits (depth_view target)) begin.depth true)
-    ∷ ((304, option_map_or depth_ops_fit begin.depth true)
-    ∷ ((305, all_alike (drawn_views begin))
-    ∷ ((306, attached_are_apart (attached_views begin))
-    ∷ ((307, list_all resolve_fits (colors_given begin))
+    (PASS_COLORS_ARE_WITHIN_LIMIT, nat_le (length begin.colors) most_colors)
+    ∷ ((PASS_HAS_ATTACHMENT, list_any (λ (color : Option ColorTarget). is_some color) begin.colors || is_some begin.depth)
+    ∷ ((COLOR_VIEWS_ARE_RENDERABLE, list_all (λ (target : ColorTarget). color_fits (color_view target)) (colors_given begin))
+    ∷ ((DEPTH_SLICES_FIT_VIEWS, list_all (λ (target : ColorTarget). slice_fits (color_attached target)) (colors_given begin))
+    ∷ ((DEPTH_VIEW_IS_RENDERABLE, option_map_or (λ (target : DepthTarget). depth_attachment_fits (depth_view target)) begin.depth true)
+    ∷ ((DEPTH_OPERATIONS_FIT_FORMAT, option_map_or depth_ops_fit begin.depth true)
+    ∷ ((ATTACHMENTS_AGREE_IN_EXTENT_AND_SAMPLES, all_alike (drawn_views begin))
+    ∷ ((NOTHING_IS_ATTACHED_TWICE, attached_are_apart (attached_views begin))
+    ∷ ((RESOLVE_VIEWS_FIT_COLORS, list_all resolve_fits (colors_given begin))
     ∷ []))))))))
 
--- what the begin of a pass begins with, which for what begins no render pass is nothing
+-- the begin of a pass with no attachments
 abbrev pub no_begin : RenderBegin
 no_begin = record { colors = []; depth = None; queries = None }
 
+-- the attachments with which a command begins a render pass, or none where it begins none
 abbrev pub begin_of : Command → RenderBegin
 begin_of command = unwrap_or (render_begun command) no_begin
 
+-- the rules of the attachments with which a command begins a render pass, or none where it begins none
 abbrev pub begun_rules : Command → List Rule
 begun_rules command = option_map_or begin_rules (render_begun command) []
 
--- To what a pass draws: the formats of its attachments, and their count of samples, which all of them have.
+-- the count of samples to which a pass draws: that of the first view, which all of them have
 abbrev pub samples_of : List ViewInfo → ℕ
 samples_of [] = 1
 samples_of (view ∷ views) = view.texture_info.samples
 
+-- to what a pass draws: the formats and samples of its attachments, and whether depth and stencil are only read
 abbrev pub targets_of : RenderBegin → TargetInfo
 targets_of begin = record {
   colors = map (option_map (λ (target : ColorTarget). (color_view target).texture_info.format)) begin.colors;
@@ -245,12 +267,15 @@ targets_of begin = record {
 
 -- What attachments touch: the cells of their views, or one slice of a 3d view.
 
+-- the usage attachment
 abbrev pub attachment_usage : Usages
 attachment_usage = record { 0 = 16 }
 
+-- the usage attachment-read
 abbrev pub attachment_read_usage : Usages
 attachment_read_usage = record { 0 = 32 }
 
+-- the cells of the view of a handle, if it is valid
 abbrev pub handle_cells : HandleValue → List Cells
 handle_cells handle = option_map_or view_cells (attached_view handle) []
 
@@ -259,17 +284,19 @@ abbrev pub sliced : Option ℕ → Cells → Cells
 sliced (Some slice) (Slices object mip lo hi) = Slices object mip slice (slice + 1)
 sliced _ cells = cells
 
+-- the cells of a color attachment: those of its view, or of the one slice that is given
 abbrev pub color_cells : ColorTarget → List Cells
 color_cells target = map (sliced target.depth_slice) (handle_cells target.view)
 
 -- how an attachment is accessed: read where it is loaded, and left unset where it is discarded
-abbrev pub attach_kind : LoadOp → StoreOp → Kind
+abbrev pub attach_kind : LoadOp → StoreOp → AccessKind
 attach_kind Load Store = Both
 attach_kind Clear Store = Write
 attach_kind Load Discard = ReadDrop
 attach_kind Clear Discard = Drop
 
-abbrev pub attached : Usages × Kind → Cells → Touch
+-- a touch of cells in some way
+abbrev pub attached : Usages × AccessKind → Cells → Touch
 attached how cells = (cells, how)
 
 -- a resolve target is written
@@ -277,32 +304,38 @@ abbrev pub resolve_touches : Option HandleValue → List Touch
 resolve_touches None = []
 resolve_touches (Some view) = map (attached (attachment_usage, Write)) (handle_cells view)
 
+-- what a color attachment touches, if it is not left out: its cells by load and store, and those to which it is resolved
 abbrev pub color_touches : Option ColorTarget → List Touch
 color_touches None = []
 color_touches (Some target) = map (attached (attachment_usage, attach_kind target.load target.store)) (color_cells target) ++ resolve_touches target.resolve
 
 -- how an aspect is accessed: it is read alone, or as its load and store say, which rule 304 asks for there
-abbrev pub aspect_how : Bool → Option LoadOp → Option StoreOp → Usages × Kind
+abbrev pub aspect_how : Bool → Option LoadOp → Option StoreOp → Usages × AccessKind
 aspect_how true load store = (attachment_read_usage, Read)
 aspect_how false load store = (attachment_usage, attach_kind (unwrap_or load Load) (unwrap_or store Store))
 
-abbrev pub depth_how : DepthTarget → Aspect → Usages × Kind
+-- how an aspect of the depth attachment is used and accessed
+abbrev pub depth_how : DepthTarget → Aspect → Usages × AccessKind
 depth_how target aspect.Color = aspect_how target.depth_read_only target.depth_load target.depth_store
 depth_how target aspect.Depth = aspect_how target.depth_read_only target.depth_load target.depth_store
 depth_how target aspect.Stencil = aspect_how target.stencil_read_only target.stencil_load target.stencil_store
 
+-- the aspect of some cells, which of all but layers is color
 abbrev pub cells_aspect : Cells → Aspect
 cells_aspect (Bytes object lo hi) = aspect.Color
 cells_aspect (Layers object of mip lo hi) = of
 cells_aspect (Slices object mip lo hi) = aspect.Color
 cells_aspect (Queries object lo hi) = aspect.Color
 
+-- what the depth attachment touches of some cells, by their aspect
 abbrev pub depth_touch : DepthTarget → Cells → Touch
 depth_touch target cells = attached (depth_how target (cells_aspect cells)) cells
 
+-- what the depth attachment touches, if there is one
 abbrev pub depth_touches : Option DepthTarget → List Touch
 depth_touches None = []
 depth_touches (Some target) = map (depth_touch target) (handle_cells target.view)
 
+-- what the attachments of a pass touch, the colors first
 unfoldable pub targets_touches : RenderBegin → List Touch
 targets_touches begin = flat_map color_touches begin.colors ++ depth_touches begin.depth

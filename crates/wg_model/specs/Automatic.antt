@@ -2,6 +2,7 @@
 use Rattle.std.specs.Prelude.{ℕ, zero, suc, ◌+◌, ◌==◌, nat_lt, max, bit_or, Bool, false, not, ◌&&◌, List, [], ◌∷◌, ◌++◌, length, slice_get, Option, Some, None, is_none, if◌then◌else◌, filter}
 use Rattle.std.specs.List.{list_all, list_any, fold}
 use Rattle.std.specs.Option.{option_map_or}
+use Rattle.wg_rules.specs.declared.TheConstants.{AUTO_INTERFACE_AGREES, DERIVED_LAYOUTS_ARE_ALLOWED, GROUP_INDEX_IS_IN_PIPELINE}
 use Rattle.wg_types.specs.declared.handles.Info.{Info}
 use Rattle.wg_types.specs.declared.limits.Limits.{Limits}
 use Rattle.wg_types.specs.declared.bindings.BindingKind.{BindingKind}
@@ -34,12 +35,12 @@ clash_at iface group binding = differ (uses_of group binding iface)
 abbrev pub kinds_agree : List IfaceEntry → Bool
 kinds_agree iface = list_all (λ (used : IfaceEntry). not (clash_at iface used.group used.binding)) iface
 
--- how many groups there are up to the greatest that is named
+-- how many groups there are from 0 to the greatest that is named, and none where none is
 abbrev pub group_count : List IfaceEntry → ℕ
 group_count [] = 0
 group_count (used ∷ iface) = max (used.group + 1) (group_count iface)
 
--- whether each group that is named may be set
+-- whether each group that is named may be set: it is below 4, as for setBindGroup
 abbrev pub groups_fit : List IfaceEntry → Bool
 groups_fit iface = list_all (λ (used : IfaceEntry). nat_lt used.group most_groups) iface
 
@@ -50,10 +51,11 @@ plain (Sampler sampler_type) = Sampler sampler_type
 plain (Texture sample dim multi) = Texture sample dim multi
 plain (StorageTexture access format dim) = StorageTexture access format dim
 
--- the entry for what one stage uses, and an entry that the stage of a further use sees as well
+-- the entry for what one stage uses
 abbrev pub entry_used : IfaceEntry → LayoutEntry
 entry_used used = record { binding = used.binding; visibility = stage_bit used.stage; kind = plain used.kind }
 
+-- a derived entry that one more stage sees
 abbrev pub entry_shared : LayoutEntry → IfaceEntry → LayoutEntry
 entry_shared entry used = record entry { visibility = bit_or entry.visibility (stage_bit used.stage) }
 
@@ -68,6 +70,7 @@ with_use (entry ∷ entries) used =
 abbrev pub entries_used : ℕ → List IfaceEntry → List LayoutEntry
 entries_used group iface = fold with_use [] (filter (λ (used : IfaceEntry). used.group == group) iface)
 
+-- the layout that the uses of a group derive, exclusive to none and got of none
 abbrev pub layout_used : List IfaceEntry → ℕ → GroupLayoutInfo
 layout_used iface group = record { entries = entries_used group iface; exclusive = None; pipeline = None }
 
@@ -102,17 +105,21 @@ layouts_meet limits layouts = list_all (λ (layout : GroupLayoutInfo). entries_m
 -- sizes they ask for; 168 they name groups that may be set, and the layouts that are derived meet the rules of layouts that are
 -- made, and of those of a pipeline.
 unfoldable pub automatic_rules : Limits → List IfaceEntry → List Rule
-automatic_rules limits iface = (167, kinds_agree iface) ∷ ((168, groups_fit iface && layouts_meet limits (automatic_layouts iface)) ∷ [])
+automatic_rules limits iface =
+    (AUTO_INTERFACE_AGREES, kinds_agree iface)
+    ∷ ((DERIVED_LAYOUTS_ARE_ALLOWED, groups_fit iface && layouts_meet limits (automatic_layouts iface))
+    ∷ [])
 
--- the same where a pipeline is made with no layout, and nothing where it is made with one
+-- the rules of the layouts that a pipeline derives where it is made with no layout, and none where it is made with one
 abbrev pub derived_rules : {R : Type 0} → Limits → Option R → List IfaceEntry → List Rule
 derived_rules limits None iface = automatic_rules limits iface
 derived_rules limits (Some layout) iface = []
 
--- the layouts of a pipeline, by what is known of an object
+-- the bind group layouts of what is known of a pipeline of either kind, by group, be they named or derived; of anything else
+-- there are none
 abbrev pub known_layouts : Option Info → List GroupLayoutInfo
 known_layouts known = option_map_or layouts_in known []
 
 -- getBindGroupLayout: 169 the index is one of a group of the pipeline's layout
 abbrev pub get_layout_rules : Option Info → ℕ → List Rule
-get_layout_rules known index = (169, nat_lt index (length (known_layouts known))) ∷ []
+get_layout_rules known index = (GROUP_INDEX_IS_IN_PIPELINE, nat_lt index (length (known_layouts known))) ∷ []

@@ -3,6 +3,7 @@
 use Rattle.std.specs.Prelude.{ℕ, ◌+◌, ◌%◌, ◌==◌, nat_le, nat_lt, bit_and, not, ◌&&◌, ◌||◌, Bool, true, false, List, [], ◌∷◌, ◌++◌, map, Option, Some, None, length, count_by, if◌then◌else◌, slice_index_or}
 use Rattle.std.specs.List.{list_all, list_any, flat_map}
 use Rattle.std.specs.Option.{option_map_or}
+use Rattle.wg_rules.specs.declared.TheConstants.{GROUP_INDEX_IS_WITHIN_LIMIT, OFFSET_COUNT_FITS_LAYOUT, DYNAMIC_OFFSETS_ARE_ALIGNED, DYNAMIC_RANGES_FIT_BUFFERS, GROUPS_FIT_PIPELINE, WRITTEN_BINDINGS_ARE_APART}
 use Rattle.wg_types.specs.Handles.{HandleValue}
 use Rattle.wg_types.specs.Bindings.{entry_of}
 use Rattle.wg_types.specs.declared.handles.Info.{Info}
@@ -21,7 +22,7 @@ use Rattle.wg_types.specs.declared.bindings.StorageAccess.{StorageAccess}
 use Rattle.wg_types.specs.declared.bindings.StorageAccess.TheVariants.{ReadOnly, WriteOnly, ReadWrite}
 use Rattle.wg_types.specs.declared.commands.BoundGroup.{BoundGroup}
 use Rattle.wg_rows.specs.Runs.{Cells, Bytes}
-use Rattle.wg_rows.specs.Uses.{Usages, Kind, Read, Both}
+use Rattle.wg_rows.specs.Uses.{Usages, AccessKind, Read, Both}
 use Rattle.wg_model.specs.Rules.{Rule}
 use Rattle.wg_model.specs.Layouts.{is_dynamic, may_write}
 use Rattle.wg_model.specs.Equality.{equivalent_for}
@@ -91,11 +92,11 @@ owner_of handle = if is_automatic handle.info then Some handle.reference.number 
 abbrev pub dynamics : List LayoutEntry → ℕ
 dynamics entries = count_by (λ (entry : LayoutEntry). is_dynamic entry.kind) entries
 
--- and how many of these have lesser numbers than this: offsets are dealt out by ascending binding
+-- how many of a layout's dynamic bindings have lesser numbers than this: offsets are dealt out by ascending binding
 abbrev pub dynamics_before : List LayoutEntry → ℕ → ℕ
 dynamics_before entries binding = count_by (λ (entry : LayoutEntry). is_dynamic entry.kind && nat_lt entry.binding binding) entries
 
--- by how much what is bound is moved
+-- by how much the range of an entry is moved: by its offset, if it is dynamic
 abbrev pub moved_by : List LayoutEntry → List ℕ → LayoutEntry → ℕ
 moved_by layout offsets asked = if is_dynamic asked.kind then slice_index_or offsets (dynamics_before layout asked.binding) 0 else 0
 
@@ -105,13 +106,16 @@ pub record Place : Type 0 where
   pub moved : ℕ
   pub resource : BoundResource
 
+-- what a group binds by one entry of its layout, moved by its dynamic offset
 abbrev pub place_of : List LayoutEntry → List ℕ → LayoutEntry → BoundResource → Place
 place_of layout offsets asked resource = record { asked = asked; moved = moved_by layout offsets asked; resource = resource }
 
+-- what a group binds by one of its entries, if the layout has that binding
 abbrev pub entry_places : List LayoutEntry → List ℕ → BoundEntry → List Place
 entry_places layout offsets bound =
     option_map_or (λ (asked : LayoutEntry). place_of layout offsets asked bound.resource ∷ []) (entry_of layout bound.binding) []
 
+-- all that a group binds that is set with some offsets
 abbrev pub places_in : GroupInfo → List ℕ → List Place
 places_in group offsets = flat_map (entry_places group.layout_info.entries offsets) group.entries
 
@@ -121,6 +125,8 @@ moved_range_fits moved (BoundBuffer buffer known offset size) = nat_le (offset +
 moved_range_fits moved (BoundView view known) = true
 moved_range_fits moved (BoundSampler sampler known) = true
 
+-- rule 328: a range that is bound ends within its buffer, where it begins at its own offset and that by which it is moved
+-- together
 abbrev pub place_fits : Place → Bool
 place_fits place = moved_range_fits place.moved place.resource
 
@@ -132,18 +138,20 @@ most_groups = 4
 abbrev pub offset_alignment : ℕ
 offset_alignment = 256
 
+-- the rules of a group that is set with some offsets: 326 there is one for each dynamic entry; 327 each is a multiple of
+-- `offset_alignment`; 328 each range, moved, fits its buffer
 abbrev pub offset_rules : Option GroupInfo → List ℕ → List Rule
 offset_rules None offsets = []
 offset_rules (Some group) offsets =
-    (326, length offsets == dynamics group.layout_info.entries)
-    ∷ ((327, list_all (λ offset. offset % offset_alignment == 0) offsets)
-    ∷ ((328, list_all place_fits (places_in group offsets))
+    (OFFSET_COUNT_FITS_LAYOUT, length offsets == dynamics group.layout_info.entries)
+    ∷ ((DYNAMIC_OFFSETS_ARE_ALIGNED, list_all (λ offset. offset % offset_alignment == 0) offsets)
+    ∷ ((DYNAMIC_RANGES_FIT_BUFFERS, list_all place_fits (places_in group offsets))
     ∷ []))
 
 -- setBindGroup (WebGPU, "setBindGroup"): 325 the index is one that a device has; 326 there are as many offsets as dynamic
 -- bindings; 327 each is a multiple of `offset_alignment`; 328 each bound range, moved by its offset, fits its buffer.
 unfoldable pub set_rules : ℕ → Option GroupInfo → List ℕ → List Rule
-set_rules index group offsets = (325, nat_lt index most_groups) ∷ offset_rules group offsets
+set_rules index group offsets = (GROUP_INDEX_IS_WITHIN_LIMIT, nat_lt index most_groups) ∷ offset_rules group offsets
 
 -- Dispatches and draws: the groups of a pipeline's layout that have an entry.
 abbrev pub has_entries : GroupLayoutInfo → Bool
@@ -161,7 +169,7 @@ layout_fits owner layout group =
     not (has_entries layout)
     || option_map_or (λ (known : GroupInfo). equivalent_for owner layout known.layout_info) (info_set group) false
 
--- the same of each layout, the first of which has this index
+-- whether each layout of a pipeline that has an entry has an equivalent group at its index, the first of which is given
 abbrev pub layouts_fit : Option ℕ → List GroupLayoutInfo → List (Option BoundGroup) → ℕ → Bool
 layouts_fit owner [] groups index = true
 layouts_fit owner (layout ∷ layouts) groups index = layout_fits owner layout (slice_index_or groups index None) && layouts_fit owner layouts groups (index + 1)
@@ -171,6 +179,7 @@ abbrev pub set_places : Option BoundGroup → List Place
 set_places None = []
 set_places (Some bound) = option_map_or (λ (known : GroupInfo). places_in known bound.offsets) (known_group bound.group) []
 
+-- what is bound at an index, where the pipeline's layout has an entry there
 abbrev pub index_places : GroupLayoutInfo → Option BoundGroup → List Place
 index_places layout group = if has_entries layout then set_places group else []
 
@@ -186,14 +195,15 @@ resources_meet moved (BoundBuffer buffer known offset size) moved2 (BoundBuffer 
 resources_meet moved (BoundView view known) moved2 (BoundView view2 known2) = views_meet known known2
 resources_meet moved _ moved2 _ = false
 
--- whether one stage sees two places that overlap, where shaders may write one of them
+-- whether two places overlap of which shaders may write one: their visibilities have a bit in common, also one of a stage that
+-- the pipeline does not run, and they have a byte of one buffer or a subresource of one texture in common
 abbrev pub overlap : Place → Place → Bool
 overlap a b =
     nat_lt 0 (bit_and a.asked.visibility b.asked.visibility)
     && ((may_write a.asked.kind || may_write b.asked.kind)
     && resources_meet a.moved a.resource b.moved b.resource)
 
--- whether no two places do
+-- rule 342: no two places overlap of which shaders may write one
 abbrev pub are_clear : List Place → Bool
 are_clear [] = true
 are_clear (place ∷ places) = not (list_any (overlap place) places) && are_clear places
@@ -202,31 +212,39 @@ are_clear (place ∷ places) = not (list_any (overlap place) places) && are_clea
 -- the pipeline where that derived its layouts itself, else to none; 342 no two bindings of these groups that one stage sees
 -- overlap where shaders may write one of them
 unfoldable pub bound_rules : Option ℕ → List GroupLayoutInfo → List (Option BoundGroup) → List Rule
-bound_rules owner layouts groups = (341, layouts_fit owner layouts groups 0) ∷ ((342, are_clear (layouts_places layouts groups 0)) ∷ [])
+bound_rules owner layouts groups =
+    (GROUPS_FIT_PIPELINE, layouts_fit owner layouts groups 0)
+    ∷ ((WRITTEN_BINDINGS_ARE_APART, are_clear (layouts_places layouts groups 0))
+    ∷ [])
 
 -- What is bound is used and accessed as the kind of its binding says, whatever stages see it: each cell of a bound range and
 -- each cell of a view's subresources.
-abbrev pub buffer_touch : BufferBinding → Usages × Kind
+abbrev pub buffer_touch : BufferBinding → Usages × AccessKind
 buffer_touch Uniform = (constant_usage, Read)
 buffer_touch Storage = (storage_usage, Both)
 buffer_touch ReadOnlyStorage = (storage_read_usage, Read)
 
-abbrev pub access_touch : StorageAccess → Usages × Kind
+-- how a storage texture is used and accessed, by its access
+abbrev pub access_touch : StorageAccess → Usages × AccessKind
 access_touch ReadOnly = (storage_read_usage, Read)
 access_touch WriteOnly = (storage_usage, Both)
 access_touch ReadWrite = (storage_usage, Both)
 
-abbrev pub kind_touch : BindingKind → Usages × Kind
+-- how what is bound is used and accessed, by its kind: a uniform buffer and a sampled texture as constant, and read; storage
+-- that is only read as storage-read, and read; any other storage as storage, and both read and written; a sampler has no cell
+abbrev pub kind_touch : BindingKind → Usages × AccessKind
 kind_touch (Buffer binding dynamic min_size) = buffer_touch binding
 kind_touch (Sampler sampler_type) = (constant_usage, Read)
 kind_touch (Texture sample dim multi) = (constant_usage, Read)
 kind_touch (StorageTexture access format dim) = access_touch access
 
+-- the cells of what is bound: the range of a buffer, moved, or those of a view; a sampler has none
 abbrev pub resource_cells : ℕ → BoundResource → List Cells
 resource_cells moved (BoundBuffer buffer known offset size) = Bytes buffer.number (offset + moved) (offset + moved + size) ∷ []
 resource_cells moved (BoundView view known) = view_cells known
 resource_cells moved (BoundSampler sampler known) = []
 
+-- what a place touches: its cells, by the kind that its entry asks for
 abbrev pub place_touches : Place → List Touch
 place_touches place = map (λ (cells : Cells). (cells, kind_touch place.asked.kind)) (resource_cells place.moved place.resource)
 

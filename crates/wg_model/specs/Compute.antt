@@ -1,9 +1,10 @@
 -- Compute passes (WebGPU, "Compute Passes"): the rules of the commands, and what they do.
 use Rattle.std.specs.Prelude.{ℕ, nat_le, ◌&&◌, List, [], ◌∷◌, ◌++◌, Option, Some, None}
+use Rattle.wg_rules.specs.declared.TheConstants.{WORKGROUPS_ARE_WITHIN_LIMIT}
 use Rattle.wg_types.specs.Commands.{Command, Act, begins, sets, runs, occludes, executes, neither, act}
 use Rattle.wg_types.specs.Commands.{Running, dispatch, dispatch_indirect, draw, draw_indexed, draw_indirect, draw_indexed_indirect}
 use Rattle.wg_types.specs.Handles.{HandleValue}
-use Rattle.wg_types.specs.declared.steps.StepName.TheVariants as name
+use Rattle.wg_trace.specs.declared.steps.StepName.TheVariants as name
 use Rattle.wg_model.specs.Rules.{Rule}
 use Rattle.wg_model.specs.Commands.{debug_rules}
 use Rattle.wg_model.specs.Touches.{Touch, Doing}
@@ -16,9 +17,9 @@ most_workgroups = 65535
 
 -- dispatchWorkgroups: 343 the counts are within the limit
 abbrev pub count_rules : ℕ → ℕ → ℕ → List Rule
-count_rules x y z = (343, nat_le x most_workgroups && nat_le y most_workgroups && nat_le z most_workgroups) ∷ []
+count_rules x y z = (WORKGROUPS_ARE_WITHIN_LIMIT, nat_le x most_workgroups && nat_le y most_workgroups && nat_le z most_workgroups) ∷ []
 
--- the rules of what dispatches: the pipeline and its groups are set, and what it is given
+-- the rules of what dispatches: those of the pipeline and its groups, and then those of its counts or of its buffer
 abbrev pub dispatching_rules : Settings → Running HandleValue → List Rule
 dispatching_rules set (dispatch x y z) = ready_rules set ++ count_rules x y z
 dispatching_rules set (dispatch_indirect buffer offset) = ready_rules set ++ indirect_rules buffer offset 12
@@ -27,6 +28,7 @@ dispatching_rules set (draw_indexed indices instances first_index first_instance
 dispatching_rules set (draw_indirect buffer offset) = []
 dispatching_rules set (draw_indexed_indirect buffer offset) = []
 
+-- the rules of a dispatch, by what a command is to its pass
 abbrev pub dispatch_rules_by : Settings → Act HandleValue → List Rule
 dispatch_rules_by set (begins begin) = []
 dispatch_rules_by set (sets setting) = []
@@ -35,10 +37,12 @@ dispatch_rules_by set (occludes call) = []
 dispatch_rules_by set (executes bundles) = []
 dispatch_rules_by set neither = []
 
+-- the rules of a command that dispatches, over what is set; other commands have none
 abbrev pub dispatch_rules : Settings → Command → List Rule
 dispatch_rules set command = dispatch_rules_by set (act command)
 
--- the rules of a command of the pass, over what is set, but for those on the objects that it names
+-- the rules of a command of a compute pass, over what is set, but for those on the objects that it names: of debug groups, of
+-- the end, of a group that is set, and of dispatches
 abbrev pub compute_rules : Settings → Command → List Rule
 compute_rules set command = debug_rules set.depth command ++ (end_rules set.depth command ++ (given_rules (group_given command) ++ dispatch_rules set command))
 
@@ -46,7 +50,8 @@ compute_rules set command = debug_rules set.depth command ++ (end_rules set.dept
 abbrev pub dispatch_touches : Settings → List Touch
 dispatch_touches set = bound_touches (layouts_set set) set.groups
 
--- what is done where this is dispatched; an indirect dispatch reads its counts as well
+-- what a dispatch does over what is set: it touches what its pipeline's groups bind, and an indirect one reads its counts as
+-- well
 abbrev pub dispatching_does : Settings → Running HandleValue → Option Doing
 dispatching_does set (dispatch x y z) = Some (name.Dispatch, dispatch_touches set)
 dispatching_does set (dispatch_indirect buffer offset) = Some (name.Dispatch, dispatch_touches set ++ indirect_touch buffer offset 12 ∷ [])
@@ -55,6 +60,7 @@ dispatching_does set (draw_indexed indices instances first_index first_instance)
 dispatching_does set (draw_indirect buffer offset) = None
 dispatching_does set (draw_indexed_indirect buffer offset) = None
 
+-- what a dispatch does, by what a command is to its pass
 abbrev pub compute_does_by : Settings → Act HandleValue → Option Doing
 compute_does_by set (begins begin) = None
 compute_does_by set (sets setting) = None

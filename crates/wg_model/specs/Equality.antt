@@ -1,4 +1,4 @@
--- When what is bound is the same, which is to say equal.
+-- When what is bound is the same, which is to say equal (WebGPU, "group-equivalent").
 use Rattle.std.specs.Prelude.{ℕ, Bool, true, false, not, ◌&&◌, ◌==◌, List, [], ◌∷◌, Option, Some, None, length, if◌then◌else◌}
 use Rattle.std.specs.List.{list_all}
 use Rattle.wg_types.specs.Formats.{same_format}
@@ -37,6 +37,7 @@ use Rattle.wg_types.specs.declared.vertex.VertexStep.TheVariants as vertex_step
 use Rattle.wg_types.specs.declared.vertex.VertexAttribute.{VertexAttribute}
 use Rattle.wg_types.specs.declared.vertex.VertexBuffer.{VertexBuffer}
 
+-- whether two truths are the same
 abbrev pub same_bool : Bool → Bool → Bool
 same_bool a b = if a then b else not b
 
@@ -58,6 +59,7 @@ same_option same (Some a) (Some b) = same a b
 abbrev pub same_reference : ObjRef → ObjRef → Bool
 same_reference a b = a.device == b.device && a.number == b.number
 
+-- whether the same is known of two buffers
 abbrev pub same_buffer : BufferInfo → BufferInfo → Bool
 same_buffer a b = a.size == b.size && a.usage == b.usage && same_bool a.mapped b.mapped
 
@@ -69,44 +71,55 @@ sample_number sample_type.Depth = 2
 sample_number sample_type.Sint = 3
 sample_number sample_type.Uint = 4
 
+-- the place of a sort of buffer binding among all
 abbrev pub buffer_binding_number : BufferBinding → ℕ
 buffer_binding_number Uniform = 0
 buffer_binding_number Storage = 1
 buffer_binding_number ReadOnlyStorage = 2
 
+-- the place of a kind of sampler among all
 abbrev pub sampler_number : SamplerKind → ℕ
 sampler_number Filtering = 0
 sampler_number NonFiltering = 1
 sampler_number Comparison = 2
 
+-- the place of a storage access among all
 abbrev pub access_number : StorageAccess → ℕ
 access_number ReadOnly = 0
 access_number WriteOnly = 1
 access_number ReadWrite = 2
 
+-- the place of a stage among all
 abbrev pub stage_number : Stage → ℕ
 stage_number Vertex = 0
 stage_number Fragment = 1
 stage_number Compute = 2
 
+-- whether two dimensions of views are the same
 abbrev pub same_view_dim : ViewDim → ViewDim → Bool
 same_view_dim a b = view_dim_number a == view_dim_number b
 
+-- whether two sample types are the same
 abbrev pub same_sample : SampleType → SampleType → Bool
 same_sample a b = sample_number a == sample_number b
 
+-- whether two sorts of buffer bindings are the same
 abbrev pub same_buffer_binding : BufferBinding → BufferBinding → Bool
 same_buffer_binding a b = buffer_binding_number a == buffer_binding_number b
 
+-- whether two kinds of samplers are the same
 abbrev pub same_sampler : SamplerKind → SamplerKind → Bool
 same_sampler a b = sampler_number a == sampler_number b
 
+-- whether two storage accesses are the same
 abbrev pub same_access : StorageAccess → StorageAccess → Bool
 same_access a b = access_number a == access_number b
 
+-- whether two stages are the same
 abbrev pub same_stage : Stage → Stage → Bool
 same_stage a b = stage_number a == stage_number b
 
+-- whether two kinds of bindings are the same, in all that they say
 abbrev pub same_binding_kind : BindingKind → BindingKind → Bool
 same_binding_kind (Buffer a moves_a least_a) (Buffer b moves_b least_b) = same_buffer_binding a b && same_bool moves_a moves_b && least_a == least_b
 same_binding_kind (Sampler a) (Sampler b) = same_sampler a b
@@ -114,18 +127,22 @@ same_binding_kind (Texture a dim_a multi_a) (Texture b dim_b multi_b) = same_sam
 same_binding_kind (StorageTexture a format_a dim_a) (StorageTexture b format_b dim_b) = same_access a b && same_format format_a format_b && same_view_dim dim_a dim_b
 same_binding_kind _ _ = false
 
+-- whether two entries of layouts are the same
 abbrev pub same_layout_entry : LayoutEntry → LayoutEntry → Bool
 same_layout_entry a b = a.binding == b.binding && a.visibility == b.visibility && same_binding_kind a.kind b.kind
 
+-- whether two entries of interfaces are the same
 abbrev pub same_iface_entry : IfaceEntry → IfaceEntry → Bool
 same_iface_entry a b = a.group == b.group && a.binding == b.binding && same_stage a.stage b.stage && same_binding_kind a.kind b.kind
 
+-- whether two entries bind the same: the same object, of which the same is known, and of a buffer the same range
 abbrev pub same_bound_resource : BoundResource → BoundResource → Bool
 same_bound_resource (BoundBuffer a info_a at_a size_a) (BoundBuffer b info_b at_b size_b) = same_reference a b && same_buffer info_a info_b && at_a == at_b && size_a == size_b
 same_bound_resource (BoundView a info_a) (BoundView b info_b) = same_reference a b && same_view info_a info_b
 same_bound_resource (BoundSampler a info_a) (BoundSampler b info_b) = same_reference a b && same_sampler info_a info_b
 same_bound_resource _ _ = false
 
+-- whether two entries of groups are the same
 abbrev pub same_bound_entry : BoundEntry → BoundEntry → Bool
 same_bound_entry a b = a.binding == b.binding && same_bound_resource a.resource b.resource
 
@@ -133,15 +150,19 @@ same_bound_entry a b = a.binding == b.binding && same_bound_resource a.resource 
 abbrev pub same_owner : Option ℕ → Option ℕ → Bool
 same_owner a b = same_option (λ (m n : ℕ). m == n) a b
 
+-- whether the same is known of two bind group layouts, in the order of their entries
 abbrev pub same_group_layout : GroupLayoutInfo → GroupLayoutInfo → Bool
 same_group_layout a b = same_list same_layout_entry a.entries b.entries && same_owner a.exclusive b.exclusive && same_option same_reference a.pipeline b.pipeline
 
+-- whether the same is known of two pipeline layouts
 abbrev pub same_pipeline_layout : PipelineLayoutInfo → PipelineLayoutInfo → Bool
 same_pipeline_layout a b = same_list same_reference a.layouts b.layouts && same_list same_group_layout a.layouts_info b.layouts_info
 
+-- whether the same is known of two bind groups
 abbrev pub same_group : GroupInfo → GroupInfo → Bool
 same_group a b = same_reference a.layout b.layout && same_group_layout a.layout_info b.layout_info && same_list same_bound_entry a.entries b.entries
 
+-- whether the same is known of two compute pipelines
 abbrev pub same_compute : ComputeInfo → ComputeInfo → Bool
 same_compute a b = same_option same_reference a.layout b.layout && same_pipeline_layout a.layout_info b.layout_info && same_bool a.auto b.auto && same_list same_iface_entry a.iface.entries b.iface.entries
 
@@ -160,19 +181,24 @@ vertex_format_number vertex_format.Float32x2 = 9
 vertex_format_number vertex_format.Float32x3 = 10
 vertex_format_number vertex_format.Float32x4 = 11
 
+-- the place of a step of vertex buffers among both
 abbrev pub vertex_step_number : VertexStep → ℕ
 vertex_step_number vertex_step.Vertex = 0
 vertex_step_number vertex_step.Instance = 1
 
+-- whether two attributes are the same
 abbrev pub same_attribute : VertexAttribute → VertexAttribute → Bool
 same_attribute a b = vertex_format_number a.format == vertex_format_number b.format && a.offset == b.offset && a.location == b.location
 
+-- whether two vertex buffers of pipelines are the same
 abbrev pub same_vertex_buffer : VertexBuffer → VertexBuffer → Bool
 same_vertex_buffer a b = a.stride == b.stride && vertex_step_number a.step == vertex_step_number b.step && same_list same_attribute a.attributes b.attributes
 
+-- whether two pipelines do the same with depth and stencil
 abbrev pub same_depth_state : DepthState → DepthState → Bool
 same_depth_state a b = same_format a.format b.format && same_bool a.depth_write b.depth_write && same_bool a.stencil_write b.stencil_write
 
+-- whether two descriptions of render pipelines are the same
 abbrev pub same_render_desc : RenderDesc → RenderDesc → Bool
 same_render_desc a b =
     same_list same_iface_entry a.iface b.iface
@@ -181,6 +207,7 @@ same_render_desc a b =
     && same_option same_depth_state a.depth b.depth
     && a.samples == b.samples
 
+-- whether the same is known of two render pipelines
 abbrev pub same_render : RenderInfo → RenderInfo → Bool
 same_render a b = same_option same_reference a.layout b.layout && same_pipeline_layout a.layout_info b.layout_info && same_bool a.auto b.auto && same_render_desc a.desc b.desc
 
@@ -193,11 +220,13 @@ of_binding n (entry ∷ entries) = if entry.binding == n then entry ∷ of_bindi
 abbrev pub equivalent : List LayoutEntry → List LayoutEntry → Bool
 equivalent a b = length a == length b && list_all (λ (entry : LayoutEntry). same_list same_layout_entry (of_binding entry.binding a) (of_binding entry.binding b)) a
 
--- whether a layout that counts as exclusive to this pipeline, or to none, is equivalent to one that is set: that has the same
--- entries, and is exclusive to the same pipeline, or to none as well
+-- whether a layout of a pipeline in use and that of a group are equivalent for an owner: their entries are, and the group's is
+-- exclusive to just that owner, a pipeline that has derived its layouts, or none; to whom the other is exclusive, inside what
+-- is known of the pipeline, is not looked at
 abbrev pub equivalent_for : Option ℕ → GroupLayoutInfo → GroupLayoutInfo → Bool
 equivalent_for owner layout set = same_owner owner set.exclusive && equivalent layout.entries set.entries
 
--- whether two layouts are equivalent
+-- whether two bind group layouts are equivalent: their entries are, and both are exclusive to the same pipeline or neither to
+-- any; of which pipeline a layout was got makes no difference
 abbrev pub equivalent_layouts : GroupLayoutInfo → GroupLayoutInfo → Bool
 equivalent_layouts a b = equivalent_for a.exclusive a b

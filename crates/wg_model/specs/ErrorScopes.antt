@@ -1,15 +1,15 @@
 -- Error scopes (WebGPU, "Error Scopes"). A stack of them stands outermost first.
 use Rattle.std.specs.Prelude.{ℕ, ◌-◌, Bool, true, false, List, [], ◌∷◌, length, take, reverse, Option, Some, None, slice_get, slice_set, if◌then◌else◌}
-use Rattle.wg_types.specs.declared.replies.FaultKind.{FaultKind}
-use Rattle.wg_types.specs.declared.replies.FaultKind.TheVariants as kind
-use Rattle.wg_types.specs.declared.replies.Filter.{Filter}
-use Rattle.wg_types.specs.declared.replies.Filter.TheVariants as filter
-use Rattle.wg_types.specs.declared.replies.First.{First}
-use Rattle.wg_types.specs.declared.replies.Scope.{Scope}
-use Rattle.wg_types.specs.declared.replies.Caught.{Caught}
-use Rattle.wg_types.specs.declared.replies.Caught.TheVariants.{Scope as CaughtBy, Uncaptured}
-use Rattle.wg_types.specs.declared.replies.How.{How}
-use Rattle.wg_types.specs.declared.replies.How.TheVariants.{Null, Rejected, Error}
+use Rattle.wg_trace.specs.declared.replies.FaultKind.{FaultKind}
+use Rattle.wg_trace.specs.declared.replies.FaultKind.TheVariants as kind
+use Rattle.wg_trace.specs.declared.replies.Filter.{Filter}
+use Rattle.wg_trace.specs.declared.replies.Filter.TheVariants as filter
+use Rattle.wg_trace.specs.declared.replies.First.{First}
+use Rattle.wg_trace.specs.declared.replies.Scope.{Scope}
+use Rattle.wg_trace.specs.declared.replies.Caught.{Caught}
+use Rattle.wg_trace.specs.declared.replies.Caught.TheVariants.{Scope as CaughtBy, Uncaptured}
+use Rattle.wg_trace.specs.declared.replies.How.{How}
+use Rattle.wg_trace.specs.declared.replies.How.TheVariants.{Null, Rejected, Error}
 
 -- whether a scope with this filter catches faults of this kind: the filter is the kind
 abbrev pub catches : Filter → FaultKind → Bool
@@ -25,9 +25,11 @@ abbrev pub catcher_back : List Scope → FaultKind → Option ℕ
 catcher_back [] kind = None
 catcher_back (scope ∷ outer) kind = if catches scope.filter kind then Some (length outer) else catcher_back outer kind
 
+-- the place of the innermost open scope that catches faults of a kind, if one does
 abbrev pub catcher : List Scope → FaultKind → Option ℕ
 catcher scopes kind = catcher_back (reverse scopes) kind
 
+-- where a fault goes: to the scope of a place, or to none
 abbrev pub caught_by : Option ℕ → Caught
 caught_by None = Uncaptured
 caught_by (Some place) = CaughtBy place
@@ -41,6 +43,7 @@ abbrev pub kept_first : Option First → First → Option First
 kept_first None error = Some error
 kept_first (Some first) error = Some first
 
+-- the open scopes after a fault that the scope of a place catches, if it is there
 abbrev pub filled : List Scope → ℕ → Option Scope → First → List Scope
 filled scopes place None error = scopes
 filled scopes place (Some scope) error = slice_set scopes place (record scope { first = kept_first scope.first error })
@@ -54,10 +57,12 @@ caught_in Uncaptured error scopes = scopes
 abbrev pub delivered : List Scope → FaultKind → ℕ → List Scope
 delivered scopes kind rule = caught_in (deliver scopes kind) (record { kind = kind; rule = rule }) scopes
 
+-- how a pop settles by the first fault of its scope: by null where there is none
 abbrev pub first_how : Option First → How
 first_how None = Null
 first_how (Some first) = Error first.kind first.rule
 
+-- how a pop settles by the innermost scope: it is rejected where none is open
 abbrev pub top_how : Option Scope → How
 top_how None = Rejected
 top_how (Some scope) = first_how scope.first

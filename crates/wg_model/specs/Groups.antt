@@ -2,6 +2,7 @@
 use Rattle.std.specs.Prelude.{ℕ, ◌+◌, ◌%◌, Bool, true, false, not, ◌&&◌, ◌||◌, ◌==◌, nat_lt, nat_le, count_by, List, [], ◌∷◌, Option, is_some, option_and_then, if◌then◌else◌}
 use Rattle.std.specs.List.{list_all}
 use Rattle.std.specs.Option.{option_map_or}
+use Rattle.wg_rules.specs.declared.TheConstants.{ENTRIES_MATCH_LAYOUT, ENTRY_RESOURCES_FIT_LAYOUT, BOUND_BUFFER_USAGE_FITS, BOUND_RANGES_FIT_BUFFERS, BOUND_SIZES_ARE_WITHIN_LIMITS, BOUND_TEXTURE_VIEWS_FIT, BOUND_STORAGE_VIEWS_FIT, BOUND_SAMPLERS_FIT}
 use Rattle.wg_types.specs.Formats.{row, sampled_as, same_format}
 use Rattle.wg_types.specs.Bindings.{entry_of}
 use Rattle.wg_types.specs.declared.limits.Limits.{Limits}
@@ -25,17 +26,19 @@ use Rattle.wg_model.specs.Formats.{copied_aspect}
 use Rattle.wg_model.specs.Layouts.{is_uniform_binding}
 use Rattle.wg_model.specs.Equality.{same_bool, same_view_dim}
 
--- Usage bits that bindings ask for: of buffers UNIFORM 64 and STORAGE 128, of textures TEXTURE_BINDING 4.
+-- the usage UNIFORM of buffers
 abbrev pub uniform : ℕ
 uniform = 64
 
+-- the usage STORAGE of buffers
 abbrev pub storage : ℕ
 storage = 128
 
+-- the usage TEXTURE_BINDING of textures
 abbrev pub texture_binding : ℕ
 texture_binding = 4
 
--- whether the entries name each binding of a layout once, and no other
+-- rule 150: of each binding of the layout there is one entry, and each entry is of a binding of the layout
 abbrev pub are_matched : List LayoutEntry → List BoundEntry → Bool
 are_matched layout entries =
     list_all (λ (asked : LayoutEntry). count_by (λ (entry : BoundEntry). entry.binding == asked.binding) entries == 1) layout
@@ -59,6 +62,7 @@ usage_asked Uniform = uniform
 usage_asked Storage = storage
 usage_asked ReadOnlyStorage = storage
 
+-- rule 152: the usage of a buffer has what its entry asks for
 abbrev pub usage_fits : BindingKind → BoundResource → Bool
 usage_fits (Buffer binding dynamic min_size) (BoundBuffer buffer info offset size) = has_usage info.usage (usage_asked binding)
 usage_fits _ _ = true
@@ -67,9 +71,11 @@ usage_fits _ _ = true
 abbrev pub is_multiple : ℕ → ℕ → Bool
 is_multiple n of_number = if of_number == 0 then n == 0 else n % of_number == 0
 
+-- of what the offset of a bound buffer has to be a multiple, by the sort of its binding
 abbrev pub alignment_asked : Limits → BufferBinding → ℕ
 alignment_asked limits binding = if is_uniform_binding binding then limits.min_uniform_buffer_offset_alignment else limits.min_storage_buffer_offset_alignment
 
+-- the greatest size of a bound buffer, by the sort of its binding
 abbrev pub size_limit : Limits → BufferBinding → ℕ
 size_limit limits binding = if is_uniform_binding binding then limits.max_uniform_buffer_binding_size else limits.max_storage_buffer_binding_size
 
@@ -101,6 +107,8 @@ takes_sample _ _ = false
 abbrev pub view_sampled : ViewInfo → Option SampleType
 view_sampled info = option_and_then (sampled_as (row info.texture_info.format)) (copied_aspect info.aspect info.texture_info.format)
 
+-- rule 155: a view that is sampled is of a texture with TEXTURE_BINDING, and has the sample type, the dimension and the
+-- sampling that its entry asks for
 abbrev pub view_fits : BindingKind → BoundResource → Bool
 view_fits (Texture sample dim multi) (BoundView view info) =
     has_usage info.texture_info.usage texture_binding
@@ -109,6 +117,8 @@ view_fits (Texture sample dim multi) (BoundView view info) =
     && same_bool multi (nat_lt 1 info.texture_info.samples)
 view_fits _ _ = true
 
+-- rule 156: a view that is storage is of a texture with STORAGE_BINDING, has one mip level, and has the format and the
+-- dimension that its entry asks for
 abbrev pub storage_view_fits : BindingKind → BoundResource → Bool
 storage_view_fits (StorageTexture access format dim) (BoundView view info) =
     has_usage info.texture_info.usage storage_binding
@@ -125,6 +135,7 @@ takes_sampler NonFiltering NonFiltering = true
 takes_sampler Comparison Comparison = true
 takes_sampler _ _ = false
 
+-- rule 157: a sampler is of the kind that its entry asks for
 abbrev pub sampler_fits : BindingKind → BoundResource → Bool
 sampler_fits (Sampler sampler_type) (BoundSampler sampler info) = takes_sampler sampler_type info
 sampler_fits _ _ = true
@@ -136,12 +147,12 @@ sampler_fits _ _ = true
 -- level, and format and dimension as asked; 157 samplers are of a kind that will do.
 abbrev pub group_rules : Limits → List LayoutEntry → List BoundEntry → List Rule
 group_rules limits layout entries =
-    (150, are_matched layout entries)
-    ∷ ((151, each_fits sort_fits layout entries)
-    ∷ ((152, each_fits usage_fits layout entries)
-    ∷ ((153, each_fits (range_fits limits) layout entries)
-    ∷ ((154, each_fits (size_fits limits) layout entries)
-    ∷ ((155, each_fits view_fits layout entries)
-    ∷ ((156, each_fits storage_view_fits layout entries)
-    ∷ ((157, each_fits sampler_fits layout entries)
+    (ENTRIES_MATCH_LAYOUT, are_matched layout entries)
+    ∷ ((ENTRY_RESOURCES_FIT_LAYOUT, each_fits sort_fits layout entries)
+    ∷ ((BOUND_BUFFER_USAGE_FITS, each_fits usage_fits layout entries)
+    ∷ ((BOUND_RANGES_FIT_BUFFERS, each_fits (range_fits limits) layout entries)
+    ∷ ((BOUND_SIZES_ARE_WITHIN_LIMITS, each_fits (size_fits limits) layout entries)
+    ∷ ((BOUND_TEXTURE_VIEWS_FIT, each_fits view_fits layout entries)
+    ∷ ((BOUND_STORAGE_VIEWS_FIT, each_fits storage_view_fits layout entries)
+    ∷ ((BOUND_SAMPLERS_FIT, each_fits sampler_fits layout entries)
     ∷ [])))))))

@@ -9,9 +9,11 @@ pub record Node : Type 0 where
   pub held : Bool
   pub refers : List ℕ
 
+-- an object that nothing holds and that refers to none
 abbrev pub nobody : Node
 nobody = record { held = false; refers = [] }
 
+-- whether a number is in a list
 abbrev pub is_among : List ℕ → ℕ → Bool
 is_among list n = list_any (λ m. m == n) list
 
@@ -25,9 +27,11 @@ abbrev pub with_holders : ℕ → List Node → List Node
 with_holders k [] = []
 with_holders k (node ∷ newer) = record { held = node.held || has_holder (with_holders (suc k) newer) k; refers = node.refers } ∷ with_holders (suc k) newer
 
+-- the objects with whether each is held: by itself, or by one that was made later, is held and refers to it
 abbrev pub all_held : List Node → List Node
 all_held nodes = with_holders 0 nodes
 
+-- whether object n is held among plain objects
 abbrev pub is_held_among : List Node → ℕ → Bool
 is_held_among nodes n = (slice_index_or (all_held nodes) n nobody).held
 
@@ -56,13 +60,16 @@ is_awaited_in holds n = option_map_or (any_below (λ e. (holds e).opened)) (hold
 abbrev pub is_root_in : (ℕ → Holds) → ℕ → ℕ → Bool
 is_root_in holds m n = not (is_some (holds n).dropped) || (is_named_in holds m n || is_awaited_in holds n)
 
+-- what an object is to the test of what is held: whether it is held by itself, and to what it refers
 abbrev pub node_in : (ℕ → Holds) → ℕ → ℕ → Node
 node_in holds m n = record { held = is_root_in holds m n; refers = (holds n).refers }
 
+-- the objects of numbers below n, among m
 abbrev pub nodes_below : (ℕ → Holds) → ℕ → ℕ → List Node
 nodes_below holds m zero = []
 nodes_below holds m (suc n) = nodes_below holds m n ++ node_in holds m n ∷ []
 
+-- all of m objects, by number
 abbrev pub nodes_in : (ℕ → Holds) → ℕ → List Node
 nodes_in holds m = nodes_below holds m m
 

@@ -1,4 +1,5 @@
--- What is known of the objects that calls make of others: by what these are known as.
+-- What is known of the objects that calls make of others: by what these are known as (WebGPU, "Bind Group Creation", "Pipeline
+-- Layout Creation", "Compute Pipeline Creation" and "Render Pipeline Creation").
 use Rattle.std.specs.Prelude.{ℕ, ◌-◌, map, List, [], false, Option, Some, None, is_none, option_map, unwrap_or, if◌then◌else◌}
 use Rattle.std.specs.Option.{option_map_or}
 use Rattle.wg_types.specs.declared.handles.ObjRef.{ObjRef}
@@ -36,24 +37,30 @@ use Rattle.wg_model.specs.Automatic.{automatic_layouts, entries_at, known_layout
 abbrev pub no_view : ViewInfo
 no_view = record { texture = record { device = 0; number = 0 }; texture_info = no_texture; dim = Two; aspect = All; base_mip = 0; mips = 0; base_layer = 0; layers = 0 }
 
+-- a bind group layout with no entry
 abbrev pub no_group_layout : GroupLayoutInfo
 no_group_layout = record { entries = []; exclusive = None; pipeline = None }
 
+-- a pipeline layout of no group
 abbrev pub no_pipeline_layout : PipelineLayoutInfo
 no_pipeline_layout = record { layouts = []; layouts_info = [] }
 
+-- what is known of a view, or a view of nothing where the info is of something else
 abbrev pub as_view : Info → ViewInfo
 as_view (info.View known) = known
 as_view _ = no_view
 
+-- the kind of a sampler, or filtering where the info is of something else
 abbrev pub as_sampler : Info → SamplerKind
 as_sampler (info.Sampler known) = known
 as_sampler _ = Filtering
 
+-- what is known of a bind group layout, or one with no entry where the info is of something else
 abbrev pub as_group_layout : Info → GroupLayoutInfo
 as_group_layout (info.GroupLayout known) = known
 as_group_layout _ = no_group_layout
 
+-- what is known of a pipeline layout, or one of no group where the info is of something else
 abbrev pub as_pipeline_layout : Info → PipelineLayoutInfo
 as_pipeline_layout (info.PipelineLayout known) = known
 as_pipeline_layout _ = no_pipeline_layout
@@ -62,18 +69,23 @@ as_pipeline_layout _ = no_pipeline_layout
 abbrev pub known_buffer : Option Info → BufferInfo
 known_buffer known = option_map_or buffer_or_none known no_buffer
 
+-- what is known of an object as a texture, and of none a texture of nothing
 abbrev pub known_texture : Option Info → TextureInfo
 known_texture known = option_map_or texture_or_none known no_texture
 
+-- what is known of an object as a view, and of none a view of nothing
 abbrev pub known_view : Option Info → ViewInfo
 known_view known = option_map_or as_view known no_view
 
+-- what is known of an object as a sampler, and of none a filtering one
 abbrev pub known_sampler : Option Info → SamplerKind
 known_sampler known = option_map_or as_sampler known Filtering
 
+-- what is known of an object as a bind group layout, and of none one with no entry
 abbrev pub known_group_layout : Option Info → GroupLayoutInfo
 known_group_layout known = option_map_or as_group_layout known no_group_layout
 
+-- what is known of an object as a pipeline layout, and of none one of no group
 abbrev pub known_pipeline_layout : Option Info → PipelineLayoutInfo
 known_pipeline_layout known = option_map_or as_pipeline_layout known no_pipeline_layout
 
@@ -85,26 +97,34 @@ bound_resource reference known (Buffer buffer offset size) = BoundBuffer (refere
 bound_resource reference known (View view) = BoundView (reference view) (known_view (known view))
 bound_resource reference known (Sampler sampler) = BoundSampler (reference sampler) (known_sampler (known sampler))
 
+-- what is known of an entry of a bind group: its binding, and what it binds
 abbrev pub bound_entry : {R : Type 0} → (R → ObjRef) → (R → Option Info) → GroupEntryOf R → BoundEntry
 bound_entry reference known entry = record { binding = entry.binding; resource = bound_resource reference known entry.resource }
 
+-- what is known of a view that is made: its texture, what is known of that, and what was asked
 abbrev pub view_made : {R : Type 0} → (R → ObjRef) → (R → Option Info) → R → ViewDesc → ViewInfo
 view_made reference known texture desc = view_info (known_texture (known texture)) (reference texture) desc
 
+-- what is known of a pipeline layout that is made: its bind group layouts, in their order
 abbrev pub pipeline_layout_made : {R : Type 0} → (R → ObjRef) → (R → Option Info) → List R → PipelineLayoutInfo
 pipeline_layout_made reference known layouts = record { layouts = map reference layouts; layouts_info = map (λ layout. known_group_layout (known layout)) layouts }
 
+-- what is known of a bind group that is made: its layout and its entries
 abbrev pub group_made : {R : Type 0} → (R → ObjRef) → (R → Option Info) → R → List (GroupEntryOf R) → GroupInfo
 group_made reference known layout entries = record { layout = reference layout; layout_info = known_group_layout (known layout); entries = map (bound_entry reference known) entries }
 
--- the layout of a pipeline: the one that it is made with, or what it derives from what its shaders use
+-- what a pipeline knows of its layout: what is known of the one that it names, or else a pipeline layout of the layouts that
+-- it derives, each exclusive to none and got of none, of which there are none where kinds clash or a group is named that
+-- cannot be
 abbrev pub layout_made : {R : Type 0} → (R → Option Info) → Option R → List IfaceEntry → PipelineLayoutInfo
 layout_made known None iface = record { layouts = []; layouts_info = automatic_layouts iface }
 layout_made known (Some layout) iface = known_pipeline_layout (known layout)
 
+-- what is known of a compute pipeline that is made: its layout, named or derived, and its interface
 abbrev pub compute_made : {R : Type 0} → (R → ObjRef) → (R → Option Info) → Option R → Interface → ComputeInfo
 compute_made reference known layout iface = record { layout = option_map reference layout; layout_info = layout_made known layout iface.entries; auto = is_none layout; iface = iface }
 
+-- what is known of a render pipeline that is made: its layout, named or derived, and its description
 abbrev pub render_made : {R : Type 0} → (R → ObjRef) → (R → Option Info) → Option R → RenderDesc → RenderInfo
 render_made reference known layout desc = record { layout = option_map reference layout; layout_info = layout_made known layout desc.iface; auto = is_none layout; desc = desc }
 

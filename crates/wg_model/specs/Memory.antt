@@ -12,15 +12,17 @@ use Rattle.wg_model.specs.Textures.{extent}
 abbrev pub level_bytes : TextureInfo → ℕ → ℕ
 level_bytes info mip = width (extent info mip) * height (extent info mip) * depth (extent info mip) * info.samples * (row info.format).bytes
 
--- those of the first mip levels
+-- the bytes of the first mip levels of a texture
 abbrev pub levels_bytes : TextureInfo → ℕ → ℕ
 levels_bytes info zero = 0
 levels_bytes info (suc mip) = levels_bytes info mip + level_bytes info mip
 
+-- the bytes of all mip levels of a texture
 unfoldable pub texture_bytes : TextureInfo → ℕ
 texture_bytes info = levels_bytes info info.mips
 
--- the bytes of an object; one that is no resource has none
+-- the bytes of an object: of a buffer its size, of a texture those of all its mip levels, of a query set 8 for each query, and
+-- of each other object 0
 abbrev pub bytes_of : Info → ℕ
 bytes_of (Buffer info) = info.size
 bytes_of (Texture info) = texture_bytes info

@@ -1,7 +1,9 @@
--- The rules of compute pipelines (WebGPU, "Pipeline Creation").
+-- The rules of compute pipelines (WebGPU, "Pipeline Creation"). Also WebGPU, "Compute Pipeline Creation",
+-- "GPUProgrammableStage".
 use Rattle.std.specs.Prelude.{ℕ, Bool, false, ◌&&◌, List, [], ◌∷◌, slice_get}
 use Rattle.std.specs.List.{list_all}
 use Rattle.std.specs.Option.{option_map_or}
+use Rattle.wg_rules.specs.declared.TheConstants.{INTERFACE_FITS_LAYOUT}
 use Rattle.wg_types.specs.Formats.{same_format}
 use Rattle.wg_types.specs.Bindings.{entry_of}
 use Rattle.wg_types.specs.declared.bindings.Stage.{Stage}
@@ -15,6 +17,7 @@ use Rattle.wg_model.specs.Rules.{Rule}
 use Rattle.wg_model.specs.Layouts.{vertex_stage, fragment_stage, compute_stage, is_seen_by}
 use Rattle.wg_model.specs.Equality.{same_bool, same_sampler, same_sample, same_view_dim, same_access, same_buffer_binding}
 
+-- the bit of a stage
 abbrev pub stage_bit : Stage → ℕ
 stage_bit Vertex = vertex_stage
 stage_bit Fragment = fragment_stage
@@ -36,6 +39,6 @@ serves used entry = is_seen_by (stage_bit used.stage) entry && same_use entry.ki
 abbrev pub offers : List GroupLayoutInfo → IfaceEntry → Bool
 offers layouts used = option_map_or (λ (layout : GroupLayoutInfo). option_map_or (serves used) (entry_of layout.entries used.binding) false) (slice_get layouts used.group) false
 
--- createComputePipeline: 160 the layout has each binding that a shader uses, visible to its stage and of the same kind.
+-- rule 160 of createComputePipeline: the layout offers each entry of the interface
 abbrev pub compute_pipeline_rules : List GroupLayoutInfo → List IfaceEntry → List Rule
-compute_pipeline_rules layouts iface = (160, list_all (offers layouts) iface) ∷ []
+compute_pipeline_rules layouts iface = (INTERFACE_FITS_LAYOUT, list_all (offers layouts) iface) ∷ []

@@ -1,6 +1,6 @@
 -- Promises that wait until operations are complete (WebGPU, "onSubmittedWorkDone").
 use Rattle.std.specs.Prelude.{ℕ, Bool, nat_le, nat_lt, List, filter, map}
-use Rattle.wg_types.specs.declared.replies.Waiting.{Waiting}
+use Rattle.wg_trace.specs.declared.replies.Waiting.{Waiting}
 
 -- whether all operations that a promise waits for are complete, where those up to this one are
 abbrev pub is_due : ℕ → Waiting → Bool

@@ -1,8 +1,9 @@
 -- Render passes (WebGPU, "Render Passes" and "GPURenderCommandsMixin"): what is set, the rules of the commands, and what the
--- whole pass touches. The commands of a pass so far stand newest first.
+-- whole pass touches. The commands of a pass so far stand newest first. Also WebGPU, "Drawing".
 use Rattle.std.specs.Prelude.{ℕ, ◌+◌, ◌*◌, ◌%◌, ◌==◌, nat_le, nat_lt, Bool, true, false, not, ◌&&◌, ◌||◌, List, [], ◌∷◌, ◌++◌, Option, Some, None, is_some, is_none, option_and_then, slice_index_or, if◌then◌else◌}
 use Rattle.std.specs.List.{list_all, flat_map}
 use Rattle.std.specs.Option.{option_map_or, option_map, option_or}
+use Rattle.wg_rules.specs.declared.TheConstants.{PIPELINE_DRAWS_TO_TARGETS, PIPELINE_SPARES_READ_ONLY, VERTEX_BUFFER_HAS_VERTEX, VERTEX_SLOT_IS_WITHIN_LIMIT, VERTEX_OFFSET_IS_ALIGNED, VERTEX_RANGE_FITS_BUFFER, INDEX_BUFFER_HAS_INDEX, INDEX_OFFSET_IS_ALIGNED, INDEX_RANGE_FITS_BUFFER, VERTEX_BUFFERS_ARE_SET, VERTEX_RANGES_SUFFICE, INDEX_BUFFER_IS_SET, INDEX_RANGE_SUFFICES, BUNDLE_TARGETS_ARE_OF_PASS, BUNDLES_SPARE_READ_ONLY}
 use Rattle.wg_types.specs.Handles.{HandleValue}
 use Rattle.wg_types.specs.Formats.{same_format}
 use Rattle.wg_types.specs.Vertex.{index_bytes}
@@ -20,7 +21,7 @@ use Rattle.wg_types.specs.declared.render.TargetInfo.{TargetInfo}
 use Rattle.wg_types.specs.declared.commands.BoundGroup.{BoundGroup}
 use Rattle.wg_types.specs.declared.commands.Bracket.{Bracket}
 use Rattle.wg_types.specs.declared.commands.Bracket.TheVariants as brackets
-use Rattle.wg_types.specs.declared.steps.StepName.TheVariants as name
+use Rattle.wg_trace.specs.declared.steps.StepName.TheVariants as name
 use Rattle.wg_rows.specs.Uses.{Read}
 use Rattle.wg_model.specs.Rules.{Rule}
 use Rattle.wg_model.specs.Equality.{same_option}
@@ -52,6 +53,7 @@ desc_in (info.BundleEncoder known) = None
 desc_in info.CommandBuffer = None
 desc_in (info.Bundle known) = None
 
+-- what a handle knows of a render pipeline, which of an invalid one is nothing
 abbrev pub known_pipeline : HandleValue → Option RenderDesc
 known_pipeline handle = if handle.valid then desc_in handle.info else None
 
@@ -60,6 +62,7 @@ abbrev pub buffers_in : Option RenderDesc → List VertexBuffer
 buffers_in None = []
 buffers_in (Some desc) = desc.buffers
 
+-- the vertex buffers of the render pipeline that is set, if one is
 abbrev pub buffers_wanted : Settings → List VertexBuffer
 buffers_wanted set = buffers_in (option_and_then known_pipeline set.pipeline)
 
@@ -70,6 +73,7 @@ setting_vertex (set_group index group offsets) = None
 setting_vertex (set_vertex_buffer slot buffer offset size) = Some (slot, size_or_rest buffer offset size)
 setting_vertex (set_index_buffer buffer format offset size) = None
 
+-- the slot and the size of the vertex buffer that a command sets, by what it is to its pass
 abbrev pub vertex_given_by : Act HandleValue → Option (ℕ × ℕ)
 vertex_given_by (begins begin) = None
 vertex_given_by (sets setting) = setting_vertex setting
@@ -87,7 +91,7 @@ abbrev pub vertex_set : List Command → ℕ → Option ℕ
 vertex_set [] at = None
 vertex_set (command ∷ earlier) at = if unsets command then None else slot_after (vertex_given command) at (vertex_set earlier at)
 
--- by slot
+-- the sizes of the vertex buffers that are set, by slot
 abbrev pub ranges_set : List Command → List (Option ℕ)
 ranges_set earlier =
     vertex_set earlier 0
@@ -107,6 +111,7 @@ setting_index (set_group index group offsets) = None
 setting_index (set_vertex_buffer slot buffer offset size) = None
 setting_index (set_index_buffer buffer format offset size) = Some (format, size_or_rest buffer offset size)
 
+-- the format and the size of the index buffer that a command sets, by what it is to its pass
 abbrev pub index_given_by : Act HandleValue → Option (IndexFormat × ℕ)
 index_given_by (begins begin) = None
 index_given_by (sets setting) = setting_index setting
@@ -127,6 +132,7 @@ index_set (command ∷ earlier) = if unsets command then None else option_or (in
 -- What a command touches: all that is set counts, drawn or not, what an indirect draw reads, and what bundles touch that are
 -- executed.
 
+-- what a group that is set touches, if one is
 abbrev pub bound_group_touches : Option (ℕ × BoundGroup) → List Touch
 bound_group_touches None = []
 bound_group_touches (Some given) = flat_map place_touches (set_places (Some given.1))
@@ -142,7 +148,7 @@ setting_touches (set_group index group offsets) = []
 setting_touches (set_vertex_buffer slot buffer offset size) = input_touch buffer offset (size_or_rest buffer offset size) ∷ []
 setting_touches (set_index_buffer buffer format offset size) = input_touch buffer offset (size_or_rest buffer offset size) ∷ []
 
--- and so is the buffer of an indirect draw
+-- what an indirect draw touches: the bytes that it reads of its buffer
 abbrev pub running_touches : Running HandleValue → List Touch
 running_touches (dispatch x y z) = []
 running_touches (dispatch_indirect buffer offset) = []
@@ -151,6 +157,7 @@ running_touches (draw_indexed indices instances first_index first_instance) = []
 running_touches (draw_indirect buffer offset) = indirect_touch buffer offset 16 ∷ []
 running_touches (draw_indexed_indirect buffer offset) = indirect_touch buffer offset 20 ∷ []
 
+-- what a command touches but for groups and queries, by what it is to its pass
 abbrev pub input_touches_by : Act HandleValue → List Touch
 input_touches_by (begins begin) = []
 input_touches_by (sets setting) = setting_touches setting
@@ -159,9 +166,11 @@ input_touches_by (occludes call) = []
 input_touches_by (executes bundles) = executed_touches bundles
 input_touches_by neither = []
 
+-- what a command touches but for groups and queries: as input, or through bundles
 abbrev pub input_touches : Command → List Touch
 input_touches command = input_touches_by (act command)
 
+-- what a command of a render pass touches: the group that it sets, its inputs and bundles, and its query
 abbrev pub command_touches : Option (ℕ × ℕ) → Command → List Touch
 command_touches queries command = bound_group_touches (group_given command) ++ (input_touches command ++ query_touches queries (occlusion_call command))
 
@@ -181,6 +190,7 @@ pub record RenderSet : Type 0 where
   pub occlusion : Occlusion
   pub touches : List Touch
 
+-- what is set after commands that draw to some targets, with some touches before theirs
 abbrev pub drawing_set : TargetInfo → Option (ℕ × ℕ) → List Touch → List Command → RenderSet
 drawing_set targets queries first earlier = record {
   set = settings earlier;
@@ -196,20 +206,23 @@ drawing_set targets queries first earlier = record {
 abbrev pub render_set : RenderBegin → List Command → RenderSet
 render_set begin earlier = drawing_set (targets_of begin) (set_of_pass begin.queries) (targets_touches begin) earlier
 
--- Likewise what is set in a bundle, which has targets, but neither attachments nor queries.
+-- what is set in a bundle, which has targets, but neither attachments nor queries
 abbrev pub bundle_set : TargetInfo → List Command → RenderSet
 bundle_set targets earlier = drawing_set targets None [] earlier
 
 -- setPipeline: whether the formats of targets are those of a pass, where what is left out at the end does not count
 
+-- whether all of some targets are left out
 abbrev pub none_given : List (Option Format) → Bool
 none_given targets = list_all (λ (target : Option Format). is_none target) targets
 
+-- whether two lists of targets are the same, but for what is left out at their ends
 abbrev pub same_targets : List (Option Format) → List (Option Format) → Bool
 same_targets [] others = none_given others
 same_targets (target ∷ targets) [] = none_given (target ∷ targets)
 same_targets (target ∷ targets) (other ∷ others) = same_option same_format target other && same_targets targets others
 
+-- whether a pipeline's targets, depth format and samples are those of a pass
 abbrev pub draws_to : TargetInfo → RenderDesc → Bool
 draws_to targets desc =
     same_targets desc.targets targets.colors
@@ -220,11 +233,16 @@ draws_to targets desc =
 abbrev pub spares : TargetInfo → DepthState → Bool
 spares targets depth = not (targets.depth_read_only && depth.depth_write) && not (targets.stencil_read_only && depth.stencil_write)
 
--- 320 targets, depth format and samples are those of the pass; 321 what the pass only reads the pipeline does not write
+-- the rules of a pipeline that is set: 320 its targets, depth format and samples are those of the pass, where what is left out
+-- at the end of the targets does not count; 321 it writes neither depth nor stencil where the pass only reads that
 abbrev pub pipeline_rules : TargetInfo → Option RenderDesc → List Rule
 pipeline_rules targets None = []
-pipeline_rules targets (Some desc) = (320, draws_to targets desc) ∷ ((321, option_map_or (spares targets) desc.depth true) ∷ [])
+pipeline_rules targets (Some desc) =
+    (PIPELINE_DRAWS_TO_TARGETS, draws_to targets desc)
+    ∷ ((PIPELINE_SPARES_READ_ONLY, option_map_or (spares targets) desc.depth true)
+    ∷ [])
 
+-- the rules of a pipeline that a command sets, if it sets one
 abbrev pub pipeline_given_rules : TargetInfo → Option HandleValue → List Rule
 pipeline_given_rules targets None = []
 pipeline_given_rules targets (Some pipeline) = pipeline_rules targets (known_pipeline pipeline)
@@ -232,24 +250,30 @@ pipeline_given_rules targets (Some pipeline) = pipeline_rules targets (known_pip
 -- executeBundles (WebGPU, "executeBundles"): whether a bundle draws to targets like those of the pass, and whether what the pass
 -- only reads it only reads as well
 
+-- rule 370 of one bundle: its colors, depth format and samples are those of the pass
 abbrev pub bundle_fits : TargetInfo → BundleInfo → Bool
 bundle_fits targets bundle =
     same_targets bundle.targets.colors targets.colors
     && (same_option same_format bundle.targets.depth targets.depth
     && bundle.targets.samples == targets.samples)
 
+-- rule 371 of one bundle: it only reads what the pass only reads, of depth and of stencil
 abbrev pub bundle_spares : TargetInfo → BundleInfo → Bool
 bundle_spares targets bundle =
     (not targets.depth_read_only || bundle.targets.depth_read_only)
     && (not targets.stencil_read_only || bundle.targets.stencil_read_only)
 
+-- whether each bundle that is valid passes a test
 abbrev pub all_bundles : (BundleInfo → Bool) → List HandleValue → Bool
 all_bundles test bundles = list_all (λ bundle. option_map_or test (known_bundle bundle) true) bundles
 
 -- 370 the colors, the depth format and the samples of each bundle are those of the pass; 371 what the pass only reads each only
 -- reads
 abbrev pub execute_rules : TargetInfo → List HandleValue → List Rule
-execute_rules targets bundles = (370, all_bundles (bundle_fits targets) bundles) ∷ ((371, all_bundles (bundle_spares targets) bundles) ∷ [])
+execute_rules targets bundles =
+    (BUNDLE_TARGETS_ARE_OF_PASS, all_bundles (bundle_fits targets) bundles)
+    ∷ ((BUNDLES_SPARE_READ_ONLY, all_bundles (bundle_spares targets) bundles)
+    ∷ [])
 
 -- how many vertex buffers may be set
 abbrev pub most_slots : ℕ
@@ -259,18 +283,18 @@ most_slots = 8
 -- the range fits
 abbrev pub vertex_rules : ℕ → HandleValue → ℕ → ℕ → List Rule
 vertex_rules slot buffer offset size =
-    (330, has_usage (buffer_of buffer).usage 32)
-    ∷ ((331, nat_lt slot most_slots)
-    ∷ ((332, offset % 4 == 0)
-    ∷ ((333, nat_le (offset + size) (buffer_of buffer).size)
+    (VERTEX_BUFFER_HAS_VERTEX, has_usage (buffer_of buffer).usage 32)
+    ∷ ((VERTEX_SLOT_IS_WITHIN_LIMIT, nat_lt slot most_slots)
+    ∷ ((VERTEX_OFFSET_IS_ALIGNED, offset % 4 == 0)
+    ∷ ((VERTEX_RANGE_FITS_BUFFER, nat_le (offset + size) (buffer_of buffer).size)
     ∷ [])))
 
 -- setIndexBuffer: 335 the buffer has INDEX 16; 336 the offset is a multiple of the bytes of an index; 337 the range fits
 abbrev pub index_rules : HandleValue → IndexFormat → ℕ → ℕ → List Rule
 index_rules buffer format offset size =
-    (335, has_usage (buffer_of buffer).usage 16)
-    ∷ ((336, offset % index_bytes format == 0)
-    ∷ ((337, nat_le (offset + size) (buffer_of buffer).size)
+    (INDEX_BUFFER_HAS_INDEX, has_usage (buffer_of buffer).usage 16)
+    ∷ ((INDEX_OFFSET_IS_ALIGNED, offset % index_bytes format == 0)
+    ∷ ((INDEX_RANGE_FITS_BUFFER, nat_le (offset + size) (buffer_of buffer).size)
     ∷ []))
 
 -- whether a range is set for each of these vertex buffers, the first of which has this slot
@@ -283,23 +307,28 @@ abbrev pub indices_fit : ℕ → ℕ → Option (IndexFormat × ℕ) → Bool
 indices_fit first indices None = false
 indices_fit first indices (Some index) = nat_le ((first + indices) * index_bytes index.0) index.1
 
--- Draws (WebGPU, "valid to draw" and "valid to draw indexed"): 350 each vertex buffer of the pipeline is set; 352 an index
--- buffer is set; 353 the indexes fit its range; 351 the vertices and instances fit the ranges of the vertex buffers
+-- rule 350: each vertex buffer of the pipeline is set (WebGPU, "valid to draw")
 abbrev pub vertex_buffers_rule : RenderSet → Rule
-vertex_buffers_rule render = (350, are_set (buffers_wanted render.set) render.ranges 0)
+vertex_buffers_rule render = (VERTEX_BUFFERS_ARE_SET, are_set (buffers_wanted render.set) render.ranges 0)
 
+-- rule 351: the ranges that are set serve the draw, which goes up to firstVertex and vertices together, and up to
+-- firstInstance and instances together; of an indexed draw instances alone are told
 abbrev pub draw_rule : RenderSet → Option ℕ → ℕ → Rule
-draw_rule render vertices instances = (351, draw_fits (buffers_wanted render.set) render.ranges vertices instances)
+draw_rule render vertices instances = (VERTEX_RANGES_SUFFICE, draw_fits (buffers_wanted render.set) render.ranges vertices instances)
 
+-- rule 352: an index buffer is set
 abbrev pub index_buffer_rule : RenderSet → Rule
-index_buffer_rule render = (352, is_some render.index)
+index_buffer_rule render = (INDEX_BUFFER_IS_SET, is_some render.index)
 
+-- the rules of a draw
 abbrev pub draw_rules : RenderSet → ℕ → ℕ → List Rule
 draw_rules render vertices instances = ready_rules render.set ++ vertex_buffers_rule render ∷ (draw_rule render (Some vertices) instances ∷ [])
 
+-- rule 353: the indexes of a draw fit the index buffer that is set
 abbrev pub indices_rule : RenderSet → ℕ → ℕ → Rule
-indices_rule render first indices = (353, indices_fit first indices render.index)
+indices_rule render first indices = (INDEX_RANGE_SUFFICES, indices_fit first indices render.index)
 
+-- the rules of a drawIndexed
 abbrev pub draw_indexed_rules : RenderSet → ℕ → ℕ → ℕ → List Rule
 draw_indexed_rules render first indices instances =
     ready_rules render.set
@@ -309,9 +338,11 @@ draw_indexed_rules render first indices instances =
     ∷ (draw_rule render None instances
     ∷ [])))
 
+-- the rules of a drawIndirect
 abbrev pub draw_indirect_rules : RenderSet → HandleValue → ℕ → List Rule
 draw_indirect_rules render buffer offset = ready_rules render.set ++ (indirect_rules buffer offset 16 ++ vertex_buffers_rule render ∷ [])
 
+-- the rules of a drawIndexedIndirect
 abbrev pub draw_indexed_indirect_rules : RenderSet → HandleValue → ℕ → List Rule
 draw_indexed_indirect_rules render buffer offset =
     ready_rules render.set ++ (indirect_rules buffer offset 20 ++ vertex_buffers_rule render ∷ (index_buffer_rule render ∷ []))
@@ -323,7 +354,8 @@ setting_rules (set_group index group offsets) = []
 setting_rules (set_vertex_buffer slot buffer offset size) = vertex_rules slot buffer offset (size_or_rest buffer offset size)
 setting_rules (set_index_buffer buffer format offset size) = index_rules buffer format offset (size_or_rest buffer offset size)
 
--- and of what draws
+-- the rules of a draw, by what is drawn: of a draw 350 and 351; of a drawIndexed 350, 352, 353 and 351; of a drawIndirect
+-- those of its buffer and 350; of a drawIndexedIndirect those of its buffer, 350 and 352
 abbrev pub running_rules : RenderSet → Running HandleValue → List Rule
 running_rules render (dispatch x y z) = []
 running_rules render (dispatch_indirect buffer offset) = []
@@ -332,6 +364,7 @@ running_rules render (draw_indexed indices instances first_index first_instance)
 running_rules render (draw_indirect buffer offset) = draw_indirect_rules render buffer offset
 running_rules render (draw_indexed_indirect buffer offset) = draw_indexed_indirect_rules render buffer offset
 
+-- the rules of what a command is to a render pass or a bundle encoder: what it sets, draws, asks or executes
 abbrev pub drawing_rules_by : RenderSet → Act HandleValue → List Rule
 drawing_rules_by render (begins begin) = []
 drawing_rules_by render (sets setting) = setting_rules setting
@@ -340,10 +373,13 @@ drawing_rules_by render (occludes call) = occlusion_rules render.queries render.
 drawing_rules_by render (executes bundles) = execute_rules render.targets bundles
 drawing_rules_by render neither = []
 
+-- the rules of what a command sets, draws, asks or executes in a render pass or a bundle
 abbrev pub drawing_rules : RenderSet → Command → List Rule
 drawing_rules render command = drawing_rules_by render (act command)
 
--- the rules of a command of the pass, over what is set, but for those on the objects that it names
+-- the rules of a command of a render pass or on a bundle encoder, over what is set, but for those on the objects that it
+-- names: of debug groups, of the end, 310 and then 311, of a pipeline that is set, of a group that is set, and of buffers,
+-- draws, queries and bundles
 abbrev pub render_rules : RenderSet → Command → List Rule
 render_rules render command =
     debug_rules render.set.depth command
@@ -361,5 +397,7 @@ render_does_by render brackets.PushGroup = None
 render_does_by render brackets.PopGroup = None
 render_does_by render brackets.Neither = None
 
+-- what a command of a render pass does: the end makes the pass's one step, which touches its attachments and what its commands
+-- touch, and no other command makes a step
 unfoldable pub render_does : RenderSet → Command → Option Doing
 render_does render command = render_does_by render (bracket command)

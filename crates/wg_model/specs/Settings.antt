@@ -1,7 +1,9 @@
 -- What is set in passes (WebGPU, "Programmable Passes"): the pipeline and the bind groups, with the rules that go by them, and
--- how many debug groups are open. The commands of a pass so far stand newest first.
+-- how many debug groups are open. The commands of a pass so far stand newest first. Also WebGPU, "Debug Markers", "Dispatch",
+-- "Drawing".
 use Rattle.std.specs.Prelude.{ℕ, ◌+◌, ◌-◌, ◌%◌, ◌==◌, nat_le, Bool, true, false, List, [], ◌∷◌, Option, Some, None, option_and_then, is_some, if◌then◌else◌}
 use Rattle.std.specs.Option.{option_or}
+use Rattle.wg_rules.specs.declared.TheConstants.{EVERY_DEBUG_GROUP_OF_PASS_IS_CLOSED, PIPELINE_IS_SET, INDIRECT_BUFFER_HAS_INDIRECT, INDIRECT_OFFSET_IS_ALIGNED, INDIRECT_ARGUMENTS_FIT_BUFFER}
 use Rattle.wg_types.specs.Handles.{HandleValue}
 use Rattle.wg_types.specs.Commands.{Command, bracket, Act, begins, sets, runs, occludes, executes, neither, act}
 use Rattle.wg_types.specs.Commands.{Setting, set_pipeline, set_group, set_vertex_buffer, set_index_buffer}
@@ -25,6 +27,7 @@ depth_by depth brackets.PushGroup = depth + 1
 depth_by depth brackets.PopGroup = depth - 1
 depth_by depth brackets.Neither = depth
 
+-- how many debug groups are open after a command, of so many before
 abbrev pub depth_after : ℕ → Command → ℕ
 depth_after depth command = depth_by depth (bracket command)
 
@@ -40,6 +43,7 @@ setting_pipeline (set_group index group offsets) = None
 setting_pipeline (set_vertex_buffer slot buffer offset size) = None
 setting_pipeline (set_index_buffer buffer format offset size) = None
 
+-- the pipeline that a command sets, by what it is to its pass
 abbrev pub pipeline_given_by : Act HandleValue → Option HandleValue
 pipeline_given_by (begins begin) = None
 pipeline_given_by (sets setting) = setting_pipeline setting
@@ -61,10 +65,11 @@ unsets_by (occludes call) = false
 unsets_by (executes bundles) = true
 unsets_by neither = false
 
+-- whether a command unsets all that is set: bundles that are executed do
 abbrev pub unsets : Command → Bool
 unsets command = unsets_by (act command)
 
--- the pipeline that is set: the last, since bundles were executed
+-- the pipeline that was set last, if one was since the pass began and since bundles were executed last
 abbrev pub pipeline_set : List Command → Option HandleValue
 pipeline_set [] = None
 pipeline_set (command ∷ earlier) = if unsets command then None else option_or (pipeline_given command) (pipeline_set earlier)
@@ -81,6 +86,7 @@ setting_group (set_group index group offsets) = Some (index, record { group = gr
 setting_group (set_vertex_buffer slot buffer offset size) = None
 setting_group (set_index_buffer buffer format offset size) = None
 
+-- the group that a command sets, with its index and offsets, by what it is to its pass
 abbrev pub group_given_by : Act HandleValue → Option (ℕ × BoundGroup)
 group_given_by (begins begin) = None
 group_given_by (sets setting) = setting_group setting
@@ -93,12 +99,13 @@ group_given_by neither = None
 abbrev pub group_given : Command → Option (ℕ × BoundGroup)
 group_given command = group_given_by (act command)
 
--- the group that is set at an index: the last, since bundles were executed
+-- the group, with its offsets, that was set last at an index, if one was since the pass began and since bundles were executed
+-- last
 abbrev pub group_set : List Command → ℕ → Option BoundGroup
 group_set [] at = None
 group_set (command ∷ earlier) at = if unsets command then None else slot_after (group_given command) at (group_set earlier at)
 
--- the groups that are set, by index
+-- the groups that are set at the indexes 0 to 3
 abbrev pub groups_set : List Command → List (Option BoundGroup)
 groups_set earlier = group_set earlier 0 ∷ (group_set earlier 1 ∷ (group_set earlier 2 ∷ (group_set earlier 3 ∷ [])))
 
@@ -108,6 +115,7 @@ pub record Settings : Type 0 where
   pub groups : List (Option BoundGroup)
   pub depth : ℕ
 
+-- what is set after commands of a pass, and how many of its debug groups are open
 abbrev pub settings : List Command → Settings
 settings earlier = record { pipeline = pipeline_set earlier; groups = groups_set earlier; depth = debug_depth earlier }
 
@@ -116,6 +124,7 @@ abbrev pub pipeline_layouts : Option HandleValue → List GroupLayoutInfo
 pipeline_layouts None = []
 pipeline_layouts (Some pipeline) = layouts_in pipeline.info
 
+-- the layouts of the groups of the pipeline that is set
 abbrev pub layouts_set : Settings → List GroupLayoutInfo
 layouts_set set = pipeline_layouts set.pipeline
 
@@ -127,11 +136,12 @@ owner_set set = option_and_then owner_of set.pipeline
 abbrev pub end_rules_by : ℕ → Bracket → List Rule
 end_rules_by depth brackets.BeginComputePass = []
 end_rules_by depth brackets.BeginRenderPass = []
-end_rules_by depth brackets.EndPass = (310, depth == 0) ∷ []
+end_rules_by depth brackets.EndPass = (EVERY_DEBUG_GROUP_OF_PASS_IS_CLOSED, depth == 0) ∷ []
 end_rules_by depth brackets.PushGroup = []
 end_rules_by depth brackets.PopGroup = []
 end_rules_by depth brackets.Neither = []
 
+-- the rule of the end of a pass: 310 no debug group of it is open
 abbrev pub end_rules : ℕ → Command → List Rule
 end_rules depth command = end_rules_by depth (bracket command)
 
@@ -142,15 +152,15 @@ given_rules (Some given) = set_rules given.0 (known_group given.1.group) given.1
 
 -- dispatches and draws: 340 a pipeline is set, and then the rules of the groups
 abbrev pub ready_rules : Settings → List Rule
-ready_rules set = (340, is_some set.pipeline) ∷ bound_rules (owner_set set) (layouts_set set) set.groups
+ready_rules set = (PIPELINE_IS_SET, is_some set.pipeline) ∷ bound_rules (owner_set set) (layouts_set set) set.groups
 
 -- what is asked of an indirect buffer (WebGPU, "dispatchWorkgroupsIndirect" and "drawIndirect"): 344 it has INDIRECT 256; 345
 -- the offset is a multiple of 4; 346 the bytes from there on fit
 abbrev pub indirect_rules : HandleValue → ℕ → ℕ → List Rule
 indirect_rules buffer offset bytes =
-    (344, has_usage (buffer_of buffer).usage 256)
-    ∷ ((345, offset % 4 == 0)
-    ∷ ((346, nat_le (offset + bytes) (buffer_of buffer).size)
+    (INDIRECT_BUFFER_HAS_INDIRECT, has_usage (buffer_of buffer).usage 256)
+    ∷ ((INDIRECT_OFFSET_IS_ALIGNED, offset % 4 == 0)
+    ∷ ((INDIRECT_ARGUMENTS_FIT_BUFFER, nat_le (offset + bytes) (buffer_of buffer).size)
     ∷ []))
 
 -- an indirect call reads its numbers

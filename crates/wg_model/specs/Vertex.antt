@@ -2,6 +2,7 @@
 -- "valid to draw").
 use Rattle.std.specs.Prelude.{ℕ, ◌+◌, ◌-◌, ◌*◌, ◌%◌, ◌==◌, nat_le, nat_lt, min, max, Bool, true, not, ◌&&◌, ◌||◌, List, [], ◌∷◌, Option, Some, None, unwrap_or, length, slice_index_or, if◌then◌else◌}
 use Rattle.std.specs.List.{list_all, list_any, flat_map}
+use Rattle.wg_rules.specs.declared.TheConstants.{VERTEX_BUFFERS_ARE_WITHIN_LIMITS, VERTEX_ATTRIBUTES_FIT}
 use Rattle.wg_types.specs.Vertex.{vertex_bytes}
 use Rattle.wg_types.specs.declared.limits.Limits.{Limits}
 use Rattle.wg_types.specs.declared.vertex.VertexStep.{VertexStep}
@@ -31,10 +32,12 @@ attribute_end attribute = attribute.offset + vertex_bytes attribute.format
 abbrev pub attribute_room : Limits → VertexBuffer → ℕ
 attribute_room limits buffer = if buffer.stride == 0 then limits.max_vertex_buffer_array_stride else buffer.stride
 
--- whether an attribute ends there at the most, and has an offset that is a multiple of the lesser of 4 and its bytes
+-- whether an attribute ends within the room of its buffer, and has an offset that is a multiple of the lesser of 4 and its
+-- bytes
 abbrev pub attribute_fits : ℕ → VertexAttribute → Bool
 attribute_fits room attribute = nat_le (attribute_end attribute) room && attribute.offset % min 4 (vertex_bytes attribute.format) == 0
 
+-- whether each attribute of a vertex buffer fits it
 abbrev pub attributes_fit : Limits → VertexBuffer → Bool
 attributes_fit limits buffer = list_all (attribute_fits (attribute_room limits buffer)) buffer.attributes
 
@@ -42,9 +45,16 @@ attributes_fit limits buffer = list_all (attribute_fits (attribute_room limits b
 -- strides are multiples of 4 within the limit. 162 locations are below the limit of attributes, and distinct in all buffers
 -- together; each attribute fits its buffer.
 unfoldable pub layout_rules : Limits → List VertexBuffer → List Rule
-layout_rules limits buffers =
-    (161, nat_le (length buffers) limits.max_vertex_buffers && (nat_le (length (all_attributes buffers)) limits.max_vertex_attributes && list_all (stride_fits limits) buffers))
-    ∷ ((162, list_all (λ (attribute : VertexAttribute). nat_lt attribute.location limits.max_vertex_attributes) (all_attributes buffers) && (locations_are_distinct (all_attributes buffers) && list_all (attributes_fit limits) buffers))
+layout_rules limits buffers = (
+  VERTEX_BUFFERS_ARE_WITHIN_LIMITS,
+  nat_le (length buffers) limits.max_vertex_buffers
+      && (nat_le (length (all_attributes buffers)) limits.max_vertex_attributes && list_all (stride_fits limits) buffers),
+)
+    ∷ ((
+      VERTEX_ATTRIBUTES_FIT,
+      list_all (λ (attribute : VertexAttribute). nat_lt attribute.location limits.max_vertex_attributes) (all_attributes buffers)
+          && (locations_are_distinct (all_attributes buffers) && list_all (attributes_fit limits) buffers),
+    )
     ∷ [])
 
 -- the greatest end of an attribute, or 0 where there is none
@@ -63,10 +73,12 @@ abbrev pub bytes_serve : VertexBuffer → ℕ → Option ℕ → Bool
 bytes_serve buffer bytes None = true
 bytes_serve buffer bytes (Some count) = (count == 0) || nat_le ((count - 1) * buffer.stride + last_end buffer.attributes) bytes
 
--- the same of each buffer, the first of which has this slot; where no range is set there are no bytes
+-- whether the range at each slot serves the vertex buffer of that slot, the first of which is given; where no range is set
+-- there are no bytes
 abbrev pub ranges_serve : List VertexBuffer → List (Option ℕ) → ℕ → Option ℕ → ℕ → Bool
 ranges_serve [] ranges slot vertices instances = true
 ranges_serve (buffer ∷ buffers) ranges slot vertices instances = bytes_serve buffer (unwrap_or (slice_index_or ranges slot None) 0) (counted_by_step buffer.step vertices instances) && ranges_serve buffers ranges (slot + 1) vertices instances
 
+-- whether the ranges that are set at the slots of vertex buffers serve a draw
 unfoldable pub draw_fits : List VertexBuffer → List (Option ℕ) → Option ℕ → ℕ → Bool
 draw_fits buffers ranges vertices instances = ranges_serve buffers ranges 0 vertices instances

@@ -2,6 +2,7 @@
 -- (WebGPU, "Command Encoding", "encoder state"). An encoder is unlocked, or locked by the one pass that is open on it.
 use Rattle.std.specs.Prelude.{ℕ, ◌+◌, ◌==◌, ◌&&◌, ◌||◌, Bool, false, List, [], ◌∷◌, ◌++◌, map, Option, Some, None, is_none, option_to_list, reverse, if◌then◌else◌}
 use Rattle.std.specs.Option.{option_or}
+use Rattle.wg_rules.specs.declared.TheConstants.{NO_PASS_IS_OPEN}
 use Rattle.wg_types.specs.declared.commands.On.{On}
 use Rattle.wg_types.specs.declared.commands.On.TheVariants.{Encoder, Pass}
 use Rattle.wg_types.specs.Commands.{Command}
@@ -20,9 +21,9 @@ use Rattle.wg_model.specs.Bundles.{bundle_touches, references_within}
 use Rattle.wg_types.specs.declared.bundles.BundleInfo.{BundleInfo}
 use Rattle.wg_types.specs.declared.bundles.BundleTouch.{BundleTouch}
 use Rattle.wg_types.specs.declared.render.TargetInfo.{TargetInfo}
-use Rattle.wg_types.specs.declared.steps.StepName.TheVariants as name
+use Rattle.wg_trace.specs.declared.steps.StepName.TheVariants as name
 use Rattle.wg_model.specs.Scopes.{Use}
-use Rattle.wg_types.specs.declared.steps.Deed.{Deed}
+use Rattle.wg_trace.specs.declared.steps.Deed.{Deed}
 
 -- The kept commands, newest first, each with the encoder or pass that it stands on.
 abbrev pub Kept : Type 0
@@ -45,12 +46,12 @@ abbrev pub compute_rule : ℕ → Settings → Command → Option ℕ
 compute_rule device set command =
     option_or (first_unmet (common_rules device (named_on kind.ComputePass command))) (first_unmet (compute_rules set command))
 
--- and of a command of a render pass
+-- the first unmet rule of a command of a render pass, over what is set
 abbrev pub render_rule : ℕ → RenderSet → Command → Option ℕ
 render_rule device set command =
     option_or (first_unmet (common_rules device (named_on kind.RenderPass command))) (first_unmet (render_rules set command))
 
--- the same after the earlier commands; only a begin begins a pass
+-- the first unmet rule of a command of a pass after the earlier ones, by how the pass was begun
 abbrev pub rule_by : ℕ → RenderBegin → Bracket → List Command → Command → Option ℕ
 rule_by device begin brackets.BeginComputePass earlier command = compute_rule device (settings earlier) command
 rule_by device begin brackets.BeginRenderPass earlier command = render_rule device (render_set begin earlier) command
@@ -59,20 +60,23 @@ rule_by device begin brackets.PushGroup earlier command = None
 rule_by device begin brackets.PopGroup earlier command = None
 rule_by device begin brackets.Neither earlier command = None
 
+-- the first unmet rule of a command of a pass, after the earlier ones: of those on the objects that it names there, and then
+-- of its own by the kind of the pass
 abbrev pub rule_in : ℕ → Command → List Command → Command → Option ℕ
 rule_in device begin earlier command = rule_by device (begin_of begin) (bracket begin) earlier command
 
--- a pass's own first unmet rule
+-- a pass's own first unmet rule, that of its begin first, its end's rules 310 and 311 included
 abbrev pub pass_rule : ℕ → Command → List Command → Option ℕ
 pass_rule device begin [] = begun_rule device begin
 pass_rule device begin (command ∷ earlier) = option_or (pass_rule device begin earlier) (rule_in device begin earlier command)
 
--- a bundle encoder is one place, on which commands stand as on a render pass that draws to its targets
+-- what a command on a bundle encoder gives it: the first unmet rule of those on the objects that it names there, and then of
+-- those of a render pass that draws to its targets, over what is set in the bundle
 abbrev pub bundle_rule : ℕ → TargetInfo → List Command → Command → Option ℕ
 bundle_rule device targets earlier command =
     option_or (first_unmet (common_rules device (named_on kind.BundleEncoder command))) (first_unmet (render_rules (bundle_set targets earlier) command))
 
--- the rule that invalidated a bundle encoder first
+-- the rule that invalidated a bundle encoder first: the first that a command gave it
 abbrev pub bundle_verdict : ℕ → TargetInfo → List Command → Option ℕ
 bundle_verdict device targets [] = None
 bundle_verdict device targets (command ∷ earlier) = option_or (bundle_verdict device targets earlier) (bundle_rule device targets earlier command)
@@ -86,11 +90,13 @@ does_by begin brackets.PushGroup earlier command = None
 does_by begin brackets.PopGroup earlier command = None
 does_by begin brackets.Neither earlier command = None
 
+-- what a command of a pass does, after the earlier ones
 abbrev pub pass_does : Command → List Command → Command → Option Doing
 pass_does begin earlier command = does_by (begin_of begin) (bracket begin) earlier command
 
 -- The encoder.
 
+-- whether a command on an encoder begins a pass
 abbrev pub begins_pass : On → Command → Bool
 begins_pass Encoder command = is_begin command
 begins_pass (Pass number) command = false
@@ -115,11 +121,13 @@ abbrev pub pass_begun : Option PassSoFar → ℕ → Command → Option PassSoFa
 pass_begun (Some pass) number command = Some pass
 pass_begun None number command = if is_begin command then Some (record { number = number; begin = command; earlier = [] }) else None
 
+-- the open pass after one more command, if one is open
 abbrev pub open_after : Option PassSoFar → ℕ → On → Command → Option PassSoFar
 open_after opened number Encoder command = pass_begun opened number command
 open_after opened number (Pass pass) command = if is_open opened pass then pass_after opened command else opened
 
--- the open pass, which locks the encoder, or none where the encoder is unlocked
+-- the one pass that is open, which locks the encoder, if there is one: it was begun on an unlocked encoder and has not ended;
+-- a pass that is begun on a locked one is dead, and its commands, its end too, are kept without effect
 abbrev pub open_pass : Kept → Option PassSoFar
 open_pass [] = None
 open_pass (kept ∷ older) = open_after (open_pass older) (begins older) kept.0 kept.1
@@ -129,7 +137,7 @@ abbrev pub ends : Option PassSoFar → On → Command → ℕ → Bool
 ends opened Encoder command number = false
 ends opened (Pass pass) command number = is_open opened pass && is_end command && (pass == number)
 
--- whether a pass has ended
+-- whether a pass has ended: it was open and an end on it was kept; a dead pass never has
 abbrev pub has_ended : Kept → ℕ → Bool
 has_ended [] number = false
 has_ended (kept ∷ older) number = ends (open_pass older) kept.0 kept.1 number || has_ended older number
@@ -139,10 +147,12 @@ abbrev pub depth_free : ℕ → Option PassSoFar → Command → ℕ
 depth_free depth None command = depth_after depth command
 depth_free depth (Some pass) command = depth
 
+-- how many debug groups of the encoder itself are open after one more command
 abbrev pub depth_on : ℕ → Option PassSoFar → On → Command → ℕ
 depth_on depth opened Encoder command = depth_free depth opened command
 depth_on depth opened (Pass pass) command = depth
 
+-- how many debug groups of the encoder itself are open
 abbrev pub encoder_depth : Kept → ℕ
 encoder_depth [] = 0
 encoder_depth (kept ∷ older) = depth_on (encoder_depth older) (open_pass older) kept.0 kept.1
@@ -155,15 +165,16 @@ handed device (Some pass) command = if is_end command then pass_rule device pass
 -- what a command on the encoder gives it: on a locked one rule 240, on an unlocked one its own first unmet rule; that of a
 -- begin goes to the pass that it begins
 abbrev pub encoder_gives : ℕ → Option PassSoFar → ℕ → Command → Option ℕ
-encoder_gives device (Some pass) depth command = Some 240
+encoder_gives device (Some pass) depth command = Some NO_PASS_IS_OPEN
 encoder_gives device None depth command = if is_begin command then None else first_unmet (command_rules device depth command)
 
--- what a command gives the encoder; of a pass only the end of the open one gives it something
+-- what a command gives the encoder: on an unlocked one its own first unmet rule, on a locked one 240; the end of the open pass
+-- hands over that pass's rule; other commands of passes give nothing
 abbrev pub given : ℕ → Option PassSoFar → ℕ → On → Command → Option ℕ
 given device opened depth Encoder command = encoder_gives device opened depth command
 given device opened depth (Pass pass) command = if is_open opened pass then handed device opened command else None
 
--- the rule that invalidated the encoder first
+-- the rule that invalidated the encoder first: the first that a command gave it
 abbrev pub verdict : ℕ → Kept → Option ℕ
 verdict device [] = None
 verdict device (kept ∷ older) = option_or (verdict device older) (given device (open_pass older) (encoder_depth older) kept.0 kept.1)
@@ -174,11 +185,13 @@ verdict device (kept ∷ older) = option_or (verdict device older) (given device
 abbrev pub bundled : List (On × Command) → List Command
 bundled commands = map (λ (kept : On × Command). kept.1) (reverse commands)
 
+-- the rule that invalidated the encoder or bundle encoder of a recording first, if one did
 abbrev pub Verdict : ℕ → Option TargetInfo → List (On × Command) → Option ℕ
 Verdict device None commands = verdict device (reverse commands)
 Verdict device (Some targets) commands = bundle_verdict device targets (bundled commands)
 
--- whether a debug group of the encoder itself is open
+-- how many debug groups of the encoder of a recording are open, not counting those of its passes; of a bundle encoder all that
+-- are open
 abbrev pub open_depth : Option TargetInfo → List (On × Command) → ℕ
 open_depth None commands = encoder_depth (reverse commands)
 open_depth (Some targets) commands = debug_depth (bundled commands)
@@ -188,18 +201,22 @@ abbrev pub does_within : Option PassSoFar → Command → Option Doing
 does_within None command = None
 does_within (Some pass) command = pass_does pass.begin pass.earlier command
 
+-- what a command on a pass does, which on a pass that is not the open one is nothing
 abbrev pub does_in_pass : Option PassSoFar → ℕ → Command → Option Doing
 does_in_pass opened pass command = if is_open opened pass then does_within opened command else None
 
+-- what a command does on what it stands
 abbrev pub does_at : Option PassSoFar → On → Command → Option Doing
 does_at opened Encoder command = encoder_does command
 does_at opened (Pass pass) command = does_in_pass opened pass command
 
+-- what the kept commands do, in order, each with the name of its step and what it touches: on the encoder copies, clears and
+-- resolves of query sets, in an open compute pass dispatches, and in an open render pass its end; a dead pass does nothing
 abbrev pub doings : Kept → List Doing
 doings [] = []
 doings (kept ∷ older) = doings older ++ option_to_list (does_at (open_pass older) kept.0 kept.1)
 
--- the same as it is printed, without a place
+-- what the kept commands do as it is printed, without a place
 abbrev pub deeds : Kept → List Deed
 deeds kept = map deed_of (doings kept)
 
@@ -208,25 +225,31 @@ abbrev pub scopes_at : Option PassSoFar → On → Command → List (List Use)
 scopes_at opened Encoder command = []
 scopes_at opened (Pass pass) command = map scope_in (option_to_list (does_in_pass opened pass command))
 
+-- the usage scopes that the kept commands complete, in order: what each dispatch uses is one, and what each render pass that
+-- has ended uses, but for its query set
 abbrev pub usage_scopes : Kept → List (List Use)
 usage_scopes [] = []
 usage_scopes (kept ∷ older) = usage_scopes older ++ scopes_at (open_pass older) kept.0 kept.1
 
--- the scopes of a recording that has no verdict and no open pass; all that is set in a bundle is one
+-- the usage scopes of an encoder's commands, where there is no verdict and no open pass, and else none
 abbrev pub encoder_scopes : ℕ → Kept → List (List Use)
 encoder_scopes device kept = if is_none (verdict device kept) && is_none (open_pass kept) then usage_scopes kept else []
 
+-- the usage scope of a bundle: all that its commands touch, where no rule is unmet, and else none
 abbrev pub bundle_scopes : ℕ → TargetInfo → List Command → List (List Use)
 bundle_scopes device targets earlier = if is_none (bundle_verdict device targets earlier) then scope_in (name.RenderPass, (bundle_set targets earlier).touches) ∷ [] else []
 
+-- the usage scopes of a recording, in order: of an encoder's none where there is a verdict or an open pass; of a bundle
+-- encoder's one, of all that is set in the bundle, and none where there is a verdict
 abbrev pub ScopesOf : ℕ → Option TargetInfo → List (On × Command) → List (List Use)
 ScopesOf device None commands = encoder_scopes device (reverse commands)
 ScopesOf device (Some targets) commands = bundle_scopes device targets (bundled commands)
 
--- what a recording does that has no verdict and no open pass; another does nothing, and neither does that of a bundle encoder
+-- what an encoder's commands do as it is printed, where there is no verdict and no open pass, and else nothing
 abbrev pub encoder_deeds : ℕ → Kept → List Deed
 encoder_deeds device kept = if is_none (verdict device kept) && is_none (open_pass kept) then deeds kept else []
 
+-- what the commands of a recording do, in order; of a bundle encoder's nothing
 abbrev pub DeedsOf : ℕ → Option TargetInfo → List (On × Command) → List Deed
 DeedsOf device None commands = encoder_deeds device (reverse commands)
 DeedsOf device (Some targets) commands = []
@@ -235,10 +258,11 @@ DeedsOf device (Some targets) commands = []
 abbrev pub recorded_touches : ℕ → TargetInfo → List Command → List BundleTouch
 recorded_touches device targets earlier = if is_none (bundle_verdict device targets earlier) then bundle_touches (bundle_set targets earlier).touches else []
 
--- the targets of a recording that comes after the first of a bundle encoder, or of an encoder that is none
+-- the targets of nothing, as of a recording that comes after the first of a bundle encoder
 abbrev pub no_targets : TargetInfo
 no_targets = record { colors = []; depth = None; samples = 1; depth_read_only = false; stencil_read_only = false }
 
+-- what is known of the bundle that a recording makes; of an encoder's, one without targets that touches nothing
 abbrev pub bundle_of : ℕ → Option TargetInfo → List (On × Command) → BundleInfo
 bundle_of device None commands = record { targets = no_targets; named = references_within commands; touches = [] }
 bundle_of device (Some targets) commands =

@@ -50,6 +50,7 @@ pub record IsOn {R : Type 0} (made ours : Made R) (on : R) (command : CommandOf 
   pub takes : admits (place_wanted command) place ≡ true
   pub found : All (IsFound made ours) (named_on place command)
 
+-- Each name that a call uses was made before, and stands for what is wanted.
 abbrev pub CallIsBound : {R : Type 0} → Made R → Made R → CallOf R → Type 0
 CallIsBound made ours (Record on command name) = IsOn made ours on command
 CallIsBound made ours (Ask request name) = All (IsFound made ours) (asked_of request)
@@ -72,10 +73,12 @@ configured_on canvas (Configure format usage) = canvas ∷ []
 configured_on canvas Current = []
 configured_on canvas Present = []
 
+-- the canvas that a call of a canvas configures, if it does
 abbrev pub configured_in : {R : Type 0} → CanvasOf R → List R
 configured_in (Create width height) = []
 configured_in (On canvas call) = configured_on canvas call
 
+-- the canvas that a call configures, if it does
 abbrev pub configured_by : {R : Type 0} → CallOf R → List R
 configured_by (Record on command made) = []
 configured_by (Ask request made) = []
@@ -87,10 +90,12 @@ IsConfigured done canvas (Configure format usage) = Unit {0}
 IsConfigured done canvas Current = Contains done canvas
 IsConfigured done canvas Present = Unit {0}
 
+-- A call for a current texture is of a canvas that was configured; of other calls of canvases nothing is said.
 abbrev pub CanvasIsSet : {R : Type 0} → List R → CanvasOf R → Type 0
 CanvasIsSet done (Create width height) = Unit {0}
 CanvasIsSet done (On canvas call) = IsConfigured done canvas call
 
+-- A call for a current texture is of a canvas that was configured; of other calls nothing is said.
 abbrev pub CallIsSet : {R : Type 0} → List R → CallOf R → Type 0
 CallIsSet done (Record on command made) = Unit {0}
 CallIsSet done (Ask request made) = Unit {0}

@@ -30,6 +30,7 @@ pub record Names : Type 0 where
   pub made : ℕ
   pub configured : List ℕ → Bool
 
+-- no name was made
 abbrev pub no_names : Names
 no_names = record { marks = λ name. None; made = 0; configured = λ name. false }
 

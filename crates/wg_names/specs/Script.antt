@@ -44,6 +44,7 @@ abbrev pub check_canvas : Names → CanvasOf (List ℕ) → Result ⊤ ℕ
 check_canvas names (Create width height) = Ok tt
 check_canvas names (On canvas call) = check_configured names canvas call
 
+-- script rule 15: a call for a current texture is of a canvas that was configured before
 abbrev pub check_setting : Names → Call → Result ⊤ ℕ
 check_setting names (Record on command made) = Ok tt
 check_setting names (Ask request made) = Ok tt
@@ -54,6 +55,7 @@ abbrev pub noted_canvas : CanvasOf (List ℕ) → Names → Names
 noted_canvas (Create width height) names = names
 noted_canvas (On canvas call) names = after_canvas canvas call names
 
+-- the names, with the canvas noted that a call configures, if it does
 abbrev pub with_setting : Call → Names → Names
 with_setting (Record on command made) names = names
 with_setting (Ask request made) names = names
@@ -75,12 +77,15 @@ abbrev pub walk : {X : Type 0} → (ℕ → Names → X → Result Names Stop) �
 walk f i names [] = Ok names
 walk f i names (x ∷ xs) = f i names x >>= λ more. walk f (i + 1) more xs
 
+-- the names after the calls of a lane, or the first refusal
 abbrev pub lane_bound : ℕ → ℕ → Names → List Call → Result Names Stop
 lane_bound p l names calls = walk (call_bound p l) 0 names calls
 
+-- the names after the lanes of a phase, or the first refusal
 abbrev pub phase_bound : ℕ → Names → List (List Call) → Result Names Stop
 phase_bound p names lanes = walk (lane_bound p) 0 names lanes
 
+-- the names after all phases, or the first refusal
 abbrev pub phases_bound : List (List (List Call)) → Result Names Stop
 phases_bound phases = walk phase_bound 0 no_names phases
 
@@ -90,9 +95,11 @@ phases_bound phases = walk phase_bound 0 no_names phases
 abbrev pub map_lane : {R S : Type 0} → (R → S) → List (CallOf R) → List (CallOf S)
 map_lane f calls = map (map_call f) calls
 
+-- the lanes of a phase with what stands for each name in place of it
 abbrev pub map_phase : {R S : Type 0} → (R → S) → List (List (CallOf R)) → List (List (CallOf S))
 map_phase f lanes = map (map_lane f) lanes
 
+-- phases with what stands for each name in place of it
 abbrev pub map_phases : {R S : Type 0} → (R → S) → List (List (List (CallOf R))) → List (List (List (CallOf S)))
 map_phases f phases = map (map_phase f) phases
 

@@ -50,16 +50,18 @@ made_as (Some name) (Some kind) = Some (name, kind)
 made_as (Some name) None = None
 made_as None kind = None
 
+-- the name that a call makes, with what that stands for, if it makes one
 abbrev pub made_of : {R : Type 0} → CallOf R → Option (R × Kind)
 made_of (Record on command made) = made_as made (kind_begun command)
 made_of (Ask request made) = made_as made (kind_made request)
 made_of (Canvas call made) = made_as made (canvas_made call)
 
--- the rule that a test of a name found broken, and what it refuses
+-- the rule that a test of a name found broken, if it did
 abbrev pub broken : Result ⊤ ℕ → Option ℕ
 broken (Ok fine) = None
 broken (Err rule) = Some rule
 
+-- a refusal by a rule, if there is one
 abbrev pub refused : Option ℕ → Result ⊤ ℕ
 refused None = Ok tt
 refused (Some rule) = Err rule

@@ -1,5 +1,5 @@
 //! The names that calls have made so far.
-ghost use Rattle.std.specs.Prelude.{◌≡◌, ◌||◌, ◌&&◌, ◌==◌, nat_lt, OnOk, OnErr, is_none};
+ghost use Rattle.std.specs.Prelude.{◌≡◌, ◌||◌, ◌&&◌, ◌==◌, OnOk, OnErr, is_none};
 ghost use Rattle.wg_names.specs.Names.{no_names, with_name, with_configured, slot_in, kind_in, is_own, is_visible, check_wanted, check_use};
 ghost use Rattle.wg_names.specs.Uses.{wants_own};
 

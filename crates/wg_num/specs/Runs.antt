@@ -1,6 +1,7 @@
 -- Sets of numbers as sorted runs that do not touch.
 use Rattle.std.specs.Prelude.{◌≡◌, ℕ, ◌+◌, ◌<◌, ◌≤◌, ◌&&◌, ◌||◌, Bool, true, false, nat_lt, nat_le, min, max, List, [], ◌∷◌, ◌++◌, if◌then◌else◌}
 
+-- runs of numbers, each from its first up to but not including its second
 abbrev pub Runs : Type 0
 Runs = List (ℕ × ℕ)
 
@@ -23,6 +24,7 @@ abbrev pub with_run : ℕ → ℕ → Runs → Runs
 with_run lo hi [] = (lo, hi) ∷ []
 with_run lo hi (x ∷ xs) = if nat_lt x.1 lo then x ∷ with_run lo hi xs else (if nat_lt hi x.0 then (lo, hi) ∷ (x ∷ xs) else with_run (min lo x.0) (max hi x.1) xs)
 
+-- runs with one more, where that has a number
 abbrev pub insert_run : ℕ → ℕ → Runs → Runs
 insert_run lo hi runs = if nat_lt lo hi then with_run lo hi runs else runs
 
@@ -30,6 +32,7 @@ insert_run lo hi runs = if nat_lt lo hi then with_run lo hi runs else runs
 abbrev pub full_run : ℕ → ℕ → Runs
 full_run lo hi = if nat_lt lo hi then (lo, hi) ∷ [] else []
 
+-- runs without the numbers from lo up to but not including hi
 abbrev pub cut_runs : ℕ → ℕ → Runs → Runs
 cut_runs lo hi [] = []
 cut_runs lo hi (x ∷ xs) = full_run x.0 (min x.1 lo) ++ full_run (max x.0 hi) x.1 ++ cut_runs lo hi xs

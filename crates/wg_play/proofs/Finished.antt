@@ -14,7 +14,7 @@ use Rattle.wg_types.specs.declared.wanted.Wanted.TheVariants as wanted
 use Rattle.wg_types.specs.Wanted.{admits}
 use Rattle.wg_types.specs.Commands.{place_wanted, kind_begun}
 use Rattle.wg_types.specs.declared.commands.CommandOf.{CommandOf}
-use Rattle.wg_types.specs.declared.replies.Answer.{Answer}
+use Rattle.wg_trace.specs.declared.replies.Answer.{Answer}
 use Rattle.wg_encoder.specs.Recorders.{RecorderValue, has_taken}
 use Rattle.wg_script.specs.CallOf.{BoundCall}
 use Rattle.wg_script.specs.declared.calls.CallOf.TheVariants.{Record, Ask, Canvas}
@@ -22,7 +22,8 @@ use Rattle.wg_names.specs.Uses.{made_of}
 use Rattle.wg_names.specs.Bound.{made_by, made_in, CallIsBound, LaneIsBound}
 use Rattle.wg_play.specs.declared.objects.Object.{Object}
 use Rattle.wg_play.specs.declared.objects.Object.TheVariants as object
-use Rattle.wg_play.specs.Objects.{recorder_at, ended_by}
+use Rattle.wg_calls.specs.Encoders.{ended_by}
+use Rattle.wg_play.specs.Objects.{recorder_at}
 use Rattle.wg_play.specs.Sights.{Sight, place_in}
 use Rattle.wg_play.specs.Found.{is_pass, has_recorder, StandsAt}
 use Rattle.wg_play.specs.Late.{Answered, Answers, IsAnswered, after_call, after_calls, finishes}

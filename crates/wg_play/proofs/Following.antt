@@ -10,8 +10,8 @@ use Rattle.wg_types.specs.Requests.{kind_made, map_refs as map_asked}
 use Rattle.wg_types.specs.declared.canvases.CanvasOf.{CanvasOf}
 use Rattle.wg_types.specs.declared.commands.CommandOf.{CommandOf}
 use Rattle.wg_types.specs.declared.handles.Info.{Info}
-use Rattle.wg_types.specs.declared.replies.Answer.{Answer}
-use Rattle.wg_types.specs.declared.replies.Answer.TheVariants.{Made, Queued, Promised, Plain, BadCompletion}
+use Rattle.wg_trace.specs.declared.replies.Answer.{Answer}
+use Rattle.wg_trace.specs.declared.replies.Answer.TheVariants.{Made, Queued, Promised, Plain, BadCompletion}
 use Rattle.wg_types.specs.declared.requests.RequestOf.{RequestOf}
 use Rattle.wg_types.specs.declared.requests.RequestOf.TheVariants.{CreateBuffer, CreateTexture, CreateView, CreateSampler, CreateBindGroupLayout, CreatePipelineLayout, CreateBindGroup, CreateComputePipeline, CreateRenderPipeline, GetBindGroupLayout, CreateQuerySet, CreateEncoder, CreateBundleEncoder, Finish, FinishBundle, Submit, WriteBuffer, WriteTexture, Destroy, Drop, Complete, PushErrorScope, PopErrorScope, Lose, WorkDone, MapAsync, Unmap}
 use Rattle.wg_types.specs.declared.wanted.Kind.{Kind}
@@ -24,7 +24,8 @@ use Rattle.wg_names.specs.Uses.{made_as, made_of}
 use Rattle.wg_play.specs.declared.objects.Object.{Object}
 use Rattle.wg_play.specs.Canvases.{given_by}
 use Rattle.wg_play.specs.Found.{CanvasIsSeen}
-use Rattle.wg_play.specs.Objects.{recorder_at, is_late_on, taken_on, ended_by, object_of}
+use Rattle.wg_calls.specs.Encoders.{ended_by}
+use Rattle.wg_play.specs.Objects.{recorder_at, is_late_on, taken_on, object_of}
 use Rattle.wg_play.specs.Sights.{Sight, place_in, handle_in_sight}
 use Rattle.wg_play.specs.Lanes.{canvas_asks, drawn, command_seen, stand_seen, noted_on, finish_known, request_seen, info_sent, with_handle, handle_known, handle_kept}
 use Rattle.wg_play.specs.Late.{Answers, is_made, after_call}

@@ -19,8 +19,8 @@ use Rattle.wg_types.specs.declared.commands.Bracket.TheVariants as brackets
 use Rattle.wg_types.specs.declared.commands.On.{On}
 use Rattle.wg_types.specs.declared.handles.Info.{Info}
 use Rattle.wg_types.specs.declared.handles.Info.TheVariants as info
-use Rattle.wg_types.specs.declared.replies.Answer.{Answer}
-use Rattle.wg_types.specs.declared.replies.Answer.TheVariants.{Made, Queued, Promised, Plain, BadCompletion}
+use Rattle.wg_trace.specs.declared.replies.Answer.{Answer}
+use Rattle.wg_trace.specs.declared.replies.Answer.TheVariants.{Made, Queued, Promised, Plain, BadCompletion}
 use Rattle.wg_types.specs.declared.requests.RequestOf.TheVariants.{Destroy}
 use Rattle.wg_types.specs.declared.textures.TextureInfo.{TextureInfo}
 use Rattle.wg_types.specs.declared.wanted.Wanted.TheVariants as wanted
@@ -41,7 +41,8 @@ use Rattle.wg_play.specs.declared.objects.Object.{Object}
 use Rattle.wg_play.specs.declared.objects.Object.TheVariants as object
 use Rattle.wg_play.specs.declared.objects.Stand.{Stand}
 use Rattle.wg_play.specs.Canvases.{canvas_in, canvas_at, redrawn, asked_at, given_by, acted_at, shown_at}
-use Rattle.wg_play.specs.Objects.{changed, with_recorder, is_begun, recorded_by, recorded_on, passes_at, begun_by, ended_by, object_of}
+use Rattle.wg_calls.specs.Encoders.{is_begun, ended_by}
+use Rattle.wg_play.specs.Objects.{changed, with_recorder, recorded_by, recorded_on, passes_at, begun_by, object_of}
 use Rattle.wg_play.specs.Sights.{Sight, place_in, handle_in_sight}
 use Rattle.wg_play.specs.Lanes.{canvas_asks, new_canvas, drawn, command_seen, stand_seen, handle_kept}
 use Rattle.wg_play.specs.Late.{Answered, is_made, Answers, IsAnswered, after_call, after_calls}

@@ -16,7 +16,8 @@ use Rattle.wg_script.specs.declared.calls.CallOf.TheVariants.{Record}
 use Rattle.wg_names.specs.Bound.{made_by, made_in, LaneIsBound}
 use Rattle.wg_play.specs.declared.objects.Object.{Object}
 use Rattle.wg_play.specs.declared.objects.Stand.{Stand}
-use Rattle.wg_play.specs.Objects.{recorder_at, stand_at, is_begun, is_late_by, is_late_on}
+use Rattle.wg_calls.specs.Encoders.{is_begun}
+use Rattle.wg_play.specs.Objects.{recorder_at, stand_at, is_late_by, is_late_on}
 use Rattle.wg_play.specs.Sights.{Sight}
 use Rattle.wg_play.specs.Lanes.{stand_seen}
 use Rattle.wg_play.specs.Late.{Answered, after_calls, slots_before, finishes, pass_ended, has_pass_ended, LateIsFinished}

@@ -7,7 +7,7 @@ use Rattle.wg_types.specs.Handles.{HandleValue}
 use Rattle.wg_types.specs.declared.canvases.CanvasOf.{CanvasOf}
 use Rattle.wg_types.specs.declared.canvases.CanvasOf.TheVariants.{Create, On as OnCanvas}
 use Rattle.wg_types.specs.declared.commands.On.{On}
-use Rattle.wg_types.specs.declared.replies.Answer.{Answer}
+use Rattle.wg_trace.specs.declared.replies.Answer.{Answer}
 use Rattle.wg_types.specs.Commands.{Command}
 use Rattle.wg_model.specs.Walk.{begins_pass}
 use Rattle.wg_canvas.specs.Canvases.{acted}
@@ -20,7 +20,8 @@ use Rattle.wg_play.specs.declared.objects.Object.{Object}
 use Rattle.wg_play.specs.declared.objects.Object.TheVariants as object
 use Rattle.wg_play.specs.declared.objects.Stand.{Stand}
 use Rattle.wg_play.specs.Canvases.{given_by, acted_at, shown_at}
-use Rattle.wg_play.specs.Objects.{recorder_at, with_recorder, is_begun, recorded_by, recorded_on, begun_by, taken_on, ended_by, object_of}
+use Rattle.wg_calls.specs.Encoders.{is_begun, ended_by}
+use Rattle.wg_play.specs.Objects.{recorder_at, with_recorder, recorded_by, recorded_on, begun_by, taken_on, object_of}
 use Rattle.wg_play.specs.Sights.{Sight, place_in}
 use Rattle.wg_play.specs.Lanes.{canvas_asks, new_canvas, drawn, command_seen, stand_seen, handle_kept}
 use Rattle.wg_play.specs.Late.{finishes, after_call}

@@ -1,4 +1,3 @@
-pub mod Begun
 pub mod Slots
 pub mod Redrawn
 pub mod Drawn

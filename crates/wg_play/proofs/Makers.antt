@@ -15,8 +15,8 @@ use Rattle.wg_types.specs.declared.handles.Info.{Info}
 use Rattle.wg_types.specs.declared.handles.Info.TheVariants as info
 use Rattle.wg_types.specs.declared.requests.RequestOf.{RequestOf}
 use Rattle.wg_types.specs.declared.textures.TextureInfo.{TextureInfo}
-use Rattle.wg_types.specs.declared.replies.Answer.{Answer}
-use Rattle.wg_types.specs.declared.replies.Answer.TheVariants.{Made, Queued, Promised, Plain, BadCompletion}
+use Rattle.wg_trace.specs.declared.replies.Answer.{Answer}
+use Rattle.wg_trace.specs.declared.replies.Answer.TheVariants.{Made, Queued, Promised, Plain, BadCompletion}
 use Rattle.wg_types.specs.declared.wanted.Kind.{Kind}
 use Rattle.wg_canvas.specs.Canvases.{CanvasValue, texture_at, texture_of, texture_asked, asked_at as stage_asked, act_asked, info_of, filled_at, acted}
 use Rattle.wg_canvas.specs.declared.canvas.Setting.{Setting}
@@ -34,7 +34,8 @@ use Rattle.wg_play.specs.declared.objects.Object.{Object}
 use Rattle.wg_play.specs.declared.objects.Object.TheVariants as object
 use Rattle.wg_play.specs.declared.objects.Stand.{Stand}
 use Rattle.wg_play.specs.Canvases.{canvas_at, redrawn, with_canvas, asked_at, given_by, acted_at, shown_at}
-use Rattle.wg_play.specs.Objects.{unknown, handle_in, changed, with_recorder, recorded_by, recorded_on, begun_by, ended_by, object_of}
+use Rattle.wg_calls.specs.Encoders.{ended_by}
+use Rattle.wg_play.specs.Objects.{unknown, handle_in, changed, with_recorder, recorded_by, recorded_on, begun_by, object_of}
 use Rattle.wg_play.specs.Sights.{Sight, place_in}
 use Rattle.wg_play.specs.Lanes.{kept, canvas_asks, new_canvas, drawn, command_seen, stand_seen, info_sent, handle_known, handle_kept, count_made, gathered}
 use Rattle.wg_play.specs.Late.{is_made, Answers, Answered, IsAnswered, after_call, after_calls}

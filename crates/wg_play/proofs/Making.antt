@@ -9,7 +9,7 @@ use Rattle.wg_types.specs.Kinds.{kind_of}
 use Rattle.wg_types.specs.declared.handles.ObjRef.{ObjRef}
 use Rattle.wg_types.specs.declared.handles.Info.{Info}
 use Rattle.wg_types.specs.declared.handles.Info.TheVariants as info
-use Rattle.wg_types.specs.declared.replies.Answer.{Answer}
+use Rattle.wg_trace.specs.declared.replies.Answer.{Answer}
 use Rattle.wg_types.specs.declared.wanted.Kind.{Kind}
 use Rattle.wg_types.specs.declared.wanted.Kind.TheVariants as kind
 use Rattle.wg_types.specs.declared.canvases.CanvasCall.{CanvasCall}
@@ -36,7 +36,8 @@ use Rattle.wg_play.specs.declared.objects.Object.{Object}
 use Rattle.wg_play.specs.declared.objects.Object.TheVariants as object
 use Rattle.wg_play.specs.declared.objects.Stand.{Stand}
 use Rattle.wg_play.specs.Canvases.{canvas_at, given_by, acted_at, shown_by, shown_at}
-use Rattle.wg_play.specs.Objects.{recorder_at, with_recorder, recorded_by, recorded_on, passes_at, begun_by, ended_by, recorder_for, object_of}
+use Rattle.wg_calls.specs.Encoders.{ended_by, recorder_of}
+use Rattle.wg_play.specs.Objects.{recorder_at, with_recorder, recorded_by, recorded_on, passes_at, begun_by, object_of}
 use Rattle.wg_play.specs.Sights.{Sight, place_in, handle_in_sight}
 use Rattle.wg_play.specs.Lanes.{canvas_asks, new_canvas, drawn, command_seen, stand_seen, handle_kept}
 use Rattle.wg_play.specs.Found.{is_pass, has_recorder, recorder_kind}
@@ -109,7 +110,7 @@ pub record Fresh (objects : List Object) (slot : ℕ) : Type 0 where
 -- the recorder of an encoder that was made is open for it, and of its kind
 pub record Opens (reference : ObjRef) (known : Info) : Type 0 where
   pub recorder : RecorderValue
-  pub is : recorder_for reference known ≡ Some recorder
+  pub is : recorder_of reference known ≡ Some recorder
   pub open_for : recorder.encoder ≡ Some reference
   pub kind_is : recorder_kind recorder ≡ kind_of known
   pub unended : has_taken recorder ≡ false

@@ -1,12 +1,12 @@
 -- What a phase added, from what was seen before and after it.
-use Rattle.std.proofs.Common.{◌≡◌, ℕ, suc, ◌+◌, ◌≤◌, ◌==◌, List, [], ◌∷◌, ◌++◌, length, refl, ap, sym, ◌∙◌, subst, arith, append_assoc, append-nil, Option, Some}
+use Rattle.std.proofs.Common.{◌≡◌, ℕ, ◌+◌, ◌≤◌, ◌==◌, List, [], ◌∷◌, ◌++◌, length, refl, ap, sym, ◌∙◌, subst, append_assoc, append-nil, Option}
 use Rattle.std.proofs.lemmas.List.Elements.{filter-append}
 use Rattle.wg_history.specs.Entries.{Entry}
 use Rattle.wg_history.specs.declared.events.Event.{Event}
-use Rattle.wg_types.specs.declared.replies.Reply.{Reply}
+use Rattle.wg_trace.specs.declared.replies.Reply.{Reply}
 use Rattle.wg_history.specs.declared.events.Setup.{Setup}
 use Rattle.wg_script.specs.CallOf.{BoundCall}
-use Rattle.wg_play.specs.Turns.{made_by, Gives, AllGive, all_after, lane_at}
+use Rattle.wg_play.specs.Turns.{made_by, AllGive, all_after}
 use Rattle.wg_play.specs.declared.objects.Object.{Object}
 use Rattle.wg_play.specs.Lanes.{starts, gathered, next_event}
 use Rattle.wg_play.specs.Play.{after_, PlaysTo, Interleaves}
@@ -23,14 +23,6 @@ part_of n front part old new es before now grown =
     (ap (λ o. o ++ made_by n part) (sym before) ∙ (sym (filter-append (λ e. e.who == n) front part) ∙ (now ∙ grown)))
 
 module _ {W : Type 0} (next : W → Option Event) (after : W → Reply → W) where
-  -- by the lanes' numbers
-  pub all_give : (n : ℕ) (ws : List W) (part : List Entry) → ((i : ℕ) (w : W) → lane_at next after ws i ≡ Some w → Gives next after w (made_by (n + i) part)) → AllGive next after n ws part
-  all_give n [] part f = tt
-  all_give n (w ∷ ws) part f =
-      let zero_is : n + 0 ≡ n = omega arith in (
-        subst (λ k. Gives next after w (made_by k part)) zero_is (f 0 w refl),
-        all_give (suc n) ws part (λ i u at. let e : n + suc i ≡ suc n + i = omega arith in subst (λ k. Gives next after u (made_by k part)) e (f (suc i) u at)),
-      )
 
 module _ (setup : Setup) where
   -- one phase more

@@ -24,10 +24,6 @@ pub callers_more : (part rest : List Entry) → callers_of (part ++ rest) ≡ ca
 callers_more [] rest = refl
 callers_more (e ∷ part) rest = ap (λ l. e.who ∷ l) (callers_more part rest)
 
-pub callers_length : (log : List Entry) → length (callers_of log) ≡ length log
-callers_length [] = refl
-callers_length (e ∷ log) = ap suc (callers_length log)
-
 module _ (setup : Setup) where
   -- what is said of a longer past is said of what it goes on from
   pub run_before : (log : List Entry) (past : Past) → IsRun setup (onto past log) → IsRun setup past

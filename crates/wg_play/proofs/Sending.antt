@@ -18,8 +18,8 @@ use Rattle.wg_types.specs.declared.wanted.Wanted.TheVariants as wanted
 use Rattle.wg_types.specs.declared.words.Word.TheVariants as word
 use Rattle.wg_encoder.specs.Recorders.{RecorderValue, RecordingValue}
 use Rattle.wg_history.specs.declared.events.Event.{Event}
-use Rattle.wg_types.specs.declared.replies.Verb.{Verb}
-use Rattle.wg_types.specs.declared.replies.Verb.TheVariants.{Call}
+use Rattle.wg_types.specs.declared.words.Verb.{Verb}
+use Rattle.wg_types.specs.declared.words.Verb.TheVariants.{Call}
 use Rattle.wg_history.specs.Entries.{verb_of}
 use Rattle.wg_calls.specs.Calls.{event_asked, info_asked, finish_event, finished_info, recording_of, finish_of, known_of_finish}
 use Rattle.wg_script.specs.CallOf.{BoundCall}
@@ -27,7 +27,8 @@ use Rattle.wg_script.specs.declared.calls.CallOf.TheVariants.{Record, Ask, Canva
 use Rattle.wg_names.specs.Bound.{IsFound, CallIsBound}
 use Rattle.wg_play.specs.declared.objects.Object.{Object}
 use Rattle.wg_play.specs.declared.objects.Object.TheVariants as object
-use Rattle.wg_play.specs.Objects.{unknown, handle_in, recorder_in, reference_at, recorder_at, ended_by}
+use Rattle.wg_calls.specs.Encoders.{ended_by}
+use Rattle.wg_play.specs.Objects.{unknown, handle_in, recorder_in, reference_at, recorder_at}
 use Rattle.wg_play.specs.Sights.{Sight, place_in, handle_in_sight}
 use Rattle.wg_play.specs.Lanes.{finish_by, finish_known, request_seen, event_sent, info_sent}
 use Rattle.wg_play.specs.Found.{is_pass, has_recorder, IsOpenAs, IsOf, StandsAt, CanvasIsSeen}

@@ -6,8 +6,8 @@ use Rattle.wg_types.specs.Handles.{HandleValue}
 use Rattle.wg_types.specs.Kinds.{kind_of}
 use Rattle.wg_types.specs.declared.canvases.CanvasOf.{CanvasOf}
 use Rattle.wg_types.specs.declared.handles.Info.{Info}
-use Rattle.wg_types.specs.declared.replies.Answer.{Answer}
-use Rattle.wg_types.specs.declared.replies.Answer.TheVariants.{Made}
+use Rattle.wg_trace.specs.declared.replies.Answer.{Answer}
+use Rattle.wg_trace.specs.declared.replies.Answer.TheVariants.{Made}
 use Rattle.wg_types.specs.declared.requests.RequestOf.{RequestOf}
 use Rattle.wg_types.specs.declared.wanted.Kind.TheVariants as kinds
 use Rattle.wg_history.specs.Entries.{Entry}
@@ -16,7 +16,8 @@ use Rattle.wg_script.specs.CallOf.{BoundCall}
 use Rattle.wg_script.specs.declared.calls.CallOf.TheVariants.{Record, Ask, Canvas}
 use Rattle.wg_play.specs.declared.objects.Object.{Object}
 use Rattle.wg_play.specs.Canvases.{given_by}
-use Rattle.wg_play.specs.Objects.{ended_by, object_of}
+use Rattle.wg_calls.specs.Encoders.{ended_by}
+use Rattle.wg_play.specs.Objects.{object_of}
 use Rattle.wg_play.specs.Sights.{Sight, place_in}
 use Rattle.wg_play.specs.Lanes.{canvas_asks, command_seen, stand_seen, handle_kept}
 use Rattle.wg_play.specs.Late.{after_call, after_calls}

@@ -4,7 +4,7 @@ use mathlib.Core.List.{IsPrefix}
 use Rattle.wg_history.specs.declared.events.Event.{Event}
 use Rattle.wg_history.specs.declared.events.Setup.{Setup}
 use Rattle.wg_history.specs.Entries.{Entry, Past}
-use Rattle.wg_types.specs.declared.replies.Reply.{Reply}
+use Rattle.wg_trace.specs.declared.replies.Reply.{Reply}
 use Rattle.wg_script.specs.CallOf.{BoundCall}
 use Rattle.wg_play.specs.Turns.{Midway, phase_by, through, turned, lane_at}
 use Rattle.wg_play.specs.declared.objects.Object.{Object}

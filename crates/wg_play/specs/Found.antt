@@ -29,7 +29,8 @@ use Rattle.wg_names.specs.Uses.{wants_own}
 use Rattle.wg_play.specs.declared.objects.Object.{Object}
 use Rattle.wg_play.specs.declared.objects.Object.TheVariants as object
 use Rattle.wg_play.specs.Canvases.{canvas_at}
-use Rattle.wg_play.specs.Objects.{handle_in, reference_at, recorder_at, ended_by}
+use Rattle.wg_calls.specs.Encoders.{ended_by}
+use Rattle.wg_play.specs.Objects.{handle_in, reference_at, recorder_at}
 use Rattle.wg_play.specs.Sights.{Sight, place_in, handle_in_sight}
 use Rattle.wg_play.specs.Lanes.{Lane, stand_seen, request_seen, event_sent, info_sent, count_made, gathered}
 use Rattle.wg_play.specs.Late.{Answered, IsAnswered, after_calls, slots_before}
@@ -88,7 +89,7 @@ pub record IsOpenFor (encoder : ObjRef) (found : Option RecorderValue) : Type 0 
   pub is : found ≡ Some recorder
   pub open_for : recorder.encoder ≡ Some encoder
 
--- and that is one of an encoder of this kind
+-- A recorder is open for an encoder of this kind.
 pub record IsOpenAs (kind : Kind) (encoder : ObjRef) (found : Option RecorderValue) : Type 0 where
   pub is_open : IsOpenFor encoder found
   pub kind_is : recorder_kind is_open.recorder ≡ kind
@@ -120,6 +121,7 @@ pub record Holds (objects : List Object) (made : Made ℕ) : Type 0 where
 
 -- ---- what a call finds
 
+-- what a slot stands for: what a former phase made, or the lane itself
 abbrev pub object_in_sight : Sight → ℕ → Option Object
 object_in_sight sight slot = if nat_lt slot sight.first then slice_get sight.others slot else slice_get sight.own (place_in sight slot)
 
@@ -163,10 +165,12 @@ pub record IsSeenSet (sight : Sight) (canvas : ℕ) (call : CanvasCall) : Type 0
   pub texture : HasTexture found.stage
   pub set : call ≡ Current → found.stage ≢ Unset
 
+-- A call for a current texture is of a canvas that a lane sees as configured; of other calls of canvases nothing is said.
 abbrev pub CanvasIsSeen : Sight → CanvasOf ℕ → Type 0
 CanvasIsSeen sight (Create width height) = Unit {0}
 CanvasIsSeen sight (On canvas call) = IsSeenSet sight canvas call
 
+-- Each slot that a call uses stands for what is wanted, in what a lane sees.
 abbrev pub CallIsFound : Sight → Made ℕ → BoundCall → Type 0
 CallIsFound sight made (Record on command slot) = IsSeenOn sight made on command
 CallIsFound sight made (Ask request slot) = IsSeenBy sight made request
@@ -191,10 +195,11 @@ ended_from serial others first (calls ∷ lanes) =
     record { sight = after_calls serial (record { others = others; first = first; own = [] }) calls; left = [] }
     ∷ ended_from serial others (first + count_made (map (λ c. c.0) calls)) lanes
 
+-- the calls of lanes that were answered
 abbrev pub phase_of : List (List Answered) → List (List BoundCall)
 phase_of lanes = map (λ calls. map (λ c. c.0) calls) lanes
 
--- And after a phase all that was made up to then stands at its slot with its kind, for the phases after it.
+-- After a phase all that was made up to then stands at its slot with its kind, for the phases after it.
 abbrev pub GatheredIsHeld : Type 0
 GatheredIsHeld = (earlier later : List (List (List BoundCall))) (lanes : List (List Answered))
     → IsBound (earlier ++ phase_of lanes ∷ later)

@@ -25,10 +25,11 @@ Each OfObject OfTexture (object.Pass encoder number) = Unit {0}
 Each OfObject OfTexture (object.Canvas canvas) = OfTexture (texture_of canvas)
 Each OfObject OfTexture (object.Shown texture) = OfTexture texture
 
--- the handle of an object is genuine in a past, and so is that of the texture of a canvas
+-- The handle of an object is genuine in a past, and so is that of the texture of a canvas.
 abbrev pub IsKept : Setup → Past → Object → Type 0
 IsKept setup past what = Each (λ handle. is_genuine setup past handle ≡ true) (IsKeptIn setup past) what
 
+-- The handles of all objects are genuine in a past.
 abbrev pub AreKept : Setup → Past → List Object → Type 0
 AreKept setup past objects = All (IsKept setup past) objects
 
@@ -36,7 +37,7 @@ AreKept setup past objects = All (IsKept setup past) objects
 abbrev pub SeesGenuine : Setup → Past → Sight → Type 0
 SeesGenuine setup past sight = AreKept setup past sight.others × AreKept setup past sight.own
 
--- and what all lanes see
+-- What all lanes see is genuine in a past.
 abbrev pub LanesSee : Setup → Past → List Lane → Type 0
 LanesSee setup past lanes = All (λ lane. SeesGenuine setup past lane.sight) lanes
 

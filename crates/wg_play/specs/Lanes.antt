@@ -9,8 +9,8 @@ use Rattle.wg_types.specs.Requests.{map_refs as map_asked}
 use Rattle.wg_types.specs.declared.canvases.CanvasCall.{CanvasCall}
 use Rattle.wg_types.specs.declared.canvases.CanvasOf.{CanvasOf}
 use Rattle.wg_types.specs.declared.canvases.CanvasOf.TheVariants.{Create, On}
-use Rattle.wg_types.specs.declared.replies.Answer.{Answer}
-use Rattle.wg_types.specs.declared.replies.Reply.{Reply}
+use Rattle.wg_trace.specs.declared.replies.Answer.{Answer}
+use Rattle.wg_trace.specs.declared.replies.Reply.{Reply}
 use Rattle.wg_types.specs.declared.requests.RequestOf.{RequestOf}
 use Rattle.wg_canvas.specs.declared.canvas.Stage.TheVariants.{Unset}
 use Rattle.wg_encoder.specs.Recorders.{RecorderValue}
@@ -24,7 +24,8 @@ use Rattle.wg_play.specs.declared.objects.Object.{Object}
 use Rattle.wg_play.specs.declared.objects.Object.TheVariants as object
 use Rattle.wg_play.specs.declared.objects.Stand.{Stand}
 use Rattle.wg_play.specs.Canvases.{asked_at, given_by, acted_at, shown_at}
-use Rattle.wg_play.specs.Objects.{unknown, reference_at, recorder_at, stand_at, is_late_on, recorded_on, begun_by, taken_on, ended_by, object_of}
+use Rattle.wg_calls.specs.Encoders.{ended_by}
+use Rattle.wg_play.specs.Objects.{unknown, reference_at, recorder_at, stand_at, is_late_on, recorded_on, begun_by, taken_on, object_of}
 use Rattle.wg_play.specs.Sights.{Sight, place_in, handle_in_sight, with_more}
 
 -- ---- recording calls
@@ -49,17 +50,19 @@ abbrev pub canvas_asks : Sight → CanvasOf ℕ → Option (RequestOf HandleValu
 canvas_asks sight (Create width height) = None
 canvas_asks sight (On canvas call) = asked_at sight.own (place_in sight canvas) call
 
--- What the lane sees after it, where the device made this for it, or nothing: a new canvas has the next slot, and so has the name that
--- a currentTexture makes, of the texture that is current then.
+-- a new canvas as an object, if a call gives it a name
 abbrev pub new_canvas : ℕ → ℕ → Option ℕ → List Object
 new_canvas width height made = option_map_or (λ slot. object.Canvas (record { width = width; height = height; stage = Unset }) ∷ []) made []
 
+-- what a lane sees, with other objects of its own
 abbrev pub with_own : Sight → List Object → Sight
 with_own sight objects = record sight { own = objects }
 
+-- the objects of a lane with the current texture that a call gives a name
 abbrev pub drawn_on : List Object → ℕ → CanvasCall → Option ℕ → List Object
 drawn_on objects place call made = objects ++ shown_at objects place call made
 
+-- what a lane sees after a call of a canvas, which gave this texture
 abbrev pub drawn : Sight → CanvasOf ℕ → Option ℕ → Option HandleValue → Sight
 drawn sight (Create width height) made given = with_more sight (new_canvas width height made)
 drawn sight (On canvas call) made given = with_own sight (drawn_on (acted_at sight.own (place_in sight canvas) call given) (place_in sight canvas) call made)
@@ -79,7 +82,7 @@ abbrev pub finish_by : Option RecorderValue → Event → Event
 finish_by None other = other
 finish_by (Some recorder) other = option_map_or (λ encoder. finish_of encoder recorder) recorder.encoder other
 
--- and what is known of that which it makes, likewise
+-- what is known of what a call makes, where it ends a recorder that of the recorder
 abbrev pub finish_known : Option RecorderValue → Option Info → Option Info
 finish_known None other = other
 finish_known (Some recorder) other = option_map_or (λ encoder. Some (known_of_finish recorder)) recorder.encoder other
@@ -122,6 +125,7 @@ abbrev pub with_handle : Sight → Option HandleValue → Sight
 with_handle sight None = sight
 with_handle sight (Some handle) = with_more sight (object_of handle ∷ [])
 
+-- what a lane sees after a call that was answered so
 abbrev pub answered_by : ℕ → Sight → BoundCall → Answer → Sight
 answered_by serial sight (Record on command made) answer = taken_by sight (Record on command made)
 answered_by serial sight (Ask request made) answer = with_handle (taken_by sight (Ask request made)) (handle_kept serial sight request made answer)
@@ -139,13 +143,16 @@ abbrev pub settled : Sight → List BoundCall → Lane
 settled sight [] = record { sight = sight; left = [] }
 settled sight (call ∷ calls) = option_map_or (λ after. settled after calls) (kept sight call) (record { sight = sight; left = call ∷ calls })
 
+-- a lane after the calls at its front that ask the device nothing
 abbrev pub settle : Lane → Lane
 settle lane = settled lane.sight lane.left
 
+-- the event that a lane asks for next, by its calls
 abbrev pub next_of : Sight → List BoundCall → Option Event
 next_of sight [] = None
 next_of sight (call ∷ calls) = Some (event_of sight call)
 
+-- the event that a lane asks for next, if it has one
 abbrev pub next_at : Lane → Option Event
 next_at lane = next_of lane.sight lane.left
 
@@ -153,10 +160,12 @@ next_at lane = next_of lane.sight lane.left
 abbrev pub next_event : Lane → Option Event
 next_event lane = next_at (settle lane)
 
+-- a lane after its next call was replied to so, by its calls
 abbrev pub after_of : ℕ → Sight → Reply → List BoundCall → Lane
 after_of serial sight reply [] = record { sight = sight; left = [] }
 after_of serial sight reply (call ∷ calls) = record { sight = answered_by serial sight call reply.answer; left = calls }
 
+-- a lane after its next call was replied to so
 abbrev pub after_at : ℕ → Lane → Reply → Lane
 after_at serial lane reply = after_of serial lane.sight reply lane.left
 
@@ -175,6 +184,7 @@ abbrev pub starts_from : List Object → ℕ → List (List BoundCall) → List 
 starts_from others first [] = []
 starts_from others first (calls ∷ lanes) = record { sight = record { others = others; first = first; own = [] }; left = calls } ∷ starts_from others (first + count_made calls) lanes
 
+-- the lanes of a phase before their first calls
 abbrev pub starts : List Object → List (List BoundCall) → List Lane
 starts objects lanes = starts_from objects (length objects) lanes
 

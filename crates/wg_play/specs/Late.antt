@@ -7,8 +7,8 @@ use Rattle.wg_types.specs.Commands.{kind_begun}
 use Rattle.wg_types.specs.declared.commands.CommandOf.{CommandOf}
 use Rattle.wg_types.specs.declared.commands.On.{On}
 use Rattle.wg_types.specs.declared.commands.On.TheVariants.{Encoder, Pass}
-use Rattle.wg_types.specs.declared.replies.Answer.{Answer}
-use Rattle.wg_types.specs.declared.replies.Answer.TheVariants.{Made, Queued, Promised, Plain, BadCompletion}
+use Rattle.wg_trace.specs.declared.replies.Answer.{Answer}
+use Rattle.wg_trace.specs.declared.replies.Answer.TheVariants.{Made, Queued, Promised, Plain, BadCompletion}
 use Rattle.wg_encoder.specs.Recorders.{RecorderValue, pass_ended as ended_within}
 use Rattle.wg_script.specs.CallOf.{BoundCall}
 use Rattle.wg_script.specs.declared.calls.CallOf.TheVariants.{Record, Ask, Canvas}
@@ -16,7 +16,8 @@ use Rattle.wg_names.specs.Bound.{made_in, IsBound}
 use Rattle.wg_names.specs.Uses.{made_of}
 use Rattle.wg_play.specs.declared.objects.Object.{Object}
 use Rattle.wg_play.specs.declared.objects.Stand.{Stand}
-use Rattle.wg_play.specs.Objects.{recorder_at, ended_by, is_late_on}
+use Rattle.wg_calls.specs.Encoders.{ended_by}
+use Rattle.wg_play.specs.Objects.{recorder_at, is_late_on}
 use Rattle.wg_play.specs.Sights.{Sight}
 use Rattle.wg_play.specs.Lanes.{stand_seen, kept, answered_by}
 
@@ -26,6 +27,7 @@ use Rattle.wg_play.specs.Lanes.{stand_seen, kept, answered_by}
 abbrev pub Answered : Type 0
 Answered = BoundCall × Answer
 
+-- whether an answer says that something was made
 abbrev pub is_made : Answer → Bool
 is_made (Made number valid) = true
 is_made (Queued op) = false
@@ -44,6 +46,7 @@ Answers (Canvas call made) answer = is_some (made_of (Canvas call made)) ≡ tru
 abbrev pub no_answer : Answer
 no_answer = Made 0 false
 
+-- A call that makes something which has a slot was answered so that something was made; any other call may be answered anyhow.
 abbrev pub IsAnswered : Answered → Type 0
 IsAnswered call = Answers call.0 call.1
 
@@ -51,7 +54,7 @@ IsAnswered call = Answers call.0 call.1
 abbrev pub after_call : ℕ → Sight → Answered → Sight
 after_call serial sight call = unwrap_or (kept sight call.0) (answered_by serial sight call.0 call.1)
 
--- and after calls, one after another
+-- what the lane sees after calls, one after another
 abbrev pub after_calls : ℕ → Sight → List Answered → Sight
 after_calls serial sight [] = sight
 after_calls serial sight (call ∷ calls) = after_calls serial (after_call serial sight call) calls
@@ -88,6 +91,7 @@ abbrev pub pass_ended : On → Option RecorderValue → Bool
 pass_ended Encoder recorder = false
 pass_ended (Pass number) recorder = option_map_or (λ kept. ended_within kept.targets kept.commands number) recorder false
 
+-- whether the pass has ended on which a recording call stands
 abbrev pub has_pass_ended : List Object → Stand → Bool
 has_pass_ended objects stand = pass_ended stand.on (recorder_at objects stand.encoder)
 

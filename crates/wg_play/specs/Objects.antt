@@ -1,18 +1,16 @@
 -- What the calls of a lane have made, each at its place, from 0 on. An encoder is one of either kind, a command encoder or a bundle
 -- encoder, which has no passes.
-use Rattle.std.specs.Prelude.{ℕ, nat_lt, not, ◌||◌, List, [], ◌∷◌, Option, Some, None, option_and_then, option_map, slice_get, slice_set, if◌then◌else◌, Bool, true, false, unwrap_or}
+use Rattle.std.specs.Prelude.{ℕ, not, ◌||◌, List, [], ◌∷◌, Option, None, option_and_then, option_map, slice_get, slice_set, if◌then◌else◌, Bool, true, false, unwrap_or}
 use Rattle.std.specs.Option.{option_map_or}
 use Rattle.wg_types.specs.Handles.{HandleValue}
 use Rattle.wg_types.specs.declared.handles.ObjRef.{ObjRef}
-use Rattle.wg_types.specs.declared.handles.Info.{Info}
 use Rattle.wg_types.specs.declared.handles.Info.TheVariants as info
 use Rattle.wg_types.specs.declared.commands.On.{On}
 use Rattle.wg_types.specs.declared.commands.On.TheVariants.{Encoder, Pass}
 use Rattle.wg_types.specs.Commands.{Command, kind_begun}
-use Rattle.wg_types.specs.declared.requests.RequestOf.{RequestOf}
-use Rattle.wg_types.specs.declared.requests.RequestOf.TheVariants.{CreateBuffer, CreateTexture, CreateView, CreateSampler, CreateBindGroupLayout, CreatePipelineLayout, CreateBindGroup, CreateComputePipeline, CreateRenderPipeline, GetBindGroupLayout, CreateQuerySet, CreateEncoder, CreateBundleEncoder, Finish, FinishBundle, Submit, WriteBuffer, WriteTexture, Destroy, Drop, Complete, PushErrorScope, PopErrorScope, Lose, WorkDone, MapAsync, Unmap}
 use Rattle.wg_encoder.specs.Recorders.{RecorderValue, is_late, recorded}
-use Rattle.wg_calls.specs.Calls.{opened_for, opened_with, taken_out}
+use Rattle.wg_calls.specs.Calls.{taken_out}
+use Rattle.wg_calls.specs.Encoders.{recorder_of, is_begun}
 use Rattle.wg_play.specs.declared.objects.Object.{Object}
 use Rattle.wg_play.specs.declared.objects.Object.TheVariants as object
 use Rattle.wg_play.specs.declared.objects.Stand.{Stand}
@@ -22,17 +20,18 @@ use Rattle.wg_play.specs.declared.objects.Stand.{Stand}
 abbrev pub unknown : HandleValue
 unknown = record { reference = record { device = 0; number = 0 }; valid = false; info = info.CommandBuffer }
 
--- What a call has made: an object as its caller holds it, with the recorder of an encoder; a pass, by the place of its
--- encoder and its number there; a canvas; or a name for the texture of one, if it has one.
+-- the handle of what a call has made: of a pass, a canvas, or a name without a texture, one of no object
 abbrev pub handle_in : Object → HandleValue
 handle_in (object.Made handle recorder) = handle
 handle_in (object.Pass encoder number) = unknown
 handle_in (object.Canvas canvas) = unknown
 handle_in (object.Shown texture) = unwrap_or texture unknown
 
+-- the handle at a place, or one of no object
 abbrev pub handle_at : List Object → ℕ → HandleValue
 handle_at objects place = option_map_or handle_in (slice_get objects place) unknown
 
+-- the object that stands at a place
 abbrev pub reference_at : List Object → ℕ → ObjRef
 reference_at objects place = (handle_at objects place).reference
 
@@ -43,9 +42,11 @@ recorder_in (object.Pass encoder number) = None
 recorder_in (object.Canvas canvas) = None
 recorder_in (object.Shown texture) = None
 
+-- the recorder at a place, if there is one
 abbrev pub recorder_at : List Object → ℕ → Option RecorderValue
 recorder_at objects place = option_and_then recorder_in (slice_get objects place)
 
+-- an object with its recorder changed, if it has one
 abbrev pub changed : Object → (RecorderValue → RecorderValue) → Object
 changed (object.Made handle recorder) change = object.Made handle (option_map change recorder)
 changed (object.Pass encoder number) change = object.Pass encoder number
@@ -56,31 +57,31 @@ changed (object.Shown texture) change = object.Shown texture
 abbrev pub with_recorder : List Object → ℕ → (RecorderValue → RecorderValue) → List Object
 with_recorder objects place change = option_map_or (λ x. slice_set objects place (changed x change)) (slice_get objects place) objects
 
--- where a recording call stands that names a place: on the encoder itself, or on a pass of one
+-- on what a recording call stands that names an object at a place: on the encoder itself, or on a pass of one
 abbrev pub stand_in : ℕ → Object → Stand
 stand_in place (object.Made handle recorder) = record { encoder = place; on = Encoder }
 stand_in place (object.Pass encoder number) = record { encoder = encoder; on = Pass number }
 stand_in place (object.Canvas canvas) = record { encoder = place; on = Encoder }
 stand_in place (object.Shown texture) = record { encoder = place; on = Encoder }
 
+-- on what a recording call stands that names a place
 abbrev pub stand_at : List Object → ℕ → Stand
 stand_at objects place = option_map_or (stand_in place) (slice_get objects place) (record { encoder = place; on = Encoder })
 
--- A recorder has begun each pass that a script names, so that the other case is not met.
-abbrev pub is_begun : On → ℕ → Bool
-is_begun Encoder passes = true
-is_begun (Pass number) passes = nat_lt number passes
-
--- a recording call is late where its encoder's recorder says so
+-- A recording call is late where its encoder's recorder says so. This has begun each pass that a script names, so that the other case
+-- is not met.
 abbrev pub is_late_by : On → RecorderValue → Bool
 is_late_by on recorder = not (is_begun on recorder.passes) || is_late recorder on
 
+-- whether what a recording call stands on has ended
 abbrev pub is_late_on : List Object → Stand → Bool
 is_late_on objects stand = option_map_or (is_late_by stand.on) (recorder_at objects stand.encoder) true
 
+-- a recorder after a command, if that stands on a pass that was begun
 abbrev pub recorded_by : On → Command → RecorderValue → RecorderValue
 recorded_by on command recorder = if is_begun on recorder.passes then recorded recorder on command else recorder
 
+-- the objects of a lane after a command that stands there
 abbrev pub recorded_on : List Object → Stand → Command → List Object
 recorded_on objects stand command = with_recorder objects stand.encoder (recorded_by stand.on command)
 
@@ -96,53 +97,6 @@ begun_by objects encoder command made = option_map_or (λ slot. option_map_or (�
 abbrev pub taken_on : List Object → ℕ → List Object
 taken_on objects place = with_recorder objects place taken_out
 
--- the encoder that a call of the device ends, if it ends one
-abbrev pub ended_by : RequestOf ℕ → Option ℕ
-ended_by (Finish encoder) = Some encoder
-ended_by (FinishBundle encoder) = Some encoder
-ended_by (CreateBuffer known) = None
-ended_by (CreateTexture known) = None
-ended_by (CreateView texture asked) = None
-ended_by (CreateSampler known) = None
-ended_by (CreateBindGroupLayout entries) = None
-ended_by (CreatePipelineLayout layouts) = None
-ended_by (CreateBindGroup layout entries) = None
-ended_by (CreateComputePipeline layout iface) = None
-ended_by (CreateRenderPipeline layout desc) = None
-ended_by (GetBindGroupLayout pipeline index) = None
-ended_by (CreateQuerySet known) = None
-ended_by CreateEncoder = None
-ended_by (CreateBundleEncoder targets) = None
-ended_by (Submit buffers) = None
-ended_by (WriteBuffer buffer offset size) = None
-ended_by (WriteTexture texture spot layout size data_size) = None
-ended_by (Destroy object) = None
-ended_by (Drop object) = None
-ended_by (Complete op) = None
-ended_by (PushErrorScope filter) = None
-ended_by PopErrorScope = None
-ended_by Lose = None
-ended_by WorkDone = None
-ended_by (MapAsync buffer mode offset size) = None
-ended_by (Unmap buffer) = None
-
--- the recorder of an object that was made, if it is an encoder; that of a bundle encoder has its targets
-abbrev pub recorder_for : ObjRef → Info → Option RecorderValue
-recorder_for encoder info.Encoder = Some (opened_for encoder)
-recorder_for encoder (info.BundleEncoder targets) = Some (opened_with targets encoder)
-recorder_for encoder (info.Buffer known) = None
-recorder_for encoder (info.Texture known) = None
-recorder_for encoder (info.View known) = None
-recorder_for encoder (info.Sampler known) = None
-recorder_for encoder (info.GroupLayout known) = None
-recorder_for encoder (info.PipelineLayout known) = None
-recorder_for encoder (info.Group known) = None
-recorder_for encoder (info.Compute known) = None
-recorder_for encoder (info.Render known) = None
-recorder_for encoder (info.Queries known) = None
-recorder_for encoder info.CommandBuffer = None
-recorder_for encoder (info.Bundle known) = None
-
 -- an object that was made, an encoder with a recorder that has kept nothing
 abbrev pub object_of : HandleValue → Object
-object_of handle = object.Made handle (recorder_for handle.reference handle.info)
+object_of handle = object.Made handle (recorder_of handle.reference handle.info)

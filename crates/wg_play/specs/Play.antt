@@ -1,6 +1,6 @@
 -- To play a script: its lanes take turns, and the history is what an order of turns gives.
 use Rattle.std.specs.Prelude.{◌≡◌, ℕ, ◌≤◌, nat_lt, List, [], ◌∷◌, ◌++◌, reverse, length, Option, Some, None, option_map, option_and_then, if◌then◌else◌}
-use Rattle.wg_types.specs.declared.replies.Reply.{Reply}
+use Rattle.wg_trace.specs.declared.replies.Reply.{Reply}
 use Rattle.wg_types.specs.declared.limits.Limits.{Limits}
 use Rattle.wg_history.specs.declared.events.Setup.{Setup}
 use Rattle.wg_history.specs.Entries.{Entry, Past}
@@ -10,10 +10,11 @@ use Rattle.wg_play.specs.declared.objects.Object.{Object}
 use Rattle.wg_play.specs.Lanes.{Lane, next_event, after_reply, starts, gathered}
 use Rattle.wg_play.specs.Turns.{made_by, AllGive, all_after, phase_by}
 
--- The device has the serial 1, and the script's budget and limits.
+-- what a device of a budget and limits is opened with: the serial 1, and these
 abbrev pub setup_with : ℕ → Limits → Setup
 setup_with budget limits = record { serial = 1; budget = budget; limits = limits }
 
+-- what the device of a script is opened with
 abbrev pub setup_of : Script → Setup
 setup_of script = setup_with script.budget script.limits
 
@@ -22,7 +23,7 @@ abbrev pub most_lanes : ℕ → List (List (List BoundCall)) → ℕ
 most_lanes n [] = n
 most_lanes n (lanes ∷ phases) = most_lanes (if nat_lt n (length lanes) then length lanes else n) phases
 
--- it has as many callers as the largest phase has lanes, and at least one
+-- how many callers the device of a script has: as many as the largest phase has lanes, and at least one
 abbrev pub callers_for : List (List (List BoundCall)) → ℕ
 callers_for phases = most_lanes 1 phases
 

@@ -4,7 +4,7 @@ use Rattle.std.specs.Option.{option_map, option_map_or, option_to_list}
 use Rattle.std.specs.List.{flat_map, list_any}
 use Rattle.wg_types.specs.Handles.{HandleValue}
 use Rattle.wg_types.specs.Wanted.{admits}
-use Rattle.wg_types.specs.declared.replies.Answer.TheVariants.{Made}
+use Rattle.wg_trace.specs.declared.replies.Answer.TheVariants.{Made}
 use Rattle.wg_types.specs.declared.canvases.CanvasOf.{CanvasOf}
 use Rattle.wg_types.specs.declared.canvases.CanvasOf.TheVariants.{Create, On}
 use Rattle.wg_types.specs.declared.requests.RequestOf.{RequestOf}
@@ -41,16 +41,19 @@ pub record PlayedPhase : Type 0 where
   pub entries : List Entry
   pub lanes : List (List PlayedCall)
 
+-- the calls of what a lane has played
 abbrev pub calls_in : List PlayedCall → List BoundCall
 calls_in calls = map (λ call. call.0) calls
 
+-- the entries that the calls of a lane have made
 abbrev pub entries_in : List PlayedCall → List Entry
 entries_in calls = flat_map (λ call. option_to_list call.1) calls
 
+-- the calls of what the lanes of a phase have played
 abbrev pub lanes_in : PlayedPhase → List (List BoundCall)
 lanes_in phase = map calls_in phase.lanes
 
--- of each number the entries of a phase are those of its lane's calls, in order; a number that no lane has is nobody's
+-- In a phase the entries of each number are those of its lane's calls, in order; a number that no lane has is nobody's.
 abbrev pub IsInterleaved : PlayedPhase → Type 0
 IsInterleaved phase = (n : ℕ) → made_by n phase.entries ≡ entries_in (get_or phase.lanes n [])
 
@@ -60,13 +63,15 @@ IsInterleaved phase = (n : ℕ) → made_by n phase.entries ≡ entries_in (get_
 abbrev pub with_answer : PlayedCall → Answered
 with_answer call = (call.0, option_map_or (λ (entry : Entry). entry.reply.answer) call.1 no_answer)
 
+-- the calls that lanes have played, with their answers
 abbrev pub answered_lanes : List (List PlayedCall) → List (List Answered)
 answered_lanes lanes = map (λ calls. map with_answer calls) lanes
 
--- what there is after a phase, and after phases one after another
+-- the objects after a phase
 abbrev pub objects_next : ℕ → List Object → List (List PlayedCall) → List Object
 objects_next serial objects lanes = gathered objects (ended_from serial objects (length objects) (answered_lanes lanes))
 
+-- the objects after some phases
 abbrev pub objects_after : ℕ → List Object → List PlayedPhase → List Object
 objects_after serial objects [] = objects
 objects_after serial objects (phase ∷ phases) = objects_after serial (objects_next serial objects phase.lanes) phases
@@ -88,7 +93,7 @@ seen_calls earlier before = flat_map (λ phase. flat_map (λ calls. calls) phase
 abbrev pub is_late_after : Sight → List BoundCall → ℕ → Bool
 is_late_after sight before on = list_any (finishes (encoder_of before on)) before || has_pass_ended sight.own (stand_seen sight on)
 
--- It became an entry exactly where it is late, and is then the event that its encoder gets.
+-- A recording call became an entry exactly where it is late, and is then the event that its encoder gets.
 pub record IsRecordedAs (sight : Sight) (before : List BoundCall) (on : ℕ) (found : Option Entry) : Type 0 where
   pub late : is_some found ≡ is_late_after sight before on
   pub event : (entry : Entry) → found ≡ Some entry → entry.event ≡ Late (reference_at sight.own (stand_seen sight on).encoder)
@@ -97,13 +102,14 @@ pub record IsRecordedAs (sight : Sight) (before : List BoundCall) (on : ℕ) (fo
 abbrev pub IsDrawnAs : Sight → CanvasOf ℕ → Option Entry → Type 0
 IsDrawnAs sight call found = option_map (λ (entry : Entry). entry.event) found ≡ option_map event_asked (canvas_asks sight call)
 
--- every other call became one, which is its event, and has the verb of the call
+-- A call of the device became one entry, which is its event, and has the verb of the call.
 pub record IsAskedAs (sight : Sight) (request : RequestOf ℕ) (found : Option Entry) : Type 0 where
   pub entry : Entry
   pub is : found ≡ Some entry
   pub event : entry.event ≡ event_sent sight request
   pub verb : verb_of entry.event ≡ verb_of (event_asked (request_seen sight request))
 
+-- A call was played as what it is: its command was recorded, its event was made, or what its canvas asks was.
 abbrev pub IsPlayedAs : Sight → List BoundCall → BoundCall → Option Entry → Type 0
 IsPlayedAs sight before (Record on command made) found = IsRecordedAs sight before on found
 IsPlayedAs sight before (Ask request made) found = IsAskedAs sight request found
@@ -192,7 +198,7 @@ abbrev pub PlayInterleaves : Type 0
 PlayInterleaves = (setup : Setup) (phases : List (List (List BoundCall))) (numbers : List ℕ) (history : List Entry) → Play setup phases numbers ≡ Some history
     → (callers_of history ≡ numbers) × Run setup history × Interleaves setup phases [] history
 
--- And where the names of the script are bound, each call is played as what it is. The device's serial is not 0, as which a slot
+-- Where the names of the script are bound, each call is played as what it is; the device's serial is not 0, as which a slot
 -- counts that stands for no object.
 abbrev pub PlayGoesThrough : Type 0
 PlayGoesThrough = (setup : Setup) → setup.serial ≢ 0 → (phases : List (List (List BoundCall))) (numbers : List ℕ) (history : List Entry)

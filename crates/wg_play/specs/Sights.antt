@@ -2,7 +2,7 @@
 use Rattle.std.specs.Prelude.{◌≡◌, ℕ, ◌-◌, nat_lt, List, ◌++◌, if◌then◌else◌}
 use Rattle.wg_types.specs.Handles.{HandleValue}
 use Rattle.wg_play.specs.declared.objects.Object.{Object}
-use Rattle.wg_play.specs.declared.seen.Seen.{Seen}
+use Rattle.wg_play.specs.declared.seen.LaneSight.{LaneSight}
 use Rattle.wg_play.specs.Objects.{handle_at}
 
 -- The calls that make something are numbered from 0 in reading order, and that number is the slot of what they make. A lane
@@ -13,11 +13,12 @@ pub record Sight : Type 0 where
   pub first : ℕ
   pub own : List Object
 
-abbrev pub sight_of : Seen → Sight
+-- what a lane sees, as definitions have it
+abbrev pub sight_of : LaneSight → Sight
 sight_of seen = record { others = seen.others.now; first = seen.first; own = seen.own.items }
 
 -- what others have made, and where the lane's own slots begin, stay
-abbrev pub SeesSame : Seen → Seen → Type 0
+abbrev pub SeesSame : LaneSight → LaneSight → Type 0
 SeesSame old new = (new.others ≡ old.others) × (new.first ≡ old.first)
 
 -- The place of a slot among what the lane has made. A recording call, and what ends an encoder, name what the lane itself has

@@ -20,6 +20,6 @@ pub record GoesThrough (setup : Setup) (lane : Lane) (entries : List Entry) : Ty
   pub answered : All IsAnswered calls
   pub end : settle (after_all next_event (after_ setup) lane entries) ≡ record { sight = after_calls setup.serial lane.sight calls; left = [] }
 
--- So what is said of the calls of lanes with any answers is said of the lanes of each history.
+-- What is said of the calls of lanes with any answers is said of the lanes of each history.
 abbrev pub LanesGoThrough : Type 0
 LanesGoThrough = (setup : Setup) (lane : Lane) (entries : List Entry) → All (IsReplied setup) entries → Gives next_event (after_ setup) lane entries → GoesThrough setup lane entries

@@ -2,11 +2,11 @@
 ghost use Rattle.std.specs.Prelude.{◌≡◌, IfOk, OnOk, OnErr};
 ghost use Rattle.wg_encoder.specs.Recorders.{noted};
 ghost use Rattle.wg_play.specs.Lanes.{command_seen, noted_on, request_seen};
-ghost use Rattle.wg_play.specs.Objects.{ended_by, is_late_on};
+ghost use Rattle.wg_play.specs.Objects.{is_late_on};
 ghost use Rattle.wg_play.specs.Sights.{SeesSame, sight_of, handle_in_sight};
 
 use crate::objects::{Object, Stand, begun_by, record_on};
-use crate::seen::Seen;
+use crate::seen::LaneSight;
 use std::alloc::Global;
 use wg_encoder::Noted;
 use wg_entry::NoMemory;
@@ -19,7 +19,7 @@ use wg_types::requests::RequestOf;
 #[derive(Drop)]
 struct Handles<'a, 's> {
     alloc: Global,
-    seen: &'a Seen<'s>,
+    seen: &'a LaneSight<'s>,
 }
 
 impl Find<u32, Handle> for Handles<'_, '_> {
@@ -33,7 +33,7 @@ impl Find<u32, Handle> for Handles<'_, '_> {
 /// A recording call's command, with the handle of each object in place of its slot.
 pub fn command_of(
     alloc: Global,
-    seen: &Seen<'_>,
+    seen: &LaneSight<'_>,
     command: &CommandOf<u32>,
 ) -> Result<Command, NoMemory>
     ensures { IfOk result (λ found. found ≡ command_seen (sight_of seen.now) command.now) }
@@ -44,7 +44,7 @@ pub fn command_of(
 /// A call of the device, with the handle of each object in place of its slot.
 pub fn request_of(
     alloc: Global,
-    seen: &Seen<'_>,
+    seen: &LaneSight<'_>,
     request: &RequestOf<u32>,
 ) -> Result<RequestOf<Handle>, NoMemory>
     ensures { IfOk result (λ found. found ≡ request_seen (sight_of seen.now) request.now) }
@@ -52,20 +52,10 @@ pub fn request_of(
     request.map(alloc, &Handles { alloc, seen })
 }
 
-/// The slot of the encoder that a call of the device ends, if it ends one.
-pub fn ended_by(request: &RequestOf<u32>) -> Option<u32>
-    ensures { result ≡ ended_by request.now }
-{
-    match request {
-        RequestOf::Finish { encoder } | RequestOf::FinishBundle { encoder } => Some(*encoder),
-        _ => None,
-    }
-}
-
 /// Records a command where it stands, and makes the pass that it begins, late or not. The room for a pass is
 /// taken first, so that without memory nothing is recorded.
 pub fn note_command(
-    seen: &mut Seen<'_>,
+    seen: &mut LaneSight<'_>,
     stand: Stand,
     command: Command,
     made: Option<u32>,

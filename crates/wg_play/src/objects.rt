@@ -1,15 +1,15 @@
 //! What the calls of a lane have made, each at its place. An encoder is one of either kind, a command
 //! encoder or a bundle encoder, which has no passes. A canvas is one of the lane's own, and each name of a
 //! texture of one is an object more.
-ghost use Rattle.std.specs.Prelude.{◌≡◌, true, [], option_to_list, slice_get, vec_len, vec_capacity, IfOk, OnOk, OnErr};
+ghost use Rattle.std.specs.Prelude.{◌≡◌, true, option_to_list, vec_len, vec_capacity, IfOk, OnOk, OnErr};
 ghost use Rattle.std.specs.Option.{option_map, option_map_or};
 ghost use Rattle.wg_play.specs.declared.objects.Object.TheVariants.{Pass};
 ghost use Rattle.wg_encoder.specs.Recorders.{noted};
-ghost use Rattle.wg_play.specs.Objects.{handle_at, reference_at, recorder_in, changed, stand_at, is_begun, is_late_by, is_late_on, recorded_by, recorded_on, passes_at, begun_by, recorder_for, object_of};
+ghost use Rattle.wg_play.specs.Objects.{handle_at, reference_at, recorder_in, changed, stand_at, is_late_by, is_late_on, recorded_by, recorded_on, passes_at, begun_by, object_of};
 
 use std::alloc::Global;
 use std::sync::Arc;
-use wg_calls::{bundle_recorder_for, recorder_for};
+use wg_calls::{is_begun, recorder_of};
 use wg_canvas::Canvas;
 use wg_encoder::{Noted, Recorder};
 use wg_entry::NoMemory;
@@ -84,18 +84,8 @@ pub fn stand_at(objects: &[Object], place: u32) -> Stand
     }
 }
 
-/// Whether what a command stands on was begun, where so many passes were.
-fn is_begun(on: On, passes: u32) -> bool
-    ensures { result ≡ is_begun on passes }
-{
-    match on {
-        On::Encoder => true,
-        On::Pass(number) => number < passes,
-    }
-}
-
 /// Records a command on a recorder. On a pass that it has not begun the command is late.
-#[tactic(auto, using(crate::proofs::Begun::begun_on))]
+#[tactic(auto, using(wg_calls::proofs::Begun::begun_on))]
 fn record_by(recorder: &mut Recorder, on: On, command: Command) -> Result<Noted, NoMemory>
     ensures noted { IfOk result (λ answer. answer ≡ noted (is_late_by on recorder.old)) }
     ensures after { OnOk result (recorder.new ≡ recorded_by on command recorder.old) }
@@ -186,35 +176,10 @@ pub fn begun_by(
     }
 }
 
-/// The recorder of an object that was made, if it is an encoder.
-fn recorder_of(alloc: Global, handle: &Handle) -> Result<Option<Recorder>, NoMemory>
-    ensures { IfOk result (λ recorder. recorder ≡ recorder_for handle.now.reference handle.now.info) }
-{
-    match handle.info() {
-        Info::Encoder => Ok(Some(recorder_for(alloc, handle))),
-        Info::BundleEncoder(targets) => {
-            let targets = targets.share()?;
-            Ok(Some(bundle_recorder_for(alloc, handle, targets)))
-        }
-        Info::Buffer(_)
-        | Info::Texture(_)
-        | Info::View(_)
-        | Info::Sampler(_)
-        | Info::GroupLayout(_)
-        | Info::PipelineLayout(_)
-        | Info::Group(_)
-        | Info::Compute(_)
-        | Info::Render(_)
-        | Info::Queries(_)
-        | Info::CommandBuffer
-        | Info::Bundle(_) => Ok(None),
-    }
-}
-
 /// An object that was made.
 pub fn object_of(alloc: Global, handle: Handle) -> Result<Object, NoMemory>
     ensures { IfOk result (λ object. object ≡ object_of handle) }
 {
-    let recorder = recorder_of(alloc, &handle)?;
+    let recorder = recorder_of(alloc, handle.reference(), handle.info())?;
     Ok(Object::Made { handle, recorder })
 }

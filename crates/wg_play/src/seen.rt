@@ -1,5 +1,5 @@
 //! What a lane of a script sees of the objects, by their slots.
-ghost use Rattle.std.specs.Prelude.{◌≡◌, true, false, Some, None, IfOk, OnOk, OnErr, [], ◌∷◌};
+ghost use Rattle.std.specs.Prelude.{◌≡◌, Some, None, IfOk, OnOk, OnErr, [], ◌∷◌};
 ghost use Rattle.std.specs.Option.{is_some};
 ghost use Rattle.wg_names.specs.Uses.{made_of};
 ghost use Rattle.wg_play.specs.Lanes.{count_made, with_handle};
@@ -14,13 +14,13 @@ use wg_types::handles::Handle;
 /// What a lane sees: what earlier phases made, by their slots, which are those from 0 on; and what it has
 /// made itself, whose slots are those from `first` on.
 #[derive(Drop)]
-pub struct Seen<'a> {
+pub struct LaneSight<'a> {
     pub others: &'a [Object],
     pub first: u32,
     pub own: Vec<Object>,
 }
 
-impl Seen<'_> {
+impl LaneSight<'_> {
     /// The place of a slot among what the lane has made.
     pub fn place(&self, slot: u32) -> u32
         ensures { result ≡ place_in (sight_of self.now) slot }

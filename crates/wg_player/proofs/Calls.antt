@@ -5,7 +5,7 @@ use Rattle.wg_types.specs.Commands.{Command}
 use Rattle.wg_types.specs.Handles.{HandleValue}
 use Rattle.wg_types.specs.declared.handles.Info.{Info}
 use Rattle.wg_types.specs.declared.handles.ObjRef.{ObjRef}
-use Rattle.wg_types.specs.declared.replies.Reply.{Reply}
+use Rattle.wg_trace.specs.declared.replies.Reply.{Reply}
 use Rattle.wg_types.specs.declared.requests.RequestOf.{RequestOf}
 use Rattle.wg_encoder.specs.Recorders.{noted}
 use Rattle.wg_encoder.specs.declared.recorder.Noted.TheVariants.{Kept, Late as NotedLate}

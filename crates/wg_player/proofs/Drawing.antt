@@ -5,9 +5,9 @@ use Rattle.std.specs.Option.{option_map_or}
 use Rattle.std.proofs.lemmas.Option.{slice_get_read, slice_get_past}
 use Rattle.wg_types.specs.Handles.{HandleValue}
 use Rattle.wg_types.specs.declared.handles.Info.TheVariants.{Texture}
-use Rattle.wg_types.specs.declared.replies.Answer.{Answer}
-use Rattle.wg_types.specs.declared.replies.Answer.TheVariants.{Made, Queued, Promised, Plain, BadCompletion}
-use Rattle.wg_types.specs.declared.replies.Reply.{Reply}
+use Rattle.wg_trace.specs.declared.replies.Answer.{Answer}
+use Rattle.wg_trace.specs.declared.replies.Answer.TheVariants.{Made, Queued, Promised, Plain, BadCompletion}
+use Rattle.wg_trace.specs.declared.replies.Reply.{Reply}
 use Rattle.wg_types.specs.declared.requests.RequestOf.{RequestOf}
 use Rattle.wg_types.specs.declared.requests.RequestOf.TheVariants.{CreateTexture, Destroy}
 use Rattle.wg_types.specs.declared.textures.TextureInfo.{TextureInfo}

@@ -27,11 +27,6 @@ module _ (lock : Lock) where
   same_then : (a b c : DevicePass) → IsSamePass a b → IsSamePass b c → IsSamePass a c
   same_then a b c x y = (y.0 ∙ x.0, y.1 ∙ x.1, y.2 ∙ x.2)
 
-  -- a list of fronts that are beginnings of one
-  abbrev Seen : List DevicePass → List Entry → Type 0
-  Seen [] front = Unit {0}
-  Seen (p ∷ ps) front = IsPrefix (front_in lock p) front × Seen ps front
-
   pub hub_grows : (h h2 : DevicePass) (ps qs : List DevicePass) → Tells lock h ps h2 qs → IsPrefix (front_in lock h) (front_in lock h2)
   hub_grows h h2 [] qs t = subst (λ (z : DevicePass). IsPrefix (front_in lock h) (front_in lock z)) (sym t.0) (prefix_self (front_in lock h))
   hub_grows h h2 (p ∷ ps) qs t = prefix_then (front_in lock h) (front_in lock t.0) (front_in lock h2) t.4.begun_first (hub_grows t.0 h2 ps t.2 t.5)
@@ -44,12 +39,6 @@ module _ (lock : Lock) where
   pub passes_after : (h h2 : DevicePass) (ps qs : List DevicePass) → Tells lock h ps h2 qs → ArePassesOf lock qs
   passes_after h h2 [] qs t = subst (ArePassesOf lock) (sym t.1) tt
   passes_after h h2 (p ∷ ps) qs t = subst (ArePassesOf lock) (sym t.3) (t.4.second.0, passes_after t.0 h2 ps t.2 t.5)
-
-  -- after the first time the hub has seen what any has seen
-  pub seen_after : (h h2 : DevicePass) (ps qs : List DevicePass) → Tells lock h ps h2 qs → Seen qs (front_in lock h2)
-  seen_after h h2 [] qs t = subst (λ l. Seen l (front_in lock h2)) (sym t.1) tt
-  seen_after h h2 (p ∷ ps) qs t = subst (λ l. Seen l (front_in lock h2)) (sym t.3)
-      (subst (λ (l : List Entry). IsPrefix l (front_in lock h2)) t.4.same (hub_grows t.0 h2 ps t.2 t.5), seen_after t.0 h2 ps t.2 t.5)
 
   -- a hub that has seen all stays at its front
   stays : (h p mid q : DevicePass) → HaveMet lock h p mid q → IsPrefix (front_in lock p) (front_in lock h) → front_in lock mid ≡ front_in lock h

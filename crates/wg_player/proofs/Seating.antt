@@ -14,10 +14,6 @@ use Rattle.wg_device.specs.Fronts.{setup_of}
 use Rattle.wg_player.specs.Moves.{Moves, lane_at, AllAt, ArePassesOf, AreSoundIn, HaveAllMet}
 use Rattle.wg_player.specs.Seats.{calls_of, first_of, sight_at, sight_with, IsSeated, AreSeated, HaveRun, HasRun, HasRunPhase}
 
-pub seated_more : {G : Type 0} (device : Device) (lanes : List (List BoundCall)) (others : List Object) (done : List DevicePass) (bodies : List (LaneRun G)) (p : DevicePass) (b : LaneRun G)
-    → AreSeated device lanes others done (reverse bodies) → IsSeated device lanes others p b → AreSeated device lanes others (p ∷ done) (reverse (bodies ++ b ∷ []))
-seated_more device lanes others done bodies p b all one = subst (AreSeated device lanes others (p ∷ done)) (sym (reverse-append bodies (b ∷ []))) (one, all)
-
 pub map_back : {A B : Type 0} (f : A → B) (whole ps ps_after : List B) (old left : List A) (b : A) → whole ≡ ps ++ map f (reverse old) → old ≡ left ++ b ∷ [] → ps_after ≡ ps ++ f b ∷ [] → whole ≡ ps_after ++ map f (reverse left)
 map_back f whole ps ps_after old left b w is more =
     w ∙ (ap (λ l. ps ++ map f l) (ap reverse is ∙ reverse-append left (b ∷ [])) ∙ (sym (append_assoc ps (f b ∷ []) (map f (reverse left))) ∙ ap (λ l. l ++ map f (reverse left)) (sym more)))

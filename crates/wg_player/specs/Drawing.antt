@@ -16,13 +16,13 @@ abbrev pub HasAskedIf : ℕ → Option (RequestOf HandleValue) → Option Handle
 HasAskedIf serial None given made made_after = (made_after ≡ made) × (given ≡ None)
 HasAskedIf serial (Some request) given made made_after = HasAsked serial (event_asked request) (info_asked request) given made made_after
 
--- so it was, and what was made goes where it belongs
+-- What a canvas asks was asked, if anything was, and what was made goes where it belongs.
 pub record HasDrawn (serial : ℕ) (asked : Option (RequestOf HandleValue)) (made made_after : List Entry) (goes : Option HandleValue → Type 0) : Type 0 where
   pub given : Option HandleValue
   pub was_asked : HasAskedIf serial asked given made made_after
   pub goes_to : goes given
 
--- so it was with a pass of a device, between two moments
+-- What a canvas asks was asked with a pass of a device, between two moments, and what was made goes where it belongs.
 abbrev pub HasDrawnBy : Lock → Option (RequestOf HandleValue) → DevicePass → DevicePass → (Option HandleValue → Type 0) → Type 0
 HasDrawnBy lock asked old new goes = HasDrawn (setup_of lock).serial asked (own_of old) (own_of new) goes
 

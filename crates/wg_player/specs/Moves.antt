@@ -8,7 +8,7 @@ use Rattle.wg_device.specs.Fronts.{Lock, DevicePass, setup_of, front_in, IsSound
 use Rattle.wg_types.specs.Handles.{HandleValue}
 use Rattle.wg_types.specs.declared.handles.Info.{Info}
 use Rattle.wg_script.specs.CallOf.{BoundCall}
-use Rattle.wg_play.specs.declared.seen.Seen.{Seen}
+use Rattle.wg_play.specs.declared.seen.LaneSight.{LaneSight}
 use Rattle.wg_play.specs.Sights.{Sight, sight_of}
 use Rattle.wg_play.specs.Lanes.{Lane, handle_known, event_of, answered_by, kept, settle, next_event, after_reply}
 
@@ -24,7 +24,7 @@ pub record HasAsked (serial : ℕ) (event : Event) (known : Option Info) (handle
   pub event_is : entry.event ≡ event
   pub handle_is : handle ≡ handle_known serial known entry.reply.answer
 
--- so it was with a pass of a device, between two moments
+-- An event was asked with a pass of a device, between two moments, and its handle is that of what it made.
 abbrev pub HasAskedBy : Lock → Event → Option Info → Option HandleValue → DevicePass → DevicePass → Type 0
 HasAskedBy lock event known handle old new = HasAsked (setup_of lock).serial event known handle (own_of old) (own_of new)
 
@@ -46,11 +46,11 @@ abbrev pub HasPlayed : ℕ → Sight → Sight → BoundCall → List Entry → 
 HasPlayed serial sight sight_after call made made_after =
     HasSent serial sight sight_after call made made_after ⊎ HasKept sight sight_after call made made_after
 
--- so it was with a pass of a device, by a lane that saw the one and then the other
-abbrev pub HasPlayedBy : Lock → Seen → Seen → BoundCall → DevicePass → DevicePass → Type 0
+-- A call was played with a pass of a device, by a lane that saw the one and then the other.
+abbrev pub HasPlayedBy : Lock → LaneSight → LaneSight → BoundCall → DevicePass → DevicePass → Type 0
 HasPlayedBy lock seen seen_after call old new = HasPlayed (setup_of lock).serial (sight_of seen) (sight_of seen_after) call (own_of old) (own_of new)
 
--- from one moment to another a pass saw more, and its own entries grew by those that take the one lane to the other
+-- From one moment to another a pass saw more, and its own entries grew by those that take the one lane to the other.
 pub record Moves (serial : ℕ) (lock : Lock) (lane lane_after : Lane) (old new : DevicePass) : Type 0 where
   pub entries : List Entry
   pub grown : own_of new ≡ own_of old ++ entries
@@ -84,21 +84,24 @@ Tells lock hub [] hub_after after = (hub_after ≡ hub) × (after ≡ [])
 Tells lock hub (p ∷ ps) hub_after after = (mid : DevicePass) × (q : DevicePass) × (rest : List DevicePass) × (after ≡ q ∷ rest)
     × HaveMet lock hub p mid q × Tells lock mid ps hub_after rest
 
+-- All passes are of this device.
 abbrev pub ArePassesOf : Lock → List DevicePass → Type 0
 ArePassesOf lock [] = Unit {0}
 ArePassesOf lock (p ∷ ps) = IsPassOf lock p × ArePassesOf lock ps
 
+-- All passes are sound in this device.
 abbrev pub AreSoundIn : Lock → List DevicePass → Type 0
 AreSoundIn lock [] = Unit {0}
 AreSoundIn lock (p ∷ ps) = IsSoundIn lock p × AreSoundIn lock ps
 
--- the passes have seen this and no more, which begins with what each had seen
+-- Passes have met where they have seen this and no more, which begins with what each had seen.
 abbrev pub MetAt : Lock → List Entry → List DevicePass → List DevicePass → Type 0
 MetAt lock front [] [] = Unit {0}
 MetAt lock front (p ∷ ps) (q ∷ qs) = IsPassOf lock q × IsSamePass p q × IsSoundIn lock q × (front_in lock q ≡ front)
     × IsPrefix (front_in lock p) front × MetAt lock front ps qs
 MetAt lock front _ _ = ⊥
 
+-- All passes have met, and see one history.
 abbrev pub HaveAllMet : Lock → List DevicePass → List DevicePass → Type 0
 HaveAllMet lock old new = (front : List Entry) × MetAt lock front old new
 

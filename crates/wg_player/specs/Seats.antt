@@ -25,7 +25,7 @@ first_of first (calls ∷ lanes) (suc n) = first_of (first + count_made calls) l
 abbrev pub sight_at : List Object → List (List BoundCall) → ℕ → Sight
 sight_at objects lanes n = record { others = objects; first = first_of (length objects) lanes n; own = [] }
 
--- and once it has made these
+-- what a lane of a phase sees once it has made these
 abbrev pub sight_with : List Object → List (List BoundCall) → ℕ → List Object → Sight
 sight_with objects lanes n own = record { others = objects; first = first_of (length objects) lanes n; own = own }
 

@@ -9,14 +9,12 @@ ghost use Rattle.wg_play.specs.Sights.{SeesSame, sight_of};
 ghost use Rattle.wg_player.specs.Moves.{HasAskedBy, HasPlayedBy};
 
 use crate::canvas::play_canvas;
-use std::alloc::Global;
 use std::sync::Wait;
+use wg_calls::ended_by;
 use wg_device::{Device, DevicePass};
 use wg_encoder::{Noted, Recorder};
 use wg_entry::NoMemory;
-use wg_play::{
-    Object, Seen, command_of, ended_by, note_command, reference_at, request_of, stand_at,
-};
+use wg_play::{LaneSight, Object, command_of, note_command, reference_at, request_of, stand_at};
 use wg_script::BoundCall;
 use wg_types::commands::CommandOf;
 use wg_types::handles::Handle;
@@ -28,7 +26,7 @@ fn play_command(
     rt: &impl Wait,
     device: &Device,
     pass: &mut DevicePass,
-    seen: &mut Seen<'_>,
+    seen: &mut LaneSight<'_>,
     on: u32,
     command: &CommandOf<u32>,
     made: Option<u32>,
@@ -142,7 +140,7 @@ fn send_request(
     rt: &impl Wait,
     device: &Device,
     pass: &mut DevicePass,
-    seen: &mut Seen<'_>,
+    seen: &mut LaneSight<'_>,
     request: &RequestOf<u32>,
 ) -> Result<Option<Handle>, NoMemory>
     requires { CanCall device.now.lock pass.old }
@@ -169,7 +167,7 @@ fn play_request(
     rt: &impl Wait,
     device: &Device,
     pass: &mut DevicePass,
-    seen: &mut Seen<'_>,
+    seen: &mut LaneSight<'_>,
     request: &RequestOf<u32>,
     made: Option<u32>,
 ) -> Result<(), NoMemory>
@@ -194,7 +192,7 @@ pub fn play_call(
     rt: &impl Wait,
     device: &Device,
     pass: &mut DevicePass,
-    seen: &mut Seen<'_>,
+    seen: &mut LaneSight<'_>,
     call: &BoundCall,
 ) -> Result<(), NoMemory>
     requires { CanCall device.now.lock pass.old }

@@ -17,7 +17,7 @@ use wg_canvas::{Canvas, Maker};
 use wg_core::Event;
 use wg_device::{Device, DevicePass};
 use wg_entry::NoMemory;
-use wg_play::{Object, Seen};
+use wg_play::{LaneSight, Object};
 use wg_types::canvases::{CanvasCall, CanvasOf};
 use wg_types::handles::Handle;
 use wg_types::replies::Reply;
@@ -134,7 +134,7 @@ fn texture_at(own: &[Object], place: u32) -> Result<Option<Handle>, NoMemory>
 
 /// Adds the texture that is current once the canvas at a place was called, where the call has a name for it.
 fn show(
-    seen: &mut Seen<'_>,
+    seen: &mut LaneSight<'_>,
     place: u32,
     call: CanvasCall,
     made: Option<u32>,
@@ -157,7 +157,7 @@ fn play_on(
     rt: &impl Wait,
     device: &Device,
     pass: &mut DevicePass,
-    seen: &mut Seen<'_>,
+    seen: &mut LaneSight<'_>,
     canvas: u32,
     call: CanvasCall,
     made: Option<u32>,
@@ -178,7 +178,7 @@ pub fn play_canvas(
     rt: &impl Wait,
     device: &Device,
     pass: &mut DevicePass,
-    seen: &mut Seen<'_>,
+    seen: &mut LaneSight<'_>,
     call: &CanvasOf<u32>,
     made: Option<u32>,
 ) -> Result<(), NoMemory>

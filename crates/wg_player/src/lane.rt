@@ -10,7 +10,7 @@ use std::sync::Wait;
 use wg_device::{Device, DevicePass};
 use wg_entry::NoMemory;
 use wg_lanes::{Gate, LaneBody};
-use wg_play::Seen;
+use wg_play::LaneSight;
 use wg_script::BoundCall;
 
 /// A lane with its pass, its calls, and what it sees; and whether it is through.
@@ -21,7 +21,7 @@ pub struct LaneRun<'a, G: Gate> {
     pub device: &'a Device,
     pub pass: DevicePass,
     pub calls: &'a [BoundCall],
-    pub seen: Seen<'a>,
+    pub seen: LaneSight<'a>,
     pub through: bool,
     pub ghost of: { IsPassOf device.now.lock pass } by { Prim.hlevel props },
 }
@@ -35,7 +35,7 @@ fn play_lane<G: Gate>(
     phase: u32,
     device: &Device,
     pass: &mut DevicePass,
-    seen: &mut Seen<'_>,
+    seen: &mut LaneSight<'_>,
     calls: &[BoundCall],
 ) -> Result<(), NoMemory>
     requires { IsPassOf device.now.lock pass.old }

@@ -1,5 +1,4 @@
 //! How all passes meet between two phases.
-ghost use Rattle.std.specs.Prelude.{◌≡◌, List};
 ghost use Rattle.wg_turn.specs.Passes.{IsPassOf};
 ghost use Rattle.wg_player.specs.Moves.{Tells, ArePassesOf, AreSoundIn, HaveAllMet};
 

@@ -11,7 +11,7 @@ use std::thread::Threads;
 use wg_device::{Device, DevicePass};
 use wg_entry::NoMemory;
 use wg_lanes::{Gate, run_all};
-use wg_play::{Object, Seen, count_made};
+use wg_play::{LaneSight, Object, count_made};
 use wg_script::{BoundCall, BoundLane};
 
 /// The calls of a lane, or none where the phase has fewer lanes.
@@ -68,7 +68,7 @@ pub fn seat<'a, G: Gate>(
     let mut bodies = Vec::with_capacity(alloc, passes.len())?;
     while let Some(pass) = passes.pop() {
         let lane = pass.number() as usize;
-        let seen = Seen {
+        let seen = LaneSight {
             others: objects,
             first: first_at(count, lanes, lane)?,
             own: Vec::new(alloc),
@@ -107,7 +107,7 @@ pub fn unseat<'a, G: Gate>(
         if !through {
             return Err(NoMemory);
         }
-        let Seen { mut own, .. } = seen;
+        let LaneSight { mut own, .. } = seen;
         passes.push_reserved(pass);
         made.append(&mut own)?;
     }

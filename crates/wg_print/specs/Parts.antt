@@ -1,20 +1,22 @@
 -- The text of parts and of cells.
 use Rattle.std.specs.Prelude.{ℕ, List, ◌++◌, codes, decimal}
-use Rattle.wg_types.specs.declared.parts.Aspect.{Aspect}
-use Rattle.wg_types.specs.declared.parts.Aspect.TheVariants.{Color, Depth, Stencil}
-use Rattle.wg_types.specs.declared.parts.PartRun.{PartRun}
-use Rattle.wg_types.specs.declared.parts.PartRun.TheVariants.{Buffer, Queries, Texture}
-use Rattle.wg_types.specs.declared.parts.Cells.{Cells}
-use Rattle.wg_types.specs.declared.parts.Cells.TheVariants.{Bytes, Queries as QueryCells, Layers, Slices}
-use Rattle.wg_types.specs.declared.parts.Kind.{Kind}
-use Rattle.wg_types.specs.declared.parts.Kind.TheVariants.{Read, Write, Both, Drop, ReadDrop}
+use Rattle.wg_trace.specs.declared.parts.Aspect.{Aspect}
+use Rattle.wg_trace.specs.declared.parts.Aspect.TheVariants.{Color, Depth, Stencil}
+use Rattle.wg_trace.specs.declared.parts.PartRun.{PartRun}
+use Rattle.wg_trace.specs.declared.parts.PartRun.TheVariants.{Buffer, Queries, Texture}
+use Rattle.wg_trace.specs.declared.parts.Cells.{Cells}
+use Rattle.wg_trace.specs.declared.parts.Cells.TheVariants.{Bytes, Queries as QueryCells, Layers, Slices}
+use Rattle.wg_trace.specs.declared.parts.AccessKind.{AccessKind}
+use Rattle.wg_trace.specs.declared.parts.AccessKind.TheVariants.{Read, Write, Both, Drop, ReadDrop}
 
+-- the word of an aspect
 abbrev pub aspect_text : Aspect → List ℕ
 aspect_text Color = codes "color"
 aspect_text Depth = codes "depth"
 aspect_text Stencil = codes "stencil"
 
-abbrev pub access_kind_text : Kind → List ℕ
+-- the word of a kind of access
+abbrev pub access_kind_text : AccessKind → List ℕ
 access_kind_text Read = codes "read"
 access_kind_text Write = codes "write"
 access_kind_text Both = codes "both"

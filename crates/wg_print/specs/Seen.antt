@@ -5,6 +5,7 @@ use Rattle.std.specs.declared.option.Option.{Option}
 use Rattle.wg_print.specs.Printing.{Printer}
 use Rattle.wg_print.specs.declared.printing.Out.{Out}
 
+-- what contracts see of a printer over a sink
 abbrev pub seen : {W : Type 0} → (W → Option (List ℕ)) → (W → ℕ) → Out W → Printer
 seen taken faults out = record { taken = taken out.sink.now; faults = faults out.sink.now; held = out.held; failed = out.failed }
 

@@ -5,9 +5,9 @@ ghost use Rattle.wg_print.specs.Seen.{seen, reference, IsLive};
 
 use crate::pieces::{Piece, put_all};
 use crate::printing::Out;
-use crate::words::{fault_kind_word, validity_word, verb_word};
+use crate::words::{fault_kind_word, validity_word};
 use wg_io::{Failed, Sink};
-use wg_types::replies::{Answer, Caught, Fault, How, Reply, Settlement, Verb};
+use wg_trace::replies::{Answer, Caught, Fault, How, Reply, Settlement};
 
 fn put_answer<W: Sink>(out: &mut Out<'_, W>, answer: Answer)
     ensures same_reference { reference out.new ≡ reference out.old }
@@ -110,11 +110,11 @@ fn put_settled<W: Sink>(out: &mut Out<'_, W>, settlements: &[Settlement])
     }
 }
 
-/// Puts the line of an entry. Once a write has failed this does nothing.
-pub fn put_entry<W: Sink>(out: &mut Out<'_, W>, number: u64, who: u32, verb: Verb, reply: &Reply)
+/// Puts the line of an entry, whose event is told by this text. Once a write has failed this does nothing.
+pub fn put_entry<W: Sink>(out: &mut Out<'_, W>, number: u64, who: u32, verb: &str, reply: &Reply)
     ensures same_reference { reference out.new ≡ reference out.old }
     ensures text { Puts (seen W.taken W.faults out.old) (seen W.taken W.faults out.new)
-        (entry_text number who verb reply.now) }
+        (entry_text number who verb.now reply.now) }
 {
     put_all(
         out,
@@ -123,7 +123,7 @@ pub fn put_entry<W: Sink>(out: &mut Out<'_, W>, number: u64, who: u32, verb: Ver
             Piece::Word(" "),
             Piece::Number(u64::from(who)),
             Piece::Word(" "),
-            Piece::Word(verb_word(verb)),
+            Piece::Word(verb),
             Piece::Word(" "),
         ],
     );
@@ -133,22 +133,22 @@ pub fn put_entry<W: Sink>(out: &mut Out<'_, W>, number: u64, who: u32, verb: Ver
     out.word("\n");
 }
 
-/// Prints the entry of the history with this number, of this caller, as one line.
+/// Prints the entry of the history with this number, of this caller, as one line; `verb` tells its event.
 pub fn entry<W: Sink>(
     out: &mut Out<'_, W>,
     number: u64,
     who: u32,
-    verb: Verb,
+    verb: &str,
     reply: &Reply,
 ) -> Result<(), Failed>
     requires { IsLive out.old }
     ensures same_reference { reference out.new ≡ reference out.old }
     ensures added { OnOk result (Adds
         (seen W.taken W.faults out.old) (seen W.taken W.faults out.new)
-        (entry_text number who verb reply.now)) }
+        (entry_text number who verb.now reply.now)) }
     ensures stopped { OnErr result (Stops
         (seen W.taken W.faults out.old) (seen W.taken W.faults out.new)
-        (entry_text number who verb reply.now)) }
+        (entry_text number who verb.now reply.now)) }
 {
     put_entry(out, number, who, verb, reply);
     out.check()

@@ -10,9 +10,9 @@ use crate::printing::Out;
 use crate::usage_sets::put_usages;
 use crate::words::{access_kind_word, aspect_word, sort_word};
 use wg_io::{Failed, Sink};
-use wg_types::parts::{Cells, Kind, PartRun};
-use wg_types::steps::{Item, Sort, Step, StepPlace};
-use wg_types::usages::Usages;
+use wg_trace::parts::{AccessKind, Cells, PartRun};
+use wg_trace::steps::{Item, Sort, Step, StepPlace};
+use wg_trace::usages::Usages;
 
 fn put_part<W: Sink>(out: &mut Out<'_, W>, part: PartRun)
     ensures same_reference { reference out.new ≡ reference out.old }
@@ -171,7 +171,7 @@ fn put_uses<W: Sink>(out: &mut Out<'_, W>, uses: &[(PartRun, Usages)])
     }
 }
 
-fn put_access<W: Sink>(out: &mut Out<'_, W>, cells: Cells, kind: Kind)
+fn put_access<W: Sink>(out: &mut Out<'_, W>, cells: Cells, kind: AccessKind)
     ensures same_reference { reference out.new ≡ reference out.old }
     ensures text { Puts (seen W.taken W.faults out.old) (seen W.taken W.faults out.new)
         (access_text (cells, kind)) }
@@ -188,7 +188,7 @@ fn put_access<W: Sink>(out: &mut Out<'_, W>, cells: Cells, kind: Kind)
     out.word("\n");
 }
 
-fn put_accesses<W: Sink>(out: &mut Out<'_, W>, accesses: &[(Cells, Kind)])
+fn put_accesses<W: Sink>(out: &mut Out<'_, W>, accesses: &[(Cells, AccessKind)])
     ensures same_reference { reference out.new ≡ reference out.old }
     ensures text { Puts (seen W.taken W.faults out.old) (seen W.taken W.faults out.new)
         (flat_map access_text accesses.now) }

@@ -6,7 +6,7 @@ ghost use Rattle.wg_print.specs.UsageSets.{words_text, usages_text};
 use crate::printing::Out;
 use bitflags::Flags;
 use wg_io::Sink;
-use wg_types::usages::Usages;
+use wg_trace::usages::Usages;
 
 // Puts the words of the usages that the set has, with a '+' between each two.
 fn put_words<W: Sink>(out: &mut Out<'_, W>, set: Usages, words: &[(Usages, &str)])

@@ -1,20 +1,11 @@
 ghost use Rattle.std.specs.Prelude.{◌≡◌};
-ghost use Rattle.wg_print.specs.Entries.{verb_text, fault_kind_text, validity_text};
+ghost use Rattle.wg_print.specs.Entries.{fault_kind_text, validity_text};
 ghost use Rattle.wg_print.specs.Items.{sort_text};
 ghost use Rattle.wg_print.specs.Parts.{aspect_text, access_kind_text};
 
-use wg_types::parts::{Aspect, Kind};
-use wg_types::replies::{FaultKind, Verb};
-use wg_types::steps::Sort;
-
-pub fn verb_word(verb: Verb) -> &'static str
-    ensures { result.now ≡ verb_text verb }
-{
-    match verb {
-        Verb::Call(word) => word.as_str(),
-        Verb::Late => "late",
-    }
-}
+use wg_trace::parts::{AccessKind, Aspect};
+use wg_trace::replies::FaultKind;
+use wg_trace::steps::Sort;
 
 pub fn fault_kind_word(kind: FaultKind) -> &'static str
     ensures { result.now ≡ fault_kind_text kind }
@@ -41,15 +32,15 @@ pub fn aspect_word(aspect: Aspect) -> &'static str
     }
 }
 
-pub fn access_kind_word(kind: Kind) -> &'static str
+pub fn access_kind_word(kind: AccessKind) -> &'static str
     ensures { result.now ≡ access_kind_text kind }
 {
     match kind {
-        Kind::Read => "read",
-        Kind::Write => "write",
-        Kind::Both => "both",
-        Kind::Drop => "drop",
-        Kind::ReadDrop => "readdrop",
+        AccessKind::Read => "read",
+        AccessKind::Write => "write",
+        AccessKind::Both => "both",
+        AccessKind::Drop => "drop",
+        AccessKind::ReadDrop => "readdrop",
     }
 }
 

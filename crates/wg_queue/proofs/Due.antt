@@ -4,7 +4,7 @@ use Rattle.std.specs.List.Sorted.{IsPartitionPoint}
 use Rattle.std.proofs.lemmas.List.{length-drop, get_or-drop}
 use Rattle.std.proofs.lemmas.List.Sorted.{IsNonDecreasingBy-drop}
 use Rattle.std.proofs.lemmas.Bool.{lt-ltb, le-ltb, leb-true, leb-false}
-use Rattle.wg_types.specs.declared.replies.Waiting.{Waiting}
+use Rattle.wg_trace.specs.declared.replies.Waiting.{Waiting}
 use Rattle.wg_model.specs.Promises.{still_waiting}
 use Rattle.wg_queue.specs.Order.{IsInOrder}
 

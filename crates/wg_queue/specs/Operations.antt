@@ -1,7 +1,8 @@
--- What a device keeps of its operations, and of the promises that wait for them.
+-- What a device keeps of its operations, and of the promises that wait for them (WebGPU, "Queues" and "onSubmittedWorkDone").
 use Rattle.std.specs.Prelude.{ℕ, Bool, ◌||◌, ◌==◌, nat_le, nat_lt, List}
-use Rattle.wg_types.specs.declared.replies.Waiting.{Waiting}
+use Rattle.wg_trace.specs.declared.replies.Waiting.{Waiting}
 
+-- what is kept of the queue: whether the device is lost, and which operations were issued and are complete
 pub record QueueValue : Type 0 where
   -- whether the device is lost
   pub lost : Bool

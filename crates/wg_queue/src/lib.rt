@@ -4,7 +4,7 @@
 ghost use Rattle.std.specs.Prelude.{◌≡◌, ◌+◌, ◌-◌, ◌<◌, ◌≤◌, ◌^◌, ◌∷◌, ◌++◌, [], not, true, false, drop, length, vec_len, vec_capacity, IsOk, OnOk, OnErr, IfOk, if◌then◌else◌};
 ghost use Rattle.std.specs.List.Sorted.{IsNonDecreasingBy};
 ghost use Rattle.wg_model.specs.Promises.{promises, due_promises, still_waiting};
-ghost use Rattle.wg_types.specs.declared.replies.Waiting.{Waiting};
+ghost use Rattle.wg_trace.specs.declared.replies.Waiting.{Waiting};
 ghost use Rattle.wg_queue.specs.Operations.{QueueValue, is_bad, is_idle};
 
 use std::alloc::Global;

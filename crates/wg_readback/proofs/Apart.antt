@@ -2,7 +2,7 @@
 use Rattle.std.specs.Prelude.{nat_lt, nat_le}
 use Rattle.std.proofs.Common.{◌≡◌, ℕ, ◌<◌, ◌≤◌, max, List, [], ◌∷◌, ◌++◌, true, false, ◌&&◌, ap, sym, refl, ◌∙◌, arith, true≢false}
 use Rattle.std.proofs.lemmas.Bool.{and_parts, and_from, false_from_ne_true, ltb-true, lt-ltb, le-leb}
-use Rattle.wg_types.specs.declared.parts.Kind.{Kind}
+use Rattle.wg_trace.specs.declared.parts.AccessKind.{AccessKind}
 use Rattle.wg_rows.specs.Rows.{list_eq, in_range}
 use Rattle.wg_rows.specs.Runs.{Cell, Byte, Texels, Slice, Query, Cells, Bytes, Queries, Layers, Slices, cell_line, cell_lo, cell_hi, cell_spot, covers}
 use Rattle.wg_rows.specs.Once.{NoneCovers, OneCovers}
@@ -55,35 +55,35 @@ no_overlap run old r o apart =
     true≢false (sym by_run ∙ apart (cell_at old (max (cell_lo run) (cell_lo old))) by_old))
 
 -- No row has a cell of a run, of these runs, or of rows before it.
-abbrev IsApart : Cells → List (Cells × Kind) → Type 0
+abbrev IsApart : Cells → List (Cells × AccessKind) → Type 0
 IsApart old [] = Unit {0}
 IsApart old (row ∷ rows) = (overlap row.0 old ≡ false) × IsApart old rows
 
-abbrev AllApart : List Cells → List (Cells × Kind) → Type 0
+abbrev AllApart : List Cells → List (Cells × AccessKind) → Type 0
 AllApart [] rows = Unit {0}
 AllApart (old ∷ olds) rows = IsApart old rows × AllApart olds rows
 
-abbrev pub AreNew : List Cells → List (Cells × Kind) → Type 0
+abbrev pub AreNew : List Cells → List (Cells × AccessKind) → Type 0
 AreNew olds [] = Unit {0}
 AreNew olds (row ∷ rows) = (is_given olds row.0 ≡ false) × AreNew (olds ++ row.0 ∷ []) rows
 
-first_new : (olds : List Cells) (row : Cells × Kind) (rows : List (Cells × Kind)) → AllApart olds (row ∷ rows) → is_given olds row.0 ≡ false
+first_new : (olds : List Cells) (row : Cells × AccessKind) (rows : List (Cells × AccessKind)) → AllApart olds (row ∷ rows) → is_given olds row.0 ≡ false
 first_new [] row rows h = refl
 first_new (old ∷ olds) row rows h = rw h.0.0 (first_new olds row rows h.1)
 
-rest_apart : (olds : List Cells) (row : Cells × Kind) (rows : List (Cells × Kind)) → AllApart olds (row ∷ rows) → IsApart row.0 rows → AllApart (olds ++ row.0 ∷ []) rows
+rest_apart : (olds : List Cells) (row : Cells × AccessKind) (rows : List (Cells × AccessKind)) → AllApart olds (row ∷ rows) → IsApart row.0 rows → AllApart (olds ++ row.0 ∷ []) rows
 rest_apart [] row rows h k = (k, tt)
 rest_apart (old ∷ olds) row rows h k = (h.0.1, rest_apart olds row rows h.1 k)
 
-run_apart : (old : Cells) (rows : List (Cells × Kind)) → AreCells old → AreAccesses rows → ((c : Cell) → covers old c ≡ true → NoneCovers c rows) → IsApart old rows
+run_apart : (old : Cells) (rows : List (Cells × AccessKind)) → AreCells old → AreAccesses rows → ((c : Cell) → covers old c ≡ true → NoneCovers c rows) → IsApart old rows
 run_apart old [] o a h = tt
 run_apart old (row ∷ rows) o a h = (no_overlap row.0 old a.0 o (λ c e. (h c e).0), run_apart old rows o a.1 (λ c e. (h c e).1))
 
-new_from : (olds : List Cells) (rows : List (Cells × Kind)) → AreAccesses rows → ((c : Cell) → OneCovers c rows) → AllApart olds rows → AreNew olds rows
+new_from : (olds : List Cells) (rows : List (Cells × AccessKind)) → AreAccesses rows → ((c : Cell) → OneCovers c rows) → AllApart olds rows → AreNew olds rows
 new_from olds [] a h k = tt
 new_from olds (row ∷ rows) a h k =
     (first_new olds row rows k, new_from (olds ++ row.0 ∷ []) rows a.1 (λ c. (h c).1) (rest_apart olds row rows k (run_apart row.0 rows a.0 a.1 (λ c e. (h c).0 e))))
 
 -- rows that cover no cell twice
-pub once_new : (rows : List (Cells × Kind)) → AreAccesses rows → ((c : Cell) → OneCovers c rows) → AreNew [] rows
+pub once_new : (rows : List (Cells × AccessKind)) → AreAccesses rows → ((c : Cell) → OneCovers c rows) → AreNew [] rows
 once_new rows a h = new_from [] rows a h tt

@@ -2,13 +2,13 @@
 use Rattle.std.specs.Prelude.{Some, Result, Ok, Err, codes, map}
 use Rattle.std.specs.List.{list_all}
 use Rattle.std.proofs.Common.{◌≡◌, ℕ, suc, ◌+◌, List, [], ◌∷◌, ◌++◌, length, Bool, true, if◌then◌else◌, ap, sym, refl, ◌∙◌, arith, append_assoc}
-use Rattle.wg_types.specs.declared.parts.PartRun.{PartRun}
-use Rattle.wg_types.specs.declared.parts.Cells.{Cells}
-use Rattle.wg_types.specs.declared.parts.Kind.{Kind}
-use Rattle.wg_types.specs.declared.usages.Usages.{Usages}
-use Rattle.wg_types.specs.declared.steps.Step.{Step as StepOf}
-use Rattle.wg_types.specs.declared.steps.Item.{Item}
-use Rattle.wg_types.specs.declared.steps.Item.TheVariants.{Bar as BarItem, Step as StepItem, Free as FreeItem}
+use Rattle.wg_trace.specs.declared.parts.PartRun.{PartRun}
+use Rattle.wg_trace.specs.declared.parts.Cells.{Cells}
+use Rattle.wg_trace.specs.declared.parts.AccessKind.{AccessKind}
+use Rattle.wg_trace.specs.declared.usages.Usages.{Usages}
+use Rattle.wg_trace.specs.declared.steps.Step.{Step as StepOf}
+use Rattle.wg_trace.specs.declared.steps.Item.{Item}
+use Rattle.wg_trace.specs.declared.steps.Item.TheVariants.{Bar as BarItem, Step as StepItem, Free as FreeItem}
 use Rattle.wg_print.specs.Pieces.{line_text}
 use Rattle.wg_readtrace.specs.declared.line.Line.{Line}
 use Rattle.wg_readtrace.specs.Reading.{is_text_byte, ends_line, lines_of, behind_trace, read_from, read_behind, read_lines, uses_in, accesses_in, items_of, as_items}
@@ -28,12 +28,12 @@ trace_uses n (BarItem part from to ∷ items) = (refl, refl)
 trace_uses n (StepItem step ∷ items) = (refl, refl)
 trace_uses n (FreeItem object sort ∷ items) = (refl, refl)
 
-acc_back : (rows : List (Cells × Kind)) (lines : List Line) → uses_in lines ≡ [] → accesses_in lines ≡ []
+acc_back : (rows : List (Cells × AccessKind)) (lines : List Line) → uses_in lines ≡ [] → accesses_in lines ≡ []
     → (uses_in (acc_lines rows lines) ≡ []) × (accesses_in (acc_lines rows lines) ≡ rows) × (items_of (acc_lines rows lines) ≡ items_of lines)
 acc_back [] lines u a = (u, a, refl)
 acc_back (row ∷ rows) lines u a =
     let rest : (uses_in (acc_lines rows lines) ≡ []) × (accesses_in (acc_lines rows lines) ≡ rows) × (items_of (acc_lines rows lines) ≡ items_of lines) = acc_back rows lines u a in
-    (rest.0, ap (λ (xs : List (Cells × Kind)). row ∷ xs) rest.1, rest.2)
+    (rest.0, ap (λ (xs : List (Cells × AccessKind)). row ∷ xs) rest.1, rest.2)
 
 use_back : (rows : List (PartRun × Usages)) (lines : List Line) → uses_in lines ≡ []
     → (uses_in (use_lines rows lines) ≡ rows) × (accesses_in (use_lines rows lines) ≡ accesses_in lines) × (items_of (use_lines rows lines) ≡ items_of lines)
@@ -42,7 +42,7 @@ use_back (row ∷ rows) lines u =
     let rest : (uses_in (use_lines rows lines) ≡ rows) × (accesses_in (use_lines rows lines) ≡ accesses_in lines) × (items_of (use_lines rows lines) ≡ items_of lines) = use_back rows lines u in
     (ap (λ (xs : List (PartRun × Usages)). row ∷ xs) rest.0, rest.1, rest.2)
 
-step_back : (step : StepOf) (uses : List (PartRun × Usages)) (accesses : List (Cells × Kind)) (items more : List Item) → uses ≡ step.uses → accesses ≡ step.accesses → items ≡ more
+step_back : (step : StepOf) (uses : List (PartRun × Usages)) (accesses : List (Cells × AccessKind)) (items more : List Item) → uses ≡ step.uses → accesses ≡ step.accesses → items ≡ more
     → (StepItem (record { place = step.place; name = step.name; uses = uses; accesses = accesses }) ∷ items) ≡ (StepItem step ∷ more)
 step_back step uses accesses items more u a e = rw (u, a, e) refl
 

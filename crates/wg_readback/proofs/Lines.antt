@@ -2,17 +2,17 @@
 use Rattle.std.specs.Prelude.{codes, decimal}
 use Rattle.std.specs.List.{flat_map}
 use Rattle.std.proofs.Common.{◌≡◌, ℕ, ◌+◌, List, [], ◌∷◌, ◌++◌, ap, sym, refl, ◌∙◌, append-nil, append_assoc}
-use Rattle.wg_types.specs.declared.parts.PartRun.{PartRun}
-use Rattle.wg_types.specs.declared.parts.PartRun.TheVariants.{Buffer, Queries, Texture}
-use Rattle.wg_types.specs.declared.parts.Cells.{Cells}
-use Rattle.wg_types.specs.declared.parts.Cells.TheVariants.{Bytes, Queries as QueryCells, Layers, Slices}
-use Rattle.wg_types.specs.declared.parts.Kind.{Kind}
-use Rattle.wg_types.specs.declared.usages.Usages.{Usages}
-use Rattle.wg_types.specs.declared.steps.StepPlace.{StepPlace}
-use Rattle.wg_types.specs.declared.steps.StepPlace.TheVariants.{Op, Host}
-use Rattle.wg_types.specs.declared.steps.Item.{Item}
-use Rattle.wg_types.specs.declared.steps.Item.TheVariants.{Bar as BarItem, Step as StepItem, Free as FreeItem}
-use Rattle.wg_types.specs.Words.{step_name_text}
+use Rattle.wg_trace.specs.declared.parts.PartRun.{PartRun}
+use Rattle.wg_trace.specs.declared.parts.PartRun.TheVariants.{Buffer, Queries, Texture}
+use Rattle.wg_trace.specs.declared.parts.Cells.{Cells}
+use Rattle.wg_trace.specs.declared.parts.Cells.TheVariants.{Bytes, Queries as QueryCells, Layers, Slices}
+use Rattle.wg_trace.specs.declared.parts.AccessKind.{AccessKind}
+use Rattle.wg_trace.specs.declared.usages.Usages.{Usages}
+use Rattle.wg_trace.specs.declared.steps.StepPlace.{StepPlace}
+use Rattle.wg_trace.specs.declared.steps.StepPlace.TheVariants.{Op, Host}
+use Rattle.wg_trace.specs.declared.steps.Item.{Item}
+use Rattle.wg_trace.specs.declared.steps.Item.TheVariants.{Bar as BarItem, Step as StepItem, Free as FreeItem}
+use Rattle.wg_trace.specs.StepNames.{step_name_text}
 use Rattle.wg_print.specs.Items.{sort_text, from_text, place_text, use_text, access_text, item_text}
 use Rattle.wg_print.specs.Parts.{access_kind_text, part_text, cells_text}
 use Rattle.wg_print.specs.Pieces.{line_text}
@@ -28,7 +28,7 @@ abbrev pub use_lines : List (PartRun × Usages) → List Line → List Line
 use_lines [] lines = lines
 use_lines (row ∷ rows) lines = Use row.0 row.1 ∷ use_lines rows lines
 
-abbrev pub acc_lines : List (Cells × Kind) → List Line → List Line
+abbrev pub acc_lines : List (Cells × AccessKind) → List Line → List Line
 acc_lines [] lines = lines
 acc_lines (row ∷ rows) lines = Acc row.1 row.0 ∷ acc_lines rows lines
 
@@ -86,7 +86,7 @@ uses_text (row ∷ rows) lines =
     ∙ (use_joined (part_text row.0) (usages_text row.1) (flat_map use_text rows ++ text_of lines)
     ∙ sym (append_assoc (use_text row) (flat_map use_text rows) (text_of lines))))
 
-accesses_text : (rows : List (Cells × Kind)) (lines : List Line) → text_of (acc_lines rows lines) ≡ flat_map access_text rows ++ text_of lines
+accesses_text : (rows : List (Cells × AccessKind)) (lines : List Line) → text_of (acc_lines rows lines) ≡ flat_map access_text rows ++ text_of lines
 accesses_text [] lines = refl
 accesses_text (row ∷ rows) lines =
     ap (λ (t : List ℕ). (codes "acc" ++ (32 ∷ (access_kind_text row.1 ++ t))) ++ (10 ∷ text_of (acc_lines rows lines))) (cells_joined row.0 [])

@@ -1,25 +1,25 @@
 -- The lines of a history are lines of a text, and none is `trace`.
-use Rattle.std.specs.Prelude.{map, codes, decimal, bytes_eq, Option, Some, None}
+use Rattle.std.specs.Prelude.{codes, decimal, bytes_eq, Option, Some, None}
 use Rattle.std.specs.List.{list_all, list_any}
 use Rattle.std.specs.Fmt.{digits as printed_digits, digits_onto, digit_glyph}
 use Rattle.std.proofs.Common.{◌≡◌, ℕ, zero, suc, ◌+◌, ◌/◌, ◌%◌, ◌<◌, ◌==◌, ◌&&◌, ◌||◌, List, [], ◌∷◌, ◌++◌, Bool, true, false, if◌then◌else◌, ap, sym, refl, ◌∙◌, arith, append-nil, append_assoc, subst}
 use Rattle.std.proofs.lemmas.Bool.{lt-ltb, ne_eqb}
 use Rattle.wg_types.specs.declared.words.Word.{Word}
 use Rattle.wg_types.specs.declared.words.Word.TheVariants.{CreateBuffer, CreateTexture, CreateView, CreateSampler, CreateBindGroupLayout, CreatePipelineLayout, CreateBindGroup, CreateComputePipeline, CreateRenderPipeline, GetBindGroupLayout, CreateQuerySet, CreateEncoder, CreateBundleEncoder, BeginComputePass, BeginRenderPass, End, Finish, FinishBundle, PushDebugGroup, PopDebugGroup, Submit, WriteBuffer, WriteTexture, MapAsync, Unmap, WorkDone, Complete, Destroy, Drop, PushErrorScope, PopErrorScope, Lose, CopyBufferToBuffer, CopyBufferToTexture, CopyTextureToBuffer, CopyTextureToTexture, ClearBuffer, ResolveQuerySet, SetPipeline, SetBindGroup, SetVertexBuffer, SetIndexBuffer, Dispatch, DispatchIndirect, BeginOcclusionQuery, EndOcclusionQuery, ExecuteBundles, Draw, DrawIndexed, DrawIndirect, DrawIndexedIndirect, CreateCanvas, ConfigureCanvas, CurrentTexture, Present}
-use Rattle.wg_types.specs.Words.{word_text}
-use Rattle.wg_types.specs.declared.replies.Verb.{Verb}
-use Rattle.wg_types.specs.declared.replies.Verb.TheVariants.{Call, Late}
-use Rattle.wg_types.specs.declared.replies.FaultKind.{FaultKind}
-use Rattle.wg_types.specs.declared.replies.FaultKind.TheVariants.{Validation, OutOfMemory}
-use Rattle.wg_types.specs.declared.replies.Caught.{Caught}
-use Rattle.wg_types.specs.declared.replies.Caught.TheVariants.{Scope, Uncaptured}
-use Rattle.wg_types.specs.declared.replies.Fault.{Fault}
-use Rattle.wg_types.specs.declared.replies.Answer.{Answer}
-use Rattle.wg_types.specs.declared.replies.Answer.TheVariants.{Made, Queued, Promised, Plain, BadCompletion}
-use Rattle.wg_types.specs.declared.replies.How.{How}
-use Rattle.wg_types.specs.declared.replies.How.TheVariants.{Mapped, Done, Aborted, Rejected, Null, Error}
-use Rattle.wg_types.specs.declared.replies.Settlement.{Settlement}
-use Rattle.wg_print.specs.Entries.{verb_text, fault_kind_text, validity_text, answer_text, caught_text, fault_text, how_text, settlement_text, settled_text, entry_text}
+use Rattle.wg_types.specs.Words.{word_text, verb_text}
+use Rattle.wg_types.specs.declared.words.Verb.{Verb}
+use Rattle.wg_types.specs.declared.words.Verb.TheVariants.{Call, Late}
+use Rattle.wg_trace.specs.declared.replies.FaultKind.{FaultKind}
+use Rattle.wg_trace.specs.declared.replies.FaultKind.TheVariants.{Validation, OutOfMemory}
+use Rattle.wg_trace.specs.declared.replies.Caught.{Caught}
+use Rattle.wg_trace.specs.declared.replies.Caught.TheVariants.{Scope, Uncaptured}
+use Rattle.wg_trace.specs.declared.replies.Fault.{Fault}
+use Rattle.wg_trace.specs.declared.replies.Answer.{Answer}
+use Rattle.wg_trace.specs.declared.replies.Answer.TheVariants.{Made, Queued, Promised, Plain, BadCompletion}
+use Rattle.wg_trace.specs.declared.replies.How.{How}
+use Rattle.wg_trace.specs.declared.replies.How.TheVariants.{Mapped, Done, Aborted, Rejected, Null, Error}
+use Rattle.wg_trace.specs.declared.replies.Settlement.{Settlement}
+use Rattle.wg_print.specs.Entries.{fault_kind_text, validity_text, answer_text, caught_text, fault_text, how_text, settlement_text, settled_text, entry_text}
 use Rattle.wg_readtrace.specs.Reading.{is_text_byte, lines_of}
 use Rattle.wg_readback.specs.Texts.{numbered, Told, told_after, told_line, history_text}
 use Rattle.wg_readback.specs.Printable.{IsFront}
@@ -244,8 +244,3 @@ history_front entries =
 
 pub report_reads_back : ReportReadsBack
 report_reads_back entries trace h = reads_back (history_text entries) trace (history_front entries) h
-
--- texts of what items are told as
-pub numbered_map : {X Y : Type 0} (f : X → Y) (next : ℕ → Y → ℕ) (text : ℕ → Y → List ℕ) (n : ℕ) (xs : List X) → numbered next text n (map f xs) ≡ numbered (λ m x. next m (f x)) (λ m x. text m (f x)) n xs
-numbered_map f next text n [] = refl
-numbered_map f next text n (x ∷ xs) = ap (λ (t : List ℕ). text n (f x) ++ t) (numbered_map f next text (next n (f x)) xs)

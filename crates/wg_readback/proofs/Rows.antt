@@ -3,10 +3,10 @@ use Rattle.std.specs.Prelude.{Option, Some, None, bit_or}
 use Rattle.std.proofs.Common.{◌≡◌, ◌<◌, ◌≤◌, min, max, List, [], ◌∷◌, map, Bool, true, false, if◌then◌else◌, ap₂, refl, sym, subst, arith, lit<}
 use Rattle.std.proofs.lemmas.Bool.{false_from_ne_true}
 use Rattle.std.proofs.lemmas.Nat.{or_lt, le_or_l}
-use Rattle.wg_types.specs.declared.parts.PartRun.{PartRun}
-use Rattle.wg_types.specs.declared.parts.Kind.{Kind}
-use Rattle.wg_types.specs.declared.parts.Kind.TheVariants.{Write}
-use Rattle.wg_types.specs.declared.usages.Usages.{Usages}
+use Rattle.wg_trace.specs.declared.parts.PartRun.{PartRun}
+use Rattle.wg_trace.specs.declared.parts.AccessKind.{AccessKind}
+use Rattle.wg_trace.specs.declared.parts.AccessKind.TheVariants.{Write}
+use Rattle.wg_trace.specs.declared.usages.Usages.{Usages}
 use Rattle.wg_rows.specs.Rows.{Sort, covers_spot, run_before, meet, joined, put_at, put, printed, EachRow, After, Apart, Fits, AllFit}
 use Rattle.wg_rows.specs.Runs.{Part, Buffer, QuerySet, Subresource, Cell, Byte, Texels, Slice, Query, Cells, part_run, cell_run, cell_spot, cell_sort, covers, covers_part}
 use Rattle.wg_rows.specs.Uses.{row_set, with_usage, same_kind, printed_accesses}
@@ -73,16 +73,16 @@ row_set_is p (row ∷ rows) h = by_test (covers_part row.0 p) (row_set p rows) (
     by_test false rest k = k
 
 -- rows in printed form
-apart_filled : (rows : List (Cells × Kind)) → Apart cell_sort rows → EachRow IsShapedAccess rows
+apart_filled : (rows : List (Cells × AccessKind)) → Apart cell_sort rows → EachRow IsShapedAccess rows
 apart_filled [] h = tt
 apart_filled (row ∷ rows) h = (h.0, apart_filled rows h.2)
 
-none_covers : (c : Cell) (row : Cells × Kind) (rows : List (Cells × Kind)) → EachRow (After cell_sort row) rows → covers row.0 c ≡ true → NoneCovers c rows
+none_covers : (c : Cell) (row : Cells × AccessKind) (rows : List (Cells × AccessKind)) → EachRow (After cell_sort row) rows → covers row.0 c ≡ true → NoneCovers c rows
 unfolding covers
 none_covers c row [] h e = tt
 none_covers c row (next ∷ rows) h e = (false_from_ne_true (covers_spot cell_sort next.0 (cell_spot c)) (λ k. no_overlap cell_sort row next (cell_spot c) h.0 e k), none_covers c row rows h.1 e)
 
-pub apart_once : (rows : List (Cells × Kind)) → Apart cell_sort rows → (c : Cell) → OneCovers c rows
+pub apart_once : (rows : List (Cells × AccessKind)) → Apart cell_sort rows → (c : Cell) → OneCovers c rows
 apart_once [] h c = tt
 apart_once (row ∷ rows) h c = ((λ e. none_covers c row rows h.1 e), apart_once rows h.2 c)
 
@@ -97,6 +97,6 @@ all_written (c ∷ cells) = (cell_filled c, written_fit c cells, all_written cel
 
 pub written_shaped : (cells : List Cell) → EachRow IsShapedAccess (printed_accesses (map (λ (c : Cell). (cell_run c, Write)) cells)) × ((c : Cell) → OneCovers c (printed_accesses (map (λ (c : Cell). (cell_run c, Write)) cells)))
 written_shaped cells =
-    let rows : List (Cells × Kind) = map (λ (c : Cell). (cell_run c, Write)) cells in
+    let rows : List (Cells × AccessKind) = map (λ (c : Cell). (cell_run c, Write)) cells in
     let apart : Apart cell_sort (printed_accesses rows) = printed_apart cell_sort same_kind accesses_tell rows (all_written cells) in
     (apart_filled (printed_accesses rows) apart, apart_once (printed_accesses rows) apart)

@@ -1,13 +1,13 @@
 -- The lines of a trace keep the rules of the reader.
 use Rattle.std.specs.Prelude.{Some, Option, Result, Ok, Err, map}
 use Rattle.std.proofs.Common.{◌≡◌, ℕ, suc, ◌+◌, ◌≤◌, ◌==◌, ◌&&◌, ◌||◌, not, List, [], ◌∷◌, ◌++◌, Bool, true, false, if◌then◌else◌, ap, sym, refl, ◌∙◌, arith, eq-eqb, ◌⊎◌, inl, inr, subst}
-use Rattle.wg_types.specs.declared.parts.PartRun.{PartRun}
-use Rattle.wg_types.specs.declared.parts.Cells.{Cells}
-use Rattle.wg_types.specs.declared.parts.Kind.{Kind}
-use Rattle.wg_types.specs.declared.usages.Usages.{Usages}
-use Rattle.wg_types.specs.declared.steps.Sort.{Sort}
-use Rattle.wg_types.specs.declared.steps.Item.{Item}
-use Rattle.wg_types.specs.declared.steps.Item.TheVariants.{Bar as BarItem, Step as StepItem, Free as FreeItem}
+use Rattle.wg_trace.specs.declared.parts.PartRun.{PartRun}
+use Rattle.wg_trace.specs.declared.parts.Cells.{Cells}
+use Rattle.wg_trace.specs.declared.parts.AccessKind.{AccessKind}
+use Rattle.wg_trace.specs.declared.usages.Usages.{Usages}
+use Rattle.wg_trace.specs.declared.steps.Sort.{Sort}
+use Rattle.wg_trace.specs.declared.steps.Item.{Item}
+use Rattle.wg_trace.specs.declared.steps.Item.TheVariants.{Bar as BarItem, Step as StepItem, Free as FreeItem}
 use Rattle.wg_rows.specs.Once.{AreOnce}
 use Rattle.wg_readtrace.specs.declared.line.Line.{Line}
 use Rattle.wg_readtrace.specs.declared.line.Line.TheVariants.{Bar, Step, Use, Acc, Free}
@@ -64,7 +64,7 @@ trace_more n (BarItem part from to ∷ items) = refl
 trace_more n (StepItem step ∷ items) = refl
 trace_more n (FreeItem object sort ∷ items) = refl
 
-acc_more : (rows : List (Cells × Kind)) (lines : List Line) → IsMore lines → IsMore (acc_lines rows lines)
+acc_more : (rows : List (Cells × AccessKind)) (lines : List Line) → IsMore lines → IsMore (acc_lines rows lines)
 acc_more [] lines h = h
 acc_more (row ∷ rows) lines h = refl
 
@@ -98,7 +98,7 @@ record Inside (steps : ℕ) (rows : List Cells) (before : List Line) : Type 0 wh
   no_bar : is_some_line is_bar (last_line before) ≡ false
   no_end : is_some_line is_end (last_line before) ≡ false
 
-accs_follow : (steps : ℕ) (olds : List Cells) (before : List Line) (rows : List (Cells × Kind)) (lines : List Line) → AreAccesses rows → AreNew olds rows → Inside steps olds before → IsMore lines
+accs_follow : (steps : ℕ) (olds : List Cells) (before : List Line) (rows : List (Cells × AccessKind)) (lines : List Line) → AreAccesses rows → AreNew olds rows → Inside steps olds before → IsMore lines
     → ((now : List Cells) (behind : List Line) → Inside steps now behind → Follow behind lines) → Follow before (acc_lines rows lines)
 accs_follow steps olds before [] lines a new inside more rest = rest olds before inside
 accs_follow steps olds before (row ∷ rows) lines a new inside more rest = (

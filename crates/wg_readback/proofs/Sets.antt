@@ -9,7 +9,7 @@ use Rattle.std.proofs.lemmas.List.Folds.{list_all-append}
 use Rattle.std.proofs.lemmas.Nat.{shr-shr}
 use Rattle.std.proofs.lemmas.Nat.Bits.{and_pow}
 use Rattle.std.proofs.lemmas.Slice.Eq.{bytes_eq-Decides}
-use Rattle.wg_types.specs.declared.usages.Usages.{Usages}
+use Rattle.wg_trace.specs.declared.usages.Usages.{Usages}
 use Rattle.wg_print.specs.Items.{from_text}
 use Rattle.wg_print.specs.UsageSets.{usage_words, chosen_words, words_text, usages_text}
 use Rattle.wg_readtrace.specs.Words.{usage_word, with_bit, with_usage, set_from, usages, set_word}

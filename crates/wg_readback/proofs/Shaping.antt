@@ -3,8 +3,8 @@ use Rattle.std.specs.Prelude.{Option, Some, None}
 use Rattle.std.specs.List.{flat_map}
 use Rattle.std.specs.Option.{option_or, option_map_or}
 use Rattle.std.proofs.Common.{ℕ, zero, suc, List, [], ◌∷◌, ◌++◌, map, length, Bool, true, false, ◌&&◌, if◌then◌else◌, lit<}
-use Rattle.wg_types.specs.declared.parts.PartRun.{PartRun}
-use Rattle.wg_types.specs.declared.usages.Usages.{Usages}
+use Rattle.wg_trace.specs.declared.parts.PartRun.{PartRun}
+use Rattle.wg_trace.specs.declared.usages.Usages.{Usages}
 use Rattle.wg_rows.specs.Rows.{printed, EachRow}
 use Rattle.wg_rows.specs.Runs.{Part, PartRun, Cell, part_of, is_texture, part_run, part_sort}
 use Rattle.wg_rows.specs.Uses.{clear_usage, only_reads, same_set, Change, same_change}

@@ -4,9 +4,9 @@ use Rattle.std.specs.List.{find}
 use Rattle.std.specs.Option.{option_and_then, option_map}
 use Rattle.std.proofs.Common.{◌≡◌, ℕ, ◌+◌, ◌-◌, ◌*◌, ◌<◌, ◌≤◌, ◌==◌, ◌&&◌, ◌||◌, List, [], ◌∷◌, ◌++◌, length, take, drop, Bool, true, false, cond, if◌then◌else◌, refl, arith, lit≤}
 use Rattle.std.proofs.lemmas.Bool.{ltb-true, ltb-false}
-use Rattle.wg_types.specs.declared.parts.PartRun.TheVariants as part
-use Rattle.wg_types.specs.declared.parts.Cells.TheVariants as cells
-use Rattle.wg_types.specs.declared.steps.StepPlace.TheVariants.{Op, Host}
+use Rattle.wg_trace.specs.declared.parts.PartRun.TheVariants as part
+use Rattle.wg_trace.specs.declared.parts.Cells.TheVariants as cells
+use Rattle.wg_trace.specs.declared.steps.StepPlace.TheVariants.{Op, Host}
 use Rattle.wg_rows.specs.Rows.{EachRow}
 use Rattle.wg_print.specs.UsageSets.{usage_words}
 use Rattle.wg_readtrace.specs.declared.line.Line.{Line}
@@ -44,9 +44,6 @@ any_has (Some x) = tt
 
 word_has : {A : Type 0} (P : A → Type 0) (f : List ℕ → Option A) (bs : List ℕ) → ((w : List ℕ) → Has P (f w)) → Gets P (word_as f bs)
 word_has P f bs h = then_has IsAny (λ x. P x.0) (field bs) (λ w. f w.0 >>= λ x. Some (x, w.1)) (any_has (field bs)) (λ w _. then_has P (λ x. P x.0) (f w.0) (λ x. Some (x, w.1)) (h w.0) (λ x k. k))
-
-any_word : {A : Type 0} (f : List ℕ → Option A) (bs : List ℕ) → Gets IsAny (word_as f bs)
-any_word f bs = word_has IsAny f bs (λ w. any_has (f w))
 
 -- numbers and ranges
 digits_has : (most n : ℕ) (bs : List ℕ) → n ≤ most → Has (λ m. m ≤ most) (digits most n bs)

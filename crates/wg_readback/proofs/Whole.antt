@@ -1,13 +1,13 @@
 -- What the reader asks of each item, its ranges and its numbers together.
 use Rattle.std.proofs.Common.{ℕ, ◌<◌, ◌≤◌, List, [], ◌∷◌}
-use Rattle.wg_types.specs.declared.parts.PartRun.{PartRun}
-use Rattle.wg_types.specs.declared.parts.PartRun.TheVariants.{Buffer, Queries, Texture}
-use Rattle.wg_types.specs.declared.parts.Cells.{Cells}
-use Rattle.wg_types.specs.declared.parts.Cells.TheVariants.{Bytes, Queries as QueryCells, Layers, Slices}
-use Rattle.wg_types.specs.declared.parts.Kind.{Kind}
-use Rattle.wg_types.specs.declared.usages.Usages.{Usages}
-use Rattle.wg_types.specs.declared.steps.Item.{Item}
-use Rattle.wg_types.specs.declared.steps.Item.TheVariants.{Bar, Step as StepItem, Free}
+use Rattle.wg_trace.specs.declared.parts.PartRun.{PartRun}
+use Rattle.wg_trace.specs.declared.parts.PartRun.TheVariants.{Buffer, Queries, Texture}
+use Rattle.wg_trace.specs.declared.parts.Cells.{Cells}
+use Rattle.wg_trace.specs.declared.parts.Cells.TheVariants.{Bytes, Queries as QueryCells, Layers, Slices}
+use Rattle.wg_trace.specs.declared.parts.AccessKind.{AccessKind}
+use Rattle.wg_trace.specs.declared.usages.Usages.{Usages}
+use Rattle.wg_trace.specs.declared.steps.Item.{Item}
+use Rattle.wg_trace.specs.declared.steps.Item.TheVariants.{Bar, Step as StepItem, Free}
 use Rattle.wg_rows.specs.Rows.{EachRow}
 use Rattle.wg_rows.specs.Once.{AreOnce}
 use Rattle.wg_readtrace.specs.Forms.{most_32, most_53}
@@ -32,7 +32,7 @@ abbrev pub AreUses : List (PartRun × Usages) → Type 0
 AreUses [] = Unit {0}
 AreUses (row ∷ rows) = IsPart row.0 × IsSet row.1 × AreUses rows
 
-abbrev pub AreAccesses : List (Cells × Kind) → Type 0
+abbrev pub AreAccesses : List (Cells × AccessKind) → Type 0
 AreAccesses [] = Unit {0}
 AreAccesses (row ∷ rows) = AreCells row.0 × AreAccesses rows
 
@@ -60,7 +60,7 @@ uses_whole : (rows : List (PartRun × Usages)) → EachRow IsShapedUse rows → 
 uses_whole [] has fits = tt
 uses_whole (row ∷ rows) has fits = (part_whole row.0 has.0.0 fits.0, has.0.1, uses_whole rows has.1 fits.1)
 
-accesses_whole : (rows : List (Cells × Kind)) → EachRow IsShapedAccess rows → EachRow IsSmallAccess rows → AreAccesses rows
+accesses_whole : (rows : List (Cells × AccessKind)) → EachRow IsShapedAccess rows → EachRow IsSmallAccess rows → AreAccesses rows
 accesses_whole [] has fits = tt
 accesses_whole (row ∷ rows) has fits = (cells_whole row.0 has.0 fits.0, accesses_whole rows has.1 fits.1)
 

@@ -1,15 +1,15 @@
 -- Words are read as they are printed, and no byte of them is a space or a line end.
 use Rattle.std.specs.Prelude.{Some}
 use Rattle.std.proofs.Common.{◌≡◌, refl}
-use Rattle.wg_types.specs.declared.parts.Aspect.{Aspect}
-use Rattle.wg_types.specs.declared.parts.Aspect.TheVariants.{Color, Depth, Stencil}
-use Rattle.wg_types.specs.declared.parts.Kind.{Kind}
-use Rattle.wg_types.specs.declared.parts.Kind.TheVariants.{Read, Write, Both, Drop, ReadDrop}
-use Rattle.wg_types.specs.declared.steps.StepName.{StepName}
-use Rattle.wg_types.specs.declared.steps.StepName.TheVariants.{Clear, WriteBuffer, WriteTexture, CopyBufferToBuffer, CopyBufferToTexture, CopyTextureToBuffer, CopyTextureToTexture, ClearBuffer, ResolveQuerySet, Dispatch, RenderPass, HostRead, HostWrite}
-use Rattle.wg_types.specs.declared.steps.Sort.{Sort}
-use Rattle.wg_types.specs.declared.steps.Sort.TheVariants.{Buffer, Texture, Queries}
-use Rattle.wg_types.specs.Words.{step_name_text}
+use Rattle.wg_trace.specs.declared.parts.Aspect.{Aspect}
+use Rattle.wg_trace.specs.declared.parts.Aspect.TheVariants.{Color, Depth, Stencil}
+use Rattle.wg_trace.specs.declared.parts.AccessKind.{AccessKind}
+use Rattle.wg_trace.specs.declared.parts.AccessKind.TheVariants.{Read, Write, Both, Drop, ReadDrop}
+use Rattle.wg_trace.specs.declared.steps.StepName.{StepName}
+use Rattle.wg_trace.specs.declared.steps.StepName.TheVariants.{Clear, WriteBuffer, WriteTexture, CopyBufferToBuffer, CopyBufferToTexture, CopyTextureToBuffer, CopyTextureToTexture, ClearBuffer, ResolveQuerySet, Dispatch, RenderPass, HostRead, HostWrite}
+use Rattle.wg_trace.specs.declared.steps.Sort.{Sort}
+use Rattle.wg_trace.specs.declared.steps.Sort.TheVariants.{Buffer, Texture, Queries}
+use Rattle.wg_trace.specs.StepNames.{step_name_text}
 use Rattle.wg_print.specs.Items.{sort_text}
 use Rattle.wg_print.specs.Parts.{aspect_text, access_kind_text}
 use Rattle.wg_readtrace.specs.Words.{aspect_word, kind_word, name_word, sort_word}
@@ -20,7 +20,7 @@ aspect_read Color = (refl, refl)
 aspect_read Depth = (refl, refl)
 aspect_read Stencil = (refl, refl)
 
-pub kind_read : (kind : Kind) → (kind_word (access_kind_text kind) ≡ Some kind) × AreWordBytes (access_kind_text kind)
+pub kind_read : (kind : AccessKind) → (kind_word (access_kind_text kind) ≡ Some kind) × AreWordBytes (access_kind_text kind)
 kind_read Read = (refl, refl)
 kind_read Write = (refl, refl)
 kind_read Both = (refl, refl)

@@ -7,10 +7,11 @@ use Rattle.wg_readback.specs.Texts.{trace_behind, Told, history_text}
 use Rattle.wg_readback.specs.Shapes.{IsShapedStep, IsShaped}
 use Rattle.wg_readback.specs.Printable.{IsPrintable, IsFront}
 
+-- What is printed of a printable trace, behind a text without a line `trace`, is read as that trace.
 abbrev pub ReadsBack : Type 0
 ReadsBack = (before : List ℕ) (trace : List Item) → IsFront before → IsPrintable trace → trace_in (trace_behind before trace) ≡ Ok trace
 
--- So is the trace of a report, whose history stands before it.
+-- What is printed of a printable trace behind the entries of a history is read as that trace.
 abbrev pub ReportReadsBack : Type 0
 ReportReadsBack = (entries : List Told) (trace : List Item) → IsPrintable trace → trace_in (trace_behind (history_text entries) trace) ≡ Ok trace
 

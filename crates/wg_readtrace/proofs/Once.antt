@@ -3,8 +3,8 @@ use Rattle.std.specs.Prelude.{Option, Some, None, Result, Ok, Err, nat_lt, nat_l
 use Rattle.std.proofs.Common.{◌≡◌, ℕ, suc, ◌<◌, ◌≤◌, List, [], ◌∷◌, ◌++◌, Bool, true, false, not, ◌&&◌, if◌then◌else◌, ap, sym, refl, ◌∙◌, arith, true≢false, subst}
 use Rattle.std.specs.List.{list_any}
 use Rattle.std.proofs.lemmas.Bool.{and_parts, and_from, or_parts, false_from_ne_true, ltb-true, lt-ltb, leb-true}
-use Rattle.wg_types.specs.declared.parts.Kind.{Kind}
-use Rattle.wg_types.specs.declared.steps.Item.{Item}
+use Rattle.wg_trace.specs.declared.parts.AccessKind.{AccessKind}
+use Rattle.wg_trace.specs.declared.steps.Item.{Item}
 use Rattle.wg_rows.specs.Rows.{list_eq, in_range}
 use Rattle.wg_rows.specs.Runs.{Cell, Cells, cell_line, cell_lo, cell_hi, cell_spot, covers}
 use Rattle.wg_rows.specs.Once.{NoneCovers, OneCovers, AreOnce}
@@ -36,7 +36,7 @@ apart : (a b : Cells) (c : Cell) → overlap a b ≡ false → covers b c ≡ tr
 apart a b c none in_b = false_from_ne_true (covers a c) (λ in_a. true≢false (sym (shared a b c in_b in_a) ∙ none))
 
 -- No row has a cell of these runs.
-abbrev Clear : List Cells → List (Cells × Kind) → Type 0
+abbrev Clear : List Cells → List (Cells × AccessKind) → Type 0
 Clear [] rows = Unit {0}
 Clear (run ∷ runs) rows = ((c : Cell) → covers run c ≡ true → NoneCovers c rows) × Clear runs rows
 
@@ -44,15 +44,15 @@ clear_none : (runs : List Cells) → Clear runs []
 clear_none [] = tt
 clear_none (run ∷ runs) = (λ c e. tt, clear_none runs)
 
-clear_first : (runs : List Cells) (run : Cells) (rows : List (Cells × Kind)) → Clear (runs ++ run ∷ []) rows → Clear runs rows
+clear_first : (runs : List Cells) (run : Cells) (rows : List (Cells × AccessKind)) → Clear (runs ++ run ∷ []) rows → Clear runs rows
 clear_first [] run rows h = tt
 clear_first (r ∷ runs) run rows h = (h.0, clear_first runs run rows h.1)
 
-clear_last : (runs : List Cells) (run : Cells) (rows : List (Cells × Kind)) → Clear (runs ++ run ∷ []) rows → (c : Cell) → covers run c ≡ true → NoneCovers c rows
+clear_last : (runs : List Cells) (run : Cells) (rows : List (Cells × AccessKind)) → Clear (runs ++ run ∷ []) rows → (c : Cell) → covers run c ≡ true → NoneCovers c rows
 clear_last [] run rows h = h.0
 clear_last (r ∷ runs) run rows h = clear_last runs run rows h.1
 
-clear_more : (runs : List Cells) (run : Cells) (kind : Kind) (rows : List (Cells × Kind)) → list_any (overlap run) runs ≡ false → Clear runs rows → Clear runs ((run, kind) ∷ rows)
+clear_more : (runs : List Cells) (run : Cells) (kind : AccessKind) (rows : List (Cells × AccessKind)) → list_any (overlap run) runs ≡ false → Clear runs rows → Clear runs ((run, kind) ∷ rows)
 clear_more [] run kind rows none h = tt
 clear_more (r ∷ runs) run kind rows none h =
     let p : (overlap run r ≡ false) × (list_any (overlap run) runs ≡ false) = or_parts (overlap run r) (list_any (overlap run) runs) none in

@@ -2,7 +2,7 @@
 use Rattle.std.specs.Prelude.{Option, Some, None, Result, Ok, Err, IfOk, IfErr}
 use Rattle.std.proofs.Common.{◌≡◌, ℕ, suc, ◌+◌, ◌<◌, ◌≤◌, List, [], length, drop, Bool, true, false, not, ◌||◌, if◌then◌else◌, ap, sym, ◌∙◌, arith, subst}
 use Rattle.std.specs.List.{list_all}
-use Rattle.wg_types.specs.declared.steps.Item.{Item}
+use Rattle.wg_trace.specs.declared.steps.Item.{Item}
 use Rattle.wg_rows.specs.Once.{AreOnce}
 use Rattle.wg_readtrace.specs.declared.reading.TraceFault.{TraceFault}
 use Rattle.wg_readtrace.specs.Reading.{is_text_byte, ends_line, lines_of, behind_trace, read_from, read_behind, read_lines, as_items, trace_in, Refuses}

@@ -1,13 +1,13 @@
 -- The reading of lines by what is kept of those before, and items put together from lines.
 use Rattle.std.specs.Prelude.{ℕ, suc, Bool, not, ◌&&◌, ◌||◌, List, [], ◌∷◌, ◌++◌, map, Option, Some, None, Result, Ok, Err, ◌≡◌}
-use Rattle.wg_types.specs.declared.parts.PartRun.{PartRun}
-use Rattle.wg_types.specs.declared.parts.Cells.{Cells}
-use Rattle.wg_types.specs.declared.parts.Kind.{Kind}
-use Rattle.wg_types.specs.declared.usages.Usages.{Usages}
-use Rattle.wg_types.specs.declared.steps.StepPlace.{StepPlace}
-use Rattle.wg_types.specs.declared.steps.StepName.{StepName}
-use Rattle.wg_types.specs.declared.steps.Item.{Item}
-use Rattle.wg_types.specs.declared.steps.Item.TheVariants as item
+use Rattle.wg_trace.specs.declared.parts.PartRun.{PartRun}
+use Rattle.wg_trace.specs.declared.parts.Cells.{Cells}
+use Rattle.wg_trace.specs.declared.parts.AccessKind.{AccessKind}
+use Rattle.wg_trace.specs.declared.usages.Usages.{Usages}
+use Rattle.wg_trace.specs.declared.steps.StepPlace.{StepPlace}
+use Rattle.wg_trace.specs.declared.steps.StepName.{StepName}
+use Rattle.wg_trace.specs.declared.steps.Item.{Item}
+use Rattle.wg_trace.specs.declared.steps.Item.TheVariants as item
 use Rattle.wg_readtrace.specs.declared.line.Line.{Line}
 use Rattle.wg_readtrace.specs.declared.line.Line.TheVariants.{Bar, Step, Use, Acc, Free, End}
 use Rattle.wg_readtrace.specs.declared.draft.Draft.{Draft}
@@ -36,23 +36,25 @@ lines_from n last steps rows (text ∷ texts) =
     (judged n (is_none_left texts) last steps rows (line_of text))
 
 -- the items of lines behind a step that is not whole yet, or none
-abbrev pub flow : Option (StepPlace × StepName) → List (PartRun × Usages) → List (Cells × Kind) → List Line → List Item
+abbrev pub flow : Option (StepPlace × StepName) → List (PartRun × Usages) → List (Cells × AccessKind) → List Line → List Item
 flow None uses accesses lines = items_of lines
 flow (Some step) uses accesses lines =
     item.Step (record { place = step.0; name = step.1; uses = uses ++ uses_in lines; accesses = accesses ++ accesses_in lines }) ∷ items_of lines
 
 -- the cells of the step that is not whole yet
-abbrev pub rows_of : List (Cells × Kind) → List Cells
+abbrev pub rows_of : List (Cells × AccessKind) → List Cells
 rows_of accesses = map (λ row. row.0) accesses
 
 -- the items of a draft with those of the lines behind it
 abbrev pub items_with : Draft → List Line → List Item
 items_with draft lines = draft.items ++ flow draft.begun draft.uses draft.accesses lines
 
+-- the items of lines that were read, behind those that a draft has, or the first refusal
 abbrev pub read_with : Draft → Result (List Line) (ℕ × ℕ) → Result (List Item) (ℕ × ℕ)
 read_with draft (Ok lines) = Ok (items_with draft lines)
 read_with draft (Err e) = Err e
 
+-- An access has a cell; of other lines nothing is said.
 abbrev pub LineIsFull : Line → Type 0
 LineIsFull (Acc kind cells) = IsFull cells
 LineIsFull line = Unit {0}
@@ -63,7 +65,7 @@ Gives (Ok x) read = read ≡ Ok x
 Gives (Err (Bad rule line)) read = read ≡ Err (rule, line)
 Gives (Err NoMemory) read = Unit {0}
 
--- Rule 3 by cases: whether a line may stand behind another, and whether it may be the first.
+-- whether a line may stand behind another
 abbrev pub may_follow : Line → Line → Bool
 may_follow last (Bar part from to) = not (is_end last)
 may_follow last (Step number place name) = not (is_end last)
@@ -72,5 +74,6 @@ may_follow last (Acc kind cells) = is_step last || is_use last || is_acc last
 may_follow last (Free object sort) = not (is_bar last) && not (is_end last)
 may_follow last End = not (is_bar last) && not (is_end last)
 
+-- whether a line may stand where an item begins: it is neither a use nor an access
 abbrev pub may_begin : Line → Bool
 may_begin line = not (is_use line) && not (is_acc line)

@@ -25,21 +25,26 @@ IsFull run = cell_lo run < cell_hi run
 abbrev pub Line : Type 0
 Line = ℕ × ℕ × ℕ × ℕ
 
+-- the line of cells on which a run lies, as four numbers
 abbrev pub line_of : Cells → Line
 line_of (Bytes object lo hi) = (object, 0, 0, 0)
 line_of (Queries object lo hi) = (object, 1, 0, 0)
 line_of (Layers object aspect mip lo hi) = (object, 2, aspect_number aspect, mip)
 line_of (Slices object mip lo hi) = (object, 3, 0, mip)
 
+-- which of two lines of cells comes first
 abbrev pub line_cmp : Line → Line → Ordering
 line_cmp x y = ordering_then (ordering_then (ordering_then (nat_cmp x.0 y.0) (nat_cmp x.1 y.1)) (nat_cmp x.2 y.2)) (nat_cmp x.3 y.3)
 
+-- whether two lines of cells are the same
 abbrev pub same_line : Line → Line → Bool
 same_line x y = (x.0 == y.0) && ((x.1 == y.1) && ((x.2 == y.2) && (x.3 == y.3)))
 
+-- a place on a line of cells
 abbrev pub Place : Type 0
 Place = Line × ℕ
 
+-- which of two places comes first
 abbrev pub place_cmp : Place → Place → Ordering
 place_cmp x y = ordering_then (line_cmp x.0 y.0) (nat_cmp x.1 y.1)
 
@@ -59,5 +64,6 @@ pub record Tells (ends : Ends) (rows : List Cells) : Type 0 where
 abbrev pub ends_of : BTreeMap Place ℕ → Ends
 ends_of m place = get place_cmp m place
 
+-- What is kept of the cells that a step gave tells just those rows.
 abbrev pub Knows : Given → List Cells → Type 0
 Knows given rows = Tells (ends_of given.ends) rows

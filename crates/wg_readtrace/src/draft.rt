@@ -9,9 +9,9 @@ use crate::given::Given;
 use crate::line::Line;
 use std::alloc::Global;
 use std::mem;
-use wg_types::NoMemory;
-use wg_types::items::Items;
-use wg_types::steps::{Accesses, Item, Step, StepName, StepPlace, Uses};
+use wg_trace::NoMemory;
+use wg_trace::items::Items;
+use wg_trace::steps::{Accesses, Item, Step, StepName, StepPlace, Uses};
 
 /// The items that are whole, and the step whose lines are being read, with its cells.
 #[derive(Drop)]

@@ -1,6 +1,6 @@
 //! The forms of a trace's lines. A form reads on from a place of a line, and answers what it read with the
 //! place behind it.
-ghost use Rattle.std.specs.Prelude.{◌≡◌, ℕ, ◌≤◌, ◌<◌, ◌^◌, drop, length, IfSome};
+ghost use Rattle.std.specs.Prelude.{◌≡◌, ◌≤◌, ◌<◌, ◌^◌, drop, length, IfSome};
 ghost use Rattle.wg_readtrace.specs.Words.{aspect_word, kind_word, name_word, sort_word, set_word};
 ghost use Rattle.wg_readtrace.specs.Given.{IsFull};
 ghost use Rattle.wg_readtrace.specs.Drafts.{LineIsFull};
@@ -8,9 +8,9 @@ ghost use Rattle.wg_readtrace.specs.Forms.{Reads, word_as, range, whole, buffer_
 
 use crate::line::Line;
 use crate::words;
-use wg_types::parts::{Aspect, Cells, Kind, PartRun};
-use wg_types::steps::{Sort, StepName, StepPlace};
-use wg_types::usages::Usages;
+use wg_trace::parts::{AccessKind, Aspect, Cells, PartRun};
+use wg_trace::steps::{Sort, StepName, StepPlace};
+use wg_trace::usages::Usages;
 
 const MOST_53: u64 = 9_007_199_254_740_991;
 
@@ -42,7 +42,7 @@ fn aspect(text: &[u8], at: usize) -> Option<(Aspect, usize)>
     Some((aspect, end))
 }
 
-fn kind(text: &[u8], at: usize) -> Option<(Kind, usize)>
+fn kind(text: &[u8], at: usize) -> Option<(AccessKind, usize)>
     requires { at ≤ length text.now }
     ensures { Reads text.now result (word_as kind_word (drop at text.now)) }
 {

@@ -6,8 +6,8 @@ ghost use Rattle.wg_readtrace.specs.Given.{IsFull, Knows, is_given, line_of, sam
 use std::alloc::Global;
 use std::collections::BTreeMap;
 use wg_rows::cell_runs::{cell_hi, cell_lo};
-use wg_types::NoMemory;
-use wg_types::parts::{Aspect, Cells};
+use wg_trace::NoMemory;
+use wg_trace::parts::{Aspect, Cells};
 
 // The object, the sort, the aspect and the mip level of a line of cells.
 type Line = (u64, u8, u8, u32);

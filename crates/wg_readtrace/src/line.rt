@@ -1,8 +1,8 @@
 //! Lines.
 
-use wg_types::parts::{Cells, Kind, PartRun};
-use wg_types::steps::{Sort, StepName, StepPlace};
-use wg_types::usages::Usages;
+use wg_trace::parts::{AccessKind, Cells, PartRun};
+use wg_trace::steps::{Sort, StepName, StepPlace};
+use wg_trace::usages::Usages;
 
 /// What a line of a trace says.
 #[derive(Clone, Copy)]
@@ -22,7 +22,7 @@ pub enum Line {
         set: Usages,
     },
     Acc {
-        kind: Kind,
+        kind: AccessKind,
         cells: Cells,
     },
     Free {

@@ -1,11 +1,11 @@
 //! Words of a line, and numbers, kinds and sets of usages among them.
-ghost use Rattle.std.specs.Prelude.{◌≡◌, ℕ, ◌≤◌, ◌<◌, ◌^◌, drop, take, ◌-◌, length, IfSome, IsNone, None, Some, bytes_eq, []};
+ghost use Rattle.std.specs.Prelude.{◌≡◌, ◌≤◌, ◌<◌, ◌^◌, drop, take, ◌-◌, length, IfSome, IsNone, None, Some, bytes_eq, []};
 ghost use Rattle.wg_readtrace.specs.Words.{gap_len, field, digits, number_word, aspect_word, kind_word, name_word, sort_word, usage_word, set_word};
 
 use bitflags::Flags;
-use wg_types::parts::{Aspect, Kind};
-use wg_types::steps::{Sort, StepName};
-use wg_types::usages::Usages;
+use wg_trace::parts::{AccessKind, Aspect};
+use wg_trace::steps::{Sort, StepName};
+use wg_trace::usages::Usages;
 
 /// The place of the next space, or of the end.
 fn word_end(text: &[u8], at: usize) -> usize
@@ -108,23 +108,23 @@ pub fn aspect_word(word: &[u8]) -> Option<Aspect>
     None
 }
 
-pub fn kind_word(word: &[u8]) -> Option<Kind>
+pub fn kind_word(word: &[u8]) -> Option<AccessKind>
     ensures { result ≡ kind_word word.now }
 {
     if is(word, "read") {
-        return Some(Kind::Read);
+        return Some(AccessKind::Read);
     }
     if is(word, "write") {
-        return Some(Kind::Write);
+        return Some(AccessKind::Write);
     }
     if is(word, "both") {
-        return Some(Kind::Both);
+        return Some(AccessKind::Both);
     }
     if is(word, "drop") {
-        return Some(Kind::Drop);
+        return Some(AccessKind::Drop);
     }
     if is(word, "readdrop") {
-        return Some(Kind::ReadDrop);
+        return Some(AccessKind::ReadDrop);
     }
     None
 }

@@ -17,7 +17,7 @@ depth_views depth = option_to_list (option_map depth_view depth)
 abbrev pub drawn_in : List (Option ColorTarget) → Option DepthTarget → List ViewInfo
 drawn_in colors depth = map color_view (given_of colors) ++ depth_views depth
 
--- the same as one that is attached whole
+-- the depth attachment as one that is attached whole, if there is one
 abbrev pub depth_attached : Option DepthTarget → List Attached
 depth_attached depth = option_to_list (option_map (λ (target : DepthTarget). attached_whole (depth_view target)) depth)
 

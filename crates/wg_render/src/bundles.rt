@@ -8,6 +8,7 @@ ghost use Rattle.wg_model.specs.Render.{bundle_fits, bundle_spares, all_bundles,
 use crate::pipelines::{same_target, same_targets};
 use wg_access::bundle_touch;
 use wg_formats::known_bundle;
+use wg_rules::{BUNDLE_TARGETS_ARE_OF_PASS, BUNDLES_SPARE_READ_ONLY};
 use wg_types::NoMemory;
 use wg_types::bundles::{BundleInfo, BundleTouch};
 use wg_types::handles::Handle;
@@ -78,10 +79,10 @@ pub fn check_bundles(targets: &TargetInfo, bundles: &[Handle]) -> Option<u16>
     ensures { result ≡ first_unmet (execute_rules targets.now bundles.now) }
 {
     if !all_fit(targets, bundles) {
-        return Some(370);
+        return Some(BUNDLE_TARGETS_ARE_OF_PASS);
     }
     if !all_spare(targets, bundles) {
-        return Some(371);
+        return Some(BUNDLES_SPARE_READ_ONLY);
     }
     None
 }

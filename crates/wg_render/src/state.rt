@@ -6,8 +6,7 @@ ghost use Rattle.wg_model.specs.Rules.{first_unmet};
 ghost use Rattle.wg_types.specs.declared.commands.CommandOf.TheVariants.{BeginOcclusionQuery};
 ghost use Rattle.wg_model.specs.Vertex.{draw_fits};
 ghost use Rattle.wg_model.specs.Queries.{occlusion_call, occlusion_rules};
-ghost use Rattle.wg_model.specs.Render.{buffers_wanted, are_set, draw_rules, draw_indexed_rules, draw_indirect_rules, draw_indexed_indirect_rules, drawing_rules, render_rules, render_does};
-ghost use Rattle.wg_access.specs.Done.{done_by_pass};
+ghost use Rattle.wg_model.specs.Render.{buffers_wanted, are_set, draw_rules, draw_indexed_rules, draw_indirect_rules, draw_indexed_indirect_rules, drawing_rules, render_rules};
 ghost use Rattle.wg_compute.specs.After.{slots_after, emptied};
 ghost use Rattle.wg_render.specs.After.{render_after};
 
@@ -21,17 +20,19 @@ use crate::touches::{DRAW_BYTES, DRAW_INDEXED_BYTES, command_touches, query_writ
 use crate::views::RenderBegin;
 use std::alloc::Global;
 use std::marker::Model;
-use wg_access::Done;
 use wg_compute::{
     Settings, check_end, check_given, check_group, check_indirect, pipeline_given, unsets,
 };
 use wg_formats::size_or_rest;
 use wg_queries::Occlusion;
+use wg_rules::{
+    INDEX_BUFFER_IS_SET, INDEX_RANGE_SUFFICES, VERTEX_BUFFERS_ARE_SET, VERTEX_RANGES_SUFFICE,
+};
 use wg_types::NoMemory;
 use wg_types::commands::Command;
 use wg_types::handles::Handle;
 use wg_types::render::TargetInfo;
-use wg_types::steps::{StepName, Touch};
+use wg_types::steps::Touch;
 use wg_types::vertex::IndexFormat;
 
 /// What is set in a render pass or in a bundle: what is set in any pass, the sizes of the ranges that are
@@ -139,12 +140,12 @@ impl RenderState {
             return Some(rule);
         }
         if !self.buffers_are_set() {
-            return Some(350);
+            return Some(VERTEX_BUFFERS_ARE_SET);
         }
         let vertices = u64::from(first_vertex) + u64::from(vertices);
         let instances = u64::from(first_instance) + u64::from(instances);
         if !self.draw_fits(Some(vertices), instances) {
-            return Some(351);
+            return Some(VERTEX_RANGES_SUFFICE);
         }
         None
     }
@@ -163,17 +164,17 @@ impl RenderState {
             return Some(rule);
         }
         if !self.buffers_are_set() {
-            return Some(350);
+            return Some(VERTEX_BUFFERS_ARE_SET);
         }
         if self.index.is_none() {
-            return Some(352);
+            return Some(INDEX_BUFFER_IS_SET);
         }
         if !indices_fit(first_index, indices, self.index) {
-            return Some(353);
+            return Some(INDEX_RANGE_SUFFICES);
         }
         let instances = u64::from(first_instance) + u64::from(instances);
         if !self.draw_fits(None, instances) {
-            return Some(351);
+            return Some(VERTEX_RANGES_SUFFICE);
         }
         None
     }
@@ -189,7 +190,7 @@ impl RenderState {
             return Some(rule);
         }
         if !self.buffers_are_set() {
-            return Some(350);
+            return Some(VERTEX_BUFFERS_ARE_SET);
         }
         None
     }
@@ -205,10 +206,10 @@ impl RenderState {
             return Some(rule);
         }
         if !self.buffers_are_set() {
-            return Some(350);
+            return Some(VERTEX_BUFFERS_ARE_SET);
         }
         if self.index.is_none() {
-            return Some(352);
+            return Some(INDEX_BUFFER_IS_SET);
         }
         None
     }
@@ -359,25 +360,15 @@ impl RenderState {
         Ok(())
     }
 
-    /// Takes a command no rule of which is unmet, and adds the step of the whole pass to what is done
-    /// where the command ends it. Ranges that end past every number, which such commands don't have, are
-    /// answered as want of memory.
-    #[tactic(auto, unfolding(wg_model::specs::Render::render_does), using(crate::proofs::Grown::after_end, crate::proofs::Grown::after_query_ended))]
-    pub fn take(
-        &mut self,
-        done: &mut Done,
-        alloc: Global,
-        command: &Command,
-    ) -> Result<(), NoMemory>
+    /// Takes a command no rule of which is unmet. Ranges that end past every number, which such commands don't
+    /// have, are answered as want of memory.
+    #[tactic(auto, using(crate::proofs::Grown::after_end, crate::proofs::Grown::after_query_ended))]
+    pub fn take(&mut self, alloc: Global, command: &Command) -> Result<(), NoMemory>
         ensures set { OnOk result (self.new ≡ render_after self.old command.now) }
-        ensures done { OnOk result (done.new ≡ done_by_pass done.old (render_does self.old command.now)) }
         ensures unchanged { OnErr result (self.new ≡ self.old) }
-        ensures none_done { OnErr result (done.new ≡ done.old) }
     {
         match command {
-            Command::End => {
-                return done.add(alloc, StepName::RenderPass, self.touches.as_slice());
-            }
+            Command::End => return Ok(()),
             Command::BeginOcclusionQuery { index } => return self.add_query(*index),
             Command::EndOcclusionQuery => {
                 self.occlusion.note_ended();

@@ -12,7 +12,7 @@ use wg_types::NoMemory;
 use wg_types::formats::Format;
 use wg_types::handles::Handle;
 use wg_types::items::Items;
-use wg_types::parts::{Aspect, Cells, Kind};
+use wg_types::parts::{AccessKind, Aspect, Cells};
 use wg_types::render::{LoadOp, StoreOp, TargetInfo};
 use wg_types::steps::{Touch, Touches};
 use wg_types::usages::Usages;
@@ -145,21 +145,21 @@ fn cells_aspect(cells: Cells) -> Aspect
 }
 
 /// How an attachment is accessed: read where it is loaded, and left unset where it is discarded.
-fn attach_kind(load: LoadOp, store: StoreOp) -> Kind
+fn attach_kind(load: LoadOp, store: StoreOp) -> AccessKind
     ensures { result ≡ attach_kind load store }
 {
     match (load, store) {
-        (LoadOp::Load, StoreOp::Store) => Kind::Both,
-        (LoadOp::Clear, StoreOp::Store) => Kind::Write,
-        (LoadOp::Load, StoreOp::Discard) => Kind::ReadDrop,
-        (LoadOp::Clear, StoreOp::Discard) => Kind::Drop,
+        (LoadOp::Load, StoreOp::Store) => AccessKind::Both,
+        (LoadOp::Clear, StoreOp::Store) => AccessKind::Write,
+        (LoadOp::Load, StoreOp::Discard) => AccessKind::ReadDrop,
+        (LoadOp::Clear, StoreOp::Discard) => AccessKind::Drop,
     }
 }
 
 /// Adds cells, or one slice of them, that are all attached so.
 fn push_attached(
     touches: &mut Touches,
-    how: (Usages, Kind),
+    how: (Usages, AccessKind),
     slice: Option<u32>,
     cells: &[Cells],
 ) -> Result<(), NoMemory>
@@ -178,7 +178,7 @@ fn push_resolve(touches: &mut Touches, alloc: Global, view: &Option<Handle>) -> 
 {
     let Some(view) = view else { return Ok(()) };
     let cells = handle_cells(alloc, view)?;
-    let how = (Usages::ATTACHMENT, Kind::Write);
+    let how = (Usages::ATTACHMENT, AccessKind::Write);
     push_attached(touches, how, None, cells.as_slice())
 }
 
@@ -212,11 +212,11 @@ fn push_colors(
 }
 
 /// How an aspect of a depth attachment is used and accessed.
-fn aspect_how(read_only: bool, load: Option<LoadOp>, store: Option<StoreOp>) -> (Usages, Kind)
+fn aspect_how(read_only: bool, load: Option<LoadOp>, store: Option<StoreOp>) -> (Usages, AccessKind)
     ensures { result ≡ aspect_how read_only load store }
 {
     if read_only {
-        return (Usages::ATTACHMENT_READ, Kind::Read);
+        return (Usages::ATTACHMENT_READ, AccessKind::Read);
     }
     let kind = attach_kind(
         load.unwrap_or(LoadOp::Load),
@@ -225,7 +225,7 @@ fn aspect_how(read_only: bool, load: Option<LoadOp>, store: Option<StoreOp>) -> 
     (Usages::ATTACHMENT, kind)
 }
 
-fn depth_how(target: &DepthTarget, aspect: Aspect) -> (Usages, Kind)
+fn depth_how(target: &DepthTarget, aspect: Aspect) -> (Usages, AccessKind)
     ensures { result ≡ depth_how target.now aspect }
 {
     match aspect {

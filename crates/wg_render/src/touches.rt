@@ -13,7 +13,7 @@ use wg_types::NoMemory;
 use wg_types::commands::{BoundGroup, Command};
 use wg_types::handles::Handle;
 use wg_types::items::Items;
-use wg_types::parts::{Cells, Kind};
+use wg_types::parts::{AccessKind, Cells};
 use wg_types::steps::{Touch, Touches};
 use wg_types::usages::Usages;
 
@@ -87,7 +87,7 @@ pub fn query_written(object: u64, index: u32) -> Result<Touch, NoMemory>
                 lo: index,
                 hi,
             };
-            return Ok((cells, (Usages::QUERY_WRITE, Kind::Write)));
+            return Ok((cells, (Usages::QUERY_WRITE, AccessKind::Write)));
         }
         None => return Err(NoMemory),
     }

@@ -9,7 +9,7 @@ use Rattle.std.proofs.lemmas.Nat.Bits.{same_from_bits, bit_at_or, bit_at-lt, bit
 use Rattle.wg_rows.specs.Rows.{Sort, Spot, covers_spot, any_row, printed, has_value, EachRow, Apart, Alike, Fits, AllFit}
 use Rattle.wg_rows.specs.Cut.{value_at}
 use Rattle.wg_rows.specs.Runs.{Part, Cells, cell_sort, covers_part}
-use Rattle.wg_rows.specs.Uses.{Usages, Kind, same_kind, row_set, with_usage, printed_accesses}
+use Rattle.wg_rows.specs.Uses.{Usages, AccessKind, same_kind, row_set, with_usage, printed_accesses}
 use Rattle.wg_rows.specs.Sets.{UseRow, AreSameSets}
 use Rattle.wg_rows.specs.Order.{are_full, are_apart}
 use Rattle.wg_rows.proofs.Put.{printed_any}
@@ -124,5 +124,5 @@ printed_permuted {R} {V} sort same tells rows sorted moved full apart = printed_
     alike : Alike sort same (printed sort same sorted) rows
     alike spot v = printed_any sort same spot (same v) tells.widens (respects sort same tells v) sorted ∙ sym (alike_permuted sort same rows sorted moved spot v)
 
-pub accesses_sorted : (rows sorted : List (Cells × Kind)) → are_full cell_sort rows ≡ true → IsPermutation rows sorted → are_apart cell_sort same_kind (printed_accesses sorted) ≡ true → printed_accesses sorted ≡ printed_accesses rows
+pub accesses_sorted : (rows sorted : List (Cells × AccessKind)) → are_full cell_sort rows ≡ true → IsPermutation rows sorted → are_apart cell_sort same_kind (printed_accesses sorted) ≡ true → printed_accesses sorted ≡ printed_accesses rows
 accesses_sorted rows sorted full moved apart = printed_permuted cell_sort same_kind accesses_tell rows sorted moved (full_told cell_sort same_kind accesses_tell rows full) (apart_told cell_sort same_kind accesses_tell (printed_accesses sorted) apart)

@@ -2,7 +2,7 @@
 use Rattle.std.proofs.Common.{◌≡◌, true, Bool, List, [], ◌∷◌, Option, Some, None, refl, ap, ap₂, sym, true≢false}
 use Rattle.std.proofs.lemmas.Bool.{and_parts, and_from}
 use Rattle.wg_rows.specs.Runs.{PartRun, BufferPart, LayerParts, QueryPart, Cells, Bytes, Layers, Slices, Queries, part_sort, cell_sort, part_line, part_lo, part_hi, cell_line, cell_lo, cell_hi}
-use Rattle.wg_rows.specs.Uses.{Usages, same_set, Kind, Read, Write, Both, Drop, ReadDrop, same_kind, AccessesPrinted, UsesPrinted, Change, same_from, same_change, BarsPrinted}
+use Rattle.wg_rows.specs.Uses.{Usages, same_set, AccessKind, Read, Write, Both, Drop, ReadDrop, same_kind, AccessesPrinted, UsesPrinted, Change, same_from, same_change, BarsPrinted}
 use Rattle.wg_rows.proofs.Runs.{aspect_told, set_told, set_itself, part_widens, cell_widens}
 use Rattle.wg_rows.specs.Rows.{Sort, After, Apart, Fits, AllFit}
 use Rattle.wg_rows.specs.Laws.{PrintsRows, KeepsPrinted}
@@ -22,7 +22,7 @@ cell_told (Slices a b lo hi) (Slices x y lo2 hi2) e l h = cc
 cell_told (Queries a lo hi) (Queries x lo2 hi2) e l h = cc
 cell_told a b e l h = absurd (cc)
 
-kind_told : (u v : Kind) → same_kind u v ≡ true → u ≡ v
+kind_told : (u v : AccessKind) → same_kind u v ≡ true → u ≡ v
 kind_told Read Read e = refl
 kind_told Write Write e = refl
 kind_told Both Both e = refl
@@ -30,7 +30,7 @@ kind_told Drop Drop e = refl
 kind_told ReadDrop ReadDrop e = refl
 kind_told u v e = absurd (true≢false (sym e))
 
-kind_itself : (v : Kind) → same_kind v v ≡ true
+kind_itself : (v : AccessKind) → same_kind v v ≡ true
 kind_itself Read = refl
 kind_itself Write = refl
 kind_itself Both = refl

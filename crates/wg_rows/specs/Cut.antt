@@ -7,10 +7,11 @@ abbrev pub value_at : {R V : Type 0} → Sort R → Spot → List (R × V) → O
 value_at sort spot [] = None
 value_at sort spot (x ∷ xs) = if covers_spot sort x.0 spot then Some x.1 else value_at sort spot xs
 
--- what of a row lies before a run of its line, and behind it
+-- what of a row lies before a run of its line
 abbrev pub left_of : {R V : Type 0} → Sort R → R → R × V → List (R × V)
 left_of sort r x = if nat_lt (sort.lo x.0) (sort.lo r) then (sort.widen x.0 (sort.lo x.0) (min (sort.hi x.0) (sort.lo r)), x.1) ∷ [] else []
 
+-- what of a row lies behind a run of its line
 abbrev pub right_of : {R V : Type 0} → Sort R → R → R × V → List (R × V)
 right_of sort r x = if nat_lt (sort.hi r) (sort.hi x.0) then (sort.widen x.0 (max (sort.lo x.0) (sort.hi r)) (sort.hi x.0), x.1) ∷ [] else []
 
@@ -27,11 +28,12 @@ cut sort r (x ∷ xs) = cut_row sort r x ++ cut sort r xs
 abbrev pub inside_row : {R V : Type 0} → Sort R → R → R × V → List (R × V)
 inside_row sort r x = if list_eq (sort.line r) (sort.line x.0) && nat_lt (max (sort.lo x.0) (sort.lo r)) (min (sort.hi x.0) (sort.hi r)) then (sort.widen x.0 (max (sort.lo x.0) (sort.lo r)) (min (sort.hi x.0) (sort.hi r)), x.1) ∷ [] else []
 
+-- what of rows lies inside of a run
 abbrev pub inside : {R V : Type 0} → Sort R → R → List (R × V) → List (R × V)
 inside sort r [] = []
 inside sort r (x ∷ xs) = inside_row sort r x ++ inside sort r xs
 
--- what is left of rows where other rows are
+-- what is left of rows where no other rows are
 abbrev pub gaps : {R V W : Type 0} → Sort R → List (R × W) → List (R × V) → List (R × W)
 gaps sort left [] = left
 gaps sort left (x ∷ xs) = gaps sort (cut sort x.0 left) xs
@@ -41,6 +43,7 @@ abbrev pub choose_one : {R W : Type 0} → R → Option W → List (R × W)
 choose_one r None = []
 choose_one r (Some w) = (r, w) ∷ []
 
+-- rows with what a function makes of each value, without those of which it makes none
 abbrev pub choose : {R V W : Type 0} → (V → Option W) → List (R × V) → List (R × W)
 choose f [] = []
 choose f (x ∷ xs) = choose_one x.0 (f x.1) ++ choose f xs

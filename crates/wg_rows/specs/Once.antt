@@ -1,17 +1,17 @@
 -- Traces whose steps give no cell twice.
 use Rattle.std.specs.Prelude.{true, false, List, [], ◌∷◌, ◌≡◌}
-use Rattle.wg_types.specs.declared.parts.Kind.{Kind}
-use Rattle.wg_types.specs.declared.steps.Item.{Item}
-use Rattle.wg_types.specs.declared.steps.Item.TheVariants.{Bar, Step as StepItem, Free}
+use Rattle.wg_trace.specs.declared.parts.AccessKind.{AccessKind}
+use Rattle.wg_trace.specs.declared.steps.Item.{Item}
+use Rattle.wg_trace.specs.declared.steps.Item.TheVariants.{Bar, Step as StepItem, Free}
 use Rattle.wg_rows.specs.Runs.{Cell, Cells, covers}
 
 -- No row covers the cell.
-abbrev pub NoneCovers : Cell → List (Cells × Kind) → Type 0
+abbrev pub NoneCovers : Cell → List (Cells × AccessKind) → Type 0
 NoneCovers c [] = Unit {0}
 NoneCovers c (row ∷ rows) = (covers row.0 c ≡ false) × NoneCovers c rows
 
 -- At most one row covers the cell.
-abbrev pub OneCovers : Cell → List (Cells × Kind) → Type 0
+abbrev pub OneCovers : Cell → List (Cells × AccessKind) → Type 0
 OneCovers c [] = Unit {0}
 OneCovers c (row ∷ rows) = (covers row.0 c ≡ true → NoneCovers c rows) × OneCovers c rows
 

@@ -6,6 +6,7 @@ use Rattle.wg_rows.specs.Cut.{cut, inside, gaps, choose, put_all}
 use Rattle.wg_rows.specs.Runs.{PartRun, Part, part_line, part_sort, is_full}
 use Rattle.wg_rows.specs.Uses.{Usages, same_set, row_set}
 
+-- a row of a use: a run of parts with the set of usages of each
 abbrev pub UseRow : Type 0
 UseRow = PartRun × Usages
 
@@ -17,7 +18,7 @@ both_sets a b = record { 0 = bit_or a.0 b.0 }
 abbrev pub union_row : UseRow → List UseRow → List UseRow
 union_row r rows = put_all part_sort same_set (gaps part_sort (r ∷ []) rows) (put_all part_sort same_set (choose (λ old. Some (both_sets r.1 old)) (inside part_sort r.0 rows)) (cut part_sort r.0 rows))
 
--- the same, where a use with an empty run adds nothing
+-- rows with one more use, of which one with an empty run adds nothing
 abbrev pub with_use : UseRow → List UseRow → List UseRow
 with_use r rows = if is_full r.0 then union_row r rows else rows
 
@@ -44,7 +45,7 @@ SetsAre = (rows : List UseRow) → Apart part_sort (sets rows) × ((p : Part) �
 abbrev pub AreSameSets : List UseRow → List UseRow → Type 0
 AreSameSets xs ys = (p : Part) → row_set p xs ≡ row_set p ys
 
--- They are told by the sets of the parts alone, so that neither order nor repetition counts.
+-- The sets of uses are told by the sets of the parts alone, so that neither order nor repetition counts.
 abbrev pub SetsTell : Type 0
 SetsTell = (xs ys : List UseRow) → AreSameSets xs ys → sets xs ≡ sets ys
 

@@ -5,7 +5,7 @@ ghost use Rattle.wg_rows.specs.Uses.{printed_accesses};
 use crate::rows::{are_apart, are_full, by_place, printed};
 use std::alloc::Global;
 use wg_entry::NoMemory;
-use wg_types::parts::{Cells, Kind};
+use wg_trace::parts::{AccessKind, Cells};
 
 /// Up to so many accesses are printed as they stand, which costs less than to put them in order first.
 const FEW: usize = 16;
@@ -15,8 +15,8 @@ const FEW: usize = 16;
 #[tactic(auto, using(crate::proofs::Permuted::accesses_sorted))]
 pub fn printed_accesses(
     alloc: Global,
-    rows: &[(Cells, Kind)],
-) -> Result<Vec<(Cells, Kind)>, NoMemory>
+    rows: &[(Cells, AccessKind)],
+) -> Result<Vec<(Cells, AccessKind)>, NoMemory>
     ensures { IfOk result (λ v. v.items ≡ printed_accesses rows.now) }
 {
     if rows.len() <= FEW || !are_full(rows) {

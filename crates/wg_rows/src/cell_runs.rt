@@ -6,7 +6,7 @@ ghost use Rattle.wg_rows.specs.Uses.{kind_reads, kind_writes, kind_unsets, same_
 
 use crate::part_runs::aspect_number;
 use crate::rows::{Run, Value};
-use wg_types::parts::{Aspect, Cells, Kind, PartRun};
+use wg_trace::parts::{AccessKind, Aspect, Cells, PartRun};
 
 /// Where a run begins in its line.
 pub fn cell_lo(run: Cells) -> u64
@@ -293,38 +293,41 @@ impl Run for Cells {
     }
 }
 
-impl Value for Kind {
+impl Value for AccessKind {
     ghost same = { same_kind };
 
-    fn is_same(&self, other: &Kind) -> bool {
+    fn is_same(&self, other: &AccessKind) -> bool {
         match (*self, *other) {
-            (Kind::Read, Kind::Read) => true,
-            (Kind::Write, Kind::Write) => true,
-            (Kind::Both, Kind::Both) => true,
-            (Kind::Drop, Kind::Drop) => true,
-            (Kind::ReadDrop, Kind::ReadDrop) => true,
+            (AccessKind::Read, AccessKind::Read) => true,
+            (AccessKind::Write, AccessKind::Write) => true,
+            (AccessKind::Both, AccessKind::Both) => true,
+            (AccessKind::Drop, AccessKind::Drop) => true,
+            (AccessKind::ReadDrop, AccessKind::ReadDrop) => true,
             _ => false,
         }
     }
 }
 
 /// Whether an access reads.
-pub fn reads(kind: Kind) -> bool
+pub fn reads(kind: AccessKind) -> bool
     ensures { result ≡ kind_reads kind }
 {
-    matches!(kind, Kind::Read | Kind::Both | Kind::ReadDrop)
+    matches!(
+        kind,
+        AccessKind::Read | AccessKind::Both | AccessKind::ReadDrop
+    )
 }
 
 /// Whether an access writes.
-pub fn writes(kind: Kind) -> bool
+pub fn writes(kind: AccessKind) -> bool
     ensures { result ≡ kind_writes kind }
 {
-    !matches!(kind, Kind::Read)
+    !matches!(kind, AccessKind::Read)
 }
 
 /// Whether an access leaves its cells unset.
-pub fn unsets(kind: Kind) -> bool
+pub fn unsets(kind: AccessKind) -> bool
     ensures { result ≡ kind_unsets kind }
 {
-    matches!(kind, Kind::Drop | Kind::ReadDrop)
+    matches!(kind, AccessKind::Drop | AccessKind::ReadDrop)
 }

@@ -14,8 +14,8 @@ ghost use Rattle.wg_rows.specs.Uses.{same_set, same_change};
 
 use crate::rows::{Clip, Run, Value};
 use bitflags::Flags;
-use wg_types::parts::{Aspect, PartRun};
-use wg_types::usages::Usages;
+use wg_trace::parts::{Aspect, PartRun};
+use wg_trace::usages::Usages;
 
 /// The place of an aspect in printed order.
 pub fn aspect_number(aspect: Aspect) -> u8

@@ -9,8 +9,8 @@ use crate::rows::{Run, are_apart, by_place, cut, gaps, inside, printed, put_all}
 use bitflags::Flags;
 use std::alloc::Global;
 use wg_entry::NoMemory;
-use wg_types::parts::PartRun;
-use wg_types::usages::Usages;
+use wg_trace::parts::PartRun;
+use wg_trace::usages::Usages;
 
 /// The rows with more usages in each.
 fn with_usages(

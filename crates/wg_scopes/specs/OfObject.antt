@@ -4,6 +4,7 @@ use Rattle.std.specs.List.{filter}
 use Rattle.wg_rows.specs.Runs.{run_object}
 use Rattle.wg_rows.specs.Sets.{UseRow}
 
+-- the rows of one object
 abbrev pub rows_with : ℕ → List UseRow → List UseRow
 rows_with object rows = filter (λ row. run_object row.0 == object) rows
 

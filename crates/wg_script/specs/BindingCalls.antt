@@ -20,6 +20,7 @@ create_sampler_keys = gives (λ kind made. making (CreateSampler kind) made)
     ▹ may (codes "kind") (word_or sampler_words Filtering)
     ▹ need (codes "as") name_at
 
+-- the reader of a createSampler
 unfoldable pub create_sampler_of : Data → Result Call ℕ
 create_sampler_of d = read_by create_sampler_keys d
 
@@ -29,6 +30,7 @@ create_group_layout_keys = gives (λ entries made. making (CreateBindGroupLayout
     ▹ need (codes "entries") (list_at layout_entry_of)
     ▹ need (codes "as") name_at
 
+-- the reader of a createBindGroupLayout
 unfoldable pub create_group_layout_of : Data → Result Call ℕ
 create_group_layout_of d = read_by create_group_layout_keys d
 
@@ -38,6 +40,7 @@ create_pipeline_layout_keys = gives (λ layouts made. making (CreatePipelineLayo
     ▹ need (codes "layouts") names_at
     ▹ need (codes "as") name_at
 
+-- the reader of a createPipelineLayout
 unfoldable pub create_pipeline_layout_of : Data → Result Call ℕ
 create_pipeline_layout_of d = read_by create_pipeline_layout_keys d
 
@@ -48,11 +51,13 @@ create_group_keys = gives (λ layout entries made. making (CreateBindGroup layou
     ▹ need (codes "entries") (list_at group_entry_of)
     ▹ need (codes "as") name_at
 
+-- the reader of a createBindGroup
 unfoldable pub create_group_of : Data → Result Call ℕ
 create_group_of d = read_by create_group_keys d
 
 -- ---- pipelines
 
+-- the layout of a pipeline by its text: none where that is `auto`
 abbrev pub layout_of : Option (List ℕ) → Result (Option (List ℕ)) ℕ
 layout_of None = Err 8
 layout_of (Some s) = if bytes_eq s (codes "auto") then Ok None else Ok (Some s)
@@ -68,6 +73,7 @@ create_compute_keys = gives (λ layout entries made. making (CreateComputePipeli
     ▹ may (codes "iface") (list_or_empty iface_entry_of)
     ▹ need (codes "as") name_at
 
+-- the reader of a createComputePipeline
 unfoldable pub create_compute_of : Data → Result Call ℕ
 create_compute_of d = read_by create_compute_keys d
 
@@ -78,5 +84,6 @@ get_group_layout_keys = gives (λ pipeline index made. making (GetBindGroupLayou
     ▹ need (codes "index") (whole_at most_short)
     ▹ need (codes "as") name_at
 
+-- the reader of a getBindGroupLayout
 unfoldable pub get_group_layout_of : Data → Result Call ℕ
 get_group_layout_of d = read_by get_group_layout_keys d

@@ -26,21 +26,25 @@ use Rattle.wg_script.specs.Readers.{Reader, gives, need, may, has, all_of, ◌�
 
 -- ---- kinds of bindings
 
+-- the keys of an entry that is a buffer
 abbrev pub buffer_kind_keys : BufferBinding → Reader BindingKind
 buffer_kind_keys binding = gives (λ dynamic min_size. Buffer binding dynamic min_size)
     ▹ may (codes "dynamic") (flag_or false)
     ▹ may (codes "minSize") (whole_or most_whole 0)
 
+-- the keys of an entry that is a sampler
 abbrev pub sampler_kind_keys : Reader BindingKind
 sampler_kind_keys = gives (λ sampler_type. Sampler sampler_type)
     ▹ may (codes "type") (word_or sampler_words Filtering)
 
+-- the keys of an entry that is a texture
 abbrev pub texture_kind_keys : Reader BindingKind
 texture_kind_keys = gives (λ sample dim multi. Texture sample dim multi)
     ▹ may (codes "sample") (word_or sample_words Float)
     ▹ may (codes "dim") (word_or view_dim_words Two)
     ▹ may (codes "multi") (flag_or false)
 
+-- the keys of an entry that is a storage texture
 abbrev pub storage_texture_kind_keys : Reader BindingKind
 storage_texture_kind_keys = gives (λ access format dim. StorageTexture access format dim)
     ▹ may (codes "access") (word_or access_words WriteOnly)
@@ -60,6 +64,7 @@ kinded_by keys d = word_at kind_words (get (codes "kind") d) >>= λ word. inner_
 
 -- ---- entries of layouts
 
+-- the keys of an entry of a layout, by its kind
 abbrev pub layout_entry_keys : KindWord → Reader LayoutEntry
 layout_entry_keys word = gives (λ binding visibility kind. record { binding = binding; visibility = visibility; kind = kind })
     ▹ need (codes "binding") (whole_at most_short)
@@ -73,6 +78,7 @@ layout_entry_of d = kinded_by layout_entry_keys d
 
 -- ---- entries of what shaders use
 
+-- the keys of an entry of a compute pipeline's interface, by its kind
 abbrev pub iface_entry_keys : KindWord → Reader IfaceEntry
 iface_entry_keys word = gives (λ group binding kind. record { group = group; binding = binding; stage = Compute; kind = kind })
     ▹ need (codes "group") (whole_at most_short)
@@ -84,6 +90,7 @@ iface_entry_keys word = gives (λ group binding kind. record { group = group; bi
 unfoldable pub iface_entry_of : Data → Result IfaceEntry ℕ
 iface_entry_of d = kinded_by iface_entry_keys d
 
+-- the keys of an entry of a render pipeline's interface, by its kind
 abbrev pub staged_entry_keys : KindWord → Reader IfaceEntry
 staged_entry_keys word = gives (λ group binding stage kind. record { group = group; binding = binding; stage = stage; kind = kind })
     ▹ need (codes "group") (whole_at most_short)
@@ -106,11 +113,13 @@ buffer_entry_keys = gives (λ binding buffer offset size. record { binding = bin
     ▹ may (codes "offset") (whole_or most_whole 0)
     ▹ may (codes "size") (whole_if most_whole)
 
+-- the keys of an entry that binds a view
 abbrev pub view_entry_keys : Reader (GroupEntryOf (List ℕ))
 view_entry_keys = gives (λ binding view. record { binding = binding; resource = resource.View view })
     ▹ need (codes "binding") (whole_at most_short)
     ▹ need (codes "view") name_at
 
+-- the keys of an entry that binds a sampler
 abbrev pub sampler_entry_keys : Reader (GroupEntryOf (List ℕ))
 sampler_entry_keys = gives (λ binding sampler. record { binding = binding; resource = resource.Sampler sampler })
     ▹ need (codes "binding") (whole_at most_short)

@@ -29,6 +29,7 @@ create_bundle_encoder_keys =
     ▹ may (codes "stencilReadOnly") (flag_or false)
     ▹ need (codes "as") name_at
 
+-- the reader of a createBundleEncoder
 unfoldable pub create_bundle_encoder_of : Data → Result Call ℕ
 create_bundle_encoder_of d = read_by create_bundle_encoder_keys d
 
@@ -38,6 +39,7 @@ finish_bundle_keys = gives (λ on made. making (FinishBundle on) made)
     ▹ need (codes "on") name_at
     ▹ need (codes "as") name_at
 
+-- the reader of a finishBundle
 unfoldable pub finish_bundle_of : Data → Result Call ℕ
 finish_bundle_of d = read_by finish_bundle_keys d
 
@@ -47,5 +49,6 @@ execute_bundles_keys = gives (λ on bundles. recording on (ExecuteBundles bundle
     ▹ need (codes "on") name_at
     ▹ need (codes "bundles") names_at
 
+-- the reader of an executeBundles
 unfoldable pub execute_bundles_of : Data → Result Call ℕ
 execute_bundles_of d = read_by execute_bundles_keys d

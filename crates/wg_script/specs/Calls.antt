@@ -20,8 +20,8 @@ use Rattle.wg_types.specs.declared.words.Word.{Word}
 use Rattle.wg_types.specs.declared.words.Word.TheVariants as word
 use Rattle.wg_script.specs.CallOf.{Call}
 use Rattle.wg_types.specs.declared.commands.CommandOf.TheVariants.{CopyBufferToBuffer, ClearBuffer, PushDebugGroup, PopDebugGroup}
-use Rattle.wg_types.specs.declared.replies.Filter.{Filter}
-use Rattle.wg_types.specs.declared.replies.Filter.TheVariants as filter
+use Rattle.wg_trace.specs.declared.replies.Filter.{Filter}
+use Rattle.wg_trace.specs.declared.replies.Filter.TheVariants as filter
 use Rattle.wg_types.specs.declared.requests.RequestOf.{RequestOf}
 use Rattle.wg_types.specs.declared.requests.RequestOf.TheVariants.{CreateBuffer, CreateEncoder, Finish, Submit, WriteBuffer, Destroy, Drop, Complete, PushErrorScope, PopErrorScope, Lose, WorkDone, MapAsync, Unmap}
 use Rattle.wg_script.specs.Calling.{recording, asking, making}
@@ -34,6 +34,7 @@ create_buffer_keys = gives (λ size usage mapped made. making (CreateBuffer (rec
     ▹ may (codes "mapped") (flag_or false)
     ▹ need (codes "as") name_at
 
+-- the reader of a createBuffer
 unfoldable pub create_buffer_of : Data → Result Call ℕ
 create_buffer_of d = read_by create_buffer_keys d
 
@@ -47,6 +48,7 @@ finish_keys = gives (λ on made. making (Finish on) made)
     ▹ need (codes "on") name_at
     ▹ need (codes "as") name_at
 
+-- the reader of a finish
 unfoldable pub finish_of : Data → Result Call ℕ
 finish_of d = read_by finish_keys d
 
@@ -61,6 +63,7 @@ write_buffer_keys = gives (λ buffer offset size. asking (WriteBuffer buffer off
     ▹ need (codes "offset") (whole_at most_whole)
     ▹ need (codes "size") (whole_at most_whole)
 
+-- the reader of a writeBuffer
 unfoldable pub write_buffer_of : Data → Result Call ℕ
 write_buffer_of d = read_by write_buffer_keys d
 
@@ -84,6 +87,7 @@ filter_words = (codes "validation", filter.Validation) ∷ (codes "out-of-memory
 abbrev pub push_error_scope_keys : Reader Call
 push_error_scope_keys = gives (λ filter. asking (PushErrorScope filter)) ▹ need (codes "filter") (word_at filter_words)
 
+-- the reader of a pushErrorScope
 unfoldable pub push_error_scope_of : Data → Result Call ℕ
 push_error_scope_of d = read_by push_error_scope_keys d
 
@@ -111,6 +115,7 @@ map_async_keys = gives (λ buffer mode offset size. asking (MapAsync buffer mode
     ▹ may (codes "offset") (whole_or most_whole 0)
     ▹ may (codes "size") (whole_if most_whole)
 
+-- the reader of a mapAsync
 unfoldable pub map_async_of : Data → Result Call ℕ
 map_async_of d = read_by map_async_keys d
 
@@ -130,6 +135,7 @@ copy_buffer_to_buffer_keys = gives (λ on source source_offset target target_off
     ▹ need (codes "targetOffset") (whole_at most_whole)
     ▹ need (codes "size") (whole_at most_whole)
 
+-- the reader of a copyBufferToBuffer
 unfoldable pub copy_buffer_to_buffer_of : Data → Result Call ℕ
 copy_buffer_to_buffer_of d = read_by copy_buffer_to_buffer_keys d
 
@@ -141,6 +147,7 @@ clear_buffer_keys = gives (λ on buffer offset size. recording on (ClearBuffer b
     ▹ may (codes "offset") (whole_or most_whole 0)
     ▹ may (codes "size") (whole_if most_whole)
 
+-- the reader of a clearBuffer
 unfoldable pub clear_buffer_of : Data → Result Call ℕ
 clear_buffer_of d = read_by clear_buffer_keys d
 

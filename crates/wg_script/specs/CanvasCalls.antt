@@ -18,6 +18,7 @@ create_canvas_keys = gives (λ width height made. canvas_making (Create width he
     ▹ need (codes "height") (whole_at most_short)
     ▹ need (codes "as") name_at
 
+-- the reader of a createCanvas
 unfoldable pub create_canvas_of : Data → Result Call ℕ
 create_canvas_of d = read_by create_canvas_keys d
 
@@ -32,6 +33,7 @@ configure_canvas_keys = gives (λ canvas format usage. canvas_asking (On canvas 
     ▹ need (codes "format") (word_at canvas_words)
     ▹ may (codes "usage") (whole_or most_short 16)
 
+-- the reader of a configureCanvas
 unfoldable pub configure_canvas_of : Data → Result Call ℕ
 configure_canvas_of d = read_by configure_canvas_keys d
 
@@ -41,6 +43,7 @@ current_texture_keys = gives (λ canvas made. canvas_making (On canvas Current) 
     ▹ need (codes "canvas") name_at
     ▹ need (codes "as") name_at
 
+-- the reader of a currentTexture
 unfoldable pub current_texture_of : Data → Result Call ℕ
 current_texture_of d = read_by current_texture_keys d
 

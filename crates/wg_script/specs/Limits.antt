@@ -9,10 +9,12 @@ use Rattle.wg_limits.specs.declared.names.LimitName.{LimitName}
 use Rattle.wg_script.specs.Giving.{◌>>=◌}
 use Rattle.wg_script.specs.Values.{whole, most_whole}
 
+-- a limit that a text names, or script rule 14
 abbrev pub name_from : Option LimitName → Result LimitName ℕ
 name_from None = Err 14
 name_from (Some name) = Ok name
 
+-- a value that is asked for, or script rule 14
 abbrev pub value_from : Result ℕ ℕ → Result ℕ ℕ
 value_from (Ok value) = Ok value
 value_from (Err rule) = Err 14
@@ -36,10 +38,12 @@ values_asked (member key d ms) = do
 abbrev pub with_values : List (LimitName × ℕ) → Result (List (LimitName × ℕ)) ℕ → Result (List (LimitName × ℕ)) ℕ
 with_values front r = r >>= λ values. Ok (front ++ values)
 
+-- the names and values of an object, or script rule 14
 abbrev pub members_from : Option Members → Result (List (LimitName × ℕ)) ℕ
 members_from None = Err 14
 members_from (Some ms) = values_asked ms
 
+-- the limits that are given for what is asked, or script rule 14
 abbrev pub limits_from : Option Limits → Result Limits ℕ
 limits_from None = Err 14
 limits_from (Some limits) = Ok limits

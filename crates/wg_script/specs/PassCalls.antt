@@ -17,6 +17,7 @@ begin_compute_pass_keys = gives (λ on made. beginning on BeginComputePass made)
     ▹ need (codes "on") name_at
     ▹ need (codes "as") name_at
 
+-- the reader of a beginComputePass
 unfoldable pub begin_compute_pass_of : Data → Result Call ℕ
 begin_compute_pass_of d = read_by begin_compute_pass_keys d
 
@@ -34,6 +35,7 @@ set_pipeline_keys = gives (λ on pipeline. recording on (SetPipeline pipeline))
     ▹ need (codes "on") name_at
     ▹ need (codes "pipeline") name_at
 
+-- the reader of a setPipeline
 unfoldable pub set_pipeline_of : Data → Result Call ℕ
 set_pipeline_of d = read_by set_pipeline_keys d
 
@@ -45,6 +47,7 @@ set_bind_group_keys = gives (λ on index group offsets. recording on (SetBindGro
     ▹ need (codes "group") name_at
     ▹ may (codes "offsets") (list_or_empty (whole most_short))
 
+-- the reader of a setBindGroup
 unfoldable pub set_bind_group_of : Data → Result Call ℕ
 set_bind_group_of d = read_by set_bind_group_keys d
 
@@ -56,6 +59,7 @@ dispatch_keys = gives (λ on x y z. recording on (Dispatch x y z))
     ▹ may (codes "y") (whole_or most_short 1)
     ▹ may (codes "z") (whole_or most_short 1)
 
+-- the reader of a dispatch
 unfoldable pub dispatch_of : Data → Result Call ℕ
 dispatch_of d = read_by dispatch_keys d
 
@@ -66,6 +70,7 @@ indirect_keys = gives (λ on buffer offset. record { on = on; buffer = buffer; o
     ▹ need (codes "buffer") name_at
     ▹ need (codes "offset") (whole_at most_whole)
 
+-- the reader of an indirect dispatch or draw
 unfoldable pub indirect_of : Data → Result IndirectCall ℕ
 indirect_of d = read_by indirect_keys d
 

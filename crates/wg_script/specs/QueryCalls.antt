@@ -15,6 +15,7 @@ create_queries_keys = gives (λ count made. making (CreateQuerySet (record { cou
     ▹ need (codes "count") (whole_at most_short)
     ▹ need (codes "as") name_at
 
+-- the reader of a createQuerySet
 unfoldable pub create_queries_of : Data → Result Call ℕ
 create_queries_of d = read_by create_queries_keys d
 
@@ -28,6 +29,7 @@ resolve_queries_keys = gives (λ on queries first count buffer offset. recording
     ▹ need (codes "buffer") name_at
     ▹ need (codes "offset") (whole_at most_whole)
 
+-- the reader of a resolveQuerySet
 unfoldable pub resolve_queries_of : Data → Result Call ℕ
 resolve_queries_of d = read_by resolve_queries_keys d
 
@@ -37,6 +39,7 @@ begin_occlusion_keys = gives (λ on index. recording on (BeginOcclusionQuery ind
     ▹ need (codes "on") name_at
     ▹ need (codes "index") (whole_at most_short)
 
+-- the reader of a beginOcclusionQuery
 unfoldable pub begin_occlusion_of : Data → Result Call ℕ
 begin_occlusion_of d = read_by begin_occlusion_keys d
 

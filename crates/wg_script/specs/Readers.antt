@@ -5,6 +5,7 @@ use Rattle.serde_json.specs.Find.{get}
 use Rattle.wg_script.specs.Giving.{◌>>=◌}
 use Rattle.wg_script.specs.Values.{check_keys, check_inner}
 
+-- a reader of an object: the keys that it needs, those that it may have, and what is read of them
 pub record Reader (X : Type 0) : Type 0 where
   pub needed : List (List ℕ)
   pub optional : List (List ℕ)
@@ -14,6 +15,7 @@ pub record Reader (X : Type 0) : Type 0 where
 abbrev pub gives : {X : Type 0} → X → Reader X
 gives x = record { needed = []; optional = []; read = λ d. Ok x }
 
+-- what is read of an object by two readers, one after the other
 abbrev pub then_read : {X Y : Type 0} → (Data → Result (X → Y) ℕ) → (Data → Result X ℕ) → Data → Result Y ℕ
 then_read before value d = before d >>= λ f. value d >>= λ x. Ok (f x)
 
@@ -33,6 +35,7 @@ has key before = record { needed = before.needed ++ key ∷ []; optional = befor
 abbrev pub all_of : {X Y : Type 0} → Reader X → Reader (X → Y) → Reader Y
 all_of part before = record { needed = before.needed ++ part.needed; optional = before.optional ++ part.optional; read = then_read before.read part.read }
 
+-- a value handed to a function
 infixl 5 ◌▹◌
 abbrev pub ◌▹◌ : {A B : Type 0} → A → (A → B) → B
 x ▹ f = f x

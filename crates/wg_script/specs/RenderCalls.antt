@@ -30,6 +30,7 @@ create_render_keys = gives (λ layout iface buffers targets depth samples made. 
     ▹ may (codes "samples") (whole_or most_short 1)
     ▹ need (codes "as") name_at
 
+-- the reader of a createRenderPipeline
 unfoldable pub create_render_of : Data → Result Call ℕ
 create_render_of d = read_by create_render_keys d
 
@@ -44,6 +45,7 @@ begin_render_pass_keys = gives (λ on colors depth queries made. beginning on (B
     ▹ may (codes "queries") (item_if name_item)
     ▹ need (codes "as") name_at
 
+-- the reader of a beginRenderPass
 unfoldable pub begin_render_pass_of : Data → Result Call ℕ
 begin_render_pass_of d = read_by begin_render_pass_keys d
 
@@ -58,6 +60,7 @@ set_vertex_buffer_keys = gives (λ on slot buffer offset size. recording on (Set
     ▹ may (codes "offset") (whole_or most_whole 0)
     ▹ may (codes "size") (whole_if most_whole)
 
+-- the reader of a setVertexBuffer
 unfoldable pub set_vertex_buffer_of : Data → Result Call ℕ
 set_vertex_buffer_of d = read_by set_vertex_buffer_keys d
 
@@ -70,6 +73,7 @@ set_index_buffer_keys = gives (λ on buffer format offset size. recording on (Se
     ▹ may (codes "offset") (whole_or most_whole 0)
     ▹ may (codes "size") (whole_if most_whole)
 
+-- the reader of a setIndexBuffer
 unfoldable pub set_index_buffer_of : Data → Result Call ℕ
 set_index_buffer_of d = read_by set_index_buffer_keys d
 
@@ -84,6 +88,7 @@ draw_keys = gives (λ on vertices instances first_vertex first_instance. recordi
     ▹ may (codes "firstVertex") (whole_or most_short 0)
     ▹ may (codes "firstInstance") (whole_or most_short 0)
 
+-- the reader of a draw
 unfoldable pub draw_of : Data → Result Call ℕ
 draw_of d = read_by draw_keys d
 
@@ -96,6 +101,7 @@ draw_indexed_keys = gives (λ on indices instances first_index first_instance. r
     ▹ may (codes "firstIndex") (whole_or most_short 0)
     ▹ may (codes "firstInstance") (whole_or most_short 0)
 
+-- the reader of a drawIndexed
 unfoldable pub draw_indexed_of : Data → Result Call ℕ
 draw_indexed_of d = read_by draw_indexed_keys d
 

@@ -37,6 +37,7 @@ create_texture_keys = gives (λ info made. making (CreateTexture info) made)
     ▹ all_of texture_info_keys
     ▹ need (codes "as") name_at
 
+-- the reader of a createTexture
 unfoldable pub create_texture_of : Data → Result Call ℕ
 create_texture_of d = read_by create_texture_keys d
 
@@ -58,6 +59,7 @@ create_view_keys = gives (λ texture asked made. making (CreateView texture aske
     ▹ all_of view_asked_keys
     ▹ need (codes "as") name_at
 
+-- the reader of a createView
 unfoldable pub create_view_of : Data → Result Call ℕ
 create_view_of d = read_by create_view_keys d
 
@@ -88,6 +90,7 @@ write_texture_keys = gives (λ texture spot size layout data_size. asking (Write
     ▹ all_of layout_keys
     ▹ need (codes "dataSize") (whole_at most_whole)
 
+-- the reader of a writeTexture
 unfoldable pub write_texture_of : Data → Result Call ℕ
 write_texture_of d = read_by write_texture_keys d
 
@@ -101,6 +104,7 @@ texel_copy_keys = gives (λ on buffer layout texture spot size. record { on = on
     ▹ all_of spot_keys
     ▹ need (codes "size") triple_at
 
+-- the reader of a copy between a buffer and a texture
 unfoldable pub texel_copy_of : Data → Result TexelCopy ℕ
 texel_copy_of d = read_by texel_copy_keys d
 
@@ -124,5 +128,6 @@ copy_texture_to_texture_keys = gives (λ on source source_mip source_origin targ
     ▹ may (codes "targetOrigin") triple_or_zero
     ▹ need (codes "size") triple_at
 
+-- the reader of a copyTextureToTexture
 unfoldable pub copy_texture_to_texture_of : Data → Result Call ℕ
 copy_texture_to_texture_of d = read_by copy_texture_to_texture_keys d

@@ -6,11 +6,11 @@ use Rattle.std.proofs.Common.{◌≡◌, ℕ, List, [], ◌∷◌, ◌++◌, map
 use Rattle.std.proofs.lemmas.Bool.{and_parts, or_parts, or_left, or_right}
 use Rattle.wg_types.specs.Handles.{HandleValue}
 use Rattle.wg_types.specs.declared.textures.ViewInfo.{ViewInfo}
-use Rattle.wg_types.specs.declared.parts.Aspect.{Aspect}
-use Rattle.wg_types.specs.declared.usages.Usages.{Usages}
+use Rattle.wg_trace.specs.declared.parts.Aspect.{Aspect}
+use Rattle.wg_trace.specs.declared.usages.Usages.{Usages}
 use Rattle.wg_rows.specs.Rows.{EachRow}
 use Rattle.wg_rows.specs.Runs.{Cell, Cells, Bytes, Layers, Slices, Queries, cell_line, covers}
-use Rattle.wg_rows.specs.Uses.{Kind, Write}
+use Rattle.wg_rows.specs.Uses.{AccessKind, Write}
 use Rattle.wg_rows.proofs.Runs.{aspect_told}
 use Rattle.wg_model.specs.Making.{no_view}
 use Rattle.wg_model.specs.Rules.{AreMet}
@@ -74,7 +74,7 @@ along_agree (a ∷ views) touches along apart =
     (cross_apart a along.block views along.rest along.fits along.own (not_false (list_any (attached_meet a) views) parts.0) along.more))
 
 -- blocks of attachments
-these_own : (a : Attached) (how : Cells → Usages × Kind) (these : List Cells) → ((c : Cell) → is_accessed these c ≡ true → attached_has a c ≡ true) → EachRow (Of a) (map (λ (run : Cells). attached (how run) run) these)
+these_own : (a : Attached) (how : Cells → Usages × AccessKind) (these : List Cells) → ((c : Cell) → is_accessed these c ≡ true → attached_has a c ≡ true) → EachRow (Of a) (map (λ (run : Cells). attached (how run) run) these)
 these_own a how [] f = tt
 these_own a how (run ∷ these) f = ((λ c e. f c (or_left (covers run c) (is_accessed these c) e)), these_own a how these (λ c e. f c (or_right (covers run c) (is_accessed these c) e)))
 
@@ -82,14 +82,14 @@ whole_sliced : (cells : List Cells) → map (sliced None) cells ≡ cells
 whole_sliced [] = refl
 whole_sliced (run ∷ cells) = ap (λ (xs : List Cells). run ∷ xs) (whole_sliced cells)
 
-handle_own : (handle : HandleValue) (how : Cells → Usages × Kind) → EachRow (Of (attached_whole (attachment_of handle))) (map (λ (run : Cells). attached (how run) run) (handle_cells handle))
+handle_own : (handle : HandleValue) (how : Cells → Usages × AccessKind) → EachRow (Of (attached_whole (attachment_of handle))) (map (λ (run : Cells). attached (how run) run) (handle_cells handle))
 handle_own handle how = by_view (attached_view handle)
   where
     by_view : (o : Option ViewInfo) → EachRow (Of (attached_whole (unwrap_or o no_view))) (map (λ (run : Cells). attached (how run) run) (option_map_or view_cells o []))
     by_view None = tt
     by_view (Some view) = these_own (attached_whole view) how (view_cells view) (λ c e. ap (λ (xs : List Cells). is_accessed xs c) (whole_sliced (view_cells view)) ∙ e)
 
-color_own : (target : ColorTarget) (how : Usages × Kind) → EachRow (Of (color_attached target)) (map (attached how) (color_cells target))
+color_own : (target : ColorTarget) (how : Usages × AccessKind) → EachRow (Of (color_attached target)) (map (attached how) (color_cells target))
 color_own target how = by_view (attached_view target.view)
   where
     by_view : (o : Option ViewInfo) → EachRow (Of (unwrap_or o no_view, target.depth_slice)) (map (attached how) (map (sliced target.depth_slice) (option_map_or view_cells o [])))

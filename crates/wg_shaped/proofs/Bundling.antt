@@ -7,7 +7,7 @@ use Rattle.wg_types.specs.declared.bundles.BundleUse.{BundleUse}
 use Rattle.wg_types.specs.declared.bundles.BundleUse.TheVariants.{Input, Constant, StorageRead, Storage as StorageUse}
 use Rattle.wg_rows.specs.Rows.{EachRow}
 use Rattle.wg_rows.specs.Runs.{PartRun, BufferPart, LayerParts, QueryPart, Cells, Bytes, Layers, Slices, Queries, part_sort, cell_sort, run_part}
-use Rattle.wg_rows.specs.Uses.{Kind, same_kind, printed_accesses}
+use Rattle.wg_rows.specs.Uses.{AccessKind, same_kind, printed_accesses}
 use Rattle.wg_rows.specs.Sets.{UseRow, sets}
 use Rattle.wg_model.specs.Touches.{Touch, use_of, access_of, has_cells, is_scoped, deed_of}
 use Rattle.wg_model.specs.Bundles.{bundle_how, is_used_so, no_cells, part_touched, cells_touched, touched_so, bundle_touches}
@@ -81,7 +81,7 @@ parts_fair : (used : BundleUse) (rows : List UseRow) → EachRun IsScopedPart ro
 parts_fair used [] h = tt
 parts_fair used (row ∷ rows) h = (h.0, parts_fair used rows h.1)
 
-cells_fair : (used : BundleUse) (rows : List (Cells × Kind)) → EachRun IsScoped rows → AreFairTouches (map (cells_touched used) rows)
+cells_fair : (used : BundleUse) (rows : List (Cells × AccessKind)) → EachRun IsScoped rows → AreFairTouches (map (cells_touched used) rows)
 cells_fair used [] h = tt
 cells_fair used (row ∷ rows) h = (h.0, cells_fair used rows h.1)
 

@@ -4,10 +4,10 @@ use Rattle.std.proofs.Common.{◌≡◌, ℕ, ◌+◌, ◌*◌, ◌==◌, List, 
 use Rattle.std.proofs.lemmas.Bool.{and_parts, and_from, or_left, or_right}
 use Rattle.wg_types.specs.Commands.{Command}
 use Rattle.wg_types.specs.declared.commands.CommandOf.TheVariants.{CopyBufferToBuffer, CopyBufferToTexture, CopyTextureToBuffer, CopyTextureToTexture, ClearBuffer, ResolveQuerySet}
-use Rattle.wg_types.specs.declared.parts.Aspect.{Aspect}
-use Rattle.wg_types.specs.declared.parts.Aspect.TheVariants.{Color, Depth, Stencil}
-use Rattle.wg_types.specs.declared.parts.Kind.{Kind}
-use Rattle.wg_types.specs.declared.usages.Usages.{Usages}
+use Rattle.wg_trace.specs.declared.parts.Aspect.{Aspect}
+use Rattle.wg_trace.specs.declared.parts.Aspect.TheVariants.{Color, Depth, Stencil}
+use Rattle.wg_trace.specs.declared.parts.AccessKind.{AccessKind}
+use Rattle.wg_trace.specs.declared.usages.Usages.{Usages}
 use Rattle.wg_types.specs.declared.textures.TextureDim.{TextureDim}
 use Rattle.wg_types.specs.declared.textures.TextureDim.TheVariants as texture_dim
 use Rattle.wg_types.specs.declared.textures.TextureInfo.{TextureInfo}
@@ -64,7 +64,7 @@ bytes_apart object lo hi (Queries other lo2 hi2) h e = h
 bytes_apart object lo hi (Layers other aspect mip lo2 hi2) h e = cc
 bytes_apart object lo hi (Slices other mip lo2 hi2) h e = cc
 
-bytes_agree : (object lo hi : ℕ) (how other : Usages × Kind) (cells : List Cells) → EachRow IsTextures cells → AgreeWith (map (λ (run : Cells). (run, other)) cells) (Bytes object lo hi, how)
+bytes_agree : (object lo hi : ℕ) (how other : Usages × AccessKind) (cells : List Cells) → EachRow IsTextures cells → AgreeWith (map (λ (run : Cells). (run, other)) cells) (Bytes object lo hi, how)
 bytes_agree object lo hi how other [] h = tt
 bytes_agree object lo hi how other (run ∷ cells) h = (apart_agree (Bytes object lo hi, how) (run, other) (bytes_apart object lo hi run h.0), bytes_agree object lo hi how other cells h.1)
 
@@ -72,12 +72,12 @@ bytes_agree object lo hi how other (run ∷ cells) h = (apart_agree (Bytes objec
 abbrev ShareNone : List Cells → List Cells → Type 0
 ShareNone xs ys = (c : Cell) → is_accessed xs c ≡ true → is_accessed ys c ≡ true → ⊥
 
-one_cross : (x : Cells) (ys : List Cells) (how other : Usages × Kind) → ((c : Cell) → covers x c ≡ true → is_accessed ys c ≡ true → ⊥) → AgreeWith (map (λ (run : Cells). (run, other)) ys) (x, how)
+one_cross : (x : Cells) (ys : List Cells) (how other : Usages × AccessKind) → ((c : Cell) → covers x c ≡ true → is_accessed ys c ≡ true → ⊥) → AgreeWith (map (λ (run : Cells). (run, other)) ys) (x, how)
 one_cross x [] how other h = tt
 one_cross x (y ∷ ys) how other h =
     ((λ c e f. absurd (h c e (or_left (covers y c) (is_accessed ys c) f))), one_cross x ys how other (λ c e f. h c e (or_right (covers y c) (is_accessed ys c) f)))
 
-all_cross : (xs ys : List Cells) (how other : Usages × Kind) → ShareNone xs ys → EachRow (AgreeWith (map (λ (run : Cells). (run, other)) ys)) (map (λ (run : Cells). (run, how)) xs)
+all_cross : (xs ys : List Cells) (how other : Usages × AccessKind) → ShareNone xs ys → EachRow (AgreeWith (map (λ (run : Cells). (run, other)) ys)) (map (λ (run : Cells). (run, how)) xs)
 all_cross [] ys how other h = tt
 all_cross (x ∷ xs) ys how other h =
     (one_cross x ys how other (λ c e f. h c (or_left (covers x c) (is_accessed xs c) e) f), all_cross xs ys how other (λ c e f. h c (or_right (covers x c) (is_accessed xs c) e) f))

@@ -2,8 +2,8 @@
 use Rattle.std.specs.Prelude.{Option, Some, None, filter, nat_lt, nat_le}
 use Rattle.std.proofs.Common.{◌≡◌, ◌<◌, List, [], ◌∷◌, map, Bool, true, false, cond, if◌then◌else◌, ap, refl, sym, ◌∙◌, subst, arith}
 use Rattle.std.proofs.lemmas.Bool.{and_from, le-leb, lt-ltb, ltb-true, false_from_ne_true}
-use Rattle.wg_types.specs.declared.parts.Kind.{Kind}
-use Rattle.wg_types.specs.declared.usages.Usages.{Usages}
+use Rattle.wg_trace.specs.declared.parts.AccessKind.{AccessKind}
+use Rattle.wg_trace.specs.declared.usages.Usages.{Usages}
 use Rattle.wg_rows.specs.Rows.{Spot, covers_spot, list_eq, in_range, EachRow, After, Apart}
 use Rattle.wg_rows.specs.Runs.{Part, Cells, part_line, part_lo, part_hi, cell_lo, cell_hi, part_sort, part_spot, cell_sort, covers_part}
 use Rattle.wg_rows.specs.Cut.{value_at}
@@ -72,10 +72,10 @@ sets_shaped : (rows : List UseRow) → HaveSets rows → EachRow IsShapedUse (se
 sets_shaped rows h = all_uses rows (sets rows) (sets rows) h (sets_apart rows) (λ p. sets_row p rows) (all_own (sets rows) (sets_apart rows))
 
 -- rows with cells
-abbrev IsAny : Kind → Type 0
+abbrev IsAny : AccessKind → Type 0
 IsAny kind = Unit {0}
 
-with_cells : (rows : List (Cells × Kind)) → EachRow (IsFilled cell_sort IsAny) (filter has_cells rows)
+with_cells : (rows : List (Cells × AccessKind)) → EachRow (IsFilled cell_sort IsAny) (filter has_cells rows)
 with_cells [] = tt
 with_cells (row ∷ rows) = by_test (has_cells row) refl (with_cells rows)
   where
@@ -83,11 +83,11 @@ with_cells (row ∷ rows) = by_test (has_cells row) refl (with_cells rows)
     by_test true e rest = ((ltb-true (cell_lo row.0) (cell_hi row.0) e, tt), rest)
     by_test false e rest = rest
 
-only_filled : (rows : List (Cells × Kind)) → EachRow (IsFilled cell_sort IsAny) rows → EachRow IsShapedAccess rows
+only_filled : (rows : List (Cells × AccessKind)) → EachRow (IsFilled cell_sort IsAny) rows → EachRow IsShapedAccess rows
 only_filled [] h = tt
 only_filled (row ∷ rows) h = (h.0.0, only_filled rows h.1)
 
-cells_shaped : (rows : List (Cells × Kind)) → EachRow IsShapedAccess (printed_accesses (filter has_cells rows))
+cells_shaped : (rows : List (Cells × AccessKind)) → EachRow IsShapedAccess (printed_accesses (filter has_cells rows))
 cells_shaped rows =
     only_filled (printed_accesses (filter has_cells rows))
     (printed_each cell_sort same_kind (IsFilled cell_sort IsAny) (filled_joins cell_sort IsAny cell_widens) (filter has_cells rows) (with_cells rows))

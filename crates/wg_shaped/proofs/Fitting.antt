@@ -2,8 +2,8 @@
 use Rattle.std.specs.Prelude.{filter}
 use Rattle.std.proofs.Common.{◌≡◌, ℕ, List, [], ◌∷◌, ◌++◌, map, Bool, true, false, cond, ap, refl, sym, ◌∙◌}
 use Rattle.std.proofs.lemmas.Bool.{and_parts, ltb-true}
-use Rattle.wg_types.specs.declared.parts.Kind.{Kind}
-use Rattle.wg_types.specs.declared.usages.Usages.{Usages}
+use Rattle.wg_trace.specs.declared.parts.AccessKind.{AccessKind}
+use Rattle.wg_trace.specs.declared.usages.Usages.{Usages}
 use Rattle.wg_rows.specs.Rows.{Spot, covers_spot, list_eq, in_range, EachRow, Fits, AllFit}
 use Rattle.wg_rows.specs.Runs.{Cell, Cells, cell_line, cell_lo, cell_hi, cell_spot, cell_sort, covers}
 use Rattle.wg_rows.specs.Uses.{same_kind, printed_accesses}
@@ -33,22 +33,22 @@ agree_joined [] ys a b k = b
 agree_joined (x ∷ xs) ys a b k = (each_joined (Agree x) xs ys a.0 k.0, agree_joined xs ys a.1 b k.1)
 
 -- touches of one kind
-abbrev pub OfKind : Kind → Touch → Type 0
+abbrev pub OfKind : AccessKind → Touch → Type 0
 OfKind kind touch = touch.1.1 ≡ kind
 
-pub map_kind : (how : Usages × Kind) (cells : List Cells) → EachRow (OfKind how.1) (map (λ (run : Cells). (run, how)) cells)
+pub map_kind : (how : Usages × AccessKind) (cells : List Cells) → EachRow (OfKind how.1) (map (λ (run : Cells). (run, how)) cells)
 map_kind how [] = tt
 map_kind how (run ∷ cells) = (refl, map_kind how cells)
 
-with_kind : (kind : Kind) (touch : Touch) (touches : List Touch) → OfKind kind touch → EachRow (OfKind kind) touches → AgreeWith touches touch
+with_kind : (kind : AccessKind) (touch : Touch) (touches : List Touch) → OfKind kind touch → EachRow (OfKind kind) touches → AgreeWith touches touch
 with_kind kind touch [] h k = tt
 with_kind kind touch (other ∷ touches) h k = ((λ c e f. h ∙ sym k.0), with_kind kind touch touches h k.1)
 
-pub kind_agree : (kind : Kind) (touches : List Touch) → EachRow (OfKind kind) touches → AllAgree touches
+pub kind_agree : (kind : AccessKind) (touches : List Touch) → EachRow (OfKind kind) touches → AllAgree touches
 kind_agree kind [] h = tt
 kind_agree kind (touch ∷ touches) h = (with_kind kind touch touches h.0 h.1, kind_agree kind touches h.1)
 
-pub map_agree : (how : Usages × Kind) (cells : List Cells) → AllAgree (map (λ (run : Cells). (run, how)) cells)
+pub map_agree : (how : Usages × AccessKind) (cells : List Cells) → AllAgree (map (λ (run : Cells). (run, how)) cells)
 map_agree how cells = kind_agree how.1 (map (λ (run : Cells). (run, how)) cells) (map_kind how cells)
 
 -- runs with a common cell are of one line
@@ -92,5 +92,5 @@ all_fit (touch ∷ touches) h = by_test (has_cells (access_of touch)) refl (all_
 pub step_once : (place : StepPlace) (doing : Doing) → AllAgree doing.1 → IsOnceStep (step_of place doing)
 unfolding deed_of
 step_once place doing h =
-    let rows : List (Cells × Kind) = filter has_cells (map access_of doing.1) in
+    let rows : List (Cells × AccessKind) = filter has_cells (map access_of doing.1) in
     apart_once (printed_accesses rows) (printed_apart cell_sort same_kind accesses_tell rows (all_fit doing.1 h))

@@ -7,11 +7,11 @@ use Rattle.std.proofs.lemmas.List.Sorted.{IsPermutation-refl, IsPermutation-tran
 use Rattle.wg_types.specs.declared.bundles.BundleTouch.{BundleTouch}
 use Rattle.wg_types.specs.declared.bundles.BundleUse.{BundleUse}
 use Rattle.wg_types.specs.declared.bundles.BundleUse.TheVariants.{Input, Constant, StorageRead, Storage}
-use Rattle.wg_types.specs.declared.steps.Deed.{Deed}
-use Rattle.wg_types.specs.declared.steps.StepName.TheVariants as name
+use Rattle.wg_trace.specs.declared.steps.Deed.{Deed}
+use Rattle.wg_trace.specs.declared.steps.StepName.TheVariants as name
 use Rattle.wg_rows.specs.Rows.{any_row, EachRow, Apart, AllFit, Fits, in_range, list_eq}
 use Rattle.wg_rows.specs.Runs.{Part, Buffer, Subresource, QuerySet, is_texture, Color, aspect_number, PartRun, BufferPart, LayerParts, QueryPart, Cell, Byte, Texels, Slice, Query, Cells, Bytes, Layers, Slices, Queries, cell_lo, cell_hi, cell_line, cell_spot, cell_sort, part_of, run_part, covers, covers_part}
-use Rattle.wg_rows.specs.Uses.{Usages, Kind, Read, same_kind, row_set, with_usage, printed_accesses}
+use Rattle.wg_rows.specs.Uses.{Usages, AccessKind, Read, same_kind, row_set, with_usage, printed_accesses}
 use Rattle.wg_rows.specs.Sets.{UseRow, sets}
 use Rattle.wg_rows.proofs.Put.{list_eq_refl, Each_value, printed_value}
 use Rattle.wg_rows.proofs.Printed.{printed_apart, respects}
@@ -55,10 +55,10 @@ abbrev pub used_in : Part → List UseRow → Bool
 used_in p rows = any_row (λ run. covers_part run p) (λ _. true) rows
 
 -- whether some row has cells in a part, or a cell
-abbrev lies_in : Part → List (Cells × Kind) → Bool
+abbrev lies_in : Part → List (Cells × AccessKind) → Bool
 lies_in p rows = any_row (λ run. covers_part (run_part run) p) (λ _. true) rows
 
-abbrev has_cell : Cell → List (Cells × Kind) → Bool
+abbrev has_cell : Cell → List (Cells × AccessKind) → Bool
 has_cell c rows = any_row (λ run. covers run c) (λ _. true) rows
 
 pub used_is : (p : Part) (rows : List UseRow) → used_in p rows ≡ is_some (row_set p rows)
@@ -119,18 +119,18 @@ texture_within run (Buffer o) told is e = absurd (true≢false (sym is))
 texture_within run (QuerySet o) told is e = absurd (true≢false (sym is))
 
 -- A row has a cell of a part, among others.
-pub record Found (p : Part) (rows : List (Cells × Kind)) : Type 0 where
+pub record Found (p : Part) (rows : List (Cells × AccessKind)) : Type 0 where
   pub cell : Cell
   pub lies : part_of cell ≡ p
   pub has : has_cell cell rows ≡ true
 
-found_here : (p : Part) (row : Cells × Kind) (rows : List (Cells × Kind)) → Within row.0 p → Found p (row ∷ rows)
+found_here : (p : Part) (row : Cells × AccessKind) (rows : List (Cells × AccessKind)) → Within row.0 p → Found p (row ∷ rows)
 found_here p row rows within = record { cell = within.cell; lies = within.lies; has = or_left (covers row.0 within.cell && true) (has_cell within.cell rows) (and_from (covers row.0 within.cell) true within.covered refl) }
 
-found_later : (p : Part) (row : Cells × Kind) (rows : List (Cells × Kind)) → Found p rows → Found p (row ∷ rows)
+found_later : (p : Part) (row : Cells × AccessKind) (rows : List (Cells × AccessKind)) → Found p rows → Found p (row ∷ rows)
 found_later p row rows found = record { cell = found.cell; lies = found.lies; has = or_right (covers row.0 found.cell && true) (has_cell found.cell rows) found.has }
 
-found_in : (p : Part) (rows : List (Cells × Kind)) → EachRow (λ (row : Cells × Kind). covers_part (run_part row.0) p ≡ true → Within row.0 p) rows → lies_in p rows ≡ true → Found p rows
+found_in : (p : Part) (rows : List (Cells × AccessKind)) → EachRow (λ (row : Cells × AccessKind). covers_part (run_part row.0) p ≡ true → Within row.0 p) rows → lies_in p rows ≡ true → Found p rows
 found_in p [] each e = absurd (true≢false (sym e))
 found_in p (row ∷ rows) each e = by_cases (or_cases (covers_part (run_part row.0) p && true) (lies_in p rows) e) (λ later. found_in p rows each.1 later)
   where
@@ -139,7 +139,7 @@ found_in p (row ∷ rows) each e = by_cases (or_cases (covers_part (run_part row
     by_cases (inr later) rest = found_later p row rows (rest later)
 
 -- Where there is a cell the rows lie in its part.
-cell_lies : (c : Cell) (rows : List (Cells × Kind)) → has_cell c rows ≡ true → lies_in (part_of c) rows ≡ true
+cell_lies : (c : Cell) (rows : List (Cells × AccessKind)) → has_cell c rows ≡ true → lies_in (part_of c) rows ≡ true
 cell_lies c [] e = e
 cell_lies c (row ∷ rows) e = by_cases (or_cases (covers row.0 c && true) (has_cell c rows) e) (λ later. cell_lies c rows later)
   where
@@ -147,18 +147,18 @@ cell_lies c (row ∷ rows) e = by_cases (or_cases (covers row.0 c && true) (has_
     by_cases (inl here) rest = or_left (covers_part (run_part row.0) (part_of c) && true) (lies_in (part_of c) rows) (and_from (covers_part (run_part row.0) (part_of c)) true (cells_lie row.0 c (and_parts (covers row.0 c) true here).0) refl)
     by_cases (inr later) rest = or_right (covers_part (run_part row.0) (part_of c) && true) (lies_in (part_of c) rows) (rest later)
 
-found_lies : (p : Part) (rows : List (Cells × Kind)) (found : Found p rows) → lies_in p rows ≡ true
+found_lies : (p : Part) (rows : List (Cells × AccessKind)) (found : Found p rows) → lies_in p rows ≡ true
 found_lies p rows found = subst (λ (q : Part). lies_in q rows ≡ true) found.lies (cell_lies found.cell rows found.has)
 
 -- Accesses of one kind as they are printed.
 
-abbrev AreOf : Kind → List (Cells × Kind) → Type 0
-AreOf kind rows = EachRow (λ (row : Cells × Kind). row.1 ≡ kind) rows
+abbrev AreOf : AccessKind → List (Cells × AccessKind) → Type 0
+AreOf kind rows = EachRow (λ (row : Cells × AccessKind). row.1 ≡ kind) rows
 
-abbrev AreFull : List (Cells × Kind) → Type 0
-AreFull rows = EachRow (λ (row : Cells × Kind). cell_lo row.0 < cell_hi row.0) rows
+abbrev AreFull : List (Cells × AccessKind) → Type 0
+AreFull rows = EachRow (λ (row : Cells × AccessKind). cell_lo row.0 < cell_hi row.0) rows
 
-with_cells : (kind : Kind) (rows : List (Cells × Kind)) → AreOf kind rows → AreOf kind (filter has_cells rows) × AreFull (filter has_cells rows)
+with_cells : (kind : AccessKind) (rows : List (Cells × AccessKind)) → AreOf kind rows → AreOf kind (filter has_cells rows) × AreFull (filter has_cells rows)
 with_cells kind [] each = (tt, tt)
 with_cells kind (row ∷ rows) each = by_test (has_cells row) refl (with_cells kind rows each.1)
   where
@@ -166,58 +166,58 @@ with_cells kind (row ∷ rows) each = by_test (has_cells row) refl (with_cells k
     by_test true e rest = ((each.0, rest.0), (ltb-true (cell_lo row.0) (cell_hi row.0) e, rest.1))
     by_test false e rest = rest
 
-fit_one : (kind : Kind) (row : Cells × Kind) (rows : List (Cells × Kind)) → row.1 ≡ kind → AreOf kind rows → EachRow (Fits cell_sort row) rows
+fit_one : (kind : AccessKind) (row : Cells × AccessKind) (rows : List (Cells × AccessKind)) → row.1 ≡ kind → AreOf kind rows → EachRow (Fits cell_sort row) rows
 fit_one kind row [] e each = tt
 fit_one kind row (x ∷ xs) e each = (λ spot over_row over_x. e ∙ sym each.0, fit_one kind row xs e each.1)
 
-all_fit : (kind : Kind) (rows : List (Cells × Kind)) → AreOf kind rows → AreFull rows → AllFit cell_sort rows
+all_fit : (kind : AccessKind) (rows : List (Cells × AccessKind)) → AreOf kind rows → AreFull rows → AllFit cell_sort rows
 all_fit kind [] each full = tt
 all_fit kind (row ∷ rows) each full = (full.0, fit_one kind row rows each.0 each.1, all_fit kind rows each.1 full.1)
 
-apart_full : (rows : List (Cells × Kind)) → Apart cell_sort rows → AreFull rows
+apart_full : (rows : List (Cells × AccessKind)) → Apart cell_sort rows → AreFull rows
 apart_full [] apart = tt
 apart_full (row ∷ rows) apart = (apart.0, apart_full rows apart.2)
 
-as_values : (kind : Kind) (rows : List (Cells × Kind)) → AreOf kind rows → Each_value kind rows
+as_values : (kind : AccessKind) (rows : List (Cells × AccessKind)) → AreOf kind rows → Each_value kind rows
 as_values kind [] each = tt
 as_values kind (row ∷ rows) each = (each.0, as_values kind rows each.1)
 
-abbrev shown : List (Cells × Kind) → List (Cells × Kind)
+abbrev shown : List (Cells × AccessKind) → List (Cells × AccessKind)
 shown rows = printed_accesses (filter has_cells rows)
 
-shown_full : (kind : Kind) (rows : List (Cells × Kind)) → AreOf kind rows → AreFull (shown rows)
+shown_full : (kind : AccessKind) (rows : List (Cells × AccessKind)) → AreOf kind rows → AreFull (shown rows)
 shown_full kind rows each =
     let these : AreOf kind (filter has_cells rows) × AreFull (filter has_cells rows) = with_cells kind rows each in
     apart_full (shown rows) (printed_apart cell_sort same_kind accesses_tell (filter has_cells rows) (all_fit kind (filter has_cells rows) these.0 these.1))
 
-shown_values : (kind : Kind) (rows : List (Cells × Kind)) → AreOf kind rows → Each_value kind (shown rows)
+shown_values : (kind : AccessKind) (rows : List (Cells × AccessKind)) → AreOf kind rows → Each_value kind (shown rows)
 shown_values kind rows each = printed_value cell_sort same_kind kind (filter has_cells rows) (as_values kind (filter has_cells rows) (with_cells kind rows each).0)
 
-shown_has : (c : Cell) (rows : List (Cells × Kind)) → has_cell c (shown rows) ≡ has_cell c rows
+shown_has : (c : Cell) (rows : List (Cells × AccessKind)) → has_cell c (shown rows) ≡ has_cell c rows
 shown_has c rows = printed_cells_any same_kind c (λ _. true) (λ u v e. refl) (filter has_cells rows) ∙ filtered_any c (λ _. true) rows
 
 -- What is shown lies where the accesses do,
-full_tells : (p : Part) (rows : List (Cells × Kind)) → AreFull rows → EachRow (λ (row : Cells × Kind). covers_part (run_part row.0) p ≡ true → Within row.0 p) rows
+full_tells : (p : Part) (rows : List (Cells × AccessKind)) → AreFull rows → EachRow (λ (row : Cells × AccessKind). covers_part (run_part row.0) p ≡ true → Within row.0 p) rows
 full_tells p [] full = tt
 full_tells p (row ∷ rows) full = (λ e. full_within row.0 p full.0 e, full_tells p rows full.1)
 
-shown_lies : (kind : Kind) (p : Part) (rows : List (Cells × Kind)) → AreOf kind rows → lies_in p (shown rows) ≡ true → lies_in p rows ≡ true
+shown_lies : (kind : AccessKind) (p : Part) (rows : List (Cells × AccessKind)) → AreOf kind rows → lies_in p (shown rows) ≡ true → lies_in p rows ≡ true
 shown_lies kind p rows each e =
     let found : Found p (shown rows) = found_in p (shown rows) (full_tells p (shown rows) (shown_full kind rows each)) e in
     found_lies p rows (record { cell = found.cell; lies = found.lies; has = sym (shown_has found.cell rows) ∙ found.has })
 
 -- and of textures these lie nowhere else.
-abbrev AreTold : List (Cells × Kind) → Type 0
-AreTold rows = EachRow (λ (row : Cells × Kind). tells_part row.0 ≡ true) rows
+abbrev AreTold : List (Cells × AccessKind) → Type 0
+AreTold rows = EachRow (λ (row : Cells × AccessKind). tells_part row.0 ≡ true) rows
 
-texture_tells : (p : Part) (rows : List (Cells × Kind)) → is_texture p ≡ true → AreTold rows → EachRow (λ (row : Cells × Kind). covers_part (run_part row.0) p ≡ true → Within row.0 p) rows
+texture_tells : (p : Part) (rows : List (Cells × AccessKind)) → is_texture p ≡ true → AreTold rows → EachRow (λ (row : Cells × AccessKind). covers_part (run_part row.0) p ≡ true → Within row.0 p) rows
 texture_tells p [] is told = tt
 texture_tells p (row ∷ rows) is told = (λ e. texture_within row.0 p told.0 is e, texture_tells p rows is told.1)
 
-pub texture_found : (p : Part) (rows : List (Cells × Kind)) → is_texture p ≡ true → AreTold rows → lies_in p rows ≡ true → Found p rows
+pub texture_found : (p : Part) (rows : List (Cells × AccessKind)) → is_texture p ≡ true → AreTold rows → lies_in p rows ≡ true → Found p rows
 texture_found p rows is told e = found_in p rows (texture_tells p rows is told) e
 
-lies_shown : (p : Part) (rows : List (Cells × Kind)) → is_texture p ≡ true → AreTold rows → lies_in p rows ≡ true → lies_in p (shown rows) ≡ true
+lies_shown : (p : Part) (rows : List (Cells × AccessKind)) → is_texture p ≡ true → AreTold rows → lies_in p rows ≡ true → lies_in p (shown rows) ≡ true
 lies_shown p rows is told e =
     let found : Found p rows = texture_found p rows is told e in
     found_lies p (shown rows) (record { cell = found.cell; lies = found.lies; has = shown_has found.cell rows ∙ found.has })
@@ -233,7 +233,7 @@ AllOf used touches = EachRow (IsOf used) touches
 
 accesses_of : (used : BundleUse) (touches : List Touch) → AllOf used touches → AreOf (bundle_how used).1 (map access_of touches)
 accesses_of used [] each = tt
-accesses_of used (touch ∷ touches) each = (ap (λ (how : Usages × Kind). how.1) each.0.so, accesses_of used touches each.1)
+accesses_of used (touch ∷ touches) each = (ap (λ (how : Usages × AccessKind). how.1) each.0.so, accesses_of used touches each.1)
 
 accesses_told : (used : BundleUse) (touches : List Touch) → AllOf used touches → AreTold (map access_of touches)
 accesses_told used [] each = tt
@@ -244,7 +244,7 @@ UsedAs usages rows = EachRow (λ (row : UseRow). row.1 ≡ usages) rows
 
 uses_of : (used : BundleUse) (touches : List Touch) → AllOf used touches → UsedAs (bundle_how used).0 (map use_of touches)
 uses_of used [] each = tt
-uses_of used (touch ∷ touches) each = (ap (λ (how : Usages × Kind). how.0) each.0.so, uses_of used touches each.1)
+uses_of used (touch ∷ touches) each = (ap (λ (how : Usages × AccessKind). how.0) each.0.so, uses_of used touches each.1)
 
 -- The set of a part that is always used in one way.
 own_union : (used : BundleUse) → bit_or (bundle_how used).0.0 (bundle_how used).0.0 ≡ (bundle_how used).0.0
@@ -283,7 +283,7 @@ part_known (LayerParts object aspect mip lo hi) (Subresource o a m layer) =
 abbrev known_parts : BundleUse → List UseRow → List Touch
 known_parts used rows = map bundle_touch (map (part_touched used) rows)
 
-abbrev known_cells : BundleUse → List (Cells × Kind) → List Touch
+abbrev known_cells : BundleUse → List (Cells × AccessKind) → List Touch
 known_cells used rows = map bundle_touch (map (cells_touched used) rows)
 
 parts_used : (used : BundleUse) (p : Part) (rows : List UseRow) → is_used p (known_parts used rows) ≡ used_in p rows && not (is_texture p)
@@ -292,7 +292,7 @@ parts_used used p (row ∷ rows) =
     ap₂ ◌||◌ (all_and (covers_part (run_part (no_cells row.0)) p) ∙ part_known row.0 p) (parts_used used p rows)
     ∙ (or_and (covers_part row.0 p) (used_in p rows) (not (is_texture p)) ∙ ap (λ b. (b || used_in p rows) && not (is_texture p)) (sym (all_and (covers_part row.0 p))))
 
-cells_used : (used : BundleUse) (p : Part) (rows : List (Cells × Kind)) → is_used p (known_cells used rows) ≡ lies_in p rows
+cells_used : (used : BundleUse) (p : Part) (rows : List (Cells × AccessKind)) → is_used p (known_cells used rows) ≡ lies_in p rows
 cells_used used p [] = refl
 cells_used used p (row ∷ rows) = ap (λ b. (covers_part (run_part row.0) p && true) || b) (cells_used used p rows)
 
@@ -332,7 +332,7 @@ parts_as : (used : BundleUse) (rows : List UseRow) → UsedAs (bundle_how used).
 parts_as used [] = tt
 parts_as used (row ∷ rows) = (refl, parts_as used rows)
 
-cells_as : (used : BundleUse) (rows : List (Cells × Kind)) → UsedAs (bundle_how used).0 (map use_of (known_cells used rows))
+cells_as : (used : BundleUse) (rows : List (Cells × AccessKind)) → UsedAs (bundle_how used).0 (map use_of (known_cells used rows))
 cells_as used [] = tt
 cells_as used (row ∷ rows) = (refl, cells_as used rows)
 
@@ -358,18 +358,18 @@ none_within (BufferPart object) c = none_covered c (Bytes object 0 0, Read) refl
 none_within (LayerParts object aspect mip lo hi) c = none_covered c (Layers object aspect mip 0 0, Read) refl
 none_within (QueryPart object) c = none_covered c (Queries object 0 0, Read) refl
 
-parts_accessed : (used : BundleUse) (c : Cell) (kind : Kind) (rows : List UseRow) → is_accessed_so c kind (known_parts used rows) ≡ false
+parts_accessed : (used : BundleUse) (c : Cell) (kind : AccessKind) (rows : List UseRow) → is_accessed_so c kind (known_parts used rows) ≡ false
 parts_accessed used c kind [] = refl
 parts_accessed used c kind (row ∷ rows) = ap₂ (λ (a b : Bool). (a && same_kind kind (bundle_how used).1) || b) (none_within row.0 c) (parts_accessed used c kind rows)
 
-cells_accessed : (used : BundleUse) (c : Cell) (kind : Kind) (rows : List (Cells × Kind)) → Each_value (bundle_how used).1 rows → is_accessed_so c kind (known_cells used rows) ≡ any_row (λ run. covers run c) (same_kind kind) rows
+cells_accessed : (used : BundleUse) (c : Cell) (kind : AccessKind) (rows : List (Cells × AccessKind)) → Each_value (bundle_how used).1 rows → is_accessed_so c kind (known_cells used rows) ≡ any_row (λ run. covers run c) (same_kind kind) rows
 cells_accessed used c kind [] each = refl
-cells_accessed used c kind (row ∷ rows) each = ap₂ (λ (k : Kind) (b : Bool). (covers row.0 c && same_kind kind k) || b) (sym each.0) (cells_accessed used c kind rows each.1)
+cells_accessed used c kind (row ∷ rows) each = ap₂ (λ (k : AccessKind) (b : Bool). (covers row.0 c && same_kind kind k) || b) (sym each.0) (cells_accessed used c kind rows each.1)
 
-pub accessed_joined : (c : Cell) (kind : Kind) (xs ys : List Touch) → is_accessed_so c kind (xs ++ ys) ≡ is_accessed_so c kind xs || is_accessed_so c kind ys
+pub accessed_joined : (c : Cell) (kind : AccessKind) (xs ys : List Touch) → is_accessed_so c kind (xs ++ ys) ≡ is_accessed_so c kind xs || is_accessed_so c kind ys
 accessed_joined c kind xs ys = ap (any_row (λ run. covers run c) (same_kind kind)) (map-append access_of xs ys) ∙ any_joined (λ run. covers run c) (same_kind kind) (map access_of xs) (map access_of ys)
 
-so_kinds : (used : BundleUse) (touches : List Touch) → AllOf used touches → (c : Cell) (kind : Kind) → is_accessed_so c kind (known_so used touches) ≡ is_accessed_so c kind touches
+so_kinds : (used : BundleUse) (touches : List Touch) → AllOf used touches → (c : Cell) (kind : AccessKind) → is_accessed_so c kind (known_so used touches) ≡ is_accessed_so c kind touches
 so_kinds used touches each c kind =
     accessed_joined c kind (known_parts used (sets (map use_of touches))) (known_cells used (shown (map access_of touches)))
     ∙ (ap₂ ◌||◌ (parts_accessed used c kind (sets (map use_of touches))) (cells_accessed used c kind (shown (map access_of touches)) (shown_values (bundle_how used).1 (map access_of touches) (accesses_of used touches each)))
@@ -383,7 +383,7 @@ filtered used [] each = tt
 filtered used (touch ∷ touches) each = by_test (is_used_so used touch) refl (filtered used touches each.1)
   where
     by_test : (b : Bool) → is_used_so used touch ≡ b → AllOf used (filter (is_used_so used) touches) → AllOf used (cond b (touch ∷ filter (is_used_so used) touches) (filter (is_used_so used) touches))
-    by_test true e rest = (record { so = each.0.so ∙ only used each.0.used (sym (ap (λ (how : Usages × Kind). how.0.0 == (bundle_how used).0.0 && same_kind how.1 (bundle_how used).1) each.0.so) ∙ e); told = each.0.told }, rest)
+    by_test true e rest = (record { so = each.0.so ∙ only used each.0.used (sym (ap (λ (how : Usages × AccessKind). how.0.0 == (bundle_how used).0.0 && same_kind how.1 (bundle_how used).1) each.0.so) ∙ e); told = each.0.told }, rest)
       where
         only : (a b : BundleUse) → (bundle_how b).0.0 == (bundle_how a).0.0 && same_kind (bundle_how b).1 (bundle_how a).1 ≡ true → bundle_how b ≡ bundle_how a
         only Input Input k = refl
@@ -422,7 +422,7 @@ placed Storage cells touches rest =
 by_way : (touches : List Touch) → EachRow IsBundled touches → IsPermutation (parted touches) touches
 by_way [] each = IsPermutation-refl []
 by_way (touch ∷ touches) each =
-    subst (λ (how : Usages × Kind). IsPermutation (parted ((touch.0, how) ∷ touches)) ((touch.0, how) ∷ touches)) (sym each.0.so) (placed each.0.used touch.0 touches (by_way touches each.1))
+    subst (λ (how : Usages × AccessKind). IsPermutation (parted ((touch.0, how) ∷ touches)) ((touch.0, how) ∷ touches)) (sym each.0.so) (placed each.0.used touch.0 touches (by_way touches each.1))
 
 -- Rows pass alike in another order.
 row_any : {R V : Type 0} (covering : R → Bool) (test : V → Bool) (rows : List (R × V)) → any_row covering test rows ≡ list_any (λ (row : R × V). covering row.0 && test row.1) rows

@@ -22,7 +22,7 @@ use Rattle.wg_types.specs.declared.render.TargetInfo.{TargetInfo}
 use Rattle.wg_types.specs.declared.textures.ViewInfo.{ViewInfo}
 use Rattle.wg_rows.specs.Rows.{EachRow, in_range, list_eq}
 use Rattle.wg_rows.specs.Runs.{Part, Buffer, Subresource, QuerySet, Color, aspect_number, Cells, Bytes, Layers, Slices, Queries, BufferPart, run_part, covers_part}
-use Rattle.wg_rows.specs.Uses.{Usages, Kind, Read, row_set}
+use Rattle.wg_rows.specs.Uses.{Usages, AccessKind, Read, row_set}
 use Rattle.wg_rows.proofs.Put.{list_eq_true}
 use Rattle.wg_rows.proofs.Runs.{tags_differ, part_self, single_part}
 use Rattle.wg_model.specs.Subresources.{view_cells, view_runs}
@@ -111,14 +111,14 @@ uses_right : (word : Word) (test : ℕ → Bool) (xs ys : List Touch) → Uses w
 uses_right word test xs ys uses = record { part = uses.part; own = uses.own; used = used_joined uses.part xs ys ∙ or_right (is_used uses.part xs) (is_used uses.part ys) uses.used }
 
 -- what is bound
-buffer_used : (test : ℕ → Bool) (object lo hi : ℕ) (how : Usages × Kind) → list_any test (object ∷ []) ≡ true → Uses buffer_word test ((Bytes object lo hi, how) ∷ [])
+buffer_used : (test : ℕ → Bool) (object lo hi : ℕ) (how : Usages × AccessKind) → list_any test (object ∷ []) ≡ true → Uses buffer_word test ((Bytes object lo hi, how) ∷ [])
 buffer_used test object lo hi how e = record {
   part = Buffer object;
   own = e;
   used = or_left (covers_part (BufferPart object) (Buffer object) && true) false (and_from (covers_part (BufferPart object) (Buffer object)) true (part_self (Buffer object)) refl);
 }
 
-cells_cover : (how : Usages × Kind) (p : Part) (cells : List Cells) → is_used p (map (λ (run : Cells). (run, how)) cells) ≡ is_covered (map run_part cells) p
+cells_cover : (how : Usages × AccessKind) (p : Part) (cells : List Cells) → is_used p (map (λ (run : Cells). (run, how)) cells) ≡ is_covered (map run_part cells) p
 cells_cover how p [] = refl
 cells_cover how p (run ∷ cells) = ap₂ ◌||◌ (all_and (covers_part (run_part run) p)) (cells_cover how p cells)
 
@@ -127,7 +127,7 @@ view_numbers test view (Subresource object aspect mip layer) has e = ap (λ n. l
 view_numbers test view (Buffer object) has e = absurd (true≢false (sym has))
 view_numbers test view (QuerySet object) has e = absurd (true≢false (sym has))
 
-resource_uses : (word : Word) (test : ℕ → Bool) (how : Usages × Kind) (moved : ℕ) (resource : BoundResource) → IsWholeResource resource → list_any test (bound_by word resource) ≡ true → Uses word test (map (λ (run : Cells). (run, how)) (resource_cells moved resource))
+resource_uses : (word : Word) (test : ℕ → Bool) (how : Usages × AccessKind) (moved : ℕ) (resource : BoundResource) → IsWholeResource resource → list_any test (bound_by word resource) ≡ true → Uses word test (map (λ (run : Cells). (run, how)) (resource_cells moved resource))
 resource_uses buffer_word test how moved (BoundBuffer buffer known offset size) whole e = buffer_used test buffer.number (offset + moved) (offset + moved + size) how e
 resource_uses texture_word test how moved (BoundView view known) whole e = record {
   part = whole.0;

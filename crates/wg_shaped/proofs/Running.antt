@@ -5,10 +5,10 @@ use Rattle.std.proofs.Common.{◌≡◌, ℕ, ◌+◌, ◌==◌, ◌&&◌, not, 
 use Rattle.std.proofs.lemmas.Bool.{and_parts}
 use Rattle.wg_types.specs.declared.handles.ObjRef.{ObjRef}
 use Rattle.wg_types.specs.declared.mappings.Mapping.{Mapping}
-use Rattle.wg_types.specs.declared.steps.QueueWrite.{QueueWrite}
-use Rattle.wg_types.specs.declared.steps.QueueWrite.TheVariants.{Buffer as BufferWrite, Texture as TextureWrite}
-use Rattle.wg_types.specs.declared.steps.StepName.TheVariants as name
-use Rattle.wg_types.specs.declared.steps.StepPlace.TheVariants.{Op}
+use Rattle.wg_types.specs.declared.writes.QueueWrite.{QueueWrite}
+use Rattle.wg_types.specs.declared.writes.QueueWrite.TheVariants.{Buffer as BufferWrite, Texture as TextureWrite}
+use Rattle.wg_trace.specs.declared.steps.StepName.TheVariants as name
+use Rattle.wg_trace.specs.declared.steps.StepPlace.TheVariants.{Op}
 use Rattle.wg_rows.specs.Rows.{EachRow}
 use Rattle.wg_orders.specs.Steps.{Step, StepPlace}
 use Rattle.wg_orders.specs.Trace.{steps_in}
@@ -28,7 +28,7 @@ use Rattle.wg_history.specs.Objects.{is_making, count, maker, is_valid, is_made_
 use Rattle.wg_history.specs.Loss.{is_lost}
 use Rattle.wg_history.specs.Rules.{encoder_rules, recording_rules, finish_rule, listed_rules, together_rules, submit_list, submit_rule}
 use Rattle.wg_history.specs.FirstRules.{first_rule}
-use Rattle.wg_types.specs.declared.replies.Reply.{Reply}
+use Rattle.wg_trace.specs.declared.replies.Reply.{Reply}
 use Rattle.wg_history.specs.Operations.{issued}
 use Rattle.wg_history.specs.Answers.{IsRun, answer_by, reply_to, Queued, Plain}
 use Rattle.wg_history.specs.Steps.{steps_at, submit_groups, groups_in, host_groups, groups_of, steps_back}

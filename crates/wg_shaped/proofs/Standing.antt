@@ -22,7 +22,7 @@ use Rattle.wg_types.specs.declared.textures.TextureDim.TheVariants as texture_di
 use Rattle.wg_types.specs.declared.textures.TextureInfo.{TextureInfo}
 use Rattle.wg_rows.specs.Rows.{EachRow}
 use Rattle.wg_rows.specs.Runs.{Aspect, Color, Depth, Stencil, Part, is_texture, PartRun, BufferPart, LayerParts, QueryPart, Cells}
-use Rattle.wg_rows.specs.Uses.{Kind}
+use Rattle.wg_rows.specs.Uses.{AccessKind}
 use Rattle.wg_model.specs.Textures.{extent_at, extent}
 use Rattle.wg_model.specs.Subresources.{view_runs, texture_cells, run_cells}
 use Rattle.wg_model.specs.Touches.{Touch, access_of}
@@ -127,7 +127,7 @@ bundles_are_known device targets commands stand none =
     (touches_are_known touches (over_bundled (bundled commands) (all_fit commands stand)))
 
 -- Of a part of a texture that commands of a bundle use they access a cell.
-all_told : (touches : List Touch) → EachRow IsBundled touches → EachRow (λ (row : Cells × Kind). tells_part row.0 ≡ true) (map access_of touches)
+all_told : (touches : List Touch) → EachRow IsBundled touches → EachRow (λ (row : Cells × AccessKind). tells_part row.0 ≡ true) (map access_of touches)
 all_told [] each = tt
 all_told (touch ∷ touches) each = (each.0.told, all_told touches each.1)
 

@@ -5,7 +5,7 @@ use Rattle.wg_types.specs.Commands.{Command}
 use Rattle.wg_types.specs.declared.commands.CommandOf.TheVariants.{SetBindGroup, SetVertexBuffer, SetIndexBuffer, DrawIndirect, DrawIndexedIndirect, BeginOcclusionQuery, BeginOcclusionQuery, ExecuteBundles}
 use Rattle.wg_types.specs.declared.textures.TextureInfo.{TextureInfo}
 use Rattle.wg_rows.specs.Runs.{Cells}
-use Rattle.wg_rows.specs.Uses.{Kind, Write}
+use Rattle.wg_rows.specs.Uses.{AccessKind, Write}
 use Rattle.wg_model.specs.Commands.{size_or_rest}
 use Rattle.wg_model.specs.Touches.{Touch}
 use Rattle.wg_types.specs.declared.groups.GroupLayoutInfo.{GroupLayoutInfo}
@@ -28,8 +28,8 @@ use Rattle.wg_types.specs.declared.bundles.BundleUse.TheVariants.{Input, Constan
 use Rattle.wg_model.specs.Bundles.{known_bundle, bundle_how, bundle_touch, known_touches, executed_touches}
 use Rattle.wg_model.specs.Queries.{query_begun_touches}
 use Rattle.wg_types.specs.Handles.{HandleValue}
-use Rattle.wg_types.specs.declared.parts.Aspect.{Aspect}
-use Rattle.wg_types.specs.declared.parts.Aspect.TheVariants as aspect
+use Rattle.wg_trace.specs.declared.parts.Aspect.{Aspect}
+use Rattle.wg_trace.specs.declared.parts.Aspect.TheVariants as aspect
 use Rattle.wg_types.specs.declared.render.LoadOp.{LoadOp}
 use Rattle.wg_types.specs.declared.render.StoreOp.{StoreOp}
 use Rattle.wg_rows.specs.Uses.{Usages}
@@ -117,7 +117,7 @@ IsPlain t = Told t × (is_within 16 t.1.0 ≡ false)
 abbrev pub ArePlain : List Touch → Type 0
 ArePlain touches = EachRow IsPlain touches
 
-map_plain : (how : Usages × Kind) → ((run : Cells) → IsScoped run → IsPlain (run, how)) → (cells : List Cells) → EachRow IsScoped cells → ArePlain (map (λ (run : Cells). (run, how)) cells)
+map_plain : (how : Usages × AccessKind) → ((run : Cells) → IsScoped run → IsPlain (run, how)) → (cells : List Cells) → EachRow IsScoped cells → ArePlain (map (λ (run : Cells). (run, how)) cells)
 map_plain how f [] h = tt
 map_plain how f (run ∷ cells) h = (f run h.0, map_plain how f cells h.1)
 
@@ -199,7 +199,7 @@ command_plain queries (ExecuteBundles bundles) h = plain_joined (executed_touche
 command_plain queries _ h = tt
 
 -- what attachments touch
-drawn_told : (kind : Kind) (cells : List Cells) → EachRow IsScoped cells → AreTold (map (attached (attachment_usage, kind)) cells)
+drawn_told : (kind : AccessKind) (cells : List Cells) → EachRow IsScoped cells → AreTold (map (attached (attachment_usage, kind)) cells)
 drawn_told kind [] h = tt
 drawn_told kind (run ∷ cells) h = (Attaches h.0 refl refl refl, drawn_told kind cells h.1)
 

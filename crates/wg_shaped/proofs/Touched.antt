@@ -1,8 +1,8 @@
 -- No step of a queue write, of a host access or of recorded commands has an empty row or an empty set.
 use Rattle.std.proofs.Common.{ℕ, ◌*◌, Bool, true, false, ◌==◌, ◌&&◌, List, [], ◌∷◌, ◌++◌, map, Option, Some, None, is_none, option_to_list, lit<, reverse, if◌then◌else◌}
 use Rattle.std.specs.List.{flat_map}
-use Rattle.wg_types.specs.declared.steps.QueueWrite.TheVariants.{Buffer as BufferWrite, Texture as TextureWrite}
-use Rattle.wg_types.specs.declared.steps.StepName.TheVariants as name
+use Rattle.wg_types.specs.declared.writes.QueueWrite.TheVariants.{Buffer as BufferWrite, Texture as TextureWrite}
+use Rattle.wg_trace.specs.declared.steps.StepName.TheVariants as name
 use Rattle.wg_types.specs.declared.commands.On.{On}
 use Rattle.wg_types.specs.declared.commands.On.TheVariants.{Encoder, Pass}
 use Rattle.wg_types.specs.Commands.{Command}
@@ -13,7 +13,7 @@ use Rattle.wg_types.specs.declared.mappings.MapMode.TheVariants.{Read as ReadMod
 use Rattle.wg_types.specs.declared.textures.TextureInfo.{TextureInfo}
 use Rattle.wg_types.specs.declared.textures.TextureSpot.{TextureSpot}
 use Rattle.wg_rows.specs.Runs.{Cells}
-use Rattle.wg_rows.specs.Uses.{Kind, Write}
+use Rattle.wg_rows.specs.Uses.{AccessKind, Write}
 use Rattle.wg_orders.specs.Steps.{Step, StepPlace}
 use Rattle.wg_model.specs.Subresources.{copied_cells, has_no_texel}
 use Rattle.wg_model.specs.TexelCopies.{whole_spot}
@@ -41,8 +41,8 @@ use Rattle.wg_types.specs.declared.bundles.BundleUse.TheVariants.{Input, Constan
 use Rattle.wg_model.specs.Bundles.{known_bundle, bundle_how, bundle_touch, known_touches, executed_touches}
 use Rattle.wg_model.specs.Queries.{set_of_pass, query_begun_touches}
 use Rattle.wg_types.specs.Handles.{HandleValue}
-use Rattle.wg_types.specs.declared.parts.Aspect.{Aspect}
-use Rattle.wg_types.specs.declared.parts.Aspect.TheVariants as aspect
+use Rattle.wg_trace.specs.declared.parts.Aspect.{Aspect}
+use Rattle.wg_trace.specs.declared.parts.Aspect.TheVariants as aspect
 use Rattle.wg_types.specs.declared.commands.Bracket.{Bracket}
 use Rattle.wg_types.specs.declared.commands.Bracket.TheVariants as brackets
 use Rattle.wg_types.specs.Commands.{bracket}
@@ -51,7 +51,7 @@ use Rattle.wg_types.specs.declared.render.StoreOp.{StoreOp}
 use Rattle.wg_rows.specs.Uses.{Usages}
 use Rattle.wg_model.specs.Recorded.{write_buffer_step, write_texture_step, host_name, host_touches, host_step}
 use Rattle.wg_types.specs.declared.render.TargetInfo.{TargetInfo}
-use Rattle.wg_types.specs.declared.steps.QueueWrite.{QueueWrite}
+use Rattle.wg_types.specs.declared.writes.QueueWrite.{QueueWrite}
 use Rattle.wg_model.specs.Recorded.{write_step}
 use Rattle.wg_model.specs.Touches.{copy_src_usage, copy_dst_usage}
 use Rattle.wg_model.specs.Walk.{DeedsOf}
@@ -62,7 +62,7 @@ use Rattle.wg_shaped.proofs.Groups.{If}
 use Rattle.wg_shaped.proofs.Filling.{AreSets, step_filled}
 
 -- What each step touches.
-map_sets : (how : Usages × Kind) → IsSet how.0 → (cells : List Cells) → AreSets (map (λ (run : Cells). (run, how)) cells)
+map_sets : (how : Usages × AccessKind) → IsSet how.0 → (cells : List Cells) → AreSets (map (λ (run : Cells). (run, how)) cells)
 map_sets how h [] = tt
 map_sets how h (run ∷ cells) = (h, map_sets how h cells)
 

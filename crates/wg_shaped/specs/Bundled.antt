@@ -17,7 +17,7 @@ use Rattle.wg_types.specs.declared.handles.ObjRef.{ObjRef}
 use Rattle.wg_types.specs.declared.render.TargetInfo.{TargetInfo}
 use Rattle.wg_rows.specs.Rows.{any_row, EachRow}
 use Rattle.wg_rows.specs.Runs.{Part, is_texture, Cell, Cells, Bytes, Layers, Slices, Queries, part_of, covers, covers_part}
-use Rattle.wg_rows.specs.Uses.{Kind, same_kind, row_set}
+use Rattle.wg_rows.specs.Uses.{AccessKind, same_kind, row_set}
 use Rattle.wg_model.specs.Touches.{Touch, use_of, access_of}
 use Rattle.wg_model.specs.Bound.{known_group}
 use Rattle.wg_model.specs.Bundles.{bundle_how, bundle_touch, known_touches, bundle_touches, buffer_in, texture_in, query_set_in, in_bundle}
@@ -32,7 +32,7 @@ use Rattle.wg_history.specs.Answers.{Run}
 use Rattle.wg_history.specs.Exclusive.{event_at}
 
 -- whether some touch accesses a cell in this way
-abbrev pub is_accessed_so : Cell → Kind → List Touch → Bool
+abbrev pub is_accessed_so : Cell → AccessKind → List Touch → Bool
 is_accessed_so c kind touches = any_row (λ run. covers run c) (same_kind kind) (map access_of touches)
 
 -- whether some touch uses a part
@@ -42,7 +42,7 @@ is_used p touches = any_row (λ run. covers_part run p) (λ _. true) (map use_of
 -- Each part has the same set of usages in two lists of touches, and each cell is accessed in the same ways.
 pub record AreAlike (xs ys : List Touch) : Type 0 where
   pub sets : (p : Part) → row_set p (map use_of xs) ≡ row_set p (map use_of ys)
-  pub kinds : (c : Cell) (kind : Kind) → is_accessed_so c kind xs ≡ is_accessed_so c kind ys
+  pub kinds : (c : Cell) (kind : AccessKind) → is_accessed_so c kind xs ≡ is_accessed_so c kind ys
 
 -- whether cells tell their part: slices do where there is one
 abbrev pub tells_part : Cells → Bool

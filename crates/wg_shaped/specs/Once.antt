@@ -31,6 +31,7 @@ abbrev pub IsFairInfo : Option BundleInfo → Type 0
 IsFairInfo None = Unit {0}
 IsFairInfo (Some bundle) = EachRow (λ touch. is_scoped touch.cells ≡ true) bundle.touches
 
+-- A handle tells of a bundle that touches no queries, and views with a dimension of their textures.
 abbrev pub IsFairBundle : HandleValue → Type 0
 IsFairBundle bundle = IsFairInfo (known_bundle bundle)
 
@@ -48,7 +49,7 @@ RecordedAreOnce =
     → first_clash (ScopesOf device targets commands) ≡ None
     → EachRow IsOnceStep (StepsOf place device targets commands)
 
--- So no step of a history gives a cell twice whose replies are the right ones: a recording is accepted only if its scopes are
--- compatible, and what its handles tell is as it was made.
+-- No step of a run gives a cell twice: a recording is accepted only if its scopes are compatible, and what its handles tell is
+-- as it was made.
 abbrev pub HistoryIsOnce : Type 0
 HistoryIsOnce = (setup : Setup) (history : List Entry) → Run setup history → EachRow IsOnceStep (Steps setup history)

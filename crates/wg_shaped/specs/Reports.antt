@@ -1,6 +1,6 @@
 -- The report of a history: what is printed of it and of its trace.
 use Rattle.std.specs.Prelude.{ℕ, List, map}
-use Rattle.wg_types.specs.declared.steps.Item.{Item}
+use Rattle.wg_trace.specs.declared.steps.Item.{Item}
 use Rattle.wg_readback.specs.Texts.{Told, trace_behind, history_text}
 use Rattle.wg_history.specs.declared.events.Setup.{Setup}
 use Rattle.wg_history.specs.Entries.{Entry, verb_of}

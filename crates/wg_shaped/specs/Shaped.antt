@@ -16,7 +16,7 @@ use Rattle.wg_shaped.specs.Reports.{report_of}
 abbrev pub StepsAreFilled : Type 0
 StepsAreFilled = (setup : Setup) (history : List Entry) → EachRow IsFilledStep (Steps setup history)
 
--- So its trace has its shape, if its replies are the right ones.
+-- The trace of a run has the shape that the reader of traces asks for.
 abbrev pub HistoryIsShaped : Type 0
 HistoryIsShaped = (setup : Setup) (history : List Entry) → Run setup history → IsShaped (Trace setup history)
 

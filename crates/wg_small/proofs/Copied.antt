@@ -4,8 +4,8 @@ use Rattle.std.proofs.Common.{◌≡◌, ℕ, zero, suc, ◌+◌, ◌-◌, ◌*�
 use Rattle.std.proofs.lemmas.Bool.{and_parts, eqb-true, ltb-true, leb-true}
 use Rattle.std.proofs.lemmas.Grind.{pow_more}
 use Rattle.wg_types.specs.declared.limits.Limits.{Limits}
-use Rattle.wg_types.specs.declared.parts.Aspect.{Aspect}
-use Rattle.wg_types.specs.declared.parts.Aspect.TheVariants.{Color, Depth, Stencil}
+use Rattle.wg_trace.specs.declared.parts.Aspect.{Aspect}
+use Rattle.wg_trace.specs.declared.parts.Aspect.TheVariants.{Color, Depth, Stencil}
 use Rattle.wg_types.specs.declared.textures.TextureDim.{TextureDim}
 use Rattle.wg_types.specs.declared.textures.TextureDim.TheVariants as texture_dim
 use Rattle.wg_types.specs.declared.textures.TextureInfo.{TextureInfo}

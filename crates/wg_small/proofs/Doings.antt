@@ -1,7 +1,7 @@
 -- What holds of all that a step touches holds of the rows of the step.
 use Rattle.std.specs.Prelude.{Some, filter, cond}
 use Rattle.std.proofs.Common.{◌≡◌, List, [], ◌∷◌, map, Bool, true, false, if◌then◌else◌, refl, sym, ◌∙◌}
-use Rattle.wg_types.specs.declared.parts.Kind.{Kind}
+use Rattle.wg_trace.specs.declared.parts.AccessKind.{AccessKind}
 use Rattle.wg_rows.specs.Rows.{EachRow, Apart}
 use Rattle.wg_rows.specs.Runs.{Part, PartRun, Cells, part_run, part_sort, cell_sort, run_part, covers_part}
 use Rattle.wg_rows.specs.Uses.{Usages, row_set, with_usage, same_kind}
@@ -72,12 +72,12 @@ uses_have : (said : Said) (touches : List Touch) → EachRow (TouchHas said) tou
 uses_have said [] h = tt
 uses_have said (touch ∷ touches) h = (h.0.0, uses_have said touches h.1)
 
-accesses_have : (said : Said) (touches : List Touch) → EachRow (TouchHas said) touches → EachRow (λ (row : Cells × Kind). said.cells row.0) (filter has_cells (map access_of touches))
+accesses_have : (said : Said) (touches : List Touch) → EachRow (TouchHas said) touches → EachRow (λ (row : Cells × AccessKind). said.cells row.0) (filter has_cells (map access_of touches))
 accesses_have said [] h = tt
 accesses_have said (touch ∷ touches) h = by_test (has_cells (access_of touch)) refl (accesses_have said touches h.1)
   where
-    by_test : (b : Bool) → has_cells (access_of touch) ≡ b → EachRow (λ (row : Cells × Kind). said.cells row.0) (filter has_cells (map access_of touches))
-        → EachRow (λ (row : Cells × Kind). said.cells row.0) (cond b (access_of touch ∷ filter has_cells (map access_of touches)) (filter has_cells (map access_of touches)))
+    by_test : (b : Bool) → has_cells (access_of touch) ≡ b → EachRow (λ (row : Cells × AccessKind). said.cells row.0) (filter has_cells (map access_of touches))
+        → EachRow (λ (row : Cells × AccessKind). said.cells row.0) (cond b (access_of touch ∷ filter has_cells (map access_of touches)) (filter has_cells (map access_of touches)))
     by_test true e rest = (h.0.1 e, rest)
     by_test false e rest = rest
 
@@ -86,5 +86,5 @@ unfolding deed_of
 doing_has said closed told place doing at h = record {
   stands = at;
   uses = sets_have said.part told (map use_of doing.1) (uses_have said doing.1 h);
-  accesses = printed_each cell_sort same_kind (λ (row : Cells × Kind). said.cells row.0) (λ x r met p q. closed.cells_joined x.0 r.0 met p q) (filter has_cells (map access_of doing.1)) (accesses_have said doing.1 h);
+  accesses = printed_each cell_sort same_kind (λ (row : Cells × AccessKind). said.cells row.0) (λ x r met p q. closed.cells_joined x.0 r.0 met p q) (filter has_cells (map access_of doing.1)) (accesses_have said doing.1 h);
 }

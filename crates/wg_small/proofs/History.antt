@@ -5,14 +5,14 @@ use Rattle.std.specs.Option.{option_to_list, option_map}
 use Rattle.std.proofs.Common.{◌≡◌, ℕ, zero, suc, ◌+◌, ◌<◌, ◌≤◌, ◌==◌, not, ◌&&◌, List, [], ◌∷◌, map, length, Bool, true, false, Option, Some, None, is_none, refl, sym, ◌∙◌, subst, arith, if◌then◌else◌, true≢false}
 use Rattle.std.proofs.lemmas.Bool.{eq-eqb, eqb-true}
 use Rattle.wg_types.specs.declared.handles.ObjRef.{ObjRef}
-use Rattle.wg_types.specs.declared.parts.Kind.{Kind}
-use Rattle.wg_types.specs.declared.replies.Reply.{Reply}
-use Rattle.wg_types.specs.declared.steps.QueueWrite.TheVariants.{Buffer as BufferWrite, Texture as TextureWrite}
-use Rattle.wg_types.specs.declared.steps.StepName.TheVariants as name
-use Rattle.wg_types.specs.declared.steps.StepPlace.TheVariants.{Op}
+use Rattle.wg_trace.specs.declared.parts.AccessKind.{AccessKind}
+use Rattle.wg_trace.specs.declared.replies.Reply.{Reply}
+use Rattle.wg_types.specs.declared.writes.QueueWrite.TheVariants.{Buffer as BufferWrite, Texture as TextureWrite}
+use Rattle.wg_trace.specs.declared.steps.StepName.TheVariants as name
+use Rattle.wg_trace.specs.declared.steps.StepPlace.TheVariants.{Op}
 use Rattle.wg_types.specs.declared.textures.TextureInfo.{TextureInfo}
 use Rattle.wg_types.specs.declared.textures.TextureSpot.{TextureSpot}
-use Rattle.wg_types.specs.declared.steps.Sort.{Sort}
+use Rattle.wg_trace.specs.declared.steps.Sort.{Sort}
 use Rattle.wg_rows.specs.Rows.{EachRow}
 use Rattle.wg_rows.specs.Runs.{Cells, Bytes, Layers, Slices, Queries, run_part, run_object}
 use Rattle.wg_rows.specs.Uses.{Usages}
@@ -75,7 +75,7 @@ own_cells object (run ∷ cells) h = (other_number object (cells_object run) (λ
 copied_own : (texture : ℕ) (info : TextureInfo) (spot : TextureSpot) (size : List ℕ) → EachRow (λ (run : Cells). cells_object run ≡ texture) (copied_cells texture info spot size)
 copied_own texture info spot size = own_cells texture (copied_cells texture info spot size) (λ n e. copied_others n texture info spot size e)
 
-texture_touches : (most object : ℕ) (how : Usages × Kind) (cells : List Cells) → object < most → EachRow (λ (run : Cells). cells_object run ≡ object) cells → EachRow (TouchHas (within most)) (map (λ (run : Cells). (run, how)) cells)
+texture_touches : (most object : ℕ) (how : Usages × AccessKind) (cells : List Cells) → object < most → EachRow (λ (run : Cells). cells_object run ≡ object) cells → EachRow (TouchHas (within most)) (map (λ (run : Cells). (run, how)) cells)
 texture_touches most object how [] made h = tt
 texture_touches most object how (run ∷ cells) made h =
     let own : run_object (run_part run) < most = subst (λ (n : ℕ). n < most) (sym h.0 ∙ same_object run) made in

@@ -9,10 +9,10 @@ use Rattle.wg_types.specs.declared.handles.Info.TheVariants.{Buffer}
 use Rattle.wg_types.specs.declared.limits.Limits.{Limits}
 use Rattle.wg_types.specs.declared.mappings.Mapping.{Mapping}
 use Rattle.wg_types.specs.declared.mappings.MapMode.TheVariants.{Write as WriteMode}
-use Rattle.wg_types.specs.declared.replies.Answer.{Answer}
-use Rattle.wg_types.specs.declared.replies.Reply.{Reply}
-use Rattle.wg_types.specs.declared.replies.Settlement.{Settlement}
-use Rattle.wg_types.specs.declared.replies.How.TheVariants.{Aborted, Rejected}
+use Rattle.wg_trace.specs.declared.replies.Answer.{Answer}
+use Rattle.wg_trace.specs.declared.replies.Reply.{Reply}
+use Rattle.wg_trace.specs.declared.replies.Settlement.{Settlement}
+use Rattle.wg_trace.specs.declared.replies.How.TheVariants.{Aborted, Rejected}
 use Rattle.wg_rows.specs.Rows.{EachRow}
 use Rattle.wg_model.specs.Commands.{no_buffer}
 use Rattle.wg_model.proofs.Unmet.{all_met}

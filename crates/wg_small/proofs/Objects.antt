@@ -2,7 +2,7 @@
 use Rattle.std.proofs.Common.{◌≡◌, ℕ, ◌+◌, ◌<◌, ◌≤◌, ◌==◌, List, [], ◌∷◌, map, Bool, true, false, nat_lt, nat_le, refl, sym, ◌∙◌, subst, arith, if◌then◌else◌, length}
 use Rattle.std.proofs.lemmas.Bool.{and_parts, and_from, lt-ltb, le-leb, eq-eqb, eqb-true}
 use Rattle.std.proofs.lemmas.Bool.Decides.{nat_tests}
-use Rattle.wg_types.specs.declared.parts.Aspect.{Aspect}
+use Rattle.wg_trace.specs.declared.parts.Aspect.{Aspect}
 use Rattle.wg_rows.specs.Rows.{EachRow, list_eq, in_range, numbers}
 use Rattle.wg_rows.specs.Runs.{Part, Buffer, QuerySet, Subresource, PartRun, BufferPart, LayerParts, QueryPart, Cell, Byte, Texels, Slice, Query, Cells, Bytes, Layers, Slices, Queries, part_run, parts_in, cells_in, part_sort, cell_sort, part_line, run_object, object_of, covers_part}
 use Rattle.wg_rows.proofs.Put.{both_of}

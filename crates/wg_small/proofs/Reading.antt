@@ -1,11 +1,11 @@
 -- What is printed of a run is read back where its ranges are small.
 use Rattle.std.proofs.Common.{ℕ, ◌≤◌, List, [], ◌∷◌, length, arith}
-use Rattle.wg_types.specs.declared.parts.Kind.{Kind}
-use Rattle.wg_types.specs.declared.usages.Usages.{Usages}
+use Rattle.wg_trace.specs.declared.parts.AccessKind.{AccessKind}
+use Rattle.wg_trace.specs.declared.usages.Usages.{Usages}
 use Rattle.wg_rows.specs.Rows.{EachRow}
 use Rattle.wg_rows.specs.Runs.{PartRun, BufferPart, LayerParts, QueryPart, Cells, Bytes, Layers, Slices, Queries}
 use Rattle.wg_orders.specs.Steps.{Step, StepPlace}
-use Rattle.wg_types.specs.declared.steps.StepPlace.TheVariants.{Op, Host}
+use Rattle.wg_trace.specs.declared.steps.StepPlace.TheVariants.{Op, Host}
 use Rattle.wg_orders.specs.Trace.{Item, Bar, StepItem, Free}
 use Rattle.wg_readtrace.specs.Forms.{most_53}
 use Rattle.wg_readback.specs.Printable.{IsSmallPart, AreSmallCells, IsSmallPlace, IsSmallUse, IsSmallAccess, IsSmallStep, IsSmallItem}
@@ -41,7 +41,7 @@ uses_small : (most : ℕ) (rows : List (PartRun × Usages)) → most ≤ most_53
 uses_small most [] few made small = tt
 uses_small most (row ∷ rows) few made small = (part_small most row.0 few made.0 small.0, uses_small most rows few made.1 small.1)
 
-accesses_small : (most : ℕ) (rows : List (Cells × Kind)) → most ≤ most_53 → EachRow (λ (row : Cells × Kind). AreCellsWithin most row.0) rows → EachRow (λ (row : Cells × Kind). HaveSmallRange row.0) rows → EachRow IsSmallAccess rows
+accesses_small : (most : ℕ) (rows : List (Cells × AccessKind)) → most ≤ most_53 → EachRow (λ (row : Cells × AccessKind). AreCellsWithin most row.0) rows → EachRow (λ (row : Cells × AccessKind). HaveSmallRange row.0) rows → EachRow IsSmallAccess rows
 accesses_small most [] few made small = tt
 accesses_small most (row ∷ rows) few made small = (cells_small most row.0 few made.0 small.0, accesses_small most rows few made.1 small.1)
 

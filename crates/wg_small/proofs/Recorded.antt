@@ -2,9 +2,9 @@
 use Rattle.std.proofs.Common.{◌≡◌, ℕ, suc, ◌<◌, ◌≤◌, ◌&&◌, ◌||◌, List, [], ◌∷◌, map, Bool, true, false, nat_lt, nat_le, Option, Some, None, refl, sym, ◌∙◌, subst, arith, slice_get, if◌then◌else◌, length, true≢false}
 use Rattle.std.specs.Option.{option_map_or}
 use Rattle.std.proofs.lemmas.Bool.{and_from, or_right, ltb-true, lt-ltb, le-leb}
-use Rattle.wg_types.specs.declared.parts.Kind.{Kind}
-use Rattle.wg_types.specs.declared.steps.StepPlace.TheVariants.{Op}
-use Rattle.wg_types.specs.declared.steps.Deed.{Deed}
+use Rattle.wg_trace.specs.declared.parts.AccessKind.{AccessKind}
+use Rattle.wg_trace.specs.declared.steps.StepPlace.TheVariants.{Op}
+use Rattle.wg_trace.specs.declared.steps.Deed.{Deed}
 use Rattle.wg_rows.specs.Rows.{EachRow, in_range}
 use Rattle.wg_rows.specs.Runs.{PartRun, Part, Cell, Byte, Texels, Slice, Query, Cells, Bytes, Layers, Slices, Queries, part_of, object_of, run_part, run_object, cell_line, covers, covers_part}
 use Rattle.wg_rows.specs.Uses.{Usages, Read, Write, Both, Drop, ReadDrop, kind_reads, kind_writes, row_reads, row_writes, row_set, with_usage}
@@ -75,10 +75,10 @@ cell_covered (Slices object mip lo hi) h = and_from _ (in_range lo hi lo) (line_
 cell_covered (Queries object lo hi) h = and_from _ (in_range lo hi lo) (line_same (cell_line (Queries object lo hi))) (begins lo hi h)
 
 -- Each kind of access reads or writes.
-abbrev AreOf : ℕ → List (Cells × Kind) → Type 0
+abbrev AreOf : ℕ → List (Cells × AccessKind) → Type 0
 AreOf most rows = (c : Cell) → (row_reads c rows || row_writes c rows) ≡ true → object_of (part_of c) < most
 
-reads_or_writes : (covered : Bool) (kind : Kind) (r w : Bool) → covered ≡ true → (((covered && kind_reads kind) || r) || ((covered && kind_writes kind) || w)) ≡ true
+reads_or_writes : (covered : Bool) (kind : AccessKind) (r w : Bool) → covered ≡ true → (((covered && kind_reads kind) || r) || ((covered && kind_writes kind) || w)) ≡ true
 reads_or_writes true Read r w e = refl
 reads_or_writes true Write r w e = or_right r true refl
 reads_or_writes true Both r w e = refl
@@ -92,7 +92,7 @@ one_more false true true w e = refl
 one_more false true false w e = refl
 one_more false false r w e = e
 
-accesses_within : (most : ℕ) (rows : List (Cells × Kind)) → AreOf most rows → EachRow IsShapedAccess rows → EachRow (λ (row : Cells × Kind). AreCellsWithin most row.0) rows
+accesses_within : (most : ℕ) (rows : List (Cells × AccessKind)) → AreOf most rows → EachRow IsShapedAccess rows → EachRow (λ (row : Cells × AccessKind). AreCellsWithin most row.0) rows
 accesses_within most [] are full = tt
 accesses_within most (row ∷ rows) are full = (
   subst (λ (n : ℕ). n < most) (cell_object row.0) (are (first_cell row.0) (reads_or_writes (covers row.0 (first_cell row.0)) row.1 (row_reads (first_cell row.0) rows) (row_writes (first_cell row.0) rows) (cell_covered row.0 full.0))),

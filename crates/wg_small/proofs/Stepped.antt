@@ -12,15 +12,15 @@ use Rattle.wg_types.specs.declared.limits.Limits.{Limits}
 use Rattle.wg_types.specs.declared.mappings.Mapping.{Mapping}
 use Rattle.wg_types.specs.declared.mappings.MapMode.{MapMode}
 use Rattle.wg_types.specs.declared.mappings.MapMode.TheVariants.{Read as ReadMode, Write as WriteMode}
-use Rattle.wg_types.specs.declared.replies.Reply.{Reply}
-use Rattle.wg_types.specs.declared.replies.Settlement.{Settlement}
-use Rattle.wg_types.specs.declared.steps.Deed.{Deed}
-use Rattle.wg_types.specs.declared.steps.QueueWrite.TheVariants.{Buffer as BufferWrite, Texture as TextureWrite}
-use Rattle.wg_types.specs.declared.steps.StepName.TheVariants as name
-use Rattle.wg_types.specs.declared.steps.StepPlace.TheVariants.{Op, Host}
+use Rattle.wg_trace.specs.declared.replies.Reply.{Reply}
+use Rattle.wg_trace.specs.declared.replies.Settlement.{Settlement}
+use Rattle.wg_trace.specs.declared.steps.Deed.{Deed}
+use Rattle.wg_types.specs.declared.writes.QueueWrite.TheVariants.{Buffer as BufferWrite, Texture as TextureWrite}
+use Rattle.wg_trace.specs.declared.steps.StepName.TheVariants as name
+use Rattle.wg_trace.specs.declared.steps.StepPlace.TheVariants.{Op, Host}
 use Rattle.wg_types.specs.declared.textures.TextureSpot.{TextureSpot}
-use Rattle.wg_types.specs.declared.parts.Kind.{Kind}
-use Rattle.wg_types.specs.declared.usages.Usages.{Usages}
+use Rattle.wg_trace.specs.declared.parts.AccessKind.{AccessKind}
+use Rattle.wg_trace.specs.declared.usages.Usages.{Usages}
 use Rattle.wg_limits.specs.declared.names.LimitName.TheVariants.{MaxBufferSize}
 use Rattle.wg_rows.specs.Rows.{EachRow, in_range, list_eq}
 use Rattle.wg_rows.specs.Runs.{Buffer, QuerySet, Subresource, PartRun, BufferPart, LayerParts, QueryPart, Cells, part_line, covers_part}
@@ -146,7 +146,7 @@ reads_small limits at settled (wait ∷ waits) best kept =
 none_below : (n : ℕ) → n < 0 → ⊥
 none_below n e = omega (arith, e)
 
-texture_touches : (how : Usages × Kind) (cells : List Cells) → EachRow CellsAreSmall cells → EachRow (TouchHas ranges) (map (λ (run : Cells). (run, how)) cells)
+texture_touches : (how : Usages × AccessKind) (cells : List Cells) → EachRow CellsAreSmall cells → EachRow (TouchHas ranges) (map (λ (run : Cells). (run, how)) cells)
 texture_touches how [] h = tt
 texture_touches how (run ∷ cells) h = ((h.0.0, λ e. h.0.1), texture_touches how cells h.1)
 

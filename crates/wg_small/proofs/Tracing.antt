@@ -3,7 +3,7 @@ use Rattle.std.specs.Prelude.{Option, Some, None, filter, cond}
 use Rattle.std.specs.List.{flat_map}
 use Rattle.std.specs.Option.{option_map_or}
 use Rattle.std.proofs.Common.{◌≡◌, ℕ, true, false, List, [], ◌∷◌, ◌++◌, map, length, Bool, ◌&&◌, if◌then◌else◌}
-use Rattle.wg_types.specs.declared.parts.Kind.{Kind}
+use Rattle.wg_trace.specs.declared.parts.AccessKind.{AccessKind}
 use Rattle.wg_rows.specs.Rows.{meet, printed, EachRow}
 use Rattle.wg_rows.specs.Runs.{Part, PartRun, Cell, Cells, part_of, is_texture, part_run, cell_run, parts_in, cells_in, part_sort, cell_sort}
 use Rattle.wg_rows.specs.Uses.{Usages, clear_usage, only_reads, same_set, same_kind, Write, Change, same_change}
@@ -92,7 +92,7 @@ clear_uses : (said : Said) (cells : List Cell) → CellsHave said cells → Each
 clear_uses said [] h = tt
 clear_uses said (c ∷ cells) h = (h.0.1, clear_uses said cells h.1)
 
-clear_accesses : (said : Said) (cells : List Cell) → CellsHave said cells → EachRow (λ (row : Cells × Kind). said.cells row.0) (map (λ (c : Cell). (cell_run c, Write)) cells)
+clear_accesses : (said : Said) (cells : List Cell) → CellsHave said cells → EachRow (λ (row : Cells × AccessKind). said.cells row.0) (map (λ (c : Cell). (cell_run c, Write)) cells)
 clear_accesses said [] h = tt
 clear_accesses said (c ∷ cells) h = (h.0.0, clear_accesses said cells h.1)
 
@@ -100,7 +100,7 @@ clear_has : (said : Said) → Closed said → (place : StepPlace) (cells : List 
 clear_has said closed place cells at h = record {
   stands = at;
   uses = printed_each part_sort same_set (λ (row : PartRun × Usages). said.part row.0) (λ x r met p q. closed.part_joined x.0 r.0 met p q) (map (λ (c : Cell). (part_run (part_of c), clear_usage)) cells) (clear_uses said cells h);
-  accesses = printed_each cell_sort same_kind (λ (row : Cells × Kind). said.cells row.0) (λ x r met p q. closed.cells_joined x.0 r.0 met p q) (map (λ (c : Cell). (cell_run c, Write)) cells) (clear_accesses said cells h);
+  accesses = printed_each cell_sort same_kind (λ (row : Cells × AccessKind). said.cells row.0) (λ x r met p q. closed.cells_joined x.0 r.0 met p q) (map (λ (c : Cell). (cell_run c, Write)) cells) (clear_accesses said cells h);
 }
 
 clear_added : (said : Said) → Closed said → (trace : List Item) (place : StepPlace) (cells : List Cell) → EachRow (IsSaidItem said) trace → said.place place → CellsHave said cells → EachRow (IsSaidItem said) (add_clear trace place cells)
@@ -108,13 +108,13 @@ clear_added said closed trace place [] h at k = h
 clear_added said closed trace place (c ∷ cells) h at k = step_added said closed trace (clear_of place (c ∷ cells)) h (clear_has said closed place (c ∷ cells) at k)
 
 -- the cells that steps access, and those of them that are cleared
-accessed_cells : (said : Said) → Closed said → (rows : List (Cells × Kind)) → EachRow (λ (row : Cells × Kind). said.cells row.0) rows → CellsHave said (flat_map (λ (row : Cells × Kind). cells_in row.0) rows)
+accessed_cells : (said : Said) → Closed said → (rows : List (Cells × AccessKind)) → EachRow (λ (row : Cells × AccessKind). said.cells row.0) rows → CellsHave said (flat_map (λ (row : Cells × AccessKind). cells_in row.0) rows)
 accessed_cells said closed [] h = tt
-accessed_cells said closed (row ∷ rows) h = each_append (CellHas said.part said.cells) (cells_in row.0) (flat_map (λ (row : Cells × Kind). cells_in row.0) rows) (closed.singles row.0 h.0) (accessed_cells said closed rows h.1)
+accessed_cells said closed (row ∷ rows) h = each_append (CellHas said.part said.cells) (cells_in row.0) (flat_map (λ (row : Cells × AccessKind). cells_in row.0) rows) (closed.singles row.0 h.0) (accessed_cells said closed rows h.1)
 
 steps_cells : (said : Said) → Closed said → (steps : List Step) → EachRow (IsSaid said) steps → CellsHave said (cells_of steps)
 steps_cells said closed [] h = tt
-steps_cells said closed (s ∷ steps) h = each_append (CellHas said.part said.cells) (flat_map (λ (row : Cells × Kind). cells_in row.0) s.accesses) (cells_of steps) (accessed_cells said closed s.accesses h.0.accesses) (steps_cells said closed steps h.1)
+steps_cells said closed (s ∷ steps) h = each_append (CellHas said.part said.cells) (flat_map (λ (row : Cells × AccessKind). cells_in row.0) s.accesses) (cells_of steps) (accessed_cells said closed s.accesses h.0.accesses) (steps_cells said closed steps h.1)
 
 filtered : (P : Cell → Type 0) (test : Cell → Bool) (cells : List Cell) → EachRow P cells → EachRow P (filter test cells)
 filtered P test [] h = tt

@@ -9,7 +9,7 @@ use Rattle.wg_model.specs.Bound.{most_groups, offset_alignment}
 use Rattle.wg_model.specs.Compute.{most_workgroups}
 use Rattle.wg_model.specs.Render.{most_slots}
 use Rattle.wg_model.specs.Textures.{within_limits, mips_fit}
-use Rattle.wg_types.specs.declared.steps.StepPlace.TheVariants.{Op}
+use Rattle.wg_trace.specs.declared.steps.StepPlace.TheVariants.{Op}
 use Rattle.wg_limits.specs.Limits.{default_limits, AreNoBetter, HaveFixed}
 use Rattle.wg_rows.specs.Rows.{EachRow}
 use Rattle.wg_model.specs.Touches.{placed}
@@ -33,6 +33,7 @@ IsWithinLimits limits (Texture info) = (within_limits limits info.dim info.size 
 IsWithinLimits limits (Queries info) = info.count ≤ limits.max_queries_per_set
 IsWithinLimits limits _ = Unit {0}
 
+-- In a run each valid object is within the limits of the device.
 abbrev pub ObjectsAreWithinLimits : Type 0
 ObjectsAreWithinLimits =
     (setup : Setup) (history : List Entry) (n : ℕ) (info : Info)
@@ -46,6 +47,7 @@ abbrev pub IsMappedWithin : Limits → Option Mapping → Type 0
 IsMappedWithin limits None = Unit {0}
 IsMappedWithin limits (Some m) = m.hi ≤ limits.max_buffer_size
 
+-- In a run what is mapped of a buffer is within the limits of the device.
 abbrev pub MappingsAreWithinLimits : Type 0
 MappingsAreWithinLimits = (setup : Setup) (history : List Entry) (n : ℕ) → Run setup history → IsMappedWithin setup.limits (mapped_at setup (reverse history) n)
 
@@ -53,7 +55,8 @@ MappingsAreWithinLimits = (setup : Setup) (history : List Entry) (n : ℕ) → R
 abbrev pub RecordsSmallRanges : Entry → Type 0
 RecordsSmallRanges entry = is_made_valid entry.reply.answer ≡ true → EachRow HasSmallRanges (map (placed (Op 0)) (deeds_by entry.event))
 
--- So are those of all steps of a run then, since those of writes and of host accesses are, where no limit is better than the best.
+-- The ranges of all steps of a run are small where those of its valid command buffers are and no limit is better than the
+-- best, since those of writes and of host accesses are then.
 abbrev pub RangesOfRecordings : Type 0
 RangesOfRecordings =
     (setup : Setup) (history : List Entry)
@@ -62,8 +65,8 @@ RangesOfRecordings =
     → EachRow RecordsSmallRanges history
     → EachRow HasSmallRanges (Steps setup history)
 
--- So the report of such a run is read as its trace, if the history is not longer than the greatest number that the reader takes and
--- there are numbers for its steps.
+-- The report of a run whose valid command buffers have small ranges is read as its trace, if the history is not longer than
+-- the greatest number that the reader takes and there are numbers for its steps.
 abbrev pub ReadsBackByRecordings : Type 0
 ReadsBackByRecordings =
     (setup : Setup) (history : List Entry)

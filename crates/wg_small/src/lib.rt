@@ -1,6 +1,8 @@
-//! How large the numbers in the traces of histories are. The laws are the contracts of functions that do nothing.
+//! How large the numbers in the traces of histories are, and those of what command buffers do, so that the report of a
+//! run is read back. The laws are the contracts of functions that do nothing.
 #![tactic(auto)]
 
+ghost use Rattle.wg_small.specs.Ranged.{ReadsBackByCounts, ReadsBackByLength, RecordingsAreSmall, StepsAreSmall};
 ghost use Rattle.wg_small.specs.Limits.{MappingsAreWithinLimits, ObjectsAreWithinLimits, RangesOfRecordings, ReadsBackByRecordings, RecordersGoByLimits};
 ghost use Rattle.wg_small.specs.Small.{NumbersAreWithin, RangesOfSteps, ReadsBackByRanges};
 
@@ -31,4 +33,15 @@ pub fn ranges_are_small()
 /// no script changes as they are by default.
 pub fn recorders_go_by_limits()
     ensures { RecordersGoByLimits }
+{}
+
+/// In a history whose replies are the right ones what valid command buffers do lies in small ranges, and so do all
+/// steps: within buffers, textures and query sets, which are within the limits of the device. So its report is read as
+/// its trace, if there are numbers for its entries and its steps, as there are where the report has no more bytes than
+/// the greatest number that the reader takes.
+pub fn recordings_are_small()
+    ensures recordings { RecordingsAreSmall }
+    ensures steps { StepsAreSmall }
+    ensures counts { ReadsBackByCounts }
+    ensures length { ReadsBackByLength }
 {}

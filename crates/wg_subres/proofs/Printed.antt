@@ -17,7 +17,7 @@ use Rattle.wg_types.specs.Formats.{row}
 use Rattle.wg_types.specs.Textures.{width, height, depth}
 use Rattle.wg_rows.specs.Rows.{list_before, count_up, numbers, EachRow, After, Apart}
 use Rattle.wg_rows.specs.Runs.{Aspect, Color, Depth, Stencil, aspect_number, PartRun, LayerParts, part_sort, Cells, cell_line, cell_lo, cell_hi, cell_sort}
-use Rattle.wg_rows.specs.Uses.{Usages, same_set, printed_uses, Kind, same_kind, printed_accesses}
+use Rattle.wg_rows.specs.Uses.{Usages, same_set, printed_uses, AccessKind, same_kind, printed_accesses}
 use Rattle.wg_rows.proofs.Cut.{each_append, apart_append}
 use Rattle.wg_rows.proofs.Told.{uses_tell, accesses_tell, as_printed}
 use Rattle.wg_model.specs.Formats.{named_aspects}
@@ -114,7 +114,7 @@ aspects_apart usage object lo hi first n (aspect ∷ later) lt rising =
 uses_as_printed : (rows : List (PartRun × Usages)) → Apart part_sort rows → printed_uses rows ≡ rows
 uses_as_printed = as_printed part_sort same_set uses_tell
 
-accesses_as_printed : (rows : List (Cells × Kind)) → Apart cell_sort rows → printed_accesses rows ≡ rows
+accesses_as_printed : (rows : List (Cells × AccessKind)) → Apart cell_sort rows → printed_accesses rows ≡ rows
 accesses_as_printed = as_printed cell_sort same_kind accesses_tell
 
 -- The runs of a view.
@@ -146,11 +146,11 @@ stencil_later texture_dim.One object mip lo hi from to = later_aspect object 1 2
 stencil_later texture_dim.Two object mip lo hi from to = later_aspect object 1 2 mip mip (lit< tt)
 stencil_later texture_dim.Three object mip lo hi from to = later_aspect object 1 2 mip mip (lit< tt)
 
-abbrev CellsApart : Kind → TextureDim → ℕ → ℕ → ℕ → ℕ → ℕ → ℕ → List Aspect → Type 0
+abbrev CellsApart : AccessKind → TextureDim → ℕ → ℕ → ℕ → ℕ → ℕ → ℕ → List Aspect → Type 0
 CellsApart kind dim object mip lo hi from to aspects = Apart cell_sort (all_accessed kind (map (λ aspect. texture_cells dim object aspect mip lo hi from to) aspects))
 
 -- A format has color alone, or depth, or stencil, or both of these.
-cells_apart : (word : AspectWord) (has : FormatAspects) (kind : Kind) (dim : TextureDim) (object mip lo hi from to : ℕ) → lo < hi → from < to → CellsApart kind dim object mip lo hi from to (named_aspects word has)
+cells_apart : (word : AspectWord) (has : FormatAspects) (kind : AccessKind) (dim : TextureDim) (object mip lo hi from to : ℕ) → lo < hi → from < to → CellsApart kind dim object mip lo hi from to (named_aspects word has)
 cells_apart word has kind dim object mip lo hi from to layers slices = by_aspects word has
   where
     one : (aspect : Aspect) → CellsApart kind dim object mip lo hi from to (aspect ∷ [])
@@ -181,7 +181,7 @@ parts_apart : (usage : Usages) (object mip lo hi : ℕ) (aspects : List Aspect) 
 parts_apart usage object mip lo hi [] lt rising = tt
 parts_apart usage object mip lo hi (aspect ∷ later) lt rising = (lt, after_parts usage object mip lo hi aspect later rising.0, parts_apart usage object mip lo hi later lt rising.1)
 
-if_cells_apart : (b : Bool) (word : AspectWord) (has : FormatAspects) (kind : Kind) (dim : TextureDim) (object mip lo hi from to : ℕ) → nat_lt lo hi ≡ b → from < to → Apart cell_sort (all_accessed kind (if b then map (λ aspect. texture_cells dim object aspect mip lo hi from to) (named_aspects word has) else []))
+if_cells_apart : (b : Bool) (word : AspectWord) (has : FormatAspects) (kind : AccessKind) (dim : TextureDim) (object mip lo hi from to : ℕ) → nat_lt lo hi ≡ b → from < to → Apart cell_sort (all_accessed kind (if b then map (λ aspect. texture_cells dim object aspect mip lo hi from to) (named_aspects word has) else []))
 if_cells_apart true word has kind dim object mip lo hi from to e slices = cells_apart word has kind dim object mip lo hi from to (ltb-true lo hi e) slices
 if_cells_apart false word has kind dim object mip lo hi from to e slices = tt
 
@@ -201,7 +201,7 @@ third true b c e = absurd (cc)
 more : (n m : ℕ) → 0 < m → n < n + m
 more n m lt = omega arith
 
-copy_cells_apart : (texture : ℕ) (info : TextureInfo) (spot : TextureSpot) (size : List ℕ) (kind : Kind) → has_no_texel size ≡ false → Apart cell_sort (all_accessed kind (copied_cells texture info spot size))
+copy_cells_apart : (texture : ℕ) (info : TextureInfo) (spot : TextureSpot) (size : List ℕ) (kind : AccessKind) → has_no_texel size ≡ false → Apart cell_sort (all_accessed kind (copied_cells texture info spot size))
 unfolding copied_cells
 copy_cells_apart texture info spot size kind e =
     if_cells_apart (nat_lt (first_layer info.dim spot.origin) (end_layer info.dim spot.origin size)) spot.aspect (row info.format).aspects kind info.dim texture spot.mip (first_layer info.dim spot.origin) (end_layer info.dim spot.origin size) (depth spot.origin) (depth spot.origin + depth size) refl (more (depth spot.origin) (depth size) (is_some_number (depth size) (third (width size == 0) (height size == 0) (depth size == 0) e)))

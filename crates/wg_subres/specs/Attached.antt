@@ -10,6 +10,7 @@ use Rattle.wg_subres.specs.Has.{is_accessed}
 abbrev pub attached_cells : Attached → List Cells
 attached_cells a = map (sliced a.1) (view_cells a.0)
 
+-- whether a cell is one of what is attached
 abbrev pub attached_has : Attached → Cell → Bool
 attached_has a c = is_accessed (attached_cells a) c
 

@@ -10,7 +10,7 @@ use Rattle.wg_types.specs.Formats.{row}
 use Rattle.wg_types.specs.Textures.{depth}
 use Rattle.wg_rows.specs.Rows.{in_range, Apart}
 use Rattle.wg_rows.specs.Runs.{Aspect, Color, Part, Buffer, Subresource, QuerySet, PartRun, covers_part, part_sort, Cells, Cell, Byte, Texels, Slice, Query, covers, cell_sort, part_of, run_part}
-use Rattle.wg_rows.specs.Uses.{Usages, printed_uses, Kind, printed_accesses}
+use Rattle.wg_rows.specs.Uses.{Usages, printed_uses, AccessKind, printed_accesses}
 use Rattle.wg_model.specs.Formats.{named_aspects}
 use Rattle.wg_model.specs.Textures.{layer_count, extent}
 use Rattle.wg_model.specs.Subresources.{view_runs, view_cells, first_layer, end_layer, copied_cells, copy_runs, is_aspect_of, copies_meet, views_meet, has_no_texel}
@@ -49,7 +49,7 @@ is_accessed cells cell = list_any (λ run. covers run cell) cells
 abbrev pub ViewsCover : Type 0
 ViewsCover = (view : ViewInfo) (part : Part) → is_covered (view_runs view) part ≡ view_has view part
 
--- and so do those of a copy.
+-- The runs of a copy cover just the subresources that it has.
 abbrev pub CopiesCover : Type 0
 CopiesCover =
     (texture : ℕ) (info : TextureInfo) (spot : TextureSpot) (size : List ℕ) (part : Part)
@@ -124,7 +124,7 @@ pub record ViewsPrinted : Type 0 where
   pub apart : (view : ViewInfo) (usage : Usages) → Apart part_sort (all_used usage (view_runs view))
   pub printed : (view : ViewInfo) (usage : Usages) → printed_uses (all_used usage (view_runs view)) ≡ all_used usage (view_runs view)
 
--- and so are those of a copy.
+-- The runs of a copy, used in one way, are in printed form.
 pub record CopiesPrinted : Type 0 where
   pub apart : (texture : ℕ) (info : TextureInfo) (spot : TextureSpot) (size : List ℕ) (usage : Usages)
       → Apart part_sort (all_used usage (copy_runs texture info spot size))
@@ -132,14 +132,14 @@ pub record CopiesPrinted : Type 0 where
       → printed_uses (all_used usage (copy_runs texture info spot size)) ≡ all_used usage (copy_runs texture info spot size)
 
 -- the cells, each accessed in this way
-abbrev pub all_accessed : Kind → List Cells → List (Cells × Kind)
+abbrev pub all_accessed : AccessKind → List Cells → List (Cells × AccessKind)
 all_accessed kind cells = map (λ (run : Cells). (run, kind)) cells
 
 -- Accessed in one way the cells of a copy are in printed form too, if it has a texel.
 pub record CellsPrinted : Type 0 where
-  pub apart : (texture : ℕ) (info : TextureInfo) (spot : TextureSpot) (size : List ℕ) (kind : Kind)
+  pub apart : (texture : ℕ) (info : TextureInfo) (spot : TextureSpot) (size : List ℕ) (kind : AccessKind)
       → has_no_texel size ≡ false
       → Apart cell_sort (all_accessed kind (copied_cells texture info spot size))
-  pub printed : (texture : ℕ) (info : TextureInfo) (spot : TextureSpot) (size : List ℕ) (kind : Kind)
+  pub printed : (texture : ℕ) (info : TextureInfo) (spot : TextureSpot) (size : List ℕ) (kind : AccessKind)
       → has_no_texel size ≡ false
       → printed_accesses (all_accessed kind (copied_cells texture info spot size)) ≡ all_accessed kind (copied_cells texture info spot size)

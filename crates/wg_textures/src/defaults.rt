@@ -4,7 +4,7 @@ ghost use Rattle.wg_model.specs.Textures.{layer_count};
 ghost use Rattle.wg_model.specs.Views.{dim_by, layers_by, completed_view};
 
 use wg_formats::layer_count;
-use wg_types::textures::{AspectWord, TextureDim, TextureInfo, ViewDesc, ViewDim};
+use wg_types::textures::{TextureDim, TextureInfo, ViewAsked, ViewDesc, ViewDim};
 
 /// The dimension that a view has by its texture.
 fn dim_by(dim: TextureDim, layers: u32) -> ViewDim
@@ -35,20 +35,9 @@ fn layers_by(dim: ViewDim, remaining: u32) -> u32
     }
 }
 
-/// What is asked of a view, each part of which may be left out.
-#[derive(Clone, Copy)]
-pub struct Asked {
-    pub dim: Option<ViewDim>,
-    pub aspect: AspectWord,
-    pub base_mip: u32,
-    pub mips: Option<u32>,
-    pub base_layer: u32,
-    pub layers: Option<u32>,
-}
-
 /// The description of a view of which parts may be left out (WebGPU, "resolving
 /// GPUTextureViewDescriptor defaults").
-pub fn view_of(info: &TextureInfo, asked: Asked) -> ViewDesc
+pub fn view_of(info: &TextureInfo, asked: ViewAsked) -> ViewDesc
     ensures { result ≡ completed_view info.now asked.dim asked.aspect asked.base_mip asked.mips asked.base_layer asked.layers }
 {
     let all = layer_count(info);

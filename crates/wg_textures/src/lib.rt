@@ -6,5 +6,5 @@ mod defaults;
 mod view;
 
 pub use create::check_create;
-pub use defaults::{Asked, view_of};
+pub use defaults::view_of;
 pub use view::check_view;

@@ -1,34 +1,34 @@
 -- What was told is read back, and is what it was: so what is told alike is the same.
 use Rattle.std.proofs.Common.{◌≡◌, ℕ, Bool, true, false, List, [], ◌∷◌, map, length, Option, Some, None, refl, sym, ap, ◌∙◌, nat_eq, if◌then◌else◌}
-use Rattle.wg_types.specs.declared.parts.Aspect.{Aspect}
-use Rattle.wg_types.specs.declared.parts.Aspect.TheVariants.{Color, Depth, Stencil}
-use Rattle.wg_types.specs.declared.parts.PartRun.{PartRun}
-use Rattle.wg_types.specs.declared.parts.PartRun.TheVariants as part
-use Rattle.wg_types.specs.declared.parts.Cells.{Cells}
-use Rattle.wg_types.specs.declared.parts.Cells.TheVariants as cells
-use Rattle.wg_types.specs.declared.parts.Kind.{Kind}
-use Rattle.wg_types.specs.declared.parts.Kind.TheVariants as kind
-use Rattle.wg_types.specs.declared.usages.Usages.{Usages}
-use Rattle.wg_types.specs.declared.steps.StepPlace.{StepPlace}
-use Rattle.wg_types.specs.declared.steps.StepPlace.TheVariants.{Op, Host}
-use Rattle.wg_types.specs.declared.steps.StepName.{StepName}
-use Rattle.wg_types.specs.declared.steps.StepName.TheVariants as name
-use Rattle.wg_types.specs.declared.steps.Step.{Step}
-use Rattle.wg_types.specs.declared.steps.Sort.{Sort}
-use Rattle.wg_types.specs.declared.steps.Sort.TheVariants as sort
-use Rattle.wg_types.specs.declared.steps.Item.{Item}
-use Rattle.wg_types.specs.declared.steps.Item.TheVariants.{Bar, Step as StepItem, Free}
-use Rattle.wg_types.specs.declared.replies.Answer.{Answer}
-use Rattle.wg_types.specs.declared.replies.Answer.TheVariants.{Made, Queued, Promised, Plain, BadCompletion}
-use Rattle.wg_types.specs.declared.replies.Caught.{Caught}
-use Rattle.wg_types.specs.declared.replies.Caught.TheVariants.{Scope, Uncaptured}
-use Rattle.wg_types.specs.declared.replies.Fault.{Fault}
-use Rattle.wg_types.specs.declared.replies.FaultKind.{FaultKind}
-use Rattle.wg_types.specs.declared.replies.FaultKind.TheVariants.{Validation, OutOfMemory}
-use Rattle.wg_types.specs.declared.replies.How.{How}
-use Rattle.wg_types.specs.declared.replies.How.TheVariants.{Mapped, Done, Aborted, Rejected, Null, Error}
-use Rattle.wg_types.specs.declared.replies.Reply.{Reply}
-use Rattle.wg_types.specs.declared.replies.Settlement.{Settlement}
+use Rattle.wg_trace.specs.declared.parts.Aspect.{Aspect}
+use Rattle.wg_trace.specs.declared.parts.Aspect.TheVariants.{Color, Depth, Stencil}
+use Rattle.wg_trace.specs.declared.parts.PartRun.{PartRun}
+use Rattle.wg_trace.specs.declared.parts.PartRun.TheVariants as part
+use Rattle.wg_trace.specs.declared.parts.Cells.{Cells}
+use Rattle.wg_trace.specs.declared.parts.Cells.TheVariants as cells
+use Rattle.wg_trace.specs.declared.parts.AccessKind.{AccessKind}
+use Rattle.wg_trace.specs.declared.parts.AccessKind.TheVariants as kind
+use Rattle.wg_trace.specs.declared.usages.Usages.{Usages}
+use Rattle.wg_trace.specs.declared.steps.StepPlace.{StepPlace}
+use Rattle.wg_trace.specs.declared.steps.StepPlace.TheVariants.{Op, Host}
+use Rattle.wg_trace.specs.declared.steps.StepName.{StepName}
+use Rattle.wg_trace.specs.declared.steps.StepName.TheVariants as name
+use Rattle.wg_trace.specs.declared.steps.Step.{Step}
+use Rattle.wg_trace.specs.declared.steps.Sort.{Sort}
+use Rattle.wg_trace.specs.declared.steps.Sort.TheVariants as sort
+use Rattle.wg_trace.specs.declared.steps.Item.{Item}
+use Rattle.wg_trace.specs.declared.steps.Item.TheVariants.{Bar, Step as StepItem, Free}
+use Rattle.wg_trace.specs.declared.replies.Answer.{Answer}
+use Rattle.wg_trace.specs.declared.replies.Answer.TheVariants.{Made, Queued, Promised, Plain, BadCompletion}
+use Rattle.wg_trace.specs.declared.replies.Caught.{Caught}
+use Rattle.wg_trace.specs.declared.replies.Caught.TheVariants.{Scope, Uncaptured}
+use Rattle.wg_trace.specs.declared.replies.Fault.{Fault}
+use Rattle.wg_trace.specs.declared.replies.FaultKind.{FaultKind}
+use Rattle.wg_trace.specs.declared.replies.FaultKind.TheVariants.{Validation, OutOfMemory}
+use Rattle.wg_trace.specs.declared.replies.How.{How}
+use Rattle.wg_trace.specs.declared.replies.How.TheVariants.{Mapped, Done, Aborted, Rejected, Null, Error}
+use Rattle.wg_trace.specs.declared.replies.Reply.{Reply}
+use Rattle.wg_trace.specs.declared.replies.Settlement.{Settlement}
 use Rattle.wg_told.specs.declared.replies.ToldReply.{ToldReply}
 use Rattle.wg_told.specs.declared.replies.ToldSettlement.{ToldSettlement}
 use Rattle.wg_told.specs.declared.items.ToldRange.{ToldRange}
@@ -120,7 +120,7 @@ name_same name.RenderPass = refl
 name_same name.HostRead = refl
 name_same name.HostWrite = refl
 
-abbrev kind_back : ℕ → Kind
+abbrev kind_back : ℕ → AccessKind
 kind_back n =
     if nat_eq n 1 then kind.Read
     else if nat_eq n 2 then kind.Write
@@ -128,7 +128,7 @@ kind_back n =
     else if nat_eq n 4 then kind.Drop
     else kind.ReadDrop
 
-kind_same : (k : Kind) → kind_back (kind_number k) ≡ k
+kind_same : (k : AccessKind) → kind_back (kind_number k) ≡ k
 kind_same kind.Read = refl
 kind_same kind.Write = refl
 kind_same kind.Both = refl
@@ -144,11 +144,11 @@ use_back t = (part_back t.part, set_back t.usages)
 use_same : (u : PartRun × Usages) → use_back (use_told u) ≡ u
 use_same (p, set) = ap (λ (q : PartRun). (q, set)) (part_same p)
 
-abbrev access_back : ToldAccess → Cells × Kind
+abbrev access_back : ToldAccess → Cells × AccessKind
 access_back t = (cells_back t.cells, kind_back t.kind)
 
-access_same : (a : Cells × Kind) → access_back (access_told a) ≡ a
-access_same (c, k) = ap (λ (d : Cells). (d, kind_back (kind_number k))) (cells_same c) ∙ ap (λ (l : Kind). (c, l)) (kind_same k)
+access_same : (a : Cells × AccessKind) → access_back (access_told a) ≡ a
+access_same (c, k) = ap (λ (d : Cells). (d, kind_back (kind_number k))) (cells_same c) ∙ ap (λ (l : AccessKind). (c, l)) (kind_same k)
 
 abbrev from_back : ℕ → ℕ → Option Usages
 from_back fresh n = if nat_eq fresh 1 then None else Some (set_back n)
@@ -164,10 +164,10 @@ place_same : (p : StepPlace) → place_back (host_told p) (place_told p) ≡ p
 place_same (Op number) = refl
 place_same (Host entry) = refl
 
-abbrev step_back : ToldItem → List (PartRun × Usages) → List (Cells × Kind) → Step
+abbrev step_back : ToldItem → List (PartRun × Usages) → List (Cells × AccessKind) → Step
 step_back t uses accesses = record { place = place_back t.host t.place; name = name_back t.name; uses = uses; accesses = accesses }
 
-abbrev item_back : ToldItem → List (PartRun × Usages) → List (Cells × Kind) → Item
+abbrev item_back : ToldItem → List (PartRun × Usages) → List (Cells × AccessKind) → Item
 item_back t uses accesses =
     if nat_eq t.what 1 then Bar (part_back t.part) (from_back t.fresh t.from) (set_back t.to)
     else if nat_eq t.what 2 then StepItem (step_back t uses accesses)
@@ -187,7 +187,7 @@ items_told_apart a b told uses accesses =
     let c : accesses_of a ≡ accesses_of b = map_apart access_told access_back access_same (accesses_of a) (accesses_of b) accesses in
     let t : item_back (item_told a) (uses_of a) (accesses_of a) ≡ item_back (item_told b) (uses_of a) (accesses_of a) = ap (λ (x : ToldItem). item_back x (uses_of a) (accesses_of a)) told in
     let v : item_back (item_told b) (uses_of a) (accesses_of a) ≡ item_back (item_told b) (uses_of b) (accesses_of a) = ap (λ (x : List (PartRun × Usages)). item_back (item_told b) x (accesses_of a)) u in
-    let w : item_back (item_told b) (uses_of b) (accesses_of a) ≡ item_back (item_told b) (uses_of b) (accesses_of b) = ap (λ (x : List (Cells × Kind)). item_back (item_told b) (uses_of b) x) c in
+    let w : item_back (item_told b) (uses_of b) (accesses_of a) ≡ item_back (item_told b) (uses_of b) (accesses_of b) = ap (λ (x : List (Cells × AccessKind)). item_back (item_told b) (uses_of b) x) c in
     sym (item_same a) ∙ (t ∙ (v ∙ (w ∙ item_same b)))
 
 -- Settlements.

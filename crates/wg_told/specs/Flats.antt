@@ -1,5 +1,5 @@
 -- What the flat structs of the header stand for. One that has a value out of its range stands for nothing.
-use Rattle.std.specs.Prelude.{ℕ, ◌+◌, nat_eq, nat_lt, Bool, true, false, not, List, [], ◌∷◌, length, Option, Some, None, option_map, option_and_then, if◌then◌else◌}
+use Rattle.std.specs.Prelude.{ℕ, ◌+◌, nat_eq, nat_lt, List, [], ◌∷◌, length, Option, Some, None, option_map, option_and_then, if◌then◌else◌}
 use Rattle.std.specs.List.{filter, list_all}
 use Rattle.wg_types.specs.declared.bindings.BindingKind.{BindingKind}
 use Rattle.wg_types.specs.declared.bindings.BindingKind.TheVariants as kind
@@ -46,15 +46,19 @@ abbrev pub every : {F T : Type 0} → (F → Option T) → List F → Option (Li
 every means [] = Some []
 every means (x ∷ xs) = option_and_then (λ one. option_map (λ more. one ∷ more) (every means xs)) (means x)
 
+-- the three numbers of a flat extent
 abbrev pub extent_of : FlatExtent → List ℕ
 extent_of e = e.width ∷ e.height ∷ e.depth ∷ []
 
+-- the three numbers of a flat origin
 abbrev pub origin_of : FlatOrigin → List ℕ
 origin_of o = o.x ∷ o.y ∷ o.z ∷ []
 
+-- what a flat buffer asks for, if its values are ones
 abbrev pub buffer_of : FlatBuffer → Option BufferInfo
 buffer_of b = option_map (λ mapped. record { size = b.size; usage = b.usage; mapped = mapped }) (flag_of b.mapped)
 
+-- what a flat texture asks for, if its values are ones
 abbrev pub texture_of : FlatTexture → Option TextureInfo
 texture_of t =
     option_and_then (λ format. option_map (λ dim. record {
@@ -66,6 +70,7 @@ texture_of t =
       samples = t.samples;
     }) (nth texture_dims t.dim)) (nth formats t.format)
 
+-- what a flat view asks for, if its values are ones
 abbrev pub view_of : FlatView → Option ViewAsked
 view_of v =
     option_and_then (λ dim. option_and_then (λ aspect. option_and_then (λ mips. option_map (λ layers. record {
@@ -79,18 +84,22 @@ view_of v =
 
 -- What a binding holds, by its kind: 1 to 3 a buffer, 4 a sampler, 5 a texture that is sampled, 6 one that is used as storage.
 
+-- the kind of a flat binding that is a buffer, if its values are ones
 abbrev pub buffer_binding_of : FlatBinding → Option BindingKind
 buffer_binding_of b =
     option_and_then (λ binding. option_map (λ dynamic. kind.Buffer binding dynamic b.min_size) (flag_of b.dynamic)) (nth buffer_bindings b.kind)
 
+-- the kind of a flat binding that is a texture, if its values are ones
 abbrev pub texture_binding_of : FlatBinding → Option BindingKind
 texture_binding_of b =
     option_and_then (λ sample. option_and_then (λ dim. option_map (λ multi. kind.Texture sample dim multi) (flag_of b.multi)) (nth view_dims b.dim)) (nth sample_types b.sample)
 
+-- the kind of a flat binding that is a storage texture, if its values are ones
 abbrev pub storage_binding_of : FlatBinding → Option BindingKind
 storage_binding_of b =
     option_and_then (λ access. option_and_then (λ format. option_map (λ dim. kind.StorageTexture access format dim) (nth view_dims b.dim)) (nth formats b.format)) (nth storage_accesses b.access)
 
+-- the kind of a flat binding, if its values are ones
 abbrev pub binding_of : FlatBinding → Option BindingKind
 binding_of b =
     if nat_eq b.kind 4 then option_map (λ sampler. kind.Sampler sampler) (nth sampler_kinds b.sampler)
@@ -98,6 +107,7 @@ binding_of b =
     else if nat_eq b.kind 6 then storage_binding_of b
     else buffer_binding_of b
 
+-- the entry of a layout that a flat one is, if its values are ones
 abbrev pub layout_entry_of : FlatLayoutEntry → Option LayoutEntry
 layout_entry_of e = option_map (λ held. record { binding = e.binding; visibility = e.visibility; kind = held }) (binding_of e.holds)
 
@@ -105,10 +115,11 @@ layout_entry_of e = option_map (λ held. record { binding = e.binding; visibilit
 abbrev pub used_of : Stage → FlatIfaceEntry → Option IfaceEntry
 used_of stage e = option_map (λ held. record { group = e.group; binding = e.binding; stage = stage; kind = held }) (binding_of e.holds)
 
--- of a compute pipeline, whose stage is not looked at, and of a render pipeline
+-- the entry of a compute pipeline's interface that a flat one is, whose stage is not looked at, if its values are ones
 abbrev pub compute_iface_of : FlatIfaceEntry → Option IfaceEntry
 compute_iface_of e = used_of Compute e
 
+-- the entry of a render pipeline's interface that a flat one is, if its values are ones
 abbrev pub render_iface_of : FlatIfaceEntry → Option IfaceEntry
 render_iface_of e = option_and_then (λ stage. used_of stage e) (nth render_stages e.stage)
 
@@ -120,9 +131,11 @@ resource_of e =
     else if nat_eq e.bound 3 then Some (bound.Sampler e.object)
     else None
 
+-- the entry of a bind group that a flat one is, if its values are ones
 abbrev pub group_entry_of : FlatGroupEntry → Option (GroupEntryOf ℕ)
 group_entry_of e = option_map (λ held. record { binding = e.binding; resource = held }) (resource_of e)
 
+-- the attribute that a flat one is, if its values are ones
 abbrev pub attribute_of : FlatAttribute → Option VertexAttribute
 attribute_of a = option_map (λ format. record { format = format; offset = a.offset; location = a.location }) (nth vertex_formats a.format)
 
@@ -130,6 +143,7 @@ attribute_of a = option_map (λ format. record { format = format; offset = a.off
 abbrev pub attributes_at : List FlatAttribute → ℕ → Option (List VertexAttribute)
 attributes_at attributes n = every attribute_of (filter (λ a. nat_eq a.buffer n) attributes)
 
+-- the vertex buffer that a flat one is, with its attributes, if its values are ones
 abbrev pub vertex_buffer_of : List FlatAttribute → ℕ → FlatVertexBuffer → Option VertexBuffer
 vertex_buffer_of attributes n b =
     option_and_then (λ step. option_map (λ own. record { stride = b.stride; step = step; attributes = own }) (attributes_at attributes n)) (nth vertex_steps b.step)
@@ -149,15 +163,17 @@ vertex_buffers_of buffers attributes =
 abbrev pub target_of : ℕ → Option (Option Format)
 target_of n = maybe_nth formats n
 
--- what a pipeline does with depth and stencil, where it has a format
+-- what a flat render pipeline does with depth and stencil, where it has a format, if its values are ones
 abbrev pub depth_with : FlatRender → Format → Option (Option DepthState)
 depth_with r format =
     option_and_then (λ depth. option_map (λ stencil. Some (record { format = format; depth_write = depth; stencil_write = stencil })) (flag_of r.stencil_write)) (flag_of r.depth_write)
 
+-- what a flat render pipeline does with depth and stencil, by the format, which may be left out
 abbrev pub depth_by : FlatRender → Option Format → Option (Option DepthState)
 depth_by r None = Some None
 depth_by r (Some format) = depth_with r format
 
+-- what a flat render pipeline does with depth and stencil, if its values are ones
 abbrev pub depth_of : FlatRender → Option (Option DepthState)
 depth_of r = option_and_then (depth_by r) (maybe_nth formats r.depth_format)
 
@@ -176,7 +192,7 @@ attached_of c =
 abbrev pub color_of : FlatColor → Option (Option (ColorTargetOf ℕ))
 color_of c = if nat_eq c.view left_out then Some None else attached_of c
 
--- an attachment of depth and stencil
+-- the depth attachment that a flat one is, if its values are ones
 abbrev pub depth_attached_of : FlatDepth → Option (Option (DepthTargetOf ℕ))
 depth_attached_of d =
     option_and_then (λ depth_load. option_and_then (λ depth_store. option_and_then (λ depth_read_only.
@@ -191,13 +207,16 @@ depth_attached_of d =
     })) (flag_of d.stencil_read_only)) (maybe_nth store_ops d.stencil_store)) (maybe_nth load_ops d.stencil_load))
     (flag_of d.depth_read_only)) (maybe_nth store_ops d.depth_store)) (maybe_nth load_ops d.depth_load)
 
+-- the depth attachment that a flat one is, or none where its view is left out, if its values are ones
 abbrev pub depth_target_of : FlatDepth → Option (Option (DepthTargetOf ℕ))
 depth_target_of d = if nat_eq d.view left_out then Some None else depth_attached_of d
 
+-- the layout of texels that a flat one is, if its values are ones
 abbrev pub layout_of : FlatTexelLayout → Option DataLayout
 layout_of l =
     option_and_then (λ bytes. option_map (λ rows. record { offset = l.offset; bytes_per_row = bytes; rows_per_image = rows }) (narrow_of l.rows_per_image)) (narrow_of l.bytes_per_row)
 
+-- the place in a texture that a flat one is, if its values are ones
 abbrev pub spot_of : FlatSpot → Option TextureSpot
 spot_of s = option_map (λ aspect. record { mip = s.mip; origin = origin_of s.origin; aspect = aspect }) (nth aspects s.aspect)
 
@@ -205,5 +224,6 @@ spot_of s = option_map (λ aspect. record { mip = s.mip; origin = origin_of s.or
 abbrev pub on_encoder : ℕ
 on_encoder = 0xFFFF_FFFF
 
+-- on what a command stands: the encoder, or the pass of a number
 abbrev pub on_of : ℕ → On
 on_of pass = if nat_eq pass on_encoder then Encoder else Pass pass

@@ -1,8 +1,8 @@
 -- Nothing is lost in what is told: what is told alike is the same.
 use Rattle.std.specs.Prelude.{◌≡◌, ℕ, map}
-use Rattle.wg_types.specs.declared.replies.Reply.{Reply}
-use Rattle.wg_types.specs.declared.replies.Settlement.{Settlement}
-use Rattle.wg_types.specs.declared.steps.Item.{Item}
+use Rattle.wg_trace.specs.declared.replies.Reply.{Reply}
+use Rattle.wg_trace.specs.declared.replies.Settlement.{Settlement}
+use Rattle.wg_trace.specs.declared.steps.Item.{Item}
 use Rattle.wg_told.specs.Replies.{reply_told, settlement_told}
 use Rattle.wg_told.specs.Items.{item_told, use_told, access_told, uses_of, accesses_of}
 

@@ -29,15 +29,15 @@ use Rattle.wg_types.specs.declared.render.LoadOp.{LoadOp}
 use Rattle.wg_types.specs.declared.render.LoadOp.TheVariants.{Load, Clear}
 use Rattle.wg_types.specs.declared.render.StoreOp.{StoreOp}
 use Rattle.wg_types.specs.declared.render.StoreOp.TheVariants.{Store, Discard}
-use Rattle.wg_types.specs.declared.replies.Filter.{Filter}
-use Rattle.wg_types.specs.declared.replies.Filter.TheVariants as filter
+use Rattle.wg_trace.specs.declared.replies.Filter.{Filter}
+use Rattle.wg_trace.specs.declared.replies.Filter.TheVariants as filter
 
 -- the value of a number, if it has one
 abbrev pub nth : {T : Type 0} → List T → ℕ → Option T
 nth table zero = None
 nth table (suc n) = slice_get table n
 
--- the same of a value that may be left out
+-- the value of a number, of which 0 is a value that is left out, if the number is one
 abbrev pub maybe_nth : {T : Type 0} → List T → ℕ → Option (Option T)
 maybe_nth table zero = Some None
 maybe_nth table (suc n) = option_map Some (slice_get table n)
@@ -58,48 +58,62 @@ wide_of n = if nat_eq n left_out then None else Some n
 abbrev pub narrow_of : ℕ → Option (Option ℕ)
 narrow_of n = if nat_eq n left_out then Some None else if nat_lt n (2 ^ 32) then Some (Some n) else None
 
+-- the formats of textures, in the order of their numbers
 abbrev pub formats : List Format
 formats = R8Unorm ∷ Rg8Unorm ∷ Rgba8Unorm ∷ Rgba8UnormSrgb ∷ Bgra8Unorm ∷ R32Uint ∷ R32Float ∷ Rgba16Float ∷ Rgba32Float ∷ Depth16Unorm ∷ Depth24Plus ∷ Depth24PlusStencil8 ∷ Depth32Float ∷ Stencil8 ∷ []
 
+-- the sample types, in the order of their numbers
 abbrev pub sample_types : List SampleType
 sample_types = sample.Float ∷ sample.UnfilterableFloat ∷ sample.Depth ∷ sample.Sint ∷ sample.Uint ∷ []
 
+-- the dimensions of textures, in the order of their numbers
 abbrev pub texture_dims : List TextureDim
 texture_dims = dim.One ∷ dim.Two ∷ dim.Three ∷ []
 
+-- the dimensions of views, in the order of their numbers
 abbrev pub view_dims : List ViewDim
 view_dims = view_dim.One ∷ view_dim.Two ∷ view_dim.TwoArray ∷ view_dim.Cube ∷ view_dim.CubeArray ∷ view_dim.Three ∷ []
 
+-- the words for aspects, in the order of their numbers
 abbrev pub aspects : List AspectWord
 aspects = All ∷ DepthOnly ∷ StencilOnly ∷ []
 
+-- the sorts of buffer bindings, in the order of their numbers
 abbrev pub buffer_bindings : List BufferBinding
 buffer_bindings = Uniform ∷ Storage ∷ ReadOnlyStorage ∷ []
 
+-- the kinds of samplers, in the order of their numbers
 abbrev pub sampler_kinds : List SamplerKind
 sampler_kinds = Filtering ∷ NonFiltering ∷ Comparison ∷ []
 
+-- the accesses of storage textures, in the order of their numbers
 abbrev pub storage_accesses : List StorageAccess
 storage_accesses = ReadOnly ∷ WriteOnly ∷ ReadWrite ∷ []
 
--- of a render pipeline
+-- the stages of a render pipeline, in the order of their numbers
 abbrev pub render_stages : List Stage
 render_stages = stage.Vertex ∷ stage.Fragment ∷ []
 
+-- the steps of vertex buffers, in the order of their numbers
 abbrev pub vertex_steps : List VertexStep
 vertex_steps = step.Vertex ∷ step.Instance ∷ []
 
+-- the formats of attributes, in the order of their numbers
 abbrev pub vertex_formats : List VertexFormat
 vertex_formats = vertex.Uint8x2 ∷ vertex.Uint8x4 ∷ vertex.Unorm8x4 ∷ vertex.Uint16x2 ∷ vertex.Float16x2 ∷ vertex.Float32 ∷ vertex.Uint32 ∷ vertex.Sint32 ∷ vertex.Float16x4 ∷ vertex.Float32x2 ∷ vertex.Float32x3 ∷ vertex.Float32x4 ∷ []
 
+-- the formats of indexes, in the order of their numbers
 abbrev pub index_formats : List IndexFormat
 index_formats = index.Uint16 ∷ index.Uint32 ∷ []
 
+-- the loads of attachments, in the order of their numbers
 abbrev pub load_ops : List LoadOp
 load_ops = Load ∷ Clear ∷ []
 
+-- the stores of attachments, in the order of their numbers
 abbrev pub store_ops : List StoreOp
 store_ops = Store ∷ Discard ∷ []
 
+-- the filters of error scopes, in the order of their numbers
 abbrev pub filters : List Filter
 filters = filter.Validation ∷ filter.OutOfMemory ∷ filter.Internal ∷ []

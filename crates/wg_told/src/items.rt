@@ -3,7 +3,7 @@ ghost use Rattle.std.specs.Prelude.{◌≡◌};
 ghost use Rattle.wg_told.specs.Items.{aspect_number, part_told, cells_told, sort_number, name_number, kind_number, from_told, fresh_told, host_told, place_told, blank_item, bar_told, step_told, free_told, item_told, use_told, access_told};
 
 use bitflags::Flags;
-use wg_types::parts::{Aspect, Cells, Kind, PartRun};
+use wg_types::parts::{AccessKind, Aspect, Cells, PartRun};
 use wg_types::steps::{Item, Sort, Step, StepName, StepPlace};
 use wg_types::usages::Usages;
 
@@ -179,15 +179,15 @@ fn name_number(name: StepName) -> u32
     }
 }
 
-fn kind_number(kind: Kind) -> u32
+fn kind_number(kind: AccessKind) -> u32
     ensures { result ≡ kind_number kind }
 {
     match kind {
-        Kind::Read => 1,
-        Kind::Write => 2,
-        Kind::Both => 3,
-        Kind::Drop => 4,
-        Kind::ReadDrop => 5,
+        AccessKind::Read => 1,
+        AccessKind::Write => 2,
+        AccessKind::Both => 3,
+        AccessKind::Drop => 4,
+        AccessKind::ReadDrop => 5,
     }
 }
 
@@ -313,7 +313,7 @@ pub fn use_told(part: PartRun, set: Usages) -> ToldUse
 }
 
 /// An access of a step.
-pub fn access_told(cells: Cells, kind: Kind) -> ToldAccess
+pub fn access_told(cells: Cells, kind: AccessKind) -> ToldAccess
     ensures { result ≡ access_told (cells, kind) }
 {
     ToldAccess {

@@ -10,32 +10,6 @@ use wg_limits::{LimitName, asked};
 use wg_types::NoMemory;
 use wg_types::limits::Limits;
 
-const NAMES: [LimitName; 23] = [
-    LimitName::MaxTextureDimension1d,
-    LimitName::MaxTextureDimension2d,
-    LimitName::MaxTextureDimension3d,
-    LimitName::MaxTextureArrayLayers,
-    LimitName::MaxBindGroups,
-    LimitName::MaxBindingsPerBindGroup,
-    LimitName::MaxDynamicUniformBuffersPerPipelineLayout,
-    LimitName::MaxDynamicStorageBuffersPerPipelineLayout,
-    LimitName::MaxSampledTexturesPerShaderStage,
-    LimitName::MaxSamplersPerShaderStage,
-    LimitName::MaxStorageBuffersPerShaderStage,
-    LimitName::MaxStorageTexturesPerShaderStage,
-    LimitName::MaxUniformBuffersPerShaderStage,
-    LimitName::MaxUniformBufferBindingSize,
-    LimitName::MaxStorageBufferBindingSize,
-    LimitName::MinUniformBufferOffsetAlignment,
-    LimitName::MinStorageBufferOffsetAlignment,
-    LimitName::MaxVertexBuffers,
-    LimitName::MaxVertexAttributes,
-    LimitName::MaxVertexBufferArrayStride,
-    LimitName::MaxBufferSize,
-    LimitName::MaxColorAttachments,
-    LimitName::MaxComputeWorkgroupsPerDimension,
-];
-
 /// Reads what is asked for a limit.
 #[derive(Drop)]
 struct AskedLimits;
@@ -44,7 +18,7 @@ impl Reads<FlatLimit, (LimitName, u64)> for AskedLimits {
     ghost reads = { λ _. limit_of };
 
     fn read(&self, flat: &FlatLimit) -> Option<(LimitName, u64)> {
-        let name = nth(&NAMES, flat.name)?;
+        let name = nth(LimitName::all(), flat.name)?;
         Some((name, flat.value))
     }
 }

@@ -1,16 +1,16 @@
 //! What flat structs stand for.
 ghost use Rattle.std.specs.Prelude.{◌≡◌, Option, IfOk};
-ghost use Rattle.wg_told.specs.Flats.{every, extent_of, origin_of, buffer_of, texture_of, view_of, buffer_binding_of, texture_binding_of, storage_binding_of, binding_of, layout_entry_of, used_of, compute_iface_of, render_iface_of, resource_of, group_entry_of, attribute_of, attributes_at, vertex_buffer_of, vertex_buffers_from, vertex_buffers_of, target_of, depth_with, depth_of, attached_of, color_of, depth_attached_of, depth_target_of, layout_of, spot_of, on_of};
+ghost use Rattle.wg_told.specs.Flats.{every, extent_of, origin_of, buffer_of, texture_of, view_of, buffer_binding_of, texture_binding_of, storage_binding_of, binding_of, layout_entry_of, used_of, compute_iface_of, render_iface_of, resource_of, group_entry_of, attribute_of, target_of, depth_with, depth_of, attached_of, color_of, depth_attached_of, depth_target_of, layout_of, spot_of, on_of};
 
 use crate::flats::{
     FlatAttribute, FlatBinding, FlatBuffer, FlatColor, FlatDepth, FlatExtent, FlatGroupEntry,
     FlatIfaceEntry, FlatLayoutEntry, FlatOrigin, FlatRender, FlatSpot, FlatTexelLayout,
-    FlatTexture, FlatVertexBuffer, FlatView,
+    FlatTexture, FlatView,
 };
 use crate::tables::{
     ASPECTS, BUFFER_BINDINGS, FORMATS, LEFT_OUT, LOAD_OPS, RENDER_STAGES, SAMPLE_TYPES,
-    SAMPLER_KINDS, STORAGE_ACCESSES, STORE_OPS, TEXTURE_DIMS, VERTEX_FORMATS, VERTEX_STEPS,
-    VIEW_DIMS, flag_of, maybe_nth, narrow_of, nth, wide_of,
+    SAMPLER_KINDS, STORAGE_ACCESSES, STORE_OPS, TEXTURE_DIMS, VERTEX_FORMATS, VIEW_DIMS, flag_of,
+    maybe_nth, narrow_of, nth, wide_of,
 };
 use std::alloc::Global;
 use wg_types::NoMemory;
@@ -21,7 +21,7 @@ use wg_types::handles::BufferInfo;
 use wg_types::items::Items;
 use wg_types::render::{ColorTargetOf, DepthState, DepthTargetOf};
 use wg_types::textures::{DataLayout, TextureInfo, TextureSpot, ViewAsked};
-use wg_types::vertex::{VertexAttribute, VertexBuffer};
+use wg_types::vertex::VertexAttribute;
 
 /// A reading of flat values.
 pub trait Reads<F, T> {

@@ -1,6 +1,6 @@
 -- What is written of a log is what is written of the history that it is of.
 use Rattle.std.proofs.Common.{◌≡◌, ℕ, ◌+◌, Bool, List, [], ◌∷◌, ◌++◌, codes, map, length, fold, count_by, Option, refl, ap, ap₂, sym, ◌∙◌, arith, if◌then◌else◌}
-use Rattle.wg_types.specs.declared.steps.Item.{Item}
+use Rattle.wg_trace.specs.declared.steps.Item.{Item}
 use Rattle.wg_history.specs.Entries.{Entry}
 use Rattle.wg_core.specs.declared.logged.Line.{Line}
 use Rattle.wg_core.specs.Cores.{line_of}

@@ -6,6 +6,7 @@ use Rattle.wg_history.specs.Entries.{Entry}
 use Rattle.wg_history.specs.Traces.{Trace}
 use Rattle.wg_gen.specs.Counts.{Counts, is_bar, is_clear_step, counts_of}
 
+-- what is counted of a history, as it is printed
 abbrev pub counts_text : Counts → List ℕ
 counts_text counts =
     codes "entries " ++ decimal counts.entries ++ codes " ops " ++ decimal counts.ops
@@ -17,9 +18,10 @@ abbrev pub more_text : Option ℕ → List Item → List ℕ
 more_text None trace = codes " bars " ++ decimal (count_by is_bar trace) ++ codes " clears " ++ decimal (count_by is_clear_step trace)
 more_text (Some lanes) trace = []
 
+-- the line of a generated script, as it is printed
 abbrev pub counted_text : Option ℕ → List Entry → List Item → List ℕ
 counted_text lanes history trace = counts_text (counts_of history trace) ++ more_text lanes trace ++ codes "\n"
 
--- of a history on a device that was opened so
+-- the line of a history on a device that was opened so
 abbrev pub line_of : Option ℕ → Setup → List Entry → List ℕ
 line_of lanes setup history = counted_text lanes history (Trace setup history)

@@ -1,6 +1,6 @@
 -- What is written of the lines of a log, and of a trace.
 use Rattle.std.specs.Prelude.{ℕ, Bool, is_some, List, ◌++◌, map, length, count_by, codes, Option}
-use Rattle.wg_types.specs.declared.steps.Item.{Item}
+use Rattle.wg_trace.specs.declared.steps.Item.{Item}
 use Rattle.wg_history.specs.Operations.{is_queued}
 use Rattle.wg_core.specs.declared.logged.Line.{Line}
 use Rattle.wg_readback.specs.Texts.{Told, trace_behind, history_text}
@@ -15,13 +15,15 @@ line_told line = (line.who, line.verb, line.reply)
 abbrev pub logged_text : List Line → List Item → List ℕ
 logged_text lines trace = trace_behind (history_text (map line_told lines)) trace
 
--- whether the line is of an entry that issued an operation, or of one with a fault
+-- whether an entry that was logged issued an operation
 abbrev pub issued : Line → Bool
 issued line = is_queued line.reply.answer
 
+-- whether an entry has a fault
 abbrev pub faulted : Line → Bool
 faulted line = is_some line.reply.fault
 
+-- what is counted of entries that were logged and of a trace
 abbrev pub logged_counts : List Line → List Item → Counts
 logged_counts lines trace = record { entries = length lines; ops = count_by issued lines; faults = count_by faulted lines; frees = count_by is_free trace }
 

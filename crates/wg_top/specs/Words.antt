@@ -16,6 +16,7 @@ words_for Check = codes "check" ∷ []
 words_for (Generate count None) = codes "gen" ∷ decimal count ∷ []
 words_for (Generate count (Some lanes)) = codes "gen" ∷ decimal count ∷ decimal lanes ∷ []
 
+-- A job may be asked for.
 abbrev pub MayAsk : Job → Type 0
 MayAsk Run = Unit {0}
 MayAsk Check = Unit {0}
@@ -25,6 +26,7 @@ MayAsk (Generate count lanes) = MayGenerate count (lanes_in lanes)
 abbrev pub Asks : List (List ℕ) → Job → Type 0
 Asks words job = (words ≡ words_for job) × MayAsk job
 
+-- Words ask for no job.
 abbrev pub AsksNothing : List (List ℕ) → Type 0
 AsksNothing words = (job : Job) → Asks words job → ⊥
 

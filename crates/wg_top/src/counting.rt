@@ -1,5 +1,5 @@
 //! The line of a generated script.
-ghost use Rattle.std.specs.Prelude.{◌≡◌, length, count_by};
+ghost use Rattle.std.specs.Prelude.{◌≡◌, count_by};
 ghost use Rattle.wg_print.specs.Printing.{Puts, Written};
 ghost use Rattle.wg_print.specs.Seen.{seen, reference};
 ghost use Rattle.wg_gen.specs.Counts.{is_free, is_bar, is_clear_step};

@@ -188,12 +188,6 @@ module _ {S E : Type 0} (who : E → ℕ) (stands : S → S → List E → Type 
   in_ticket log t sv hs u Inside a h = a.1
   in_ticket log t sv hs u Counted a h = a.1
 
-  in_width : (log : List E) (t sv : ℕ) (hs : Homes) (u : V) (st : Stage) → At log t sv hs u st → IsIn st → 0 < width u
-  in_width log t sv hs u Idle a h = absurd h
-  in_width log t sv hs u Waiting a h = absurd h
-  in_width log t sv hs u Inside a h = a.0
-  in_width log t sv hs u Counted a h = a.0
-
   -- where a seat waits for the ticket that is served, the state is at home
   at_home : (s : St) (r : K s) (id : ℕ) (v : V) → get_elem? s.views id ≡ some v → v.stage ≡ Waiting → v.ticket ≡ r.serving → (x : S) × (s.homes ≡ some (Some x) ∷ []) × stands opening x r.log × (length r.log ≤ r.serving)
   at_home s r id v at st turn = ⊎_elim (λ h. h)

@@ -39,7 +39,7 @@ Owns who n (o ∷ os) log = (made_by who n log ≡ o) × Owns who (suc n) os log
 abbrev pub longer : {E : Type 0} → List E → List E → List E
 longer xs ys = if nat_lt (length xs) (length ys) then ys else xs
 
--- the other one
+-- the shorter of two lists, or the second of two that are equally long
 abbrev pub shorter : {E : Type 0} → List E → List E → List E
 shorter xs ys = if nat_lt (length xs) (length ys) then xs else ys
 

@@ -1,6 +1,6 @@
-//! A turn lock: callers draw tickets, and each in its turn takes the state out of the lock, calls
-//! it, and puts it back. The lock's contracts say what a caller knows of the one history that the
-//! state keeps.
+//! A turn lock: callers draw tickets, and each in its turn calls the state where it lies, and passes
+//! the turn on before it drops what the call is done with. The lock's contracts say what a caller
+//! knows of the one history that the state keeps.
 #![tactic(auto)]
 
 mod lock;

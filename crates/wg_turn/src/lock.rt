@@ -1,5 +1,5 @@
 //! The lock and its passes.
-ghost use Rattle.std.specs.Prelude.{◌≡◌, ◌+◌, ◌^◌, ◌<◌, ◌≤◌, ◌++◌, [], ◌∷◌, length, Some, IsSome, IfOk, IfErr};
+ghost use Rattle.std.specs.Prelude.{◌≡◌, ◌+◌, ◌^◌, ◌<◌, ◌++◌, [], ◌∷◌, length, Some, IsSome, IfOk, IfErr};
 ghost use mathlib.Core.List.{IsPrefix};
 ghost use Rattle.wg_turn.specs.Entries.{entry, who_of, EndsWith, Stands, Lawful, Answers};
 ghost use Rattle.wg_turn.specs.Turns.{IsIn, Entered, Sound, idle, inside, counted};

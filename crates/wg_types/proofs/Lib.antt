@@ -1,4 +1,3 @@
 pub mod RefLemmas
 pub mod WordLemmas
 pub mod WantedLemmas
-pub mod Beginnings

@@ -1,6 +1,8 @@
 -- Words and their texts.
 use Rattle.std.proofs.Common.{◌≡◌, refl, Some}
-use Rattle.wg_types.specs.Words.{word_text, word_of}
+use Rattle.wg_trace.specs.declared.steps.StepName.{StepName}
+use Rattle.wg_trace.specs.declared.steps.StepName.TheVariants as name
+use Rattle.wg_types.specs.Words.{word_text, word_of, IsSpelledAsItsCall}
 use Rattle.wg_types.specs.declared.words.Word.{Word}
 use Rattle.wg_types.specs.declared.words.Word.TheVariants.{CreateBuffer, CreateTexture, CreateView, CreateSampler, CreateBindGroupLayout, CreatePipelineLayout, CreateBindGroup, CreateComputePipeline, CreateRenderPipeline, GetBindGroupLayout, CreateQuerySet, CreateEncoder, CreateBundleEncoder, BeginComputePass, BeginRenderPass, End, Finish, FinishBundle, PushDebugGroup, PopDebugGroup, Submit, WriteBuffer, WriteTexture, MapAsync, Unmap, WorkDone, Complete, Destroy, Drop, PushErrorScope, PopErrorScope, Lose, CopyBufferToBuffer, CopyBufferToTexture, CopyTextureToBuffer, CopyTextureToTexture, ClearBuffer, ResolveQuerySet, SetPipeline, SetBindGroup, SetVertexBuffer, SetIndexBuffer, Dispatch, DispatchIndirect, BeginOcclusionQuery, EndOcclusionQuery, ExecuteBundles, Draw, DrawIndexed, DrawIndirect, DrawIndexedIndirect, CreateCanvas, ConfigureCanvas, CurrentTexture, Present}
 
@@ -61,3 +63,18 @@ text_names CreateCanvas = refl
 text_names ConfigureCanvas = refl
 text_names CurrentTexture = refl
 text_names Present = refl
+
+pub steps_are_spelled : (step : StepName) → IsSpelledAsItsCall step
+steps_are_spelled name.Clear = tt
+steps_are_spelled name.WriteBuffer = refl
+steps_are_spelled name.WriteTexture = refl
+steps_are_spelled name.CopyBufferToBuffer = refl
+steps_are_spelled name.CopyBufferToTexture = refl
+steps_are_spelled name.CopyTextureToBuffer = refl
+steps_are_spelled name.CopyTextureToTexture = refl
+steps_are_spelled name.ClearBuffer = refl
+steps_are_spelled name.ResolveQuerySet = refl
+steps_are_spelled name.Dispatch = refl
+steps_are_spelled name.RenderPass = tt
+steps_are_spelled name.HostRead = tt
+steps_are_spelled name.HostWrite = tt

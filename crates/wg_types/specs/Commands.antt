@@ -1,4 +1,5 @@
--- Where commands may stand, which begin and end a pass, and the objects that they name.
+-- Where commands may stand, which begin and end a pass, and the objects that they name (WebGPU, "Command Encoding", "Compute
+-- Passes", "Render Passes", "Programmable Passes", "Bundles" and "Debug Markers").
 use Rattle.std.specs.Prelude.{ℕ, Bool, true, false, List, [], ◌∷◌, map, Option, Some, None}
 use Rattle.std.specs.List.{list_any}
 use Rattle.wg_types.specs.Handles.{HandleValue}
@@ -34,7 +35,10 @@ serves_at Bundle = wanted.Binding ∷ wanted.Drawing ∷ wanted.Recording ∷ []
 abbrev pub stands : Wanted → CommandPlace → Bool
 stands asked place = list_any (is_wanted asked) (serves_at place)
 
--- what a command asks of what it stands on, where that has a name
+-- what a command asks of what it stands on: an encoder for the begin of a pass, copies, clears and resolves of query sets; a
+-- pass for an end; a pass or a bundle encoder for what sets a pipeline or a bind group; a compute pass for dispatches; a
+-- render pass or a bundle encoder for what sets a vertex or index buffer and for draws; a render pass for occlusion queries
+-- and bundles that are executed; any of these for debug groups
 abbrev pub place_wanted : {R : Type 0} → CommandOf R → Wanted
 place_wanted BeginComputePass = wanted.Encoder
 place_wanted (BeginRenderPass begin) = wanted.Encoder
@@ -101,6 +105,7 @@ kind_begun_by brackets.PushGroup = None
 kind_begun_by brackets.PopGroup = None
 kind_begun_by brackets.Neither = None
 
+-- the kind of the pass that a command begins, if it begins one
 abbrev pub kind_begun : {R : Type 0} → CommandOf R → Option Kind
 kind_begun command = kind_begun_by (bracket command)
 
@@ -113,6 +118,7 @@ begins_pass_by brackets.PushGroup = false
 begins_pass_by brackets.PopGroup = false
 begins_pass_by brackets.Neither = false
 
+-- whether a command begins a pass
 abbrev pub is_begin : {R : Type 0} → CommandOf R → Bool
 is_begin command = begins_pass_by (bracket command)
 
@@ -125,6 +131,7 @@ ends_pass_by brackets.PushGroup = false
 ends_pass_by brackets.PopGroup = false
 ends_pass_by brackets.Neither = false
 
+-- whether a command ends a pass
 abbrev pub is_end : {R : Type 0} → CommandOf R → Bool
 is_end command = ends_pass_by (bracket command)
 
@@ -159,6 +166,7 @@ pub data Act (R : Type 0) : Type 0 where
   executes : (bundles : List R) → Act R
   neither : Act R
 
+-- what a command is to render passes: it begins one with these attachments, executes these bundles, or neither
 abbrev pub act : {R : Type 0} → CommandOf R → Act R
 act BeginComputePass = neither
 act (BeginRenderPass begin) = begins begin
@@ -194,10 +202,13 @@ begin_in (occludes call) = None
 begin_in (executes bundles) = None
 begin_in neither = None
 
+-- the attachments with which a command begins a render pass, if it begins one
 abbrev pub render_begun : {R : Type 0} → CommandOf R → Option (RenderBeginOf R)
 render_begun command = begin_in (act command)
 
--- the objects that a command names, in the order of its keys, with what is wanted of each
+-- the objects that a command names, in the order of its keys, each with the kind that it has to be of: of a copy the source
+-- and then the target, of a beginRenderPass the views that it attaches and then its query set, of a resolveQuerySet the query
+-- set and then the buffer
 abbrev pub named : {R : Type 0} → CommandOf R → List (R × Wanted)
 named BeginComputePass = []
 named (BeginRenderPass begin) = begin_named begin
@@ -224,7 +235,7 @@ named (BeginOcclusionQuery index) = []
 named EndOcclusionQuery = []
 named (ExecuteBundles bundles) = all_wanted wanted.Bundle bundles
 
--- the same in a call on something of a kind, where a pipeline has to be one of such passes
+-- the objects that a command on something of a kind names, where a pipeline has to be one of such passes
 abbrev pub named_on : {R : Type 0} → Kind → CommandOf R → List (R × Wanted)
 named_on place command = map (λ object. (object.0, within place object.1)) (named command)
 

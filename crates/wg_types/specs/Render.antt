@@ -1,4 +1,4 @@
--- The views and the query set that the begin of a render pass names.
+-- The views and the query set that the begin of a render pass names (WebGPU, "Render Pass Encoder Creation").
 use Rattle.std.specs.Prelude.{List, [], ◌∷◌, ◌++◌, map, Option, Some, None, option_map}
 use Rattle.std.specs.List.{flat_map}
 use Rattle.wg_types.specs.Refs.{maybe_wanted}
@@ -8,10 +8,12 @@ use Rattle.wg_types.specs.declared.render.ColorTargetOf.{ColorTargetOf}
 use Rattle.wg_types.specs.declared.render.DepthTargetOf.{DepthTargetOf}
 use Rattle.wg_types.specs.declared.render.RenderBeginOf.{RenderBeginOf}
 
+-- the views that a color attachment names: its own, and that to which it resolves, if any
 abbrev pub color_named : {R : Type 0} → Option (ColorTargetOf R) → List (R × Wanted)
 color_named None = []
 color_named (Some target) = (target.view, wanted.View) ∷ maybe_wanted wanted.View target.resolve
 
+-- the view that a depth attachment names
 abbrev pub depth_named : {R : Type 0} → Option (DepthTargetOf R) → List (R × Wanted)
 depth_named None = []
 depth_named (Some target) = (target.view, wanted.View) ∷ []
@@ -21,14 +23,15 @@ depth_named (Some target) = (target.view, wanted.View) ∷ []
 abbrev pub targets_named : {R : Type 0} → RenderBeginOf R → List (R × Wanted)
 targets_named begin = flat_map color_named begin.colors ++ depth_named begin.depth
 
--- and then the query set
+-- the objects that the begin of a render pass names: the views that it attaches, and then its query set
 abbrev pub begin_named : {R : Type 0} → RenderBeginOf R → List (R × Wanted)
 begin_named begin = targets_named begin ++ maybe_wanted wanted.Queries begin.queries
 
--- the same with other objects
+-- a color attachment with other views
 abbrev pub map_color : {R S : Type 0} → (R → S) → ColorTargetOf R → ColorTargetOf S
 map_color f target = record { view = f target.view; depth_slice = target.depth_slice; resolve = option_map f target.resolve; load = target.load; store = target.store }
 
+-- a depth attachment with another view
 abbrev pub map_depth : {R S : Type 0} → (R → S) → DepthTargetOf R → DepthTargetOf S
 map_depth f target =
     record {
@@ -41,5 +44,6 @@ map_depth f target =
       stencil_read_only = target.stencil_read_only;
     }
 
+-- the begin of a render pass with other views and another query set
 abbrev pub map_begin : {R S : Type 0} → (R → S) → RenderBeginOf R → RenderBeginOf S
 map_begin f begin = record { colors = map (option_map (map_color f)) begin.colors; depth = option_map (map_depth f) begin.depth; queries = option_map f begin.queries }

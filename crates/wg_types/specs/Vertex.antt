@@ -5,6 +5,7 @@ use Rattle.wg_types.specs.declared.vertex.VertexFormat.TheVariants.{Uint8x2, Uin
 use Rattle.wg_types.specs.declared.vertex.IndexFormat.{IndexFormat}
 use Rattle.wg_types.specs.declared.vertex.IndexFormat.TheVariants as index
 
+-- the bytes of an attribute of a format
 abbrev pub vertex_bytes : VertexFormat → ℕ
 vertex_bytes Uint8x2 = 2
 vertex_bytes Uint8x4 = 4
@@ -19,6 +20,7 @@ vertex_bytes Float32x2 = 8
 vertex_bytes Float32x3 = 12
 vertex_bytes Float32x4 = 16
 
+-- the bytes of an index of a format
 abbrev pub index_bytes : IndexFormat → ℕ
 index_bytes index.Uint16 = 2
 index_bytes index.Uint32 = 4

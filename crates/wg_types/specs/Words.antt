@@ -1,8 +1,11 @@
 -- The words that name calls: the one table of how they are spelled.
-use Rattle.std.specs.Prelude.{ℕ, List, [], ◌∷◌, bytes_eq, codes, Option}
+use Rattle.std.specs.Prelude.{◌≡◌, ℕ, List, [], ◌∷◌, bytes_eq, codes, Option, Some, None, IfSome}
 use Rattle.std.specs.List.{find}
-use Rattle.wg_types.specs.declared.steps.StepName.{StepName}
-use Rattle.wg_types.specs.declared.steps.StepName.TheVariants as name
+use Rattle.wg_trace.specs.declared.steps.StepName.{StepName}
+use Rattle.wg_trace.specs.declared.steps.StepName.TheVariants as name
+use Rattle.wg_trace.specs.StepNames.{step_name_text}
+use Rattle.wg_types.specs.declared.words.Verb.{Verb}
+use Rattle.wg_types.specs.declared.words.Verb.TheVariants.{Call, Late}
 use Rattle.wg_types.specs.declared.words.Word.{Word}
 use Rattle.wg_types.specs.declared.words.Word.TheVariants.{CreateBuffer, CreateTexture, CreateView, CreateSampler, CreateBindGroupLayout, CreatePipelineLayout, CreateBindGroup, CreateComputePipeline, CreateRenderPipeline, GetBindGroupLayout, CreateQuerySet, CreateEncoder, CreateBundleEncoder, BeginComputePass, BeginRenderPass, End, Finish, FinishBundle, PushDebugGroup, PopDebugGroup, Submit, WriteBuffer, WriteTexture, MapAsync, Unmap, WorkDone, Complete, Destroy, Drop, PushErrorScope, PopErrorScope, Lose, CopyBufferToBuffer, CopyBufferToTexture, CopyTextureToBuffer, CopyTextureToTexture, ClearBuffer, ResolveQuerySet, SetPipeline, SetBindGroup, SetVertexBuffer, SetIndexBuffer, Dispatch, DispatchIndirect, BeginOcclusionQuery, EndOcclusionQuery, ExecuteBundles, Draw, DrawIndexed, DrawIndirect, DrawIndexedIndirect, CreateCanvas, ConfigureCanvas, CurrentTexture, Present}
 
@@ -80,18 +83,27 @@ words =
 unfoldable pub word_of : List ℕ → Option Word
 word_of s = find (λ w. bytes_eq (word_text w) s) words
 
--- a step that a call asks for has the call's word
-abbrev pub step_name_text : StepName → List ℕ
-step_name_text name.Clear = codes "clear"
-step_name_text name.WriteBuffer = word_text WriteBuffer
-step_name_text name.WriteTexture = word_text WriteTexture
-step_name_text name.CopyBufferToBuffer = word_text CopyBufferToBuffer
-step_name_text name.CopyBufferToTexture = word_text CopyBufferToTexture
-step_name_text name.CopyTextureToBuffer = word_text CopyTextureToBuffer
-step_name_text name.CopyTextureToTexture = word_text CopyTextureToTexture
-step_name_text name.ClearBuffer = word_text ClearBuffer
-step_name_text name.ResolveQuerySet = word_text ResolveQuerySet
-step_name_text name.Dispatch = word_text Dispatch
-step_name_text name.RenderPass = codes "renderPass"
-step_name_text name.HostRead = codes "hostRead"
-step_name_text name.HostWrite = codes "hostWrite"
+-- the event of an entry: the word of its call, or that it came too late
+abbrev pub verb_text : Verb → List ℕ
+verb_text (Call word) = word_text word
+verb_text Late = codes "late"
+
+-- the call that asks for a step, if one does by itself
+abbrev pub step_word : StepName → Option Word
+step_word name.Clear = None
+step_word name.WriteBuffer = Some WriteBuffer
+step_word name.WriteTexture = Some WriteTexture
+step_word name.CopyBufferToBuffer = Some CopyBufferToBuffer
+step_word name.CopyBufferToTexture = Some CopyBufferToTexture
+step_word name.CopyTextureToBuffer = Some CopyTextureToBuffer
+step_word name.CopyTextureToTexture = Some CopyTextureToTexture
+step_word name.ClearBuffer = Some ClearBuffer
+step_word name.ResolveQuerySet = Some ResolveQuerySet
+step_word name.Dispatch = Some Dispatch
+step_word name.RenderPass = None
+step_word name.HostRead = None
+step_word name.HostWrite = None
+
+-- a step that a call asks for is spelled as the call
+abbrev pub IsSpelledAsItsCall : StepName → Type 0
+IsSpelledAsItsCall name = IfSome (step_word name) (λ word. step_name_text name ≡ word_text word)

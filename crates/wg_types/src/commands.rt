@@ -1,7 +1,7 @@
 //! The commands of recorders, and where they stand.
 ghost use Rattle.std.specs.Prelude.{◌≡◌, ◌++◌, IfOk, OnOk, option_copied};
 ghost use Rattle.std.specs.List.{list_any, flat_map};
-ghost use Rattle.wg_types.specs.Added.{BeginsWith};
+ghost use Rattle.wg_trace.specs.Added.{BeginsWith};
 ghost use Rattle.wg_types.specs.Commands.{fits, stands, place_wanted, kind_begun, bracket, is_begin, is_end, render_begun, named, map_refs, first_of};
 
 use crate::NoMemory;
@@ -328,7 +328,7 @@ impl<R> CommandOf<R> {
     }
 
     /// Gathers what there is of the objects that the command names, in order.
-    #[tactic(auto, using(crate::proofs::Beginnings::begins_self))]
+    #[tactic(auto, using(wg_trace::proofs::Beginnings::begins_self))]
     pub fn gather<T, G: Gather<R, T>>(&self, gather: &G, found: &mut Vec<T>) -> Result<(), NoMemory>
         ensures gathered { OnOk result (found.new.items ≡ found.old.items ++ flat_map (G.gathers gather.now) (named self.now)) }
         ensures begins { BeginsWith found.new.items found.old.items }

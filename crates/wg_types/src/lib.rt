@@ -1,4 +1,4 @@
-//! Plain data: objects and what is known of them, bindings, parts and cells of memory, steps, traces, replies.
+//! Plain data: objects and what is known of them, bindings, commands and calls; that of traces is handed on.
 #![tactic(auto)]
 
 pub mod bindings;
@@ -8,21 +8,18 @@ pub mod commands;
 pub mod formats;
 pub mod groups;
 pub mod handles;
-pub mod items;
 pub mod limits;
 pub mod mappings;
-pub mod parts;
 pub mod refs;
 pub mod render;
-pub mod replies;
 pub mod requests;
 pub mod same;
 pub mod shared;
-pub mod steps;
 pub mod textures;
-pub mod usages;
 pub mod vertex;
 pub mod wanted;
 pub mod words;
+pub mod writes;
 
 pub use wg_entry::NoMemory;
+pub use wg_trace::{items, parts, replies, steps, usages};

@@ -1,7 +1,7 @@
 //! Render pipelines, and what render passes begin with.
 ghost use Rattle.std.specs.Prelude.{◌≡◌, ◌++◌, IfOk, OnOk, map, option_map};
 ghost use Rattle.std.specs.List.{flat_map};
-ghost use Rattle.wg_types.specs.Added.{BeginsWith};
+ghost use Rattle.wg_trace.specs.Added.{BeginsWith};
 ghost use Rattle.wg_types.specs.Refs.{first_of, maybe_wanted};
 ghost use Rattle.wg_types.specs.Render.{color_named, depth_named, targets_named, begin_named, map_color, map_depth, map_begin};
 
@@ -205,7 +205,7 @@ fn first_begun<R, E: Drop, A: Ask<R, E>>(
 }
 
 /// Gathers what there is of the views of a color attachment, if there is one.
-#[tactic(auto, using(crate::proofs::RefLemmas::flat_joined, crate::proofs::Beginnings::begins_self, crate::proofs::Beginnings::begins_then))]
+#[tactic(auto, using(crate::proofs::RefLemmas::flat_joined, wg_trace::proofs::Beginnings::begins_self, wg_trace::proofs::Beginnings::begins_then))]
 fn gather_color<R, T, G: Gather<R, T>>(
     gather: &G,
     found: &mut Vec<T>,
@@ -224,7 +224,7 @@ fn gather_color<R, T, G: Gather<R, T>>(
 }
 
 /// Gathers what there is of the views of color attachments.
-#[tactic(auto, using(crate::proofs::RefLemmas::flat_joined, crate::proofs::Beginnings::begins_self))]
+#[tactic(auto, using(crate::proofs::RefLemmas::flat_joined, wg_trace::proofs::Beginnings::begins_self))]
 fn gather_colors<R, T, G: Gather<R, T>>(
     gather: &G,
     found: &mut Vec<T>,
@@ -240,7 +240,7 @@ fn gather_colors<R, T, G: Gather<R, T>>(
 }
 
 /// Gathers what there is of the view of a depth attachment, if there is one.
-#[tactic(auto, using(crate::proofs::Beginnings::begins_self))]
+#[tactic(auto, using(wg_trace::proofs::Beginnings::begins_self))]
 fn gather_depth<R, T, G: Gather<R, T>>(
     gather: &G,
     found: &mut Vec<T>,
@@ -256,7 +256,7 @@ fn gather_depth<R, T, G: Gather<R, T>>(
 }
 
 /// Gathers what there is of the views of all attachments.
-#[tactic(auto, using(crate::proofs::RefLemmas::flat_joined, crate::proofs::Beginnings::begins_then))]
+#[tactic(auto, using(crate::proofs::RefLemmas::flat_joined, wg_trace::proofs::Beginnings::begins_then))]
 fn gather_targets<R, T, G: Gather<R, T>>(
     gather: &G,
     found: &mut Vec<T>,
@@ -271,7 +271,7 @@ fn gather_targets<R, T, G: Gather<R, T>>(
 }
 
 /// Gathers what there is of the views of all attachments, and then of the query set, if there is one.
-#[tactic(auto, using(crate::proofs::RefLemmas::flat_joined, crate::proofs::Beginnings::begins_then))]
+#[tactic(auto, using(crate::proofs::RefLemmas::flat_joined, wg_trace::proofs::Beginnings::begins_then))]
 fn gather_begun<R, T, G: Gather<R, T>>(
     gather: &G,
     found: &mut Vec<T>,

@@ -1,6 +1,7 @@
 //! The words that name calls, in scripts and in reports.
 ghost use Rattle.std.specs.Prelude.{◌≡◌, Some};
-ghost use Rattle.wg_types.specs.Words.{word_text, word_of};
+ghost use Rattle.wg_types.specs.Words.{word_text, word_of, verb_text, IsSpelledAsItsCall};
+ghost use Rattle.wg_trace.specs.declared.steps.StepName.{StepName};
 ghost use Rattle.wg_types.specs.declared.words.Word.{Word};
 
 /// A call of a script, by its word.
@@ -187,11 +188,32 @@ impl Word {
     }
 
     /// The call that a text names. The text of each word names just that call.
-    #[tactic(auto, using(crate::proofs::WordLemmas::text_names), unfolding(crate::specs::Words::word_of))]
+    #[tactic(auto, using(crate::proofs::WordLemmas::text_names, crate::proofs::WordLemmas::steps_are_spelled), unfolding(crate::specs::Words::word_of))]
     pub fn named(text: &str) -> Option<Word>
         ensures found { result ≡ word_of text.now }
         ensures each { (w : Word) → word_of (word_text w) ≡ Some w }
+        // Steps are spelled as the calls that ask for them.
+        ensures steps { (step : StepName) → IsSpelledAsItsCall step }
     {
         WORDS.iter().copied().find(|word| word.as_str() == text)
+    }
+}
+
+/// The sorts of events: calls, and the recording call that comes after the end of its encoder or pass.
+#[derive(Clone, Copy)]
+pub enum Verb {
+    Call(Word),
+    Late,
+}
+
+impl Verb {
+    /// The text of the verb, as it stands in the line of an entry.
+    pub fn as_str(self) -> &'static str
+        ensures { result.now ≡ verb_text self }
+    {
+        match self {
+            Verb::Call(word) => word.as_str(),
+            Verb::Late => "late",
+        }
     }
 }

@@ -1,6 +1,6 @@
 use Rattle.std.proofs.Common.{nat_le, rules}
 use Rattle.std.proofs.lemmas.List.Sorted.{IsPartitionPoint-from_clause, IsPartitionedBy-leb}
-use Rattle.wg_types.specs.declared.replies.Waiting.{Waiting}
+use Rattle.wg_trace.specs.declared.replies.Waiting.{Waiting}
 use Rattle.wg_queue.proofs.Due.{still_dropped}
 use Rattle.wg_queue.proofs.count_due.Goals as goal
 

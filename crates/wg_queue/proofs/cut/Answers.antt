@@ -1,6 +1,6 @@
 use Rattle.std.proofs.Common.{◌≡◌, ◌-◌, ◌++◌, take, drop, length, ap, ◌∙◌, rules}
 use Rattle.std.specs.Prelude.{List}
-use Rattle.wg_types.specs.declared.replies.Waiting.{Waiting}
+use Rattle.wg_trace.specs.declared.replies.Waiting.{Waiting}
 use Rattle.wg_queue.proofs.Due.{rotated_cut}
 use Rattle.wg_queue.proofs.cut.Goals as goal
 

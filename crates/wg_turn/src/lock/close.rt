@@ -45,7 +45,7 @@ impl<S> Closed<S> {
 }
 
 impl<S: Logged> TurnLock<S> {
-    ghost use Rattle.wg_turn.specs.Passes.{AreInOrder, IsGathered, IsSeatOf, IsWhole, callers_of, front_of, opened_with};
+    ghost use Rattle.wg_turn.specs.Passes.{AreInOrder, IsGathered, IsSeatOf, IsWhole, callers_of, opened_with};
     ghost use Rattle.wg_turn.specs.Closings.{entries_of, passes_of, state_of};
 
     /// Ends the lock, with all its passes in the order of their numbers. It takes no memory and

@@ -8,7 +8,7 @@ use crate::logged::Logged;
 use crate::turns::{Learn, Tell};
 
 impl<S: Logged> TurnLock<S> {
-    ghost use Rattle.wg_turn.specs.Passes.{IsPassOf, IsSound, IsSamePass, front_of, own_of, seen_since};
+    ghost use Rattle.wg_turn.specs.Passes.{IsPassOf, IsSound, IsSamePass, front_of, seen_since};
 
     /// Lets two passes tell each other what they have seen. It takes no memory and waits for
     /// nobody.

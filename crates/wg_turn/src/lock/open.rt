@@ -1,5 +1,5 @@
 //! How a lock is opened.
-ghost use Rattle.std.specs.Prelude.{◌≡◌, ◌-◌, ◌<◌, ◌≤◌, [], ◌∷◌, length, vec_len, vec_capacity, replicate, IfOk};
+ghost use Rattle.std.specs.Prelude.{◌≡◌, ◌-◌, ◌<◌, ◌≤◌, [], vec_len, vec_capacity, replicate, IfOk};
 ghost use Rattle.wg_turn.specs.Turns.{first_view};
 
 use super::{Pass, TurnLock};
@@ -12,7 +12,7 @@ use std::snapshot::Snapshot;
 use wg_entry::{Entry, NoMemory};
 
 impl<S: Logged> TurnLock<S> {
-    ghost use Rattle.wg_turn.specs.Passes.{AreFresh, AreSound, FrontsAre, IsPassOf, IsSeatOf, callers_of, opened_with};
+    ghost use Rattle.wg_turn.specs.Passes.{AreFresh, AreSound, FrontsAre, IsSeatOf, callers_of, opened_with};
 
     /// A lock, and its passes in the order of their numbers. Without memory the state is dropped.
     pub fn open(

@@ -1,5 +1,5 @@
 use Rattle.std.proofs.Common.{◌≡◌, ◌++◌, drop, map}
-use Rattle.wg_types.specs.Added.{BeginsWith}
+use Rattle.wg_trace.specs.Added.{BeginsWith}
 use Rattle.wg_orders.specs.Trace.{bar}
 use Rattle.wg_bars.proofs.barriers.push_bars.Given as goal
 

@@ -1,5 +1,5 @@
 use Rattle.std.proofs.Common.{rules, ◌≡◌, List, [], ◌∷◌, ◌++◌, map, reverse, ap, subst}
-use Rattle.wg_types.specs.declared.steps.Deed.{Deed}
+use Rattle.wg_trace.specs.declared.steps.Deed.{Deed}
 use Rattle.wg_model.specs.Touches.{placed}
 use Rattle.wg_history.specs.Objects.{deeds_at}
 use Rattle.wg_history.specs.Steps.{steps_at}

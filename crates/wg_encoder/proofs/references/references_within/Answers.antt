@@ -14,7 +14,7 @@ own kept = map (λ (object : HandleValue × Wanted). object.0.reference) (named 
 pub loop-kept-preserved : goal.loop-kept-preserved
 loop-kept-preserved c =
     let rest = references_within (drop (c.loop-kept.kept-index + 1) c.args.commands.now) in
-    rw c.in_ok-push_named.ensures (append_assoc c.loop-kept.found.items (own c.kept-item.result) rest
+    rw c.in_ok-push_references.ensures (append_assoc c.loop-kept.found.items (own c.kept-item.result) rest
     ∙ (ap (λ kept. c.loop-kept.found.items ++ (own kept ++ rest)) c.kept-item.is
     ∙ (ap (λ found. c.loop-kept.found.items ++ found) (sym (at_drop_more references_within c.args.commands.now c.loop-kept.kept-index c.kept-item.result c.loop-kept-test.true))
     ∙ c.loop-kept.invariant)))

@@ -1,6 +1,6 @@
 use Rattle.std.proofs.Common.{◌≡◌, ◌++◌, take}
 use Rattle.std.specs.List.{flat_map}
-use Rattle.wg_types.specs.Added.{BeginsWith}
+use Rattle.wg_trace.specs.Added.{BeginsWith}
 use Rattle.wg_types.specs.declared.bundles.BundleTouch.{BundleTouch}
 use Rattle.wg_encoder.specs.Uses.{cells_uses}
 use Rattle.wg_encoder.proofs.uses.push_touches.Given as goal

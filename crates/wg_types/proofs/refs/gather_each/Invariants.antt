@@ -1,6 +1,6 @@
 use Rattle.std.proofs.Common.{◌≡◌, ◌++◌, take}
 use Rattle.std.specs.List.{flat_map}
-use Rattle.wg_types.specs.Added.{BeginsWith}
+use Rattle.wg_trace.specs.Added.{BeginsWith}
 use Rattle.wg_types.specs.Refs.{all_wanted}
 use Rattle.wg_types.proofs.refs.gather_each.Given as goal
 

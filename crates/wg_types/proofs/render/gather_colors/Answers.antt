@@ -1,6 +1,6 @@
 use Rattle.std.proofs.Common.{arith}
 use Rattle.std.proofs.lemmas.Grind.{common_steps}
-use Rattle.wg_types.proofs.Beginnings.{begins_then}
+use Rattle.wg_trace.proofs.Beginnings.{begins_then}
 use Rattle.wg_types.proofs.render.gather_colors.Goals as goal
 
 pub returns-in_err-gather_color-clause-begins : goal.returns-in_err-gather_color-clause-begins

@@ -1,6 +1,6 @@
 use Rattle.std.proofs.Common.{◌≡◌, ◌++◌, take}
 use Rattle.std.specs.List.{flat_map}
-use Rattle.wg_types.specs.Added.{BeginsWith}
+use Rattle.wg_trace.specs.Added.{BeginsWith}
 use Rattle.wg_types.specs.Render.{color_named}
 use Rattle.wg_types.proofs.render.gather_colors.Given as goal
 

@@ -1,7 +1,7 @@
 use Rattle.std.proofs.Common.{◌≡◌, List, [], ◌∷◌, ◌++◌, map, sym, ap, ap₂, ◌∙◌}
 use Rattle.std.proofs.lemmas.List.{map-append}
-use Rattle.wg_types.specs.declared.replies.Reply.{Reply}
-use Rattle.wg_types.specs.declared.replies.Verb.{Verb}
+use Rattle.wg_trace.specs.declared.replies.Reply.{Reply}
+use Rattle.wg_types.specs.declared.words.Verb.{Verb}
 use Rattle.wg_history.specs.Entries.{Entry}
 use Rattle.wg_core.specs.declared.logged.Line.{Line}
 use Rattle.wg_core.specs.Cores.{line_of}

@@ -1,6 +1,6 @@
 use Rattle.std.proofs.Common.{◌≡◌, ℕ, List, ◌++◌, ◌∙◌, ap, map, rules, arith}
 use Rattle.wg_orders.specs.Trace.{free}
-use Rattle.wg_types.specs.declared.steps.Sort.{Sort}
+use Rattle.wg_trace.specs.declared.steps.Sort.{Sort}
 use Rattle.wg_life.specs.Lives.{releases}
 use Rattle.wg_life.specs.Waits.{freed, IsGone}
 use Rattle.wg_life.proofs.Gone.{gone_released, freed_releases}

@@ -1,5 +1,5 @@
 use Rattle.std.proofs.Common.{◌∙◌, sym, ap, refl, ◌∷◌}
-use Rattle.wg_types.specs.declared.steps.Item.TheVariants as item
+use Rattle.wg_trace.specs.declared.steps.Item.TheVariants as item
 use Rattle.wg_readtrace.specs.declared.line.Line.{Line}
 use Rattle.wg_readtrace.specs.declared.line.Line.TheVariants.{Bar, Free}
 use Rattle.wg_readtrace.specs.Drafts.{items_with}
