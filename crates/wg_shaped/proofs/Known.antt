@@ -1,5 +1,5 @@
 -- What is known of the touches of a bundle gives parts and cells what these give them.
-use Rattle.std.proofs.Common.{◌≡◌, ℕ, ◌<◌, Bool, true, false, not, ◌&&◌, ◌||◌, ◌==◌, List, [], ◌∷◌, ◌++◌, map, filter, Option, Some, None, is_some, refl, ap, ap₂, sym, ◌∙◌, subst, arith, bit_or, nat_lt, nat_le, if◌then◌else◌, cond, true≢false, ◌⊎◌, inl, inr, IsPermutation}
+use Rattle.std.proofs.Common.{◌≡◌, ℕ, ◌<◌, Bool, true, false, not, ◌&&◌, ◌||◌, ◌==◌, List, [], ◌∷◌, ◌++◌, map, filter, Some, None, is_some, refl, ap, ap₂, sym, ◌∙◌, subst, arith, bit_or, nat_lt, nat_le, if◌then◌else◌, cond, true≢false, ◌⊎◌, inl, inr, IsPermutation}
 use Rattle.std.specs.List.{list_any}
 use Rattle.std.proofs.lemmas.Bool.{and_parts, and_from, or_cases, or_left, or_right, ltb-true, lt-ltb, le-leb}
 use Rattle.std.proofs.lemmas.List.{map-append}
@@ -7,10 +7,8 @@ use Rattle.std.proofs.lemmas.List.Sorted.{IsPermutation-refl, IsPermutation-tran
 use Rattle.wg_types.specs.declared.bundles.BundleTouch.{BundleTouch}
 use Rattle.wg_types.specs.declared.bundles.BundleUse.{BundleUse}
 use Rattle.wg_types.specs.declared.bundles.BundleUse.TheVariants.{Input, Constant, StorageRead, Storage}
-use Rattle.wg_trace.specs.declared.steps.Deed.{Deed}
-use Rattle.wg_trace.specs.declared.steps.StepName.TheVariants as name
 use Rattle.wg_rows.specs.Rows.{any_row, EachRow, Apart, AllFit, Fits, in_range, list_eq}
-use Rattle.wg_rows.specs.Runs.{Part, Buffer, Subresource, QuerySet, is_texture, Color, aspect_number, PartRun, BufferPart, LayerParts, QueryPart, Cell, Byte, Texels, Slice, Query, Cells, Bytes, Layers, Slices, Queries, cell_lo, cell_hi, cell_line, cell_spot, cell_sort, part_of, run_part, covers, covers_part}
+use Rattle.wg_rows.specs.Runs.{Part, Buffer, Subresource, QuerySet, is_texture, Color, aspect_number, PartRun, BufferPart, LayerParts, QueryPart, Cell, Byte, Texels, Slice, Query, Cells, Bytes, Layers, Slices, Queries, cell_lo, cell_hi, cell_sort, part_of, run_part, covers, covers_part}
 use Rattle.wg_rows.specs.Uses.{Usages, AccessKind, Read, same_kind, row_set, with_usage, printed_accesses}
 use Rattle.wg_rows.specs.Sets.{UseRow, sets}
 use Rattle.wg_rows.proofs.Put.{list_eq_refl, Each_value, printed_value}

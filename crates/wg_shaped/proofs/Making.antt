@@ -2,7 +2,7 @@
 use Rattle.std.specs.Prelude.{reverse}
 use Rattle.std.specs.List.{list_all}
 use Rattle.std.specs.Option.{option_or, option_map, option_map_or}
-use Rattle.std.proofs.Common.{◌≡◌, ℕ, ◌+◌, ◌<◌, ◌≤◌, ◌==◌, ◌&&◌, not, nat_lt, nat_le, List, [], ◌∷◌, ◌++◌, map, Bool, true, false, Option, Some, None, is_some, is_none, refl, ap, sym, subst, ◌∙◌, arith, eq-eqb, if◌then◌else◌, true≢false}
+use Rattle.std.proofs.Common.{◌≡◌, ℕ, ◌+◌, ◌≤◌, ◌==◌, ◌&&◌, not, nat_lt, nat_le, List, [], ◌∷◌, ◌++◌, map, Bool, true, false, Option, Some, None, is_some, is_none, refl, sym, subst, arith, eq-eqb, if◌then◌else◌, true≢false}
 use Rattle.std.specs.List.{list_any}
 use Rattle.std.proofs.lemmas.Bool.{and_parts, and_from, or_parts, leb-true, le-leb, lt-ltb}
 use Rattle.wg_types.specs.Kinds.{kind_of}
@@ -36,7 +36,7 @@ use Rattle.wg_model.specs.Rules.{Rule, AreMet, first_unmet}
 use Rattle.wg_model.specs.Formats.{has_named, named_aspects}
 use Rattle.wg_model.specs.Textures.{layer_count}
 use Rattle.wg_model.specs.Subresources.{is_aspect_of}
-use Rattle.wg_model.specs.Groups.{are_matched, group_rules}
+use Rattle.wg_model.specs.Groups.{group_rules}
 use Rattle.wg_model.specs.Making.{known_view, bound_resource, bound_entry, view_made, group_made}
 use Rattle.wg_model.specs.Bound.{group_in, known_group}
 use Rattle.wg_model.specs.Walk.{Verdict, bundle_of}
@@ -48,7 +48,7 @@ use Rattle.wg_history.specs.declared.events.Event.TheVariants.{CreateView, Creat
 use Rattle.wg_history.specs.Entries.{Entry, Past, effects_of}
 use Rattle.wg_history.specs.Objects.{is_making, count, maker, info_made, known_in, info_at, is_valid, is_made_valid}
 use Rattle.wg_history.specs.Loss.{is_lost}
-use Rattle.wg_history.specs.Rules.{create_view_list, create_view_rule, is_genuine, is_barred, any_barred, encoder_rules, kept_rules, finish_bundle_rule, is_own}
+use Rattle.wg_history.specs.Rules.{create_view_list, create_view_rule, is_genuine, is_barred, any_barred, encoder_rules, kept_rules, finish_bundle_rule}
 use Rattle.wg_history.specs.GroupRules.{named_rules, group_named, create_bind_group_rule}
 use Rattle.wg_history.specs.FirstRules.{first_rule}
 use Rattle.wg_history.specs.Answers.{IsRun, answer_by}

@@ -10,7 +10,6 @@ use Rattle.wg_types.specs.Commands.{Command, fits}
 use Rattle.wg_types.specs.declared.commands.CommandPlace.TheVariants.{Bundle}
 use Rattle.wg_types.specs.declared.commands.CommandOf.TheVariants.{PushDebugGroup, PopDebugGroup, SetPipeline, SetBindGroup, SetVertexBuffer, SetIndexBuffer, Draw, DrawIndexed, DrawIndirect, DrawIndexedIndirect}
 use Rattle.wg_types.specs.declared.commands.On.{On}
-use Rattle.wg_types.specs.declared.wanted.Wanted.{Wanted}
 use Rattle.wg_types.specs.declared.wanted.Wanted.TheVariants as wanted
 use Rattle.wg_types.specs.declared.bindings.BoundEntry.{BoundEntry}
 use Rattle.wg_types.specs.declared.bindings.BoundResource.{BoundResource}
@@ -22,14 +21,14 @@ use Rattle.wg_types.specs.declared.render.TargetInfo.{TargetInfo}
 use Rattle.wg_types.specs.declared.textures.ViewInfo.{ViewInfo}
 use Rattle.wg_rows.specs.Rows.{EachRow, in_range, list_eq}
 use Rattle.wg_rows.specs.Runs.{Part, Buffer, Subresource, QuerySet, Color, aspect_number, Cells, Bytes, Layers, Slices, Queries, BufferPart, run_part, covers_part}
-use Rattle.wg_rows.specs.Uses.{Usages, AccessKind, Read, row_set}
+use Rattle.wg_rows.specs.Uses.{Usages, AccessKind, Read}
 use Rattle.wg_rows.proofs.Put.{list_eq_true}
 use Rattle.wg_rows.proofs.Runs.{tags_differ, part_self, single_part}
-use Rattle.wg_model.specs.Subresources.{view_cells, view_runs}
+use Rattle.wg_model.specs.Subresources.{view_cells}
 use Rattle.wg_model.specs.Commands.{size_or_rest}
 use Rattle.wg_model.specs.Touches.{Touch, use_of, input_usage}
-use Rattle.wg_model.specs.Bound.{Place, known_group, place_of, entry_places, places_in, set_places, resource_cells, place_touches, kind_touch}
-use Rattle.wg_model.specs.Bundles.{bundle_touch, in_bundle, buffer_in, texture_in, query_set_in}
+use Rattle.wg_model.specs.Bound.{Place, known_group, place_of, entry_places, places_in, resource_cells, place_touches, kind_touch}
+use Rattle.wg_model.specs.Bundles.{bundle_touch, in_bundle}
 use Rattle.wg_model.specs.Render.{bundle_set, command_touches, bound_group_touches, touches_over}
 use Rattle.wg_model.specs.Walk.{Verdict, bundled, bundle_of, recorded_touches}
 use Rattle.wg_model.specs.Recorded.{in_group, any_named}
@@ -38,7 +37,7 @@ use Rattle.wg_subres.specs.Has.{view_has, is_covered}
 use Rattle.wg_subres.proofs.Lying.{runs_of_view}
 use Rattle.wg_subres.proofs.Covered.{views_cover}
 use Rattle.wg_history.proofs.BundleTouches.{Word, buffer_word, texture_word, query_word, numbers_in, reached_by, bound_by, reached_of, bundle_uses}
-use Rattle.wg_shaped.specs.Bundled.{is_used, AreAlike, MayStand, IsWholeResource, IsWholeEntry, IsWholeGroup, IsWhole, TouchesWhatIsNamed, BundlesTouchWhatTheyName}
+use Rattle.wg_shaped.specs.Bundled.{is_used, AreAlike, MayStand, IsWholeResource, IsWholeEntry, IsWholeGroup, IsWhole, BundlesTouchWhatTheyName}
 use Rattle.wg_shaped.proofs.Known.{same_test, all_and, used_is, used_joined}
 use Rattle.wg_shaped.proofs.Standing.{each_back, each_second, all_fit, bundles_are_known}
 

@@ -1,5 +1,5 @@
 -- Commands that may stand on a bundle encoder touch cells in one of the four ways of use, and of a part of a texture some cell.
-use Rattle.std.proofs.Common.{◌≡◌, ℕ, ◌/◌, ◌^◌, max, Bool, true, false, List, [], ◌∷◌, ◌++◌, map, reverse, Option, Some, None, is_none, refl, ap, sym, subst, ◌∙◌, arith, nat_lt, if◌then◌else◌, true≢false}
+use Rattle.std.proofs.Common.{◌≡◌, ℕ, ◌/◌, ◌^◌, max, Bool, true, List, [], ◌∷◌, map, reverse, Some, None, is_none, refl, ap, sym, subst, ◌∙◌, arith, nat_lt, if◌then◌else◌, true≢false}
 use Rattle.std.specs.List.{flat_map}
 use Rattle.std.proofs.lemmas.Bool.{lt-ltb}
 use Rattle.std.proofs.lemmas.List.{reverse-append}
@@ -16,12 +16,11 @@ use Rattle.wg_types.specs.declared.bindings.BoundResource.{BoundResource}
 use Rattle.wg_types.specs.declared.bindings.BoundResource.TheVariants.{Buffer as BoundBuffer, View as BoundView, Sampler as BoundSampler}
 use Rattle.wg_types.specs.declared.bundles.BundleUse.{BundleUse}
 use Rattle.wg_types.specs.declared.bundles.BundleUse.TheVariants.{Input, Constant, StorageRead, Storage}
-use Rattle.wg_types.specs.declared.render.TargetInfo.{TargetInfo}
 use Rattle.wg_types.specs.declared.textures.TextureDim.{TextureDim}
 use Rattle.wg_types.specs.declared.textures.TextureDim.TheVariants as texture_dim
 use Rattle.wg_types.specs.declared.textures.TextureInfo.{TextureInfo}
 use Rattle.wg_rows.specs.Rows.{EachRow}
-use Rattle.wg_rows.specs.Runs.{Aspect, Color, Depth, Stencil, Part, is_texture, PartRun, BufferPart, LayerParts, QueryPart, Cells}
+use Rattle.wg_rows.specs.Runs.{Aspect, Color, Depth, Stencil, PartRun, BufferPart, LayerParts, QueryPart, Cells}
 use Rattle.wg_rows.specs.Uses.{AccessKind}
 use Rattle.wg_model.specs.Textures.{extent_at, extent}
 use Rattle.wg_model.specs.Subresources.{view_runs, texture_cells, run_cells}
@@ -31,7 +30,7 @@ use Rattle.wg_model.specs.Bundles.{bundle_how, bundle_touch, bundle_touches}
 use Rattle.wg_model.specs.Render.{bundle_set, command_touches, bound_group_touches, touches_over}
 use Rattle.wg_model.specs.Walk.{bundled}
 use Rattle.wg_model.proofs.StepLaws.{each_joined}
-use Rattle.wg_shaped.specs.Bundled.{is_used, AreAlike, tells_part, IsBundled, MayStand, BundlesAreKnown, HasCell, TexturesHaveCells}
+use Rattle.wg_shaped.specs.Bundled.{AreAlike, tells_part, IsBundled, MayStand, BundlesAreKnown, TexturesHaveCells}
 use Rattle.wg_shaped.proofs.Known.{touches_lie, Found, texture_found, touches_are_known}
 
 -- What is bound is used in one of the ways,

@@ -44,7 +44,7 @@ pub record AreAlike (xs ys : List Touch) : Type 0 where
   pub sets : (p : Part) → row_set p (map use_of xs) ≡ row_set p (map use_of ys)
   pub kinds : (c : Cell) (kind : AccessKind) → is_accessed_so c kind xs ≡ is_accessed_so c kind ys
 
--- whether cells tell their part: slices do where there is one
+-- whether cells tell their part, where that is not kept beside them: slices do where there is one, and others do
 abbrev pub tells_part : Cells → Bool
 tells_part (Bytes object lo hi) = true
 tells_part (Layers object aspect mip lo hi) = true
@@ -57,15 +57,16 @@ pub record IsBundled (touch : Touch) : Type 0 where
   pub so : touch.1 ≡ bundle_how used
   pub told : tells_part touch.0 ≡ true
 
--- What is known of such touches gives each part the same set and each cell the same ways of access as they do.
+-- What is known of the touches of a bundle gives each part the same set and each cell the same ways of access as they do.
 abbrev pub TouchesAreKnown : Type 0
 TouchesAreKnown = (touches : List Touch) → EachRow IsBundled touches → AreAlike (map bundle_touch (bundle_touches touches)) touches
 
--- each command may stand on a bundle encoder
+-- Each command may stand on a bundle encoder.
 abbrev pub MayStand : List (On × Command) → Type 0
 MayStand commands = EachRow (λ (kept : On × Command). fits kept.1 Bundle ≡ true) commands
 
--- So it is with a bundle and what its commands touch, if no rule of theirs is unmet.
+-- What is known of a bundle gives each part the same set and each cell the same ways of access as what its commands touch, if no rule of
+-- theirs is unmet.
 abbrev pub BundlesAreKnown : Type 0
 BundlesAreKnown =
     (device : ℕ) (targets : TargetInfo) (commands : List (On × Command))
@@ -73,7 +74,7 @@ BundlesAreKnown =
     → Verdict device (Some targets) commands ≡ None
     → AreAlike (known_touches (Some (bundle_of device (Some targets) commands))) (bundle_set targets (bundled commands)).touches
 
--- A cell of a part that is accessed.
+-- Some cell of a part is accessed.
 pub record HasCell (p : Part) (touches : List Touch) : Type 0 where
   pub cell : Cell
   pub lies : part_of cell ≡ p
@@ -87,35 +88,36 @@ TexturesHaveCells =
     → (p : Part) → is_texture p ≡ true → is_used p (bundle_set targets (bundled commands)).touches ≡ true
     → HasCell p (bundle_set targets (bundled commands)).touches
 
--- What is bound is whole where of a view some subresource is had, as of each that is made,
+-- A view that is bound has a subresource, as each that is made.
 abbrev pub IsWholeResource : BoundResource → Type 0
 IsWholeResource (BoundBuffer buffer known offset size) = Unit {0}
 IsWholeResource (BoundView view known) = (p : Part) × (view_has known p ≡ true)
 IsWholeResource (BoundSampler sampler known) = Unit {0}
 
--- an entry where also the layout asks for its binding,
+-- The layout asks for the binding of an entry, and a view that it binds has a subresource.
 pub record IsWholeEntry (layout : List LayoutEntry) (entry : BoundEntry) : Type 0 where
   pub asked : is_some (entry_of layout entry.binding) ≡ true
   pub whole : IsWholeResource entry.resource
 
--- and a group where each entry is, as of each that is made.
+-- Each entry of a group is whole, as those of each group that is made.
 abbrev pub IsWholeGroup : Option GroupInfo → Type 0
 IsWholeGroup None = Unit {0}
 IsWholeGroup (Some group) = EachRow (IsWholeEntry group.layout_info.entries) group.entries
 
+-- A command sets no group that is not whole.
 abbrev pub IsWhole : Command → Type 0
 IsWhole (SetBindGroup index group offsets) = IsWholeGroup (known_group group)
 IsWhole _ = Unit {0}
 
 -- A test finds one of the buffers that a bundle is known to touch exactly where it finds one that the commands name, themselves or
--- through bind groups, and so it is with textures and query sets. A command that executes the bundle names what the bundle touches: so the
--- rules of a submit, what waits for the last use of a buffer, and what is released go by all that the bundle's commands name.
+-- through bind groups, and so it is with textures and query sets: since a command that executes the bundle names what that touches, the
+-- rules of a submit, the maps that wait for the last use of a buffer, and what is released go by all that the bundle's commands name.
 pub record TouchesWhatIsNamed (bundle : BundleInfo) (commands : List (On × Command)) : Type 0 where
   pub buffers : (test : ℕ → Bool) → list_any test (in_bundle buffer_in (Some bundle)) ≡ any_named buffers_of test commands
   pub textures : (test : ℕ → Bool) → list_any test (in_bundle texture_in (Some bundle)) ≡ any_named textures_of test commands
   pub query_sets : (test : ℕ → Bool) → list_any test (in_bundle query_set_in (Some bundle)) ≡ any_named query_sets_of test commands
 
--- So it is with each bundle, if no rule of its commands is unmet and the groups are whole that these set,
+-- Each bundle touches what its commands name, if no rule of theirs is unmet and the groups that they set are whole.
 abbrev pub BundlesTouchWhatTheyName : Type 0
 BundlesTouchWhatTheyName =
     (device : ℕ) (targets : TargetInfo) (commands : List (On × Command))
@@ -124,7 +126,7 @@ BundlesTouchWhatTheyName =
     → Verdict device (Some targets) commands ≡ None
     → TouchesWhatIsNamed (bundle_of device (Some targets) commands) commands
 
--- and with each valid bundle of a history whose replies are the right ones, since its handles are genuine.
+-- Each valid bundle of a history whose replies are the right ones touches what its commands name, since its handles are genuine.
 abbrev pub HistoryTouchesWhatItNames : Type 0
 HistoryTouchesWhatItNames =
     (setup : Setup) (history : List Entry) (bundle : ℕ) (encoder : ObjRef) (device : ℕ) (targets : TargetInfo) (commands : List (On × Command))
