@@ -29,7 +29,7 @@ fn number_of<T: Wait + Threads + Sync, W: Sink>(
     sink: &mut W,
 ) -> Result<u8, NoMemory> {
     let words = words(alloc, "run")?;
-    Ok(run(rt, alloc, &words, source, sink, &NoGate).number())
+    Ok(run(rt, alloc, &words, source, sink, &NoGate).into_number())
 }
 
 /// What is told of a number and of what was written.

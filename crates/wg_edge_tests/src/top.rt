@@ -45,7 +45,7 @@ fn run_over<T: Wait + Threads + Sync, G: Gate + Sync>(
 ) -> Result<(u8, bool), NoMemory> {
     let words = words(alloc, line)?;
     let mut sink = MemSink::new(alloc, room, 7, Vec::new(alloc))?;
-    let number = run(rt, alloc, &words, source, &mut sink, gate).number();
+    let number = run(rt, alloc, &words, source, &mut sink, gate).into_number();
     Ok((number, sink.taken() == text.as_bytes()))
 }
 
