@@ -4,7 +4,6 @@
     tools/definitions.py --write     writes the part of the page behind its mark
     tools/definitions.py --check     says which definition has no sentence, and whether the page is what would be written
 
-docs/definitions-lacking.txt names the definitions that may lack a sentence for now: it has no other line, and only shrinks.
 What stands before the mark, how to read the page and its glossary, is kept by hand. Crates come in the order of crates.txt, and
 definitions as they stand in their files. One that a clause of a public call names is bold.
 """
@@ -22,7 +21,6 @@ sys.path.insert(0, str(TOP / "tests/repository"))
 import cited  # noqa: E402
 
 PAGE = "docs/definitions.md"
-LACKING = "docs/definitions-lacking.txt"
 MARK = "<!-- What follows is written by `tools/definitions.py --write`. -->"
 DEFINITION = re.compile(r"^(?:(?:abbrev|unfoldable) pub|pub (?:record|data)|pub) (?!mod |use )([^\s:({]+)")
 FLOOR = re.compile(r"^# (Floor \d+): (.*)$")
@@ -148,23 +146,13 @@ def page(top):
     return text.partition(MARK)[0] + MARK + "\n" + written(top)
 
 
-def without_words(top):
-    """The definitions that have no sentence, each as its file and its name."""
-    paths = sorted(top.glob("crates/*/specs/*.antt"))
-    return [f"{path.relative_to(top)}: {name}" for path in paths for name, words in definitions_of(path)[1] if not words]
-
-
-def allowed(top):
-    """The definitions that may lack a sentence for now."""
-    path = top / LACKING
-    return path.read_text(encoding="utf-8").splitlines() if path.is_file() else []
-
-
 def findings_of(top):
-    """The definitions that have no sentence, those that may lack one and do not, and whether the page is another one."""
-    lacking, may = without_words(top), allowed(top)
-    found = [f"{name} has no sentence above it" for name in lacking if name not in may]
-    found += [f"{LACKING}: {name} lacks no sentence, so its line has to go" for name in may if name not in lacking]
+    """The definitions that have no sentence, and whether the page is another one."""
+    found = []
+    for path in sorted(top.glob("crates/*/specs/*.antt")):
+        for name, words in definitions_of(path)[1]:
+            if not words:
+                found.append(f"{path.relative_to(top)}: {name} has no sentence above it")
     text = (top / PAGE).read_text(encoding="utf-8")
     if MARK not in text:
         found.append(f"{PAGE}: the mark is not in it: {MARK}")

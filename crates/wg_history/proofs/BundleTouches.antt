@@ -66,7 +66,7 @@ reached_by buffer_word asked object = buffers_as asked object
 reached_by texture_word asked object = textures_as asked object
 reached_by query_word asked object = query_sets_as asked object
 
-abbrev bound_by : Word → BoundResource → List ℕ
+abbrev pub bound_by : Word → BoundResource → List ℕ
 bound_by buffer_word resource = bound_buffer resource
 bound_by texture_word resource = bound_texture resource
 bound_by query_word resource = []

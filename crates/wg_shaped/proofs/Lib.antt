@@ -12,3 +12,7 @@ pub mod Groups
 pub mod Running
 pub mod Bundling
 pub mod Genuine
+pub mod Known
+pub mod Standing
+pub mod Naming
+pub mod Making

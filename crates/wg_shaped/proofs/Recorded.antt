@@ -153,7 +153,7 @@ placed_once place (doing ∷ done) h = (step_once place doing h.0, placed_once p
 pub each_reverse : (kept : Kept) → AreFairKept kept → AreFairKept (reverse kept)
 each_reverse kept h = kept_reverse IsFair kept h
 
-none_is : {A : Type 0} (o : Option A) → is_none o ≡ true → o ≡ None
+pub none_is : {A : Type 0} (o : Option A) → is_none o ≡ true → o ≡ None
 none_is None e = refl
 none_is (Some x) e = absurd (cc)
 

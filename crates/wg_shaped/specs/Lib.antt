@@ -1,3 +1,4 @@
 pub mod Reports
 pub mod Shaped
 pub mod Once
+pub mod Bundled

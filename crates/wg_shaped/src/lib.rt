@@ -1,6 +1,7 @@
 //! The traces of histories have the shape that is read back. The laws are the contracts of functions that do nothing.
 #![tactic(auto)]
 
+ghost use Rattle.wg_shaped.specs.Bundled.{BundlesAreKnown, BundlesTouchWhatTheyName, HistoryTouchesWhatItNames, TexturesHaveCells, TouchesAreKnown};
 ghost use Rattle.wg_shaped.specs.Once.{HistoryIsOnce, RecordedAreOnce};
 ghost use Rattle.wg_shaped.specs.Shaped.{HistoryIsShaped, HistoryReadsBack, StepsAreFilled};
 
@@ -18,4 +19,16 @@ pub fn traces_are_shaped()
     ensures filled { StepsAreFilled }
     ensures shaped { HistoryIsShaped }
     ensures read { HistoryReadsBack }
+{}
+
+/// A bundle is known by what its commands touch: each part has the same set of usages, and each cell is
+/// accessed in the same ways; of a texture they use no part of which they access no cell. The resources
+/// that it is known to touch are those that its commands name, in each history whose replies are the
+/// right ones.
+pub fn bundles_are_known()
+    ensures touches { TouchesAreKnown }
+    ensures bundles { BundlesAreKnown }
+    ensures textures { TexturesHaveCells }
+    ensures named { BundlesTouchWhatTheyName }
+    ensures history { HistoryTouchesWhatItNames }
 {}

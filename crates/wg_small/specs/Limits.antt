@@ -86,7 +86,8 @@ pub record GoByLimits (limits : Limits) : Type 0 where
   pub uniform_offsets : limits.min_uniform_buffer_offset_alignment ≡ offset_alignment
   pub storage_offsets : limits.min_storage_buffer_offset_alignment ≡ offset_alignment
 
--- They are those of a device that is opened without asking for any, and of each that has the same of what none has otherwise.
+-- The numbers by which recorders go are limits of a device that is opened without asking for any, and of each that has the same of
+-- what none has otherwise.
 pub record RecordersGoByLimits : Type 0 where
   pub by_default : GoByLimits default_limits
   pub fixed : (limits : Limits) → HaveFixed limits → GoByLimits limits

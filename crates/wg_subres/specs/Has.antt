@@ -87,14 +87,14 @@ cell_mip (Texels object aspect mip layer) = mip
 cell_mip (Slice object mip at) = mip
 cell_mip (Query object at) = 0
 
--- A view has just the cells of the parts that it has, of a 3D texture all slices of each mip level,
+-- A view has just the cells of the parts that it has, of a 3D texture all slices of each mip level.
 abbrev pub ViewCellsAre : Type 0
 ViewCellsAre =
     (view : ViewInfo) (cell : Cell)
     → is_accessed (view_cells view) cell
     ≡ view_has view (part_of cell) && is_cell_of view.texture_info.dim 0 (depth (extent view.texture_info (cell_mip cell))) cell
 
--- and a copy accesses just those of the parts that it has, of a 3D texture as many slices as its depth, from its origin on.
+-- A copy accesses just the cells of the parts that it has, of a 3D texture as many slices as its depth, from its origin on.
 abbrev pub CopiedCellsAre : Type 0
 CopiedCellsAre =
     (texture : ℕ) (info : TextureInfo) (spot : TextureSpot) (size : List ℕ) (cell : Cell)
