@@ -92,12 +92,13 @@ first_in lo n most e =
 view_had : (view : ViewInfo) → has_named view.aspect (row view.texture_info.format).aspects ≡ true → nat_le 1 view.mips && nat_le (view.base_mip + view.mips) view.texture_info.mips ≡ true
     → nat_le 1 view.layers && nat_le (view.base_layer + view.layers) (layer_count view.texture_info) ≡ true → Has view
 view_had view named mips layers =
-    let one : (aspect : Aspect) × (is_aspect_of aspect (named_aspects view.aspect (row view.texture_info.format).aspects) ≡ true) = some_aspect view.aspect (row view.texture_info.format).aspects named in
-    (Subresource view.texture.number one.0 view.base_mip view.base_layer,
-    and_from (view.texture.number == view.texture.number) _ (eq-eqb view.texture.number view.texture.number refl)
-    (and_from (is_aspect_of one.0 (named_aspects view.aspect (row view.texture_info.format).aspects)) _ one.1
-    (and_from (in_range view.base_mip (view.base_mip + view.mips) view.base_mip && nat_lt view.base_mip view.texture_info.mips) _ (first_in view.base_mip view.mips view.texture_info.mips mips)
-    (first_in view.base_layer view.layers (layer_count view.texture_info) layers))))
+    let one : (aspect : Aspect) × (is_aspect_of aspect (named_aspects view.aspect (row view.texture_info.format).aspects) ≡ true) = some_aspect view.aspect (row view.texture_info.format).aspects named in (
+      Subresource view.texture.number one.0 view.base_mip view.base_layer,
+      and_from (view.texture.number == view.texture.number) _ (eq-eqb view.texture.number view.texture.number refl)
+          (and_from (is_aspect_of one.0 (named_aspects view.aspect (row view.texture_info.format).aspects)) _ one.1
+          (and_from (in_range view.base_mip (view.base_mip + view.mips) view.base_mip && nat_lt view.base_mip view.texture_info.mips) _ (first_in view.base_mip view.mips view.texture_info.mips mips)
+          (first_in view.base_layer view.layers (layer_count view.texture_info) layers))),
+    )
 
 made_has : (setup : Setup) (older : Past) (event : Event) (known : ViewInfo) → info_made (known_in older) event ≡ Some (ViewKind known)
     → is_made_valid (answer_by older (effects_of event).form (not (is_lost older) && is_none (first_rule setup older event))) ≡ true → Has known
