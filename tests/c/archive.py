@@ -53,9 +53,16 @@ def build():
     for name in below():
         words += ["-L", f"dependency={library(name).parent}"]
     words += ["--antt-project", f"{kit()}/rattle/logic/antt-project.json", "--logic-built", f"{kit()}/logic_built", "--links", "wg_c="]
-    words += ["--jobs", str(min(4, len(os.sched_getaffinity(0)))), "--toolchain", f"{kit()}/toolchain", "--backend", "llvm", "-o", str(ARCHIVE)]
+    words += [
+        "--jobs",
+        str(min(4, len(os.sched_getaffinity(0)))),
+        "--toolchain", f"{kit()}/toolchain", "--backend", "llvm", "-o",
+        str(ARCHIVE),
+    ]
     ARCHIVE.parent.mkdir(exist_ok=True)
-    ran = subprocess.run(words, cwd=CRATE, stdin=subprocess.DEVNULL, stdout=subprocess.PIPE, stderr=subprocess.STDOUT, text=True, errors="replace")
+    ran = subprocess.run(
+        words, cwd=CRATE, stdin=subprocess.DEVNULL, stdout=subprocess.PIPE, stderr=subprocess.STDOUT, text=True, errors="replace"
+    )
     return ran.stdout if ran.returncode else None
 
 
@@ -68,7 +75,13 @@ def found():
         return ARCHIVE, None
     lacking = [name for name in below() if not library(name).is_dir()]
     if lacking:
-        return None, f"these are not proved here: {' '.join(lacking)}. `rt ci` at the top proves all, and `rt lib` in crates/wg_c what the archive needs"
+        return (
+            None,
+            (
+                f"these are not proved here: {' '.join(lacking)}. `rt ci` at the top proves all, and `rt lib` in crates/wg_c what the"
+                " archive needs"
+            ),
+        )
     failed = build()
     if failed:
         return None, f"the archive was not built:\n{failed}"

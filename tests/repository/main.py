@@ -4,7 +4,8 @@ built, the documents name what exists, must-fail edits can be applied, and what 
     tests/repository/run [--documents]    all checks, or with --documents those that need no program
     tests/repository/run --imports        imports of crates that nothing uses, and nothing else
 
-What it asks of the documents alone is in documents.py, of the map in map_of_calls.py, of Python in python_code.py, and of imports in imports.py.
+What it asks of the documents alone is in documents.py, of the map in map_of_calls.py, of Python in python_code.py, and of imports in
+imports.py.
 
 Prints a line for each finding, and fails if there is one. A notice, as of edits that were not tried since their crate changed, is none.
 """

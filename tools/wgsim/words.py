@@ -83,7 +83,9 @@ def read(parser, each, found, given):
         raise Wrong(why, own.format_usage())
 
     for word in more:
-        wrong(f"{words.command or NAME} takes no {word}" if word.startswith("-") else f"{words.command or NAME} takes no further word {word}")
+        wrong(
+            f"{words.command or NAME} takes no {word}" if word.startswith("-") else f"{words.command or NAME} takes no further word {word}"
+        )
     if words.help or words.version:
         if len(given) > 1:
             wrong(f"{'--help' if words.help else '--version'} stands alone")
