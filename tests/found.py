@@ -7,7 +7,6 @@ and behind a colon the words of the command line. """
 import pathlib
 
 TESTS = pathlib.Path(__file__).resolve().parent
-TOP = TESTS.parent
 # What a run may need, in the order in which there is something of it.
 NEEDS = ("nothing", "program", "archive")
 

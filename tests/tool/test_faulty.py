@@ -106,7 +106,7 @@ def test_explained(path):
         check(piece.startswith(beside.script.where(call) + "\n"), f"{where}: not at its call")
         check(f"rule {number} asks of " in piece and 'WebGPU, "' in piece, f"{where}: no sentence of rule {number}:\n{piece}")
         if entry.word == "finish":
-            test_command(where, script, call, beside, piece, number)
+            check_command(where, script, call, beside, piece, number)
 
 
 def test_settled(path):
@@ -131,7 +131,7 @@ def test_settled(path):
     )
 
 
-def test_command(where, script, call, beside, piece, number):
+def check_command(where, script, call, beside, piece, number):
     """The command that a finish's explanation names is the right one."""
     named = re.search(r"^    the command that .* is number \d+ of \d+: (\S+)$", piece, re.M)
     lane = taken_before(beside, call)
