@@ -2,9 +2,10 @@
 
 usage: tests/changed [--run] [COMMIT]
 
-COMMIT is HEAD where none is named; files that git does not know yet count too. A crate wants `rt check` where a file of it differs, or one of a
-crate that it stands on; and of those in which a file differs the edits that stand in tests/edits want a new trial. Which files a test goes
-by is told in its `needs`. --run runs the tests for which there is what they need: a program that is proved, and all crates below the C interface.
+COMMIT is HEAD where none is named; files that git does not know yet count too. A crate wants `rt check` where a file of it differs, or one
+of a crate that it stands on; and of those in which a file differs the edits that stand in tests/edits want a new trial. Which files a test
+goes by is told in its `needs`. --run runs the tests for which there is what they need: a program that is proved, and all crates below the C
+interface.
 """
 
 import argparse
