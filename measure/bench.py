@@ -1,15 +1,15 @@
-"""What calls cost: the instructions that the proved program takes for made scripts, and the memory, divided by their calls; and what lines of
-traces cost that are checked.
+"""What calls cost: the instructions that the proved program takes for made scripts, and the memory, divided by their calls; and what lines
+of traces cost that are checked.
 
-Run at the top of the repository, after `./wgsim prove` has built the program. It counts instructions by valgrind's
-callgrind, which gives the same number whatever else the machine does, and the most memory that was resident in a run
-without valgrind, and prints the table of docs/costs.md. `--long` measures scripts of some 65,536 calls in place of the
-others, each against one of half its calls, which takes a quarter of an hour: where nothing is a square, a call costs the
-same in both. `--traces` measures `check` on traces of 200,000 lines, each against one of half its lines. `--kept` measures what a device
-keeps that is driven without a log: the most memory that is resident in `crates/wgloop`, which takes so many rounds of the same calls. `--submits` measures what a device does
-under its lock for the submit of a command buffer, by its commands, and what it takes to note one more. `--program PATH` names another program; `--only WORD` measures the scripts alone whose title has the word;
-`--functions N` lists, below each script, the N functions that took most, and `--inclusive` with all that they call.
-"""
+Run at the top of the repository, after `./wgsim prove` has built the program. It counts instructions by valgrind's callgrind, which gives
+the same number whatever else the machine does, and the most memory that was resident in a run without valgrind, and prints the table of
+docs/costs.md. `--long` measures scripts of some 65,536 calls in place of the others, each against one of half its calls, which takes a
+quarter of an hour: where nothing is a square, a call costs the same in both. `--traces` measures `check` on traces of 200,000 lines, each
+against one of half its lines. `--kept` measures what a device keeps that is driven without a log: the most memory that is resident in
+`crates/wgloop`, which takes so many rounds of the same calls. `--submits` measures what a device does under its lock for the submit of a
+command buffer, by its commands, and what it takes to note one more. `--program PATH` names another program; `--only WORD` measures the
+scripts alone whose title has the word; `--functions N` lists, below each script, the N functions that took most, and `--inclusive` with all
+that they call. """
 
 import argparse
 import json
@@ -37,7 +37,10 @@ ROUNDS = [10_000, 100_000, 1_000_000]
 # The status of a trace whose barriers are not enough.
 DIFFERS = 8
 # Runs a command from a small process, since what is resident in the one that starts it counts for the command too.
-RESIDENT = "import resource, subprocess, sys; s = subprocess.run(sys.argv[1:], stdout=subprocess.DEVNULL).returncode; print(resource.getrusage(resource.RUSAGE_CHILDREN).ru_maxrss); sys.exit(s)"
+RESIDENT = (
+    "import resource, subprocess, sys; s = subprocess.run(sys.argv[1:], stdout=subprocess.DEVNULL).returncode;"
+    " print(resource.getrusage(resource.RUSAGE_CHILDREN).ru_maxrss); sys.exit(s)"
+)
 
 
 def script(calls):
@@ -84,7 +87,15 @@ def loop(count):
         calls += [
             {"do": "writeBuffer", "buffer": f"b{source}", "offset": place, "size": 64},
             {"do": "createEncoder", "as": f"e{i}"},
-            {"do": "copyBufferToBuffer", "on": f"e{i}", "source": f"b{source}", "sourceOffset": place, "target": f"b{target}", "targetOffset": place, "size": 128},
+            {
+                "do": "copyBufferToBuffer",
+                "on": f"e{i}",
+                "source": f"b{source}",
+                "sourceOffset": place,
+                "target": f"b{target}",
+                "targetOffset": place,
+                "size": 128,
+            },
             {"do": "finish", "on": f"e{i}", "as": f"c{i}"},
             {"do": "submit", "buffers": [f"c{i}"]},
         ]
@@ -153,7 +164,9 @@ def copies(count, submits):
     calls = [buffer("a"), buffer("b"), {"do": "createEncoder", "as": "e"}]
     for i in range(count):
         source, target = ("a", "b") if i % 2 == 0 else ("b", "a")
-        calls.append({"do": "copyBufferToBuffer", "on": "e", "source": source, "sourceOffset": 0, "target": target, "targetOffset": 0, "size": 16})
+        calls.append(
+            {"do": "copyBufferToBuffer", "on": "e", "source": source, "sourceOffset": 0, "target": target, "targetOffset": 0, "size": 16}
+        )
     calls.append({"do": "finish", "on": "e", "as": "c"})
     return script(calls + [{"do": "submit", "buffers": ["c"]}] * submits)
 
@@ -175,7 +188,12 @@ def bound(entries):
         {"do": "createBindGroupLayout", "entries": kinds, "as": "l"},
         {"do": "createPipelineLayout", "layouts": ["l"], "as": "pl"},
         {"do": "createComputePipeline", "layout": "pl", "as": "k"},
-        {"do": "createBindGroup", "layout": "l", "entries": [{"binding": i, "buffer": "u" if i else "s"} for i in range(entries)], "as": "g"},
+        {
+            "do": "createBindGroup",
+            "layout": "l",
+            "entries": [{"binding": i, "buffer": "u" if i else "s"} for i in range(entries)],
+            "as": "g",
+        },
     ]
 
 
@@ -184,7 +202,11 @@ def dispatches(count, entries=2, again=False):
     setting = {"do": "setBindGroup", "on": "p", "index": 0, "group": "g"}
     calls = bound(entries) + [{"do": "createEncoder", "as": "e"}, {"do": "beginComputePass", "on": "e", "as": "p"}]
     calls += [{"do": "setPipeline", "on": "p", "pipeline": "k"}]
-    calls += ([setting] + [{"do": "dispatch", "on": "p", "x": 1}] * count) if not again else [setting, {"do": "dispatch", "on": "p", "x": 1}] * count
+    calls += (
+        ([setting] + [{"do": "dispatch", "on": "p", "x": 1}] * count)
+        if not again
+        else [setting, {"do": "dispatch", "on": "p", "x": 1}] * count
+    )
     calls += [{"do": "end", "on": "p"}, {"do": "finish", "on": "e", "as": "c"}, {"do": "submit", "buffers": ["c"]}]
     return script(calls + [complete(1)])
 
@@ -232,11 +254,20 @@ def shared(count):
     ]
     names = list(range(count))
     for i in names:
-        calls += [buffer(f"b{i}", 64, 160), {"do": "createBindGroup", "layout": "l", "entries": [{"binding": 0, "buffer": f"b{i}"}], "as": f"g{i}"}]
+        calls += [
+            buffer(f"b{i}", 64, 160),
+            {"do": "createBindGroup", "layout": "l", "entries": [{"binding": 0, "buffer": f"b{i}"}], "as": f"g{i}"},
+        ]
     random.Random(1).shuffle(names)
-    calls += [{"do": "createEncoder", "as": "e"}, {"do": "beginRenderPass", "on": "e", "colors": [{"view": "w", "load": "clear", "store": "store"}], "as": "p"}]
+    calls += [
+        {"do": "createEncoder", "as": "e"},
+        {"do": "beginRenderPass", "on": "e", "colors": [{"view": "w", "load": "clear", "store": "store"}], "as": "p"},
+    ]
     for i in names:
-        calls += [{"do": "setBindGroup", "on": "p", "index": 0, "group": f"g{i}"}, {"do": "setVertexBuffer", "on": "p", "slot": 0, "buffer": f"b{i}"}]
+        calls += [
+            {"do": "setBindGroup", "on": "p", "index": 0, "group": f"g{i}"},
+            {"do": "setVertexBuffer", "on": "p", "slot": 0, "buffer": f"b{i}"},
+        ]
     calls += [{"do": "end", "on": "p"}, {"do": "finish", "on": "e", "as": "c"}, {"do": "submit", "buffers": ["c"]}]
     return script(calls + [complete(1)])
 
@@ -354,7 +385,11 @@ def trace(lines):
 
 def numbered(steps):
     """The lines of steps, each with the lines before its own and the accesses behind it."""
-    return trace(line for number, (before, after) in enumerate(steps) for line in (*before, f"step {number} op 1 dispatch", *(f"acc {one}" for one in after)))
+    return trace(
+        line
+        for number, (before, after) in enumerate(steps)
+        for line in (*before, f"step {number} op 1 dispatch", *(f"acc {one}" for one in after))
+    )
 
 
 def rows_of_one_step(lines, order):
@@ -374,7 +409,10 @@ def runs_of_one_object(lines, ordered):
     """Steps that write a run of one buffer each, with a barrier each or none at all, and a read of all."""
     bar = ["bar b 0 storage storage"]
     places = shuffled(range(lines // 3 if ordered else lines // 2))
-    return numbered([([bar, []][not ordered], [f"write b 0 {4 * place} {4 * place + 4}"]) for place in places] + [(bar, [f"read b 0 0 {4 * len(places)}"])])
+    return numbered(
+        [([bar, []][not ordered], [f"write b 0 {4 * place} {4 * place + 4}"]) for place in places]
+        + [(bar, [f"read b 0 0 {4 * len(places)}"])]
+    )
 
 
 def nested_runs(lines, ordered):
@@ -390,7 +428,9 @@ def one_cell(lines, kinds):
 
 def one_cell_unordered(lines, first, then):
     """A step that accesses one cell, and steps that do with no barrier between them, after one barrier."""
-    return numbered([([], [f"{first} b 0 0 4"]), (["bar b 0 storage storage"], [])] + [([], [f"{then} b 0 0 4"]) for _ in range(lines // 2)])
+    return numbered(
+        [([], [f"{first} b 0 0 4"]), (["bar b 0 storage storage"], [])] + [([], [f"{then} b 0 0 4"]) for _ in range(lines // 2)]
+    )
 
 
 def objects_of_one_step(lines):
@@ -405,7 +445,10 @@ def layers(lines, sort):
     """Layers of a texture, or slices, that are written one by one and then read as one, over and over."""
     bar, each = [f"bar t 0 color 0 0 {64 if sort == 't' else 1} storage storage"], []
     while 2 * len(each) < lines - 200:
-        each += [([], [f"write {sort} 0 color 0 {number} {number + 1}"]) for number in range(64)] + [(bar, [f"read {sort} 0 color 0 0 64"]), (bar, [])]
+        each += [([], [f"write {sort} 0 color 0 {number} {number + 1}"]) for number in range(64)] + [
+            (bar, [f"read {sort} 0 color 0 0 64"]),
+            (bar, []),
+        ]
     return numbered(each)
 
 
@@ -468,7 +511,9 @@ class Run:
             total = int(re.search(r"^(?:summary|totals): (\d+)", found.read_text(), re.MULTILINE).group(1))
             lines = []
             if functions:
-                listing = subprocess.run(["callgrind_annotate", *["--inclusive=yes"] * inclusive, str(found)], capture_output=True, text=True).stdout
+                listing = subprocess.run(
+                    ["callgrind_annotate", *["--inclusive=yes"] * inclusive, str(found)], capture_output=True, text=True
+                ).stdout
                 lines = [line for line in listing.splitlines() if re.match(r"\s*[\d,]+ \(", line)][1 : functions + 1]
             return total, lines
 
@@ -528,7 +573,11 @@ def main():
     if words.submits:
         submits(words.program)
         return
-    heads = "| Trace | Lines | Instructions | A line | KB a line |" if words.traces else "| Script | Calls | Instructions | A call | KB a call |"
+    heads = (
+        "| Trace | Lines | Instructions | A line | KB a line |"
+        if words.traces
+        else "| Script | Calls | Instructions | A call | KB a call |"
+    )
     print(f"{heads}{' Against half |' * (words.long or words.traces)}")
     print(f"|---|---|---|---|---|{'---|' * (words.long or words.traces)}")
     if words.traces:

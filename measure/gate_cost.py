@@ -4,6 +4,8 @@ such word, looks at its processes in /proc each half second, and writes a table 
     measure/gate-cost [--print] [-- COMMAND ..]    of the gate, or of a command in place of it
     measure/gate-cost --first-run [--print]        of the first run of the program, `./wgsim prove`
     measure/gate-cost --from FILE [--print]        of what an earlier run left, also of one that was cut off
+    measure/gate-cost --as 13b [--from FILE]       reckons what it would take by a kit that keeps nothing, and sums up each library along
+                                                   each way through crates.txt; runs nothing, and changes no document
 
 The first run is one from nothing only where `rt` has kept nothing of these crates on the machine; the gate always is.
 A process that proves a crate is known by its words and its folder. It has its own time and that of its children, of those that have
@@ -23,7 +25,10 @@ import subprocess
 import sys
 import time
 
-TOP = pathlib.Path(__file__).resolve().parent.parent
+import chains
+from wgsim import TOP
+from wgsim.program import crates, proof_costs
+
 DOCUMENT = TOP / "docs/gate.md"
 # Seconds between two looks, and between two times that what is running is written into the file of samples.
 EACH, WRITTEN = 0.5, 10
@@ -44,6 +49,7 @@ def arguments():
     parser.add_argument("--print", action="store_true", help="writes the table to standard output, and changes no document")
     parser.add_argument("--first-run", action="store_true", help="of `./wgsim prove`")
     parser.add_argument("--from", dest="earlier", type=pathlib.Path, metavar="FILE", help="runs nothing: the samples are in this file")
+    parser.add_argument("--as", dest="kit", choices=["13b"], help="reckons what the gate would take by that kit")
     parser.add_argument("--samples", type=pathlib.Path, metavar="FILE", help="where samples go; else a file in tools/out/")
     asked = parser.parse_args(words)
     asked.name = "first-run-cost" if asked.first_run else "gate-cost"
@@ -325,7 +331,34 @@ def table(costs):
     lines += map(shown, rows)
     lines.append(shown(("`rt` itself, and the last half seconds", *[None] * len(KINDS), max(costs.all["seconds"] - sums[-1], 0), None)))
     lines.append(shown(("All", *sums[:-1], max(costs.all["seconds"], sums[-1]), costs.all["memory"])))
-    return "\n".join(lines) + "\n"
+    return "\n".join([*lines, "", chain(costs)]) + "\n"
+
+
+def seconds_of(costs):
+    """What the proof of a crate takes by a file of samples, and what a crate that is proved with tests or linked takes beside that."""
+    above = {name for below in crates.listed().values() for name in below}
+
+    def seconds(crate):
+        kinds = [PROOF] if crate in above else [PROOF, TESTS, BESIDE]
+        return sum(costs.seconds(crate, kind) or 0 for kind in kinds)
+
+    return seconds
+
+
+def chain(costs):
+    """The longest chain of crates, which no number of processors makes shorter, in a sentence."""
+    found = chains.told(*chains.longest(seconds_of(costs), crates.listed()))
+    return f"The longest chain of crates that stand on one another takes {found}."
+
+
+def reckoned(asked):
+    """What the gate would take by another kit: by samples, where there are some, or by the table by which `./wgsim prove` estimates."""
+    path = asked.earlier or asked.samples
+    if path.exists():
+        costs = costs_in(path)
+        return f"By {path}:\n\n" + chains.as_13b(seconds_of(costs), costs.all["seconds"])
+    whole = sum(map(proof_costs.seconds_of, crates.listed()))
+    return "By tools/wgsim/program/proof_costs.json, so without edits:\n\n" + chains.as_13b(proof_costs.seconds_of, whole)
 
 
 def put(document, name, text):
@@ -352,6 +385,9 @@ def measured(asked, command):
 
 def main():
     asked = arguments()
+    if asked.kit:
+        print(reckoned(asked), end="")
+        return 0
     status = 0
     if not asked.earlier:
         status = measured(asked, asked.command)

@@ -12,8 +12,8 @@ DONE, BAD_SCRIPT, TOO_LARGE = 0, 3, 7
 
 
 def read(data):
-    """The setup of a script, which is its budget and its limits, and its phases as they are played; and where it is refused, the status and the
-    text that is written then, or None."""
+    """The setup of a script, which is its budget and its limits, and its phases as they are played; and where it is refused, the status and
+    the text that is written then, or None."""
     if len(data) > script.MOST_BYTES:
         return None, None, (TOO_LARGE, "")
     try:
@@ -25,7 +25,8 @@ def read(data):
 
 
 def answer(data, choose=turns.only_one):
-    """The exit status, and the text that is written. Of several callers that may have a turn one is chosen; as a rule there is to be one."""
+    """The exit status, and the text that is written. Of several callers that may have a turn one is chosen; as a rule there is to be
+    one."""
     setup, phases, refusal = read(data)
     if refusal is not None:
         return refusal
@@ -54,8 +55,8 @@ def callers_of(found):
 
 
 def differences(data, status, found):
-    """What is wrong with a status and a report that were found, in a line, or None; and the status and the report that were to be found, in the
-    order of turns of the one that was, as far as they are known."""
+    """What is wrong with a status and a report that were found, in a line, or None; and the status and the report that were to be found, in
+    the order of turns of the one that was, as far as they are known."""
     setup, phases, wanted = read(data)
     if status != (DONE if wanted is None else wanted[0]):
         return f"its status is {status}, and is to be {DONE if wanted is None else wanted[0]}", wanted

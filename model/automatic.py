@@ -1,8 +1,8 @@
 """Bind group layouts that a call makes or a pipeline derives: the entries of each, and whose it is alone.
 
-A pipeline whose `layout` is `auto` derives layouts from its interface: of each group from 0 to the greatest that the interface names a layout,
-with an entry for each binding that the interface names in that group. An interface may name one binding several times, each time with its stage.
-"""
+A pipeline whose `layout` is `auto` derives layouts from its interface: of each group from 0 to the greatest that the interface names a
+layout, with an entry for each binding that the interface names in that group. An interface may name one binding several times, each time
+with its stage. """
 
 from .groups import COMPUTE, MOST_LAYOUTS, STAGES, layout_rules, pipeline_layout_rules
 from .pipelines import kind_rules
@@ -56,8 +56,8 @@ def stage_of(used):
 
 
 def merged(iface):
-    """The layouts of an interface in which no two entries of one binding differ in kind. A layout has its bindings in ascending order, and each
-    is seen by just the stages that name it."""
+    """The layouts of an interface in which no two entries of one binding differ in kind. A layout has its bindings in ascending order, and
+    each is seen by just the stages that name it."""
     visibility, kinds = {}, {}
     for used in iface:
         place = used["group"], used["binding"]

@@ -77,4 +77,5 @@ def execute_rules(bundles, begin):
     for own in each:
         for aspect in ASPECTS:
             has_aspect = targets.depth is not None and aspect in formats.aspects_of(targets.depth)
-            yield 371, f"{aspect}, of a format {'that has it' if has_aspect else 'without it'}", aspect in own.read_only or aspect not in targets.read_only
+            what = f"{aspect}, of a format {'that has it' if has_aspect else 'without it'}"
+            yield 371, what, aspect in own.read_only or aspect not in targets.read_only

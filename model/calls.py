@@ -56,7 +56,13 @@ def word(words):
 
 LAYOUT = [("offset", WHOLE, 0), ("bytesPerRow", WORD32, None), ("rowsPerImage", WORD32, None)]
 ORIGIN = (0, 0, 0)
-SPOT = [("texture", TEXTURE, NEEDED), ("mip", WORD32, 0), ("origin", THREE, ORIGIN), ("aspect", word(ASPECT_WORDS), "all"), ("size", THREE, NEEDED)]
+SPOT = [
+    ("texture", TEXTURE, NEEDED),
+    ("mip", WORD32, 0),
+    ("origin", THREE, ORIGIN),
+    ("aspect", word(ASPECT_WORDS), "all"),
+    ("size", THREE, NEEDED),
+]
 ON = ("on", ENCODER, NEEDED)
 ON_COMPUTE = ("on", COMPUTE_PASS, NEEDED)
 ON_RENDER = ("on", RENDER_PASS, NEEDED)
@@ -117,7 +123,11 @@ def attribute_keys(item):
 
 
 def vertex_buffer_keys(item):
-    return [("stride", WORD32, NEEDED), ("step", word(("vertex", "instance")), "vertex"), ("attributes", ("objects", attribute_keys), NEEDED)]
+    return [
+        ("stride", WORD32, NEEDED),
+        ("step", word(("vertex", "instance")), "vertex"),
+        ("attributes", ("objects", attribute_keys), NEEDED),
+    ]
 
 
 def depth_state_keys(item):
@@ -238,9 +248,9 @@ CALLS = {
 # The calls that record a command on an encoder, on a pass of it, or on a bundle encoder.
 RECORDING = {
     "copyBufferToBuffer", "copyBufferToTexture", "copyTextureToBuffer", "copyTextureToTexture", "clearBuffer", "resolveQuerySet",
-    "beginComputePass", "beginRenderPass", "setPipeline", "setBindGroup", "dispatch", "dispatchIndirect", "setVertexBuffer", "setIndexBuffer",
-    "draw", "drawIndexed", "drawIndirect", "drawIndexedIndirect", "beginOcclusionQuery", "endOcclusionQuery", "executeBundles", "end",
-    "pushDebugGroup", "popDebugGroup",
+    "beginComputePass", "beginRenderPass", "setPipeline", "setBindGroup", "dispatch", "dispatchIndirect", "setVertexBuffer",
+    "setIndexBuffer", "draw", "drawIndexed", "drawIndirect", "drawIndexedIndirect", "beginOcclusionQuery", "endOcclusionQuery",
+    "executeBundles", "end", "pushDebugGroup", "popDebugGroup",
 }
 BEGINS = {"beginComputePass", "beginRenderPass"}
 DISPATCHES = {"dispatch", "dispatchIndirect"}
@@ -259,17 +269,34 @@ WAITING = {"mapAsync", "workDone"}
 
 # What object a call makes.
 MADE = {
-    "createBuffer": "buffer", "createTexture": "texture", "createView": "view", "createSampler": "sampler",
-    "createBindGroupLayout": "bind group layout", "createPipelineLayout": "pipeline layout", "createBindGroup": "bind group",
-    "createComputePipeline": "compute pipeline", "createRenderPipeline": "render pipeline", "getBindGroupLayout": "bind group layout",
-    "createQuerySet": "query set", "createEncoder": "encoder", "createBundleEncoder": "bundle encoder", "finish": "command buffer", "finishBundle": "bundle",
+    "createBuffer": "buffer",
+    "createTexture": "texture",
+    "createView": "view",
+    "createSampler": "sampler",
+    "createBindGroupLayout": "bind group layout",
+    "createPipelineLayout": "pipeline layout",
+    "createBindGroup": "bind group",
+    "createComputePipeline": "compute pipeline",
+    "createRenderPipeline": "render pipeline",
+    "getBindGroupLayout": "bind group layout",
+    "createQuerySet": "query set",
+    "createEncoder": "encoder",
+    "createBundleEncoder": "bundle encoder",
+    "finish": "command buffer",
+    "finishBundle": "bundle",
 }
 
 # The calls whose objects take memory: they are destroyed and released.
 RESOURCES = {"createBuffer", "createTexture", "createQuerySet"}
 
 # What the name stands for that a call gives. A pass is no object, nor is a canvas; and what a currentTexture gave may not be dropped.
-GIVEN = {**MADE, "beginComputePass": "compute pass", "beginRenderPass": "render pass", "createCanvas": "canvas", "currentTexture": "canvas texture"}
+GIVEN = {
+    **MADE,
+    "beginComputePass": "compute pass",
+    "beginRenderPass": "render pass",
+    "createCanvas": "canvas",
+    "currentTexture": "canvas texture",
+}
 
 
 def is_auto(sort, value):

@@ -1,8 +1,7 @@
 """Canvases: which event each of their calls is, and for which textures their names stand.
 
-A canvas is no object of the device, so the script is played without them: a call of a canvas is played as the createTexture or the destroy that it
-is, and is passed over where it is none. Only the lane that made a canvas names it, so its lane alone tells which.
-"""
+A canvas is no object of the device, so the script is played without them: a call of a canvas is played as the createTexture or the destroy
+that it is, and is passed over where it is none. Only the lane that made a canvas names it, so its lane alone tells which. """
 
 from .rules import note
 
@@ -28,8 +27,8 @@ class Canvas:
         self.current["also"].append(call["as"])
 
     def destroy(self, call):
-        """The destroy that a call is which ends the current texture, or None where there is none. What the script itself destroyed is current all
-        the same, and so is what is invalid."""
+        """The destroy that a call is which ends the current texture, or None where there is none. What the script itself destroyed is
+        current all the same, and so is what is invalid."""
         current, self.current = self.current, None
         return current and {"do": "destroy", "object": current["as"], "of": call}
 
@@ -67,5 +66,6 @@ def said_by(call):
 
 
 def names_of(call):
-    """The names that stand for what a call makes: its own, and of the texture of a canvas those of each later currentTexture that found it."""
+    """The names that stand for what a call makes: its own, and of the texture of a canvas those of each later currentTexture that found
+    it."""
     return [call["as"], *call.get("also", ())]

@@ -1,10 +1,9 @@
 """Parts and cells, and what a step touches.
 
-A part is `("b", N)`, `("q", N)` or `("t", N, aspect, mip, layer)`. A cell is such a subresource of a texture that is not 3D, or a run of the
-bytes of a buffer, of the queries of a set, or of the depth slices of a mip level of a 3D texture: `("b", N, low, high)`, `("q", N, low, high)`
-or `("s", N, aspect, mip, low, high)`. Aspects are kept by their place in the printed order, so that parts and cells are printed sorted. A touch
-is a cell, with the usage of its part and the kind of its access.
-"""
+A part is `("b", N)`, `("q", N)` or `("t", N, aspect, mip, layer)`. A cell is such a subresource of a texture that is not 3D, or a run of
+the bytes of a buffer, of the queries of a set, or of the depth slices of a mip level of a 3D texture: `("b", N, low, high)`, `("q", N, low,
+high)` or `("s", N, aspect, mip, low, high)`. Aspects are kept by their place in the printed order, so that parts and cells are printed
+sorted. A touch is a cell, with the usage of its part and the kind of its access. """
 
 from . import formats
 
@@ -45,7 +44,11 @@ def in_queries(query_set, first, count, usage, kind):
 def in_texture(texture, cells, usage, kind):
     """Subresources of a texture, given as triples of aspect, mip level and layer. Of a 3D one they are all slices of their mip level."""
     if texture.call["dim"] == "3d":
-        return [touch for aspect, mip, _ in cells for touch in in_slices(texture, aspect, mip, 0, formats.extent(texture.call, mip)[2], usage, kind)]
+        return [
+            touch
+            for aspect, mip, _ in cells
+            for touch in in_slices(texture, aspect, mip, 0, formats.extent(texture.call, mip)[2], usage, kind)
+        ]
     return [(("t", texture.made, formats.ASPECTS.index(aspect), mip, layer), usage, kind) for aspect, mip, layer in cells]
 
 

@@ -1,8 +1,8 @@
 """The calls that were played so far, and what is seen by looking back over them.
 
-All looking back is over plain lists: the calls that were played, oldest first, and the objects, in the order in which they were made. What is
-asked for again and again is kept beside them, and brought up to date by each call that is added, so that no call walks what came before it.
-"""
+All looking back is over plain lists: the calls that were played, oldest first, and the objects, in the order in which they were made. What
+is asked for again and again is kept beside them, and brought up to date by each call that is added, so that no call walks what came before
+it. """
 
 import collections
 import functools
@@ -216,8 +216,8 @@ class History:
         return self.finishes(encoder) != []
 
     def has_ended(self, place):
-        """An encoder or a bundle encoder has ended from its first finish on. A pass has ended where its encoder has, or by its own end, if it
-        was open."""
+        """An encoder or a bundle encoder has ended from its first finish on. A pass has ended where its encoder has, or by its own end, if
+        it was open."""
         encoder = encoder_of(place)
         return self.has_finished(encoder) or place in self.walks[encoder].ended
 

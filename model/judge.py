@@ -1,11 +1,10 @@
 """What `wgsim check` says of a text: whether the barriers of the trace in it are enough.
 
-They are where in every order of the accesses that keeps the barriers each read of a cell sees the write that it sees in the printed order, and
-the same write of each cell is the last one. Of a step that may read another cell, or of the end, the least is told.
+They are where in every order of the accesses that keeps the barriers each read of a cell sees the write that it sees in the printed order,
+and the same write of each cell is the last one. Of a step that may read another cell, or of the end, the least is told.
 
-All cells of one owner (a buffer, a query set, an aspect and a mip level of a texture) that the same lines name are alike, so the cells are cut
-at the ends of all runs of lines, and of each piece the first cell stands for all.
-"""
+All cells of one owner (a buffer, a query set, an aspect and a mip level of a texture) that the same lines name are alike, so the cells are
+cut at the ends of all runs of lines, and of each piece the first cell stands for all. """
 
 import bisect
 import collections
@@ -43,7 +42,8 @@ class Cell:
         self.writes = []
 
     def is_before(self, one, other):
-        """A barrier on the part stands before a step behind the one that is the other or before it. Every step is before the end, None, which is before none."""
+        """A barrier on the part stands before a step behind the one that is the other or before it. Every step is before the end, None,
+        which is before none."""
         if one is None or other is None:
             return other is None and one is not None
         return bisect.bisect_right(self.bars, other) > bisect.bisect_right(self.bars, one)
@@ -54,7 +54,8 @@ class Cell:
         return self.writes[before - 1] if before > 0 else None
 
     def differs(self, reader, writer):
-        """The reader may see otherwise by the writer: it may come before the write that it is to see, or the writer may come between the two."""
+        """The reader may see otherwise by the writer: it may come before the write that it is to see, or the writer may come between the
+        two."""
         if writer == reader:
             return False
         seen = self.seen_by(reader)
@@ -64,9 +65,13 @@ class Cell:
 
 
 def verdict(items):
-    """The least triple of a step or the end, None; a cell; and a step that may be seen otherwise: the end last, and cells as they are printed. None
-    where there is none."""
-    clashes = [(place_of(reader), order_of(cell.cell), writer, (reader, cell.cell, writer)) for cell in cells_of(items) for reader, writer in first_clash(cell)]
+    """The least triple of a step or the end, None; a cell; and a step that may be seen otherwise: the end last, and cells as they are
+    printed. None where there is none."""
+    clashes = [
+        (place_of(reader), order_of(cell.cell), writer, (reader, cell.cell, writer))
+        for cell in cells_of(items)
+        for reader, writer in first_clash(cell)
+    ]
     return min(clashes)[3] if clashes else None
 
 
@@ -110,7 +115,8 @@ def cells_of(items):
 
 
 def pieces_of(owner, accesses, bars):
-    """The cells of one owner, cut at the ends of all its runs. Layers have parts of their own; all bytes, queries or slices lie in one, of place 0."""
+    """The cells of one owner, cut at the ends of all its runs. Layers have parts of their own; all bytes, queries or slices lie in one, of
+    place 0."""
     ends = {end for _, low, high, _ in accesses for end in (low, high)}
     if owner[0] == "t":
         ends |= {end for _, low, high in bars for end in (low, high)}

@@ -1,9 +1,8 @@
 """How long objects live: what holds what was dropped, what is given back after an entry, and which bytes of the budget are taken.
 
-What is let go once, destroyed or held no longer, stays so: no later call can make anything hold it again, or use it. So of each object those
-are noted that may hold it, and are taken off once they hold it no longer; and after an entry only that is looked at which the entry may have
-let go, or for which an operation is complete now.
-"""
+What is let go once, destroyed or held no longer, stays so: no later call can make anything hold it again, or use it. So of each object
+those are noted that may hold it, and are taken off once they hold it no longer; and after an entry only that is looked at which the entry
+may have let go, or for which an operation is complete now. """
 
 import collections
 
@@ -46,9 +45,9 @@ class Lives:
         return released
 
     def held_by(self, thing):
-        """What an object holds while it is valid and itself held: a view its texture, a pipeline layout its bind group layouts, a bind group
-        its layout and what it binds, a pipeline the layout that it names, a bind group layout the pipeline that it was got of; and a command
-        buffer or a bundle what its commands name."""
+        """What an object holds while it is valid and itself held: a view its texture, a pipeline layout its bind group layouts, a bind
+        group its layout and what it binds, a pipeline the layout that it names, a bind group layout the pipeline that it was got of; and a
+        command buffer or a bundle what its commands name."""
         if thing.do in FINISHES:
             return thing.names
         return thing.referred() if thing.do in REFERRING else []
@@ -85,7 +84,8 @@ class Lives:
         return [found for held in dict.fromkeys(self.held_by(thing)) for found in self.reached(held)]
 
     def is_held(self, thing):
-        """An object is held while it is not dropped, and after that while something else holds it: an encoder, or an object that was valid."""
+        """An object is held while it is not dropped, and after that while something else holds it: an encoder, or an object that was
+        valid."""
         if not self.history.is_dropped(thing) or self.is_held_by_encoder(thing):
             return True
         holders = self.holders[thing]
@@ -107,8 +107,8 @@ class Lives:
         return oldest is not None and oldest.entry < self.history.drop_of(thing).entry
 
     def is_due(self, thing):
-        """A valid buffer, texture or query set is due where it is destroyed or not held, and every operation that uses it is complete. One that waits for
-        its last operation is noted."""
+        """A valid buffer, texture or query set is due where it is destroyed or not held, and every operation that uses it is complete. One
+        that waits for its last operation is noted."""
         if thing not in self.kept or not self.history.is_destroyed(thing) and self.is_held(thing):
             return False
         last = self.history.last_use(thing)

@@ -1,9 +1,8 @@
 """The second reading of a script: rules 9 to 12 and 15.
 
-The calls are gone through in reading order. Of each call come first the names that it uses, in the order of the table of calls and
-the items of a list one after another; then 15, which a currentTexture alone can break; then the name that it gives. Of each name that is used
-10, 11 and 12 are tested.
-"""
+The calls are gone through in reading order. Of each call come first the names that it uses, in the order of the table of calls and the
+items of a list one after another; then 15, which a currentTexture alone can break; then the name that it gives. Of each name that is used
+10, 11 and 12 are tested. """
 
 import re
 

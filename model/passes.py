@@ -20,8 +20,8 @@ READ_TOGETHER = {"input", "constant", "storage-read", "attachment-read"}
 
 
 class Walk:
-    """How far the commands that were recorded on an encoder have come: the pass that is open, or None, the passes that have ended, and of the
-    encoder and each pass its commands and how many debug groups they have open.
+    """How far the commands that were recorded on an encoder have come: the pass that is open, or None, the passes that have ended, and of
+    the encoder and each pass its commands and how many debug groups they have open.
 
     A pass that is begun while another one is open is dead: it neither opens nor ends.
     """

@@ -244,7 +244,9 @@ def ways_of(named):
     ways = collections.defaultdict(lambda: " in a bind group")
     bundled = dict.fromkeys(inner for one in named if one.do == "finishBundle" for inner in one.names)
     ways.update((inner, " in a bundle") for inner in bundled if inner.do == "createBuffer")
-    ways.update((thing, " in a bind group of a bundle") for inner in bundled if inner.do == "createBindGroup" for thing in resources_in(inner))
+    ways.update(
+        (thing, " in a bind group of a bundle") for inner in bundled if inner.do == "createBindGroup" for thing in resources_in(inner)
+    )
     ways.update((thing, " in a bind group") for one in named if one.do == "createBindGroup" for thing in resources_in(one))
     ways.update((one.uses["texture"], " that is attached") for one in named if one.do == "createView")
     ways.update((one, "") for one in named)

@@ -35,8 +35,8 @@ def ask(rule, what, is_met, place=()):
 
 
 def read(data):
-    """The budget of a script, its limits, and its phases, each a list of lanes, and each lane a list of pairs of a place and a call whose left
-    out keys have their values."""
+    """The budget of a script, its limits, and its phases, each a list of lanes, and each lane a list of pairs of a place and a call whose
+    left out keys have their values."""
     top = read_json(data)
     ask(2, "object", type(top) is dict)
     ask(2, "needed keys", {"budget", "phases"} <= set(top))

@@ -1,12 +1,12 @@
 """Reading a printed trace, be it the program's or another's: its lines, or the rule that they break and where.
 
-The rules are tested in their order: 1 of the text, then of each line 2, 3 and 4. Lines count from 1 over the whole text; all before the first
-line `trace` is passed over.
+The rules are tested in their order: 1 of the text, then of each line 2, 3 and 4. Lines count from 1 over the whole text; all before the
+first line `trace` is passed over.
 
-A trace is a list of items: `("bar", part, from, to)`, `("step", accesses)` with pairs of a kind and cells, and `("free",)`; uses are read and not
-kept, since nothing hangs on them. Parts are `("b", N)`, `("q", N)` or `("t", N, aspect, mip, low, high)`, and cells are `("b", N, low, high)`,
-`("q", N, low, high)`, or `("t", ..)` and `("s", ..)` with the fields of such a part. An aspect is its place in the printed order.
-"""
+A trace is a list of items: `("bar", part, from, to)`, `("step", accesses)` with pairs of a kind and cells, and `("free",)`; uses are read
+and not kept, since nothing hangs on them. Parts are `("b", N)`, `("q", N)` or `("t", N, aspect, mip, low, high)`, and cells are `("b", N,
+low, high)`, `("q", N, low, high)`, or `("t", ..)` and `("s", ..)` with the fields of such a part. An aspect is its place in the printed
+order. """
 
 import bisect
 import re
@@ -19,8 +19,8 @@ GREATEST_WORD32 = 2**32 - 1
 NUMBER = re.compile("0|[1-9][0-9]*")
 KINDS = {*READING, *WRITING}
 NAMES = {
-    "clear", "writeBuffer", "writeTexture", "copyBufferToBuffer", "copyBufferToTexture", "copyTextureToBuffer", "copyTextureToTexture", "clearBuffer",
-    "resolveQuerySet", "dispatch", "renderPass", "hostRead", "hostWrite",
+    "clear", "writeBuffer", "writeTexture", "copyBufferToBuffer", "copyBufferToTexture", "copyTextureToBuffer", "copyTextureToTexture",
+    "clearBuffer", "resolveQuerySet", "dispatch", "renderPass", "hostRead", "hostWrite",
 }
 
 # After which lines a line may stand, where it may not stand after any. The line `trace` is one too.

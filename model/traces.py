@@ -24,8 +24,8 @@ def trace_of(history):
 
 
 class Cells:
-    """A set of cells: of each buffer, query set and mip level of a 3D texture the runs of bytes, queries or slices that are in it, in order and
-    with gaps between them, and subresources."""
+    """A set of cells: of each buffer, query set and mip level of a 3D texture the runs of bytes, queries or slices that are in it, in order
+    and with gaps between them, and subresources."""
 
     def __init__(self):
         self.runs = collections.defaultdict(lambda: ([], []))
@@ -50,7 +50,9 @@ class Cells:
         (*owner, begin, end) = cell
         lows, highs = self.runs[tuple(owner)]
         first, last = bisect.bisect_right(highs, begin), bisect.bisect_left(lows, end)
-        left = [(low, high) for low, high in ((min([begin, *lows[first:last]]), begin), (end, max([end, *highs[first:last]]))) if low < high]
+        left = [
+            (low, high) for low, high in ((min([begin, *lows[first:last]]), begin), (end, max([end, *highs[first:last]]))) if low < high
+        ]
         lows[first:last], highs[first:last] = [low for low, _ in left], [high for _, high in left]
 
     def outside(self, cell):

@@ -1,14 +1,12 @@
 """The tests of this folder, by what their files `needs` say.
 
-A file `needs` has a line `tries: PATH ..`, the files and folders of which a change wants the test, with the words `program`, for all crates that
-the program stands on, and `archive`, for those that the C interface does; and a line for each run of it: the word for what that needs, and
-behind a colon the words of the command line.
-"""
+A file `needs` has a line `tries: PATH ..`, the files and folders of which a change wants the test, with the words `program`, for all crates
+that the program stands on, and `archive`, for those that the C interface does; and a line for each run of it: the word for what that needs,
+and behind a colon the words of the command line. """
 
 import pathlib
 
 TESTS = pathlib.Path(__file__).resolve().parent
-TOP = TESTS.parent
 # What a run may need, in the order in which there is something of it.
 NEEDS = ("nothing", "program", "archive")
 

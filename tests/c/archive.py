@@ -1,8 +1,10 @@
 """The archive of the C interface, and what it is linked with.
 
 `rt lib` in crates/wg_c builds it, and proves what it stands on where that was not kept. The gate proves all of it too, and leaves the
-libraries, yet no archive, and with no stamp that `rt lib` would go by. So where the libraries are there, the archive is built over
-them as they are, by the toolchain's own `rattle build`, and the crate itself is checked once more: some processor minutes.
+libraries, with no stamp that `rt lib` would go by; of the crate itself, as of any static library, it leaves nothing: it runs `rattle check`
+without `-o`. So where the libraries are there, the archive is built over them as they are, by the toolchain's own `rattle build`, over
+what `rt check` or `rt lib` kept of the crate in out/incremental: then nothing is proved twice. Where nothing was kept, as right after a
+gate, the crate is checked once more, and kept.
 """
 
 import os
@@ -53,9 +55,16 @@ def build():
     for name in below():
         words += ["-L", f"dependency={library(name).parent}"]
     words += ["--antt-project", f"{kit()}/rattle/logic/antt-project.json", "--logic-built", f"{kit()}/logic_built", "--links", "wg_c="]
-    words += ["--jobs", str(min(4, len(os.sched_getaffinity(0)))), "--toolchain", f"{kit()}/toolchain", "--backend", "llvm", "-o", str(ARCHIVE)]
+    words += [
+        "--jobs",
+        str(min(4, len(os.sched_getaffinity(0)))),
+        "--toolchain", f"{kit()}/toolchain", "--backend", "llvm", "-o",
+        str(ARCHIVE),
+    ]
     ARCHIVE.parent.mkdir(exist_ok=True)
-    ran = subprocess.run(words, cwd=CRATE, stdin=subprocess.DEVNULL, stdout=subprocess.PIPE, stderr=subprocess.STDOUT, text=True, errors="replace")
+    ran = subprocess.run(
+        words, cwd=CRATE, stdin=subprocess.DEVNULL, stdout=subprocess.PIPE, stderr=subprocess.STDOUT, text=True, errors="replace"
+    )
     return ran.stdout if ran.returncode else None
 
 
@@ -68,7 +77,8 @@ def found():
         return ARCHIVE, None
     lacking = [name for name in below() if not library(name).is_dir()]
     if lacking:
-        return None, f"these are not proved here: {' '.join(lacking)}. `rt ci` at the top proves all, and `rt lib` in crates/wg_c what the archive needs"
+        how = "`rt ci` at the top proves all, and `rt lib` in crates/wg_c what the archive needs"
+        return None, f"these are not proved here: {' '.join(lacking)}. {how}"
     failed = build()
     if failed:
         return None, f"the archive was not built:\n{failed}"

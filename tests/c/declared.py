@@ -15,7 +15,9 @@ def of_header(text):
     structs, functions = {}, {}
     for name, body in re.findall(r"typedef struct wethlorn_(\w+) \{(.*?)\}", text, re.S):
         fields = re.findall(r"(\w+)\s+(\*?[\w, ]+);", body)
-        structs[name_of(name)] = [(field.strip(" *"), "*mut " * ("*" in field) + name_of(kind)) for kind, names in fields for field in names.split(",")]
+        structs[name_of(name)] = [
+            (field.strip(" *"), "*mut " * ("*" in field) + name_of(kind)) for kind, names in fields for field in names.split(",")
+        ]
     for name, given in re.findall(r"uint32_t (wethlorn_\w+)\((.*?)\);", text, re.S):
         found = re.findall(r"(const )?(\w+) (\*?)(\w+)(?:,|$)", " ".join(given.split()))
         functions[name] = [(each, ("*const " if const else "*mut ") * bool(star) + name_of(kind)) for const, kind, star, each in found]

@@ -98,7 +98,10 @@ def build_player(folder, name, linked, *more):
 def test_frame(program):
     status, text = run([program], stderr=subprocess.DEVNULL)
     expected = (TOP / "examples/realistic-frame.report").read_bytes()
-    check(status == 0 and text == expected, f"{program.name}: status {status}, and its report is {'' if text == expected else 'not '}that of the script")
+    check(
+        status == 0 and text == expected,
+        f"{program.name}: status {status}, and its report is {'' if text == expected else 'not '}that of the script",
+    )
 
 
 def test_threads(program):
@@ -137,7 +140,8 @@ def dropped_in(lanes):
 
 
 def drops_and_names(script):
-    """Whether a call of a script names, or records on, what may be dropped before it: of the player's word on those that it plays in part."""
+    """Whether a call of a script names, or records on, what may be dropped before it: of the player's word on those that it plays in
+    part."""
     before, passes = set(), {}
     for phase in json.loads(script.read_bytes())["phases"]:
         for lane in phase:
@@ -172,7 +176,9 @@ def test_script(player, script, report):
     name, expected = f"{report.relative_to(TOP)} by {player.name}", report.read_bytes()
     if ran.returncode == NAMES_DROPPED:
         check(drops_and_names(script), f"{name}: is not played to its end, and names nothing that was dropped")
-        check(begins(expected, ran.stdout), f"{name}: what was played is no beginning of the report: {first_difference(ran.stdout, expected)}")
+        check(
+            begins(expected, ran.stdout), f"{name}: what was played is no beginning of the report: {first_difference(ran.stdout, expected)}"
+        )
         return False
     check(ran.returncode == 0 and not ran.stderr, f"{name}: status {ran.returncode}, {ran.stderr.decode('utf-8', 'replace')[:2000]}")
     check(ran.returncode != 0 or ran.stdout == expected, f"{name}: the report differs: {first_difference(ran.stdout, expected)}")
@@ -184,7 +190,13 @@ def test_scripts(player, jobs):
     pairs = [(script, report) for script, reports in found for report in reports]
     with concurrent.futures.ThreadPoolExecutor(jobs) as pool:
         whole = sum(pool.map(lambda pair: test_script(player, *pair), pairs))
-    print(f"{whole} reports of {len(found)} scripts by {player.name}, and {len(pairs) - whole} up to the call that names what was dropped; {refused} scripts are refused as such", flush=True)
+    print(
+        (
+            f"{whole} reports of {len(found)} scripts by {player.name}, and {len(pairs) - whole} up to the call that names what was"
+            f" dropped; {refused} scripts are refused as such"
+        ),
+        flush=True,
+    )
     check(whole > len(pairs) * 3 // 4, f"{player.name}: too few scripts were played")
 
 
@@ -201,19 +213,32 @@ def test_valgrind(player):
     words = ["valgrind", "--quiet", "--error-exitcode=99", "--leak-check=full", "--errors-for-leak-kinds=all", player]
     for name in CLOSELY:
         script, report = TOP / f"{name}.json", TOP / f"{name}.report"
-        ran = subprocess.run([str(word) for word in [*words, script, report]], stdin=subprocess.DEVNULL, capture_output=True, timeout=SECONDS)
-        check(ran.returncode == 0 and ran.stdout == report.read_bytes(), f"{name} under valgrind: status {ran.returncode}\n{ran.stderr.decode('utf-8', 'replace')[:4000]}")
+        ran = subprocess.run(
+            [str(word) for word in [*words, script, report]], stdin=subprocess.DEVNULL, capture_output=True, timeout=SECONDS
+        )
+        check(
+            ran.returncode == 0 and ran.stdout == report.read_bytes(),
+            f"{name} under valgrind: status {ran.returncode}\n{ran.stderr.decode('utf-8', 'replace')[:4000]}",
+        )
     print(f"{len(CLOSELY)} scripts under valgrind", flush=True)
 
 
 def test_rust(linked):
     """The Rust crate builds without a warning, and its tests pass, with no network."""
     with tempfile.TemporaryDirectory() as folder:
-        environment = {**os.environ, "CARGO_TARGET_DIR": folder, "RUSTFLAGS": "-D warnings", "WETHLORN_ARCHIVE": str(linked[0]), "WETHLORN_HEAP": str(linked[1])}
+        environment = {
+            **os.environ,
+            "CARGO_TARGET_DIR": folder,
+            "RUSTFLAGS": "-D warnings",
+            "WETHLORN_ARCHIVE": str(linked[0]),
+            "WETHLORN_HEAP": str(linked[1]),
+        }
         crate = TOP / "examples/rust"
         status, said = run(["cargo", "test", "--offline", "--quiet"], cwd=crate, env=environment)
         check(status == 0, f"the Rust crate: status {status}\n{said.decode('utf-8', 'replace')[-4000:]}")
-        status, text = run(["cargo", "run", "--offline", "--quiet", "--example", "frame"], cwd=crate, env=environment, stderr=subprocess.DEVNULL)
+        status, text = run(
+            ["cargo", "run", "--offline", "--quiet", "--example", "frame"], cwd=crate, env=environment, stderr=subprocess.DEVNULL
+        )
         expected = (crate / "examples/frame.txt").read_bytes()
         check(status == 0 and text == expected, f"the example of the Rust crate: status {status}, {text.decode('utf-8', 'replace')[:2000]}")
     print("the Rust crate, by cargo", flush=True)

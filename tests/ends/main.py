@@ -1,8 +1,8 @@
 """Runs a program whose source breaks off after each number of bytes in turn, and whose sink takes each number of bytes and no more.
 
-It is run on an example, and its report is checked. Where the source breaks off, be it behind the last byte, the status is 4 and nothing is written.
-Where the sink is full the status is 5, and it has the beginning of what is to be written. A source that breaks is a socket that is reset, and a
-sink that is full is a file that may not grow.
+It is run on an example, and its report is checked. Where the source breaks off, be it behind the last byte, the status is 4 and nothing is
+written. Where the sink is full the status is 5, and it has the beginning of what is to be written. A source that breaks is a socket that is
+reset, and a sink that is full is a file that may not grow.
 
 Ends with 1 if a run ended otherwise.
 """
@@ -25,7 +25,9 @@ TIMEOUT = 60
 
 def arguments():
     parser = argparse.ArgumentParser(prog="tests/ends/run", description=__doc__.split("\n", maxsplit=1)[0])
-    parser.add_argument("--program", default=TOP / "crates/wgsim/out/wgsim", help="runs as PROGRAM run < SCRIPT, and as PROGRAM check < REPORT")
+    parser.add_argument(
+        "--program", default=TOP / "crates/wgsim/out/wgsim", help="runs as PROGRAM run < SCRIPT, and as PROGRAM check < REPORT"
+    )
     parser.add_argument("--every", type=int, default=1, help="tries each number of bytes that is a multiple of this one, and the greatest")
     return parser.parse_args()
 
@@ -38,7 +40,9 @@ def broken_off(program, words, given):
         mine.sendall(b"x")
         other.sendall(given)
         other.close()
-        run = subprocess.run([program, *words], stdin=mine.fileno(), stdout=subprocess.PIPE, stderr=subprocess.DEVNULL, timeout=TIMEOUT, check=False)
+        run = subprocess.run(
+            [program, *words], stdin=mine.fileno(), stdout=subprocess.PIPE, stderr=subprocess.DEVNULL, timeout=TIMEOUT, check=False
+        )
     return run.returncode, run.stdout
 
 
@@ -49,7 +53,9 @@ def filled(program, words, data, room):
         resource.setrlimit(resource.RLIMIT_FSIZE, (room, room))
 
     with tempfile.TemporaryFile() as sink:
-        run = subprocess.run([program, *words], input=data, stdout=sink, stderr=subprocess.DEVNULL, timeout=TIMEOUT, preexec_fn=limit, check=False)
+        run = subprocess.run(
+            [program, *words], input=data, stdout=sink, stderr=subprocess.DEVNULL, timeout=TIMEOUT, preexec_fn=limit, check=False
+        )
         sink.seek(0)
         return run.returncode, sink.read()
 
@@ -57,7 +63,11 @@ def filled(program, words, data, room):
 def tried(program, every):
     """What each run is, how it ended, and how it is to end."""
     script, report = EXAMPLE.read_bytes(), EXAMPLE.with_suffix(".report").read_bytes()
-    for words, data, text in ((["run"], script, report), (["check"], report, b"agrees\n"), (["gen", "1", "1"], b"", b"entries 21 ops 2 faults 0 frees 8\n")):
+    for words, data, text in (
+        (["run"], script, report),
+        (["check"], report, b"agrees\n"),
+        (["gen", "1", "1"], b"", b"entries 21 ops 2 faults 0 frees 8\n"),
+    ):
         said = " ".join(words)
         for count in sorted({*range(0, len(data), every), len(data)}) if data else []:
             yield f"{said}, of which {count} bytes are read", broken_off(program, words, data[:count]), (READ_FAULT, b"")

@@ -2,8 +2,8 @@
 
 usage: tests/explained/run [--program PATH]
 
-That program is asked; without it that of WGSIM_PROGRAM, or the one that the tool takes. Prints a line for each finding, and fails if there is one.
-"""
+That program is asked; without it that of WGSIM_PROGRAM, or the one that the tool takes. Prints a line for each finding, and fails if there
+is one. """
 
 import argparse
 import json
@@ -84,8 +84,14 @@ OF_BYTES = [
     (b'\xef\xbb\xbf{"budget":1,"phases":[]}', ["S:1:1", "found: a byte order mark, the bytes EF BB BF, before the text"]),
     (b"\xff\xfe{\x00", ["S:1:1", "found: the byte 0xff, which begins a byte order mark of UTF-16", "expected: a text in UTF-8"]),
     (b'{"budget":1,\xff', ["S:1:13", "found: the byte 0xff"]),
-    (b'{"budget":1,"\x1b[2J":0,"phases":[]}', ["S:1:14", "found: the control character \\x1b in a string", '{"budget":1,"\\x1b[2J":0,"phases":[]}']),
-    ('{"budget":1,"phases":[],"\u202e\u009b":0}'.encode(), ["S:1:25", 'found: the key "\\u202e\\x9b"', '{"budget":1,"phases":[],"\\u202e\\x9b":0}']),
+    (
+        b'{"budget":1,"\x1b[2J":0,"phases":[]}',
+        ["S:1:14", "found: the control character \\x1b in a string", '{"budget":1,"\\x1b[2J":0,"phases":[]}'],
+    ),
+    (
+        '{"budget":1,"phases":[],"\u202e\u009b":0}'.encode(),
+        ["S:1:25", 'found: the key "\\u202e\\x9b"', '{"budget":1,"phases":[],"\\u202e\\x9b":0}'],
+    ),
 ]
 
 

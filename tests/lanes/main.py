@@ -1,9 +1,10 @@
 """Runs a program several times on scripts of many lanes that race, and verifies each report by the second implementation in model/.
 
-Of the script `mixed` a first phase of one lane makes buffers. In the second all lanes at once write them, record clears and copies of them, submit these, copy them to
-frames of a canvas each, map, unmap, and now and then destroy or drop them, and open and close error scopes. A last phase of one lane completes the operations and
-destroys what is left. In `dropping` sixteen lanes destroy and drop the same buffers, and in `submitting` sixteen submit what clears them while another lane
-destroys them (storms.py), both ten times as often; what has to be so of each buffer in every order is read off each report as well.
+Of the script `mixed` a first phase of one lane makes buffers. In the second all lanes at once write them, record clears and copies of them,
+submit these, copy them to frames of a canvas each, map, unmap, and now and then destroy or drop them, and open and close error scopes. A
+last phase of one lane completes the operations and destroys what is left. In `dropping` sixteen lanes destroy and drop the same buffers,
+and in `submitting` sixteen submit what clears them while another lane destroys them (storms.py), both ten times as often; what has to be so
+of each buffer in every order is read off each report as well.
 
 Each run may bring another report; the model plays the calls in the order of its callers, and every line has to be the
 same. It is told how often the turn went from one caller to another, which is little where the lanes did not race.
@@ -38,7 +39,9 @@ SHARED, READ, WRITE = 12, 4, 4
 def arguments():
     parser = argparse.ArgumentParser(prog="tests/lanes/run", description=__doc__.split("\n", maxsplit=1)[0])
     parser.add_argument("--program", default=TOP / "crates/wgsim/out/wgsim", help="runs as PROGRAM run < SCRIPT")
-    parser.add_argument("--times", type=int, default=5, help="how many runs of the mixed script; there are ten times as many of each other one")
+    parser.add_argument(
+        "--times", type=int, default=5, help="how many runs of the mixed script; there are ten times as many of each other one"
+    )
     parser.add_argument("--only", choices=sorted(SCRIPTS), help="runs that script alone")
     parser.add_argument("--lanes", type=int, default=64, help="how many lanes of the mixed script")
     parser.add_argument("--calls", type=int, default=100, help="how many calls of each lane of it")
@@ -76,7 +79,9 @@ class Lane:
         return {"offset": offset, "size": 4 * self.chance.randint(0, (SIZE - offset) // 4)}
 
     def write(self):
-        self.add("writeBuffer", buffer=self.chance.choice([self.buffer(), self.buffer(), f"r{self.chance.randrange(READ)}"]), **self.range())
+        self.add(
+            "writeBuffer", buffer=self.chance.choice([self.buffer(), self.buffer(), f"r{self.chance.randrange(READ)}"]), **self.range()
+        )
 
     def record(self):
         """An encoder with clears and copies, which is finished, and submitted as a rule."""
@@ -107,7 +112,13 @@ class Lane:
 
     def map(self):
         name = self.chance.choice([f"r{self.chance.randrange(READ)}", f"w{self.chance.randrange(WRITE)}"])
-        self.add("mapAsync", buffer=name, mode=1 if name[0] == "r" else 2, offset=8 * self.chance.randrange(4), size=4 * self.chance.randint(0, 8))
+        self.add(
+            "mapAsync",
+            buffer=name,
+            mode=1 if name[0] == "r" else 2,
+            offset=8 * self.chance.randrange(4),
+            size=4 * self.chance.randint(0, 8),
+        )
         if self.chance.random() < 0.8:
             self.add("unmap", buffer=name)
 
@@ -162,14 +173,26 @@ def first_phase():
     made += [{"do": "createBuffer", "size": SIZE, "usage": 6, "as": f"w{number}"} for number in range(WRITE)]
     for number in range(4):
         made.append({"do": "createEncoder", "as": f"encoder{number}"})
-        made.append({"do": "copyBufferToBuffer", "on": f"encoder{number}", "source": f"w{number % WRITE}", "sourceOffset": 0, "target": f"b{number}", "targetOffset": 4, "size": 8})
+        made.append(
+            {
+                "do": "copyBufferToBuffer",
+                "on": f"encoder{number}",
+                "source": f"w{number % WRITE}",
+                "sourceOffset": 0,
+                "target": f"b{number}",
+                "targetOffset": 4,
+                "size": 8,
+            }
+        )
         made.append({"do": "finish", "on": f"encoder{number}", "as": f"shared{number}"})
     return made
 
 
 def last_phase(calls):
     ends = [{"do": "workDone"}] + [{"do": "complete", "op": op} for op in range(50, calls, 50)]
-    ends += [{"do": "destroy", "object": f"b{number}"} for number in range(SHARED)] + [{"do": "drop", "object": f"r{number}"} for number in range(READ)]
+    ends += [{"do": "destroy", "object": f"b{number}"} for number in range(SHARED)] + [
+        {"do": "drop", "object": f"r{number}"} for number in range(READ)
+    ]
     return ends + [{"do": "lose"}, {"do": "complete", "op": calls}]
 
 
@@ -215,7 +238,10 @@ def run_once(program, words, name, number, folder):
     wrong = wrong_in(text.decode()) if wrong is None else wrong
     entries, turns = turns_of(text)
     took = f"{middle - begun:.1f} s, verified in {time.monotonic() - middle:.1f} s"
-    print(f"{name} {number}: {entries} entries, the turn went on {turns} times, {text.count(b'%sstep ' % chr(10).encode())} steps; {took}", flush=True)
+    print(
+        f"{name} {number}: {entries} entries, the turn went on {turns} times, {text.count(b'%sstep ' % chr(10).encode())} steps; {took}",
+        flush=True,
+    )
     if wrong is not None:
         base = folder / f"{name}-{number}"
         base.with_suffix(".json").write_bytes(data)
@@ -237,7 +263,10 @@ def main():
         times = words.times * SCRIPTS[name][2]
         found = [run_once(program, words, name, number, folder) for number in range(times)]
         differences += sum(is_wrong for _, is_wrong in found)
-        print(f"{name}: {times} runs, {len({text for text, _ in found})} different reports, {sum(is_wrong for _, is_wrong in found)} differences")
+        print(
+            f"{name}: {times} runs, {len({text for text, _ in found})} different reports,"
+            f" {sum(is_wrong for _, is_wrong in found)} differences"
+        )
     if not words.folder and not differences:
         folder.rmdir()
     sys.exit(1 if differences else 0)

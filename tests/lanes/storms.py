@@ -1,8 +1,7 @@
 """Scripts in which sixteen lanes storm some buffers one after another, and what is read off a report of one, whatever order it is of.
 
-Entries do not name their objects. But each lane takes the buffers in turn, so that of the entries of one word of a lane the n-th is about the
-n-th buffer, whose object has the number n.
-"""
+Entries do not name their objects. But each lane takes the buffers in turn, so that of the entries of one word of a lane the n-th is about
+the n-th buffer, whose object has the number n. """
 
 import random
 import re
@@ -41,7 +40,8 @@ def submitting(seed):
 
 
 def entries_of(text, word):
-    """The entries of a word in each caller's turn: of the n-th of each caller the numbers and the rest of their lines, without their promises."""
+    """The entries of a word in each caller's turn: of the n-th of each caller the numbers and the rest of their lines, without their
+    promises."""
     found = [ENTRY.fullmatch(line).groups() for line in text[:text.index("\ntrace\n")].split("\n")[1:]]
     of_callers = {}
     for number, caller, each, rest in found:

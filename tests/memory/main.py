@@ -1,5 +1,5 @@
-"""Refuses each single allocation of the program in turn, on each example, which is run, and on its report, which is checked, and on a pass with
-a bundle and queries; or on the scripts and reports that are named.
+"""Refuses each single allocation of the program in turn, on each example, which is run, and on its report, which is checked, and on a pass
+with a bundle and queries; or on the scripts and reports that are named.
 
 A run whose n-th allocation is refused has to end with status 6 and nothing written, or with the same status and the same
 bytes as the run with ample memory. n counts up until a run has fewer allocations. The library that refuses is refusing.c,
@@ -24,7 +24,9 @@ TIMEOUT = 60
 
 def arguments():
     parser = argparse.ArgumentParser(prog="tests/memory/run", description=__doc__.split("\n", maxsplit=1)[0])
-    parser.add_argument("--program", default=TOP / "crates/wgsim/out/wgsim", help="runs as PROGRAM run < SCRIPT, and as PROGRAM check < REPORT")
+    parser.add_argument(
+        "--program", default=TOP / "crates/wgsim/out/wgsim", help="runs as PROGRAM run < SCRIPT, and as PROGRAM check < REPORT"
+    )
     parser.add_argument("--jobs", type=int, default=len(os.sched_getaffinity(0)), help="how many processes")
     parser.add_argument("scripts", nargs="*", type=pathlib.Path, help="in place of the examples: scripts, and reports, NAME.report")
     return parser.parse_args()

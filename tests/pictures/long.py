@@ -1,4 +1,5 @@
-"""Makes a script of some thousand steps: many buffers and textures, with layers that are used apart, passes that discard, releases and faults."""
+"""Makes a script of some thousand steps: many buffers and textures, with layers that are used apart, passes that discard, releases and
+faults."""
 
 import json
 import random
@@ -47,8 +48,23 @@ class Long:
         mip = self.random.randrange(3)
         wide = 16 >> mip
         for layer in range(self.random.randrange(2), LAYERS, 2):
-            self.call("writeTexture", texture=texture, mip=mip, origin=[0, 0, layer], size=[wide, wide, 1], bytesPerRow=4 * wide, dataSize=4 * wide * wide)
-        return {"texture": texture, "mip": mip, "size": [wide, wide, LAYERS], "bytesPerRow": 256, "rowsPerImage": wide, "buffer": "read_back"}
+            self.call(
+                "writeTexture",
+                texture=texture,
+                mip=mip,
+                origin=[0, 0, layer],
+                size=[wide, wide, 1],
+                bytesPerRow=4 * wide,
+                dataSize=4 * wide * wide,
+            )
+        return {
+            "texture": texture,
+            "mip": mip,
+            "size": [wide, wide, LAYERS],
+            "bytesPerRow": 256,
+            "rowsPerImage": wide,
+            "buffer": "read_back",
+        }
 
     def copies(self, encoder):
         for _ in range(self.random.randint(1, 3)):

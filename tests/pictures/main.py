@@ -78,7 +78,10 @@ class Server(http.server.ThreadingHTTPServer):
         self.texts = {"/": (DRIVER.encode(), "text/html"), "/favicon.ico": (b"", "image/x-icon")}
         for name in ("look.js", "drive.js"):
             self.texts[f"/{name}"] = ((PARTS / name).read_bytes(), "text/javascript")
-        self.texts["/list"] = (json.dumps([{"name": each.name, "counts": each.counts, "isFiltered": each.name in FILTERED} for each in shown]).encode(), "application/json")
+        self.texts["/list"] = (
+            json.dumps([{"name": each.name, "counts": each.counts, "isFiltered": each.name in FILTERED} for each in shown]).encode(),
+            "application/json",
+        )
         for each in shown:
             self.texts[f"/pictures/{each.name}"] = (each.page, "text/html; charset=utf-8")
         self.strange = []
@@ -131,7 +134,9 @@ def looked(browser, shown, folder, *words):
     server.server_close()
     for each in server.answer["pictures"]:
         if "opening" in each:
-            print(f"{each['name']}: {each['counts']['steps']} steps, opened in {each['milliseconds']} ms, all groups in {each['opening']} ms")
+            print(
+                f"{each['name']}: {each['counts']['steps']} steps, opened in {each['milliseconds']} ms, all groups in {each['opening']} ms"
+            )
     found = server.answer["found"] + [f"a page asks for {path}" for path in server.strange]
     is_dark = server.answer.get("isDark", False)
     return found + [f"the browser does not take {DARK}"] * (DARK in words and not is_dark)
@@ -145,7 +150,9 @@ def shoot(browser, shown, folder, shots):
         path.write_bytes(each.page)
         for width in WIDTHS:
             out = shots / f"{each.name}-{width}.png"
-            with browsing(browser, folder / "profile", "--hide-scrollbars", f"--screenshot={out}", f"--window-size={width},1600", path.as_uri()) as run:
+            with browsing(
+                browser, folder / "profile", "--hide-scrollbars", f"--screenshot={out}", f"--window-size={width},1600", path.as_uri()
+            ) as run:
                 run.wait(120)
 
 

@@ -15,7 +15,11 @@ BUFFER_KINDS = ["uniform", "storage", "read-only-storage"]
 KINDS = [*BUFFER_KINDS, "sampler", "texture", "storage-texture"]
 FLAT_DIMS = ["1d", "2d", "2d-array", "3d"]
 READ_WRITE_FORMATS = ["r32uint", "r32float"]
-SIZE_LIMITS = {"uniform": "maxUniformBufferBindingSize", "storage": "maxStorageBufferBindingSize", "read-only-storage": "maxStorageBufferBindingSize"}
+SIZE_LIMITS = {
+    "uniform": "maxUniformBufferBindingSize",
+    "storage": "maxStorageBufferBindingSize",
+    "read-only-storage": "maxStorageBufferBindingSize",
+}
 
 # The sorts of bindings that are counted together: their kinds, and the limits of how many a stage may see, and how many may be dynamic.
 COUNTED = {
@@ -38,7 +42,16 @@ def counted(sort):
     return kinds, limit(seen), None if dynamic is None else limit(dynamic)
 
 
-USUAL = {"dynamic": False, "minSize": 0, "type": "filtering", "sample": "float", "dim": "2d", "multi": False, "access": "write-only", "offset": 0}
+USUAL = {
+    "dynamic": False,
+    "minSize": 0,
+    "type": "filtering",
+    "sample": "float",
+    "dim": "2d",
+    "multi": False,
+    "access": "write-only",
+    "offset": 0,
+}
 
 
 def told(random, entry):
@@ -175,7 +188,9 @@ def binding_twice(random, entries):
 
 
 def binding_past(random, entries):
-    entry_for(random, entries, None)["binding"] = limit("maxBindingsPerBindGroup") + random.choice([0, 0, 1, 1000]) if random.random() < 0.8 else GREATEST_32
+    entry_for(random, entries, None)["binding"] = (
+        limit("maxBindingsPerBindGroup") + random.choice([0, 0, 1, 1000]) if random.random() < 0.8 else GREATEST_32
+    )
 
 
 def unknown_stage(random, entries):

@@ -97,7 +97,12 @@ def bind_buffer(world, asked, faults):
     usage = random.choice([12, 28, 192 ^ bit | 12]) if "usage" in faults else random.choice([bit, bit | 12, bit | 12, 204])
     thing = found_buffer(world, bit, offset, size) if not faults else None
     if thing is None:
-        thing = world.buffer("invalid" not in faults, size=min(wanted, limit("maxBufferSize")), usage=usage, mapped=random.random() < 0.05 and wanted % 4 == 0)
+        thing = world.buffer(
+            "invalid" not in faults,
+            size=min(wanted, limit("maxBufferSize")),
+            usage=usage,
+            mapped=random.random() < 0.05 and wanted % 4 == 0,
+        )
     return {"buffer": thing.name, "offset": offset} | ({} if size is None else {"size": size}), thing
 
 
@@ -133,7 +138,9 @@ def sampler(world, kind):
 
 def bind_view(world, asked, faults):
     """A view that is made for what is asked, or one that was made for the same before."""
-    random, role = world.random, repr(sorted((key, value) for key, value in asked.items() if key not in ("binding", "visibility", "access")))
+    random, role = world.random, repr(
+        sorted((key, value) for key, value in asked.items() if key not in ("binding", "visibility", "access"))
+    )
     is_any = random.random() < 0.15
     old = [thing for thing in world.views if getattr(thing, "role", None) == role and thing.good and not thing.dropped]
     old = [thing for thing in old if is_any or not thing.texture.destroyed]

@@ -164,11 +164,15 @@ def beside_the_pass(world, encoder, on, calls):
     target.uses.update({part: "attachment" for part in attached_parts(world, calls[0])})
     group = sampled_attachment(world, target, True) if random.random() < 0.4 else None
     shared = {part[1] for part, _ in parts_of(world, calls[1:-1]) if part[0] == "b"}
-    buffers = [thing for thing in usable(world, world.buffers) if thing.name in shared and thing.call["usage"] & DRAWN_AND_BOUND == DRAWN_AND_BOUND]
+    buffers = [
+        thing for thing in usable(world, world.buffers) if thing.name in shared and thing.call["usage"] & DRAWN_AND_BOUND == DRAWN_AND_BOUND
+    ]
     if group is None and buffers:
         thing = random.choice(buffers)
         group = storage_of(world, thing) if random.random() < 0.5 and thing.call["size"] >= 16 else None
-        setting = random.choice([{"do": "setVertexBuffer", "slot": 7}, {"do": "setIndexBuffer", "format": "uint16", "offset": thing.call["size"] // 2 * 2}])
+        setting = random.choice(
+            [{"do": "setVertexBuffer", "slot": 7}, {"do": "setIndexBuffer", "format": "uint16", "offset": thing.call["size"] // 2 * 2}]
+        )
         body = [setting | {"buffer": thing.name}]
     if group is not None:
         body = [{"do": "setBindGroup", "index": 3, "group": group.name}]
@@ -180,7 +184,9 @@ def storage_of(world, buffer):
     """A group that binds the first bytes of a buffer as storage, which is written or not."""
     kind = {"kind": world.random.choice(["storage", "storage", "read-only-storage"]), "dynamic": False, "minSize": 0}
     layout = new_layout(world, [{"binding": 0, "visibility": world.random.choice([0, 2])} | kind])
-    group = world.make("k", {"do": "createBindGroup", "layout": layout.name, "entries": [{"binding": 0, "buffer": buffer.name, "size": 16}]}, True)
+    group = world.make(
+        "k", {"do": "createBindGroup", "layout": layout.name, "entries": [{"binding": 0, "buffer": buffer.name, "size": 16}]}, True
+    )
     group.bound, group.shape = [(layout.entries[0], [("b", buffer.name, 0, 16)])], layout.shape
     world.groups.append(group)
     return group

@@ -68,7 +68,9 @@ def bundle_for(world, target, is_any):
     old = [thing for thing in usable(world, world.bundles) if hasattr(thing, "target") and agrees(thing.target, target)]
     old = [thing for thing in old if is_any or all(target.uses.get(part, role) == role for part, role in thing.parts)]
     if random.random() > 0.1:
-        old = [thing for thing in old if not any(other.destroyed or other.mapped for other in world.resources() if other.name in thing.behind)]
+        old = [
+            thing for thing in old if not any(other.destroyed or other.mapped for other in world.resources() if other.name in thing.behind)
+        ]
     thing = random.choice(old[-5:]) if old and random.random() < 0.55 else new_bundle(world, own_target(world, target, is_any), is_any)
     return thing if thing.good and joins(target, thing.parts, is_any) else None
 
@@ -79,8 +81,8 @@ def agrees(own, target):
 
 
 def own_target(world, target, is_any=False):
-    """What a bundle draws to that is to agree with a pass. What is only read in the pass is so in the bundle, and at times more is. Where the
-    bundle is to agree with the usage scope of the pass, that has what the pass uses."""
+    """What a bundle draws to that is to agree with a pass. What is only read in the pass is so in the bundle, and at times more is. Where
+    the bundle is to agree with the usage scope of the pass, that has what the pass uses."""
     random = world.random
     formats, depth, samples = target.signature()
     formats = list(formats) + [None] * random.choice([0, 0, 0, 1, MOST_COLORS - len(formats)])
@@ -93,7 +95,10 @@ def any_target(world):
     """What a bundle may draw to, whatever passes there are."""
     random = world.random
     samples = random.choice([1, 1, 4])
-    formats = [random.choice([None, *(FOUR_COLORS if samples == 4 else COLOR_FORMATS)]) for _ in range(random.choice([0, 1, 1, 1, 2, 3, MOST_COLORS]))]
+    formats = [
+        random.choice([None, *(FOUR_COLORS if samples == 4 else COLOR_FORMATS)])
+        for _ in range(random.choice([0, 1, 1, 1, 2, 3, MOST_COLORS]))
+    ]
     depth = random.choice([None, *DEPTH_FORMATS]) if any(formats) else random.choice(DEPTH_FORMATS)
     read_only = {aspect for aspect in ASPECTS if random.random() < 0.3}
     return Target(create_call(formats, depth, samples, read_only), formats, depth, samples, read_only, {})
@@ -157,7 +162,12 @@ def finished(world, encoder, target, body):
 def late_call(world):
     """A call on a bundle encoder, to which nothing is asked after its finish."""
     buffer = world.buffers[0].name
-    calls = [{"do": "pushDebugGroup"}, {"do": "popDebugGroup"}, {"do": "draw", "vertices": 1}, {"do": "setVertexBuffer", "slot": 9, "buffer": buffer}]
+    calls = [
+        {"do": "pushDebugGroup"},
+        {"do": "popDebugGroup"},
+        {"do": "draw", "vertices": 1},
+        {"do": "setVertexBuffer", "slot": 9, "buffer": buffer},
+    ]
     calls += [{"do": "drawIndexed", "indices": 1}, {"do": "setIndexBuffer", "buffer": buffer, "format": "uint16", "offset": 1}]
     calls += [{"do": word, "buffer": buffer, "offset": 1} for word in ("drawIndirect", "drawIndexedIndirect")]
     calls += [{"do": "setPipeline", "pipeline": thing.name} for thing in world.render_pipelines[-1:]]
@@ -184,7 +194,8 @@ def parts_of(world, calls):
 
 
 def bundle_alone(world, spoil):
-    """A bundle that no pass is there for, spoiled half of the time; at times one whose bindings overlap or clash, or whose encoder stays open."""
+    """A bundle that no pass is there for, spoiled half of the time; at times one whose bindings overlap or clash, or whose encoder stays
+    open."""
     random = world.random
     target = own_target(world, begin(world, None, "none")) if random.random() < 0.3 else any_target(world)
     kind = random.random()

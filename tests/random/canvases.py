@@ -1,5 +1,5 @@
-"""Scripts with canvases: frames one after another, in the right order as a rule, and such in which something comes too early, too late, twice or
-not at all.
+"""Scripts with canvases: frames one after another, in the right order as a rule, and such in which something comes too early, too late,
+twice or not at all.
 
 Few objects and small extents, so that what a present gives back matters under a small budget.
 """
@@ -16,7 +16,8 @@ STORAGE = 8
 
 
 class Canvas:
-    """A canvas of the lane: its extent, what it was configured with last, which is nothing at first, and the texture that is current, or None."""
+    """A canvas of the lane: its extent, what it was configured with last, which is nothing at first, and the texture that is current, or
+    None."""
 
     def __init__(self, name, width, height):
         self.name = name
@@ -46,7 +47,9 @@ def make(world):
     random = world.random
     width, height = random.choice([1, 2, 4, 4, 4, 8]), random.choice([1, 2, 4, 4])
     if world.has_fault():
-        width, height = random.choice([(0, 4), (4, 0), (0, 0), (8192, 1), (1, 8192), (8193, 1), (1, 16384), (16385, 1), (2**32 - 1, 2**32 - 1)])
+        width, height = random.choice(
+            [(0, 4), (4, 0), (0, 0), (8192, 1), (1, 8192), (8193, 1), (1, 16384), (16385, 1), (2**32 - 1, 2**32 - 1)]
+        )
     canvas = Canvas(world.new_name("k"), width, height)
     world.add({"do": "createCanvas", "width": width, "height": height, "as": canvas.name})
     world.canvases.append(canvas)
@@ -182,7 +185,11 @@ def attach(world, encoder, thing):
 def view_of(world, thing):
     """A view of a texture, under whatever name of it; one of a second mip level or layer is invalid."""
     random = world.random
-    more = random.choice([{"mips": 2}, {"baseMip": 1}, {"layers": 2}, {"baseLayer": 1}]) if world.has_fault() else random.choice([{}, {}, {"dim": "2d-array"}])
+    more = (
+        random.choice([{"mips": 2}, {"baseMip": 1}, {"layers": 2}, {"baseLayer": 1}])
+        if world.has_fault()
+        else random.choice([{}, {}, {"dim": "2d-array"}])
+    )
     view = world.make("v", {"do": "createView", "texture": thing.name} | more, thing.good and set(more) <= {"dim"})
     view.texture = thing
     world.views.append(view)
@@ -191,7 +198,11 @@ def view_of(world, thing):
 
 def some_bytes(world):
     """A buffer to copy to and from."""
-    old = [thing for thing in world.buffers if thing.call["usage"] == 12 and thing.call["size"] >= 1024 and not thing.destroyed and not thing.dropped]
+    old = [
+        thing
+        for thing in world.buffers
+        if thing.call["usage"] == 12 and thing.call["size"] >= 1024 and not thing.destroyed and not thing.dropped
+    ]
     return old[-1] if old else world.buffer(usage=12, size=1024)
 
 

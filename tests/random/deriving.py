@@ -1,11 +1,12 @@
 """Pipelines that derive their layouts from what their interface names, and layouts that are got of pipelines.
 
-A pipeline has in `lists` the entries of its layouts by group, as far as the maker knows them, and in `derives` whether it derives them. A layout
-that was got has the pipeline in `owner` where that has derived it, and is in a list of its own then, since no pipeline layout takes it.
-"""
+A pipeline has in `lists` the entries of its layouts by group, as far as the maker knows them, and in `derives` whether it derives them. A
+layout that was got has the pipeline in `owner` where that has derived it, and is in a list of its own then, since no pipeline layout takes
+it. """
 
 from bindings import (
-    COMPUTE, COUNTED, GREATEST_32, border_of_stage, counted, other_value, parts_of, seen_entries, some_entries, some_kind, spoil_entries, told, used_by,
+    COMPUTE, COUNTED, GREATEST_32, border_of_stage, counted, other_value, parts_of, seen_entries, some_entries, some_kind, spoil_entries,
+    told, used_by,
 )
 
 STAGES = {"vertex": 1, "fragment": 2}
@@ -13,12 +14,16 @@ NOT_OF_KIND = ("binding", "visibility", "dynamic", "minSize")
 
 
 def naming(random, lists, is_render):
-    """What an interface names of lists of entries: triples of a group, an entry, and the stage that names it, which sees it; of a compute pipeline
-    that is None. Some are named twice."""
+    """What an interface names of lists of entries: triples of a group, an entry, and the stage that names it, which sees it; of a compute
+    pipeline that is None. Some are named twice."""
     found = []
     for group, entries in enumerate(lists):
         for entry in entries:
-            seen = [stage for stage, bit in STAGES.items() if entry["visibility"] & bit] if is_render else [None] * bool(entry["visibility"] & COMPUTE)
+            seen = (
+                [stage for stage, bit in STAGES.items() if entry["visibility"] & bit]
+                if is_render
+                else [None] * bool(entry["visibility"] & COMPUTE)
+            )
             stages = random.sample(seen, random.randint(1, len(seen))) if seen else []
             found += [(group, entry, stage) for stage in stages + stages * (random.random() < 0.08)]
     random.shuffle(found)
@@ -74,7 +79,8 @@ def shape_of(pipeline, entries):
 
 
 def got(world, pipeline, index):
-    """A layout that is got of a pipeline; of an index that it does not have, or of a pipeline that is dropped or invalid, one that is not good."""
+    """A layout that is got of a pipeline; of an index that it does not have, or of a pipeline that is dropped or invalid, one that is not
+    good."""
     lists = getattr(pipeline, "lists", [])
     is_good = pipeline.good and not pipeline.dropped and index < len(lists)
     thing = world.make("y", {"do": "getBindGroupLayout", "pipeline": pipeline.name, "index": index}, is_good)
@@ -123,7 +129,13 @@ def some_lists(random, more):
 def clash(random, lists, named, is_render):
     """One binding is named in two kinds, for one stage or for two."""
     if not named:
-        named.append((random.choice([0, 3, 4]), {"binding": random.choice([0, 999]), "visibility": 7} | some_kind(random), "fragment" if is_render else None))
+        named.append(
+            (
+                random.choice([0, 3, 4]),
+                {"binding": random.choice([0, 999]), "visibility": 7} | some_kind(random),
+                "fragment" if is_render else None,
+            )
+        )
     group, entry, stage = random.choice(named)
     keys = [key for key in ("type", "sample", "dim", "multi", "access", "format") if key in entry]
     twin = {"storage": "read-only-storage", "read-only-storage": "storage"}.get(entry["kind"])
@@ -169,7 +181,11 @@ def any_pipeline(world):
     if not good and not is_past:
         for fault in random.sample(FAULTS, random.choice([1, 1, 1, 2])):
             fault(random, lists, named, is_render)
-    wrong = random.choice([{}] * 5 + [{"samples": 2}, {"targets": []}, {"buffers": [{"stride": 2, "attributes": []}]}]) if is_render and not good else {}
+    wrong = (
+        random.choice([{}] * 5 + [{"samples": 2}, {"targets": []}, {"buffers": [{"stride": 2, "attributes": []}]}])
+        if is_render and not good
+        else {}
+    )
     pipeline = render_of(world, named, good, **wrong) if is_render else compute_of(world, named, good)
     if not good and random.random() < 0.6:
         return
@@ -185,4 +201,8 @@ def any_layout(world):
     if pipelines:
         pipeline = random.choice(pipelines)
         count = len(getattr(pipeline, "lists", []))
-        got(world, pipeline, random.choice([0, 0, max(count - 1, 0), count, 3, 4, GREATEST_32] if world.has_fault() else list(range(count)) or [0]))
+        got(
+            world,
+            pipeline,
+            random.choice([0, 0, max(count - 1, 0), count, 3, 4, GREATEST_32] if world.has_fault() else list(range(count)) or [0]),
+        )

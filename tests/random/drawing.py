@@ -7,7 +7,9 @@ it writes in `writes`. What is set at a slot is a triple of the name of a buffer
 from bindings import is_written, told, used_by
 from bound import TEXTURE_BINDING
 from deriving import is_derived, naming, render_of
-from dispatching import INDIRECT, at_times_got, buffers_in, kit_layouts, moved, new_layout, offsets_for, pick, set_call, size_of, view_of, with_groups
+from dispatching import (
+    INDIRECT, at_times_got, buffers_in, kit_layouts, moved, new_layout, offsets_for, pick, set_call, size_of, view_of, with_groups,
+)
 from grouping import pipeline_layout_of, usable
 from limiting import of as limit
 from targets import ASPECTS_OF, signature
@@ -99,9 +101,15 @@ def new_render_pipeline(world, layouts, formats, depth, samples, read_only):
         writes = {aspect for aspect in ASPECTS_OF[depth] if aspect not in read_only and random.random() < 0.6}
         call["depth"] = without_usual(random, {"format": depth, "depthWrite": "depth" in writes, "stencilWrite": "stencil" in writes})
     if derives:
-        thing = with_groups(world, render_of(world, naming(random, [one.entries for one in layouts], True), buffers=told_buffers(random, buffers), **call))
+        thing = with_groups(
+            world, render_of(world, naming(random, [one.entries for one in layouts], True), buffers=told_buffers(random, buffers), **call)
+        )
     else:
-        thing = add_render_pipeline(world, {"do": "createRenderPipeline", "layout": layout.name, "iface": some_iface(random, layouts), "buffers": buffers} | call, True)
+        thing = add_render_pipeline(
+            world,
+            {"do": "createRenderPipeline", "layout": layout.name, "iface": some_iface(random, layouts), "buffers": buffers} | call,
+            True,
+        )
         thing.layouts, thing.lists, thing.derives = layouts, [one.entries for one in layouts], False
         at_times_got(world, thing)
     thing.vertex, thing.signature, thing.writes = buffers, signature(formats, depth, samples), writes
@@ -164,7 +172,9 @@ def some_range(world, target, bit, step, least, is_any):
     offset = random.choice([0, 0, last, step * random.randint(0, last // step)])
     rest = size - offset
     least = min(least, rest)
-    length = random.choice([None, None, rest, least, random.randint(least, rest), random.randint(least, rest) // step * step, rest // step * step])
+    length = random.choice(
+        [None, None, rest, least, random.randint(least, rest), random.randint(least, rest) // step * step, rest // step * step]
+    )
     if random.random() < 0.05:
         offset, length = random.choice([(offset, 0), (size // step * step, 0), (size // step * step, None)])
     joins(target, [(("b", thing.name), "read")], True)
@@ -257,7 +267,9 @@ def indirect_call(world, on, word, thing):
 def sampled_attachment(world, target, is_any):
     """A group that samples what a pass attaches: an aspect of the depth that is read-only, which may stand in one scope with it, or
     anything where any will do; or None where there is nothing."""
-    random, parts = world.random, [part for part, role in target.uses.items() if part[0] == "t" and role == ("attachment" if is_any else "read")]
+    random, parts = world.random, [
+        part for part, role in target.uses.items() if part[0] == "t" and role == ("attachment" if is_any else "read")
+    ]
     views = {thing.name: thing for thing in world.textures if thing.call["usage"] & TEXTURE_BINDING}
     parts = [part for part in parts if part[1] in views and (is_any or part[2] != "color")]
     if not parts:
@@ -267,7 +279,14 @@ def sampled_attachment(world, target, is_any):
     sample = {"depth": "depth", "stencil": "uint"}.get(aspect) or COLOR_SAMPLES.get(texture.call["format"], "unfilterable-float")
     kind = {"kind": "texture", "sample": sample, "dim": "2d", "multi": texture.call["samples"] == 4}
     layout = new_layout(world, [{"binding": random.randrange(3), "visibility": random.choice([2, 3, 7, 0])} | kind])
-    spot = {"dim": "2d", "aspect": "all" if aspect == "color" else f"{aspect}-only", "baseMip": mip, "mips": 1, "baseLayer": layer, "layers": 1}
+    spot = {
+        "dim": "2d",
+        "aspect": "all" if aspect == "color" else f"{aspect}-only",
+        "baseMip": mip,
+        "mips": 1,
+        "baseLayer": layer,
+        "layers": 1,
+    }
     bound = [{"binding": layout.entries[0]["binding"], "view": view_of(world, texture, spot).name}]
     group = world.make("k", {"do": "createBindGroup", "layout": layout.name, "entries": bound}, True)
     group.bound, group.shape = [(layout.entries[0], [("t", name, aspect, mip, layer)])], layout.shape

@@ -23,7 +23,11 @@ def of_all_lanes():
     """A lane's buffer each, which one lane of the next phase writes, destroys and counts."""
     names = [f"b{number}" for number in range(64)]
     made = [[{"do": "createBuffer", "as": name, "size": 8, "usage": 8}] for name in names]
-    used = [call for name in names for call in ({"do": "writeBuffer", "buffer": name, "offset": 0, "size": 8}, {"do": "destroy", "object": name})]
+    used = [
+        call
+        for name in names
+        for call in ({"do": "writeBuffer", "buffer": name, "offset": 0, "size": 8}, {"do": "destroy", "object": name})
+    ]
     return in_lanes([made, [used], [[{"do": "complete", "op": 64}]]])
 
 
@@ -56,7 +60,9 @@ def bound(count, more=0):
     """A layout of so many samplers that no stage sees, and a bind group of it; with more items the layout is refused."""
     entries = [{"binding": binding, "visibility": 0, "kind": "sampler"} for binding in range(count)]
     made = [{"do": "createBindGroupLayout", "as": "l", "entries": entries + entries[:more]}, {"do": "createSampler", "as": "s"}]
-    return script(made + [{"do": "createBindGroup", "as": "g", "layout": "l", "entries": [{"binding": n, "sampler": "s"} for n in range(count)]}])
+    return script(
+        made + [{"do": "createBindGroup", "as": "g", "layout": "l", "entries": [{"binding": n, "sampler": "s"} for n in range(count)]}]
+    )
 
 
 def interface(count):
@@ -71,13 +77,22 @@ def interface(count):
 
 
 def many_layouts(count):
-    return script([{"do": "createBindGroupLayout", "as": "n", "entries": []}, {"do": "createPipelineLayout", "as": "l", "layouts": ["n"] * count}])
+    return script(
+        [{"do": "createBindGroupLayout", "as": "n", "entries": []}, {"do": "createPipelineLayout", "as": "l", "layouts": ["n"] * count}]
+    )
 
 
 def in_passes(entries, bound, passes, made=()):
     """A pipeline of four groups of some entries, and an encoder with some lists of calls, each in a pass of its own, which is submitted."""
-    calls = [*made, {"do": "createBindGroupLayout", "as": "l", "entries": entries}, {"do": "createPipelineLayout", "as": "q", "layouts": ["l"] * 4}]
-    calls += [{"do": "createComputePipeline", "as": "k", "layout": "q"}, {"do": "createBindGroup", "as": "g", "layout": "l", "entries": bound}]
+    calls = [
+        *made,
+        {"do": "createBindGroupLayout", "as": "l", "entries": entries},
+        {"do": "createPipelineLayout", "as": "q", "layouts": ["l"] * 4},
+    ]
+    calls += [
+        {"do": "createComputePipeline", "as": "k", "layout": "q"},
+        {"do": "createBindGroup", "as": "g", "layout": "l", "entries": bound},
+    ]
     calls.append({"do": "createEncoder", "as": "e"})
     for number, body in enumerate(passes):
         calls.append({"do": "beginComputePass", "on": "e", "as": f"p{number}"})
@@ -121,14 +136,19 @@ def drawn(draws, passes):
     """So many draws by all targets, vertex buffers and attributes that there can be, in each of some passes."""
     last = {"format": "float32x4", "offset": 2032}
     buffers = [{"stride": 2048, "attributes": [last | {"location": 2 * slot + at} for at in range(2)]} for slot in range(8)]
-    body = [{"do": "setPipeline", "pipeline": "k"}] + [{"do": "setVertexBuffer", "slot": slot, "buffer": "b", "offset": 0} for slot in range(8)]
+    body = [{"do": "setPipeline", "pipeline": "k"}] + [
+        {"do": "setVertexBuffer", "slot": slot, "buffer": "b", "offset": 0} for slot in range(8)
+    ]
     body += [{"do": "draw", "vertices": number % 3} for number in range(draws)]
     return rendered({"buffers": buffers, "targets": ["rgba8unorm"] * 8}, COLORS, [body] * passes, [BUFFER])
 
 
 def set_again(count):
     """A pass that sets so many ranges of a buffer, some of which are empty, and draws nothing."""
-    body = [{"do": "setVertexBuffer", "slot": number % 8, "buffer": "b", "offset": 4 * number, "size": 3 * (number % 4)} for number in range(count)]
+    body = [
+        {"do": "setVertexBuffer", "slot": number % 8, "buffer": "b", "offset": 4 * number, "size": 3 * (number % 4)}
+        for number in range(count)
+    ]
     return rendered({"targets": ["rgba8unorm"]}, COLORS[:3], [body], [BUFFER])
 
 
@@ -161,7 +181,10 @@ def bundled(bundles, commands, executed):
         made += [{"do": "createBundleEncoder", "as": f"h{number}", "colors": ["rgba8unorm", None]}]
         made += [call | {"on": f"h{number}"} for call in calls]
         made += [{"do": "finishBundle", "on": f"h{number}", "as": f"m{number}"}]
-    pipeline = [{"do": "createPipelineLayout", "as": "pl", "layouts": []}, {"do": "createRenderPipeline", "as": "k", "layout": "pl", "targets": ["rgba8unorm"]}]
+    pipeline = [
+        {"do": "createPipelineLayout", "as": "pl", "layouts": []},
+        {"do": "createRenderPipeline", "as": "k", "layout": "pl", "targets": ["rgba8unorm"]},
+    ]
     bodies = [[{"do": "executeBundles", "bundles": [f"m{number}" for number in one]}] for one in executed]
     return rendered({"as": "r", "targets": ["rgba8unorm"]}, COLORS[:1], bodies, pipeline + made)
 
@@ -182,11 +205,19 @@ def all_subresources():
     calls, passes = views, []
     for number in range(3):
         kind = {"kind": "texture", "sample": "uint"} if number == 0 else {"kind": "storage-texture", "format": "r32uint"}
-        calls.append({"do": "createBindGroupLayout", "as": f"l{number}", "entries": [{"binding": 0, "visibility": 4, "dim": "2d-array"} | kind]})
+        calls.append(
+            {"do": "createBindGroupLayout", "as": f"l{number}", "entries": [{"binding": 0, "visibility": 4, "dim": "2d-array"} | kind]}
+        )
         calls.append({"do": "createPipelineLayout", "as": f"q{number}", "layouts": [f"l{number}"]})
         calls.append({"do": "createComputePipeline", "as": f"k{number}", "layout": f"q{number}"})
-        calls.append({"do": "createBindGroup", "as": f"g{number}", "layout": f"l{number}", "entries": [{"binding": 0, "view": f"v{number}"}]})
-        passes += [{"do": "setPipeline", "pipeline": f"k{number}"}, {"do": "setBindGroup", "index": 0, "group": f"g{number}"}, {"do": "dispatch", "x": 1}]
+        calls.append(
+            {"do": "createBindGroup", "as": f"g{number}", "layout": f"l{number}", "entries": [{"binding": 0, "view": f"v{number}"}]}
+        )
+        passes += [
+            {"do": "setPipeline", "pipeline": f"k{number}"},
+            {"do": "setBindGroup", "index": 0, "group": f"g{number}"},
+            {"do": "dispatch", "x": 1},
+        ]
     return in_passes([], [], [passes, passes[-3:] + passes[:3]], calls)
 
 

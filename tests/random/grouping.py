@@ -1,9 +1,10 @@
-"""Scripts on what is bound: samplers, layouts, bind groups and compute pipelines, pipelines that derive their layouts, and layouts that are got of
-pipelines, with the buffers, textures and views that they need; with drops, destroys, writes, submits, error scopes and loss among them."""
+"""Scripts on what is bound: samplers, layouts, bind groups and compute pipelines, pipelines that derive their layouts, and layouts that are
+got of pipelines, with the buffers, textures and views that they need; with drops, destroys, writes, submits, error scopes and loss among
+them."""
 
 from bindings import (
-    COMPUTE, COUNTED, GREATEST_32, KINDS, SAMPLERS, border_of_dynamic, border_of_stage, counted, dynamic_entries, of_sort, other_value, parts_of,
-    seen_entries, some_entries, some_kind, spoil_entries, told, used_by, with_binding,
+    COMPUTE, COUNTED, GREATEST_32, KINDS, SAMPLERS, border_of_dynamic, border_of_stage, counted, dynamic_entries, of_sort, other_value,
+    parts_of, seen_entries, some_entries, some_kind, spoil_entries, told, used_by, with_binding,
 )
 from bound import bound_entries, faults_for, sampler
 from commands import clear_buffer, copy_buffer, write_buffer
@@ -99,7 +100,13 @@ def past_several(world):
     """Layouts that leave several rules unmet: what a stage sees, what is dynamic, and at times their number or one of them."""
     random = world.random
     sort = random.choice(["uniform buffer", "storage buffer"])
-    lists = parts_of(random, seen_entries(random, *random.choice([("texture", 1), ("sampler", 2), ("storage texture", 4)]), limit("maxSampledTexturesPerShaderStage") + 1), 2)
+    lists = parts_of(
+        random,
+        seen_entries(
+            random, *random.choice([("texture", 1), ("sampler", 2), ("storage texture", 4)]), limit("maxSampledTexturesPerShaderStage") + 1
+        ),
+        2,
+    )
     lists += parts_of(random, dynamic_entries(random, sort, counted(sort)[2] + 1), 2)
     random.shuffle(lists)
     layouts = [layout_of(world, part, True) for part in lists]
@@ -180,7 +187,9 @@ def bind_group(world):
 
 def group_of(world, layout, faults):
     entries = bound_entries(world, layout.entries, faults)
-    thing = world.make("k", {"do": "createBindGroup", "layout": layout.name, "entries": entries}, not faults and layout.good and not layout.dropped)
+    thing = world.make(
+        "k", {"do": "createBindGroup", "layout": layout.name, "entries": entries}, not faults and layout.good and not layout.dropped
+    )
     world.groups.append(thing)
     return thing
 
@@ -223,7 +232,11 @@ def not_offered(random, layout, places, seen):
     fault = random.randrange(10)
     hidden = [place for place in places if place not in seen]
     if fault == 0 or not places:
-        kind = some_kind(random) if not seen else {key: value for key, value in random.choice(seen)[1].items() if key not in ("binding", "visibility")}
+        kind = (
+            some_kind(random)
+            if not seen
+            else {key: value for key, value in random.choice(seen)[1].items() if key not in ("binding", "visibility")}
+        )
         return {"group": random.choice([len(layout.layouts), len(layout.layouts), 4, GREATEST_32]), "binding": 0} | kind
     if fault == 1 or not hidden + seen:
         group, entry = random.choice(places)
@@ -307,5 +320,8 @@ def work(world):
             world.submit([command_buffer])
 
 
-ACTS = [group_layout, pipeline_layout, bind_group, compute_pipeline, any_pipeline, any_layout, exclusive, any_sampler, chain, drop, destroy, write, work, complete, maps, scope]
+ACTS = [
+    group_layout, pipeline_layout, bind_group, compute_pipeline, any_pipeline, any_layout, exclusive, any_sampler, chain, drop, destroy,
+    write, work, complete, maps, scope,
+]
 WEIGHTS = [9, 6, 36, 9, 9, 4, 1, 1, 2, 7, 1, 1, 2, 2, 1, 3]

@@ -84,7 +84,11 @@ def made(world, good, size, **wanted):
 
 def chosen(world, things, since=0):
     """One of some objects, mostly a good one that was not dropped before a time, or None."""
-    fit = [thing for thing in things if thing.good and not thing.destroyed and not thing.mapped and (not thing.dropped or thing.dropped_at > since)]
+    fit = [
+        thing
+        for thing in things
+        if thing.good and not thing.destroyed and not thing.mapped and (not thing.dropped or thing.dropped_at > since)
+    ]
     if fit and not world.has_fault():
         return world.random.choice(fit[-8:])
     return world.random.choice(things) if things and world.random.random() < 0.3 else None
@@ -121,15 +125,32 @@ def record(world):
         elif kind == 6:
             attach(world, on)
         elif kind == 0 and None not in (one, other) and one is not other:
-            copy = {"do": "copyBufferToBuffer", "on": on.name, "source": one.name, "sourceOffset": 0, "target": other.name, "targetOffset": 0}
+            copy = {
+                "do": "copyBufferToBuffer",
+                "on": on.name,
+                "source": one.name,
+                "sourceOffset": 0,
+                "target": other.name,
+                "targetOffset": 0,
+            }
             world.add(copy | {"size": random.choice([0, 0, 4])})
         elif kind in (1, 2) and None not in (one, image):
             word = random.choice(["copyBufferToTexture", "copyTextureToBuffer"])
             texels = [0, 1, 1] if image.call["samples"] == 1 and image.call["format"] in COLORS else whole(image)
             size = random.choice([texels, whole(image)])
-            world.add({"do": word, "on": on.name, "buffer": one.name, "texture": image.name, "size": size, "bytesPerRow": 256, "rowsPerImage": 4})
+            world.add(
+                {"do": word, "on": on.name, "buffer": one.name, "texture": image.name, "size": size, "bytesPerRow": 256, "rowsPerImage": 4}
+            )
         elif kind == 3 and None not in (image, second) and image is not second:
-            world.add({"do": "copyTextureToTexture", "on": on.name, "source": image.name, "target": second.name, "size": random.choice([[1, 1, 1], [0, 0, 0]])})
+            world.add(
+                {
+                    "do": "copyTextureToTexture",
+                    "on": on.name,
+                    "source": image.name,
+                    "target": second.name,
+                    "size": random.choice([[1, 1, 1], [0, 0, 0]]),
+                }
+            )
         elif one is not None:
             world.add({"do": "clearBuffer", "on": on.name, "buffer": one.name} | random.choice([{}, {"size": 0}]))
     if world.has_fault():
@@ -144,7 +165,15 @@ def resolve(world, on):
         count = world.random.choice([0, min(found.call["count"], target.call["size"] // BYTES)])
         if found.call["count"] == 0 and not world.has_fault():
             return
-        call = {"do": "resolveQuerySet", "on": on.name, "queries": found.name, "first": 0, "count": count, "buffer": target.name, "offset": 0}
+        call = {
+            "do": "resolveQuerySet",
+            "on": on.name,
+            "queries": found.name,
+            "first": 0,
+            "count": count,
+            "buffer": target.name,
+            "offset": 0,
+        }
         world.add(call)
 
 
@@ -161,7 +190,11 @@ def attach(world, on):
         keys = {f"{aspect}{key}": word for aspect in aspects for key, word in (("Load", load), ("Store", store))}
         begin.update(colors=[], depth={"view": found.name} | keys)
     queries = chosen(world, world.query_sets, on.made_at)
-    calls = [{"do": "executeBundles", "bundles": [thing.name for thing in fit_bundles(world, found.texture, on)]}] if random.random() < 0.6 else []
+    calls = (
+        [{"do": "executeBundles", "bundles": [thing.name for thing in fit_bundles(world, found.texture, on)]}]
+        if random.random() < 0.6
+        else []
+    )
     if queries is not None and random.random() < 0.5:
         begin["queries"] = queries.name
         if queries.call["count"] > 0 and random.random() < 0.5:
@@ -201,8 +234,14 @@ def bundle(world):
     for _ in range(random.choice([0, 1, 1, 2])):
         thing = chosen(world, [thing for thing in world.buffers if thing.call["usage"] & DRAWN], on.made_at)
         if thing is not None:
-            setting = random.choice([{"do": "setVertexBuffer", "slot": random.choice([0, 7])}, {"do": "setIndexBuffer", "format": "uint16"}])
-            world.add(setting | {"on": on.name, "buffer": thing.name} | random.choice([{}, {}, {"size": 0}, {"offset": thing.call["size"] // 4 * 4}]))
+            setting = random.choice(
+                [{"do": "setVertexBuffer", "slot": random.choice([0, 7])}, {"do": "setIndexBuffer", "format": "uint16"}]
+            )
+            world.add(
+                setting
+                | {"on": on.name, "buffer": thing.name}
+                | random.choice([{}, {}, {"size": 0}, {"offset": thing.call["size"] // 4 * 4}])
+            )
     if random.random() < 0.65:
         world.finish_bundle(on).target = on.call
 

@@ -16,8 +16,8 @@ from targets import target_pool
 from world import World
 
 LISTS = [
-    "buffers", "textures", "views", "samplers", "group_layouts", "derived_layouts", "pipeline_layouts", "groups", "pipelines", "render_pipelines", "query_sets",
-    "command_buffers", "bundles",
+    "buffers", "textures", "views", "samplers", "group_layouts", "derived_layouts", "pipeline_layouts", "groups", "pipelines",
+    "render_pipelines", "query_sets", "command_buffers", "bundles",
 ]
 ACTS = {
     "mixed": (worlds.ACTS, worlds.ACT_WEIGHTS),
@@ -32,14 +32,20 @@ MOST_CALLS = 250
 
 
 class Shared(World):
-    """What all lanes of the next phase see. Its encoders and canvases are the lane's own; the encoders of earlier phases can be dropped, and no
-    more."""
+    """What all lanes of the next phase see. Its encoders and canvases are the lane's own; the encoders of earlier phases can be dropped,
+    and no more."""
 
     def __init__(self, random, fault, sort):
         super().__init__(random, fault)
         self.sort = sort
         self.old_encoders = []
-        self.budget = random.choice(holding.BUDGETS) if sort == "holders" else random.choice(canvases.BUDGETS) if sort == "canvases" else random.choice([2**53 - 1] * 12 + [40_000, 4_000])
+        self.budget = (
+            random.choice(holding.BUDGETS)
+            if sort == "holders"
+            else random.choice(canvases.BUDGETS)
+            if sort == "canvases"
+            else random.choice([2**53 - 1] * 12 + [40_000, 4_000])
+        )
         self.renders = 0.85 if sort == "rendering" else 0.15
         self.bundled = random.choice([0.05, 0.4])
 
@@ -199,7 +205,9 @@ def of_names(random, phases):
         other = random.choice(lists_in(phases))
         other.insert(random.randint(0, len(other)), lane.pop(at))
         return
-    keys = {"on": ["on"], "canvas": ["canvas"], "as": ["as"], "listed": ["buffers", "layouts", "bundles"]}.get(kind, ["buffer", "texture", "object", "source", "target", "pipeline", "group", "layout"])
+    keys = {"on": ["on"], "canvas": ["canvas"], "as": ["as"], "listed": ["buffers", "layouts", "bundles"]}.get(
+        kind, ["buffer", "texture", "object", "source", "target", "pipeline", "group", "layout"]
+    )
     users = [(lane, at, key) for lane, at in calls for key in keys if key in lane[at]]
     if not users:
         return
@@ -229,7 +237,17 @@ def of_form(random, phases):
     at = random.randrange(len(phases))
     if random.random() < 0.3:
         if lists_in(phases):
-            random.choice(lists_in(phases)).append(random.choice([7, {"do": "other"}, {"do": "complete"}, {"do": "complete", "op": -1}, {"do": "getBindGroupLayout", "pipeline": "k", "index": -1, "as": "l"}]))
+            random.choice(lists_in(phases)).append(
+                random.choice(
+                    [
+                        7,
+                        {"do": "other"},
+                        {"do": "complete"},
+                        {"do": "complete", "op": -1},
+                        {"do": "getBindGroupLayout", "pipeline": "k", "index": -1, "as": "l"},
+                    ]
+                )
+            )
     kind = random.randrange(4)
     if kind == 0:
         phases.insert(at, random.choice([7, None, {}, "x", True]))

@@ -1,5 +1,5 @@
-"""A script for each limit that can be asked for and each of some values of it: the best, one better, the default, one worse and so on; with calls
-just at what the device has then, and just past it."""
+"""A script for each limit that can be asked for and each of some values of it: the best, one better, the default, one worse and so on; with
+calls just at what the device has then, and just past it."""
 
 import json
 
@@ -19,7 +19,10 @@ def entries(count, entry):
 def layouts(name, items):
     """A bind group layout of some entries, and one of all but the last, which stands in a pipeline layout beside one of the last."""
     first, last = items[:-1], items[-1:]
-    calls = [{"do": "createBindGroupLayout", "as": f"{name}{part}", "entries": some} for part, some in (("all", items), ("first", first), ("last", last))]
+    calls = [
+        {"do": "createBindGroupLayout", "as": f"{name}{part}", "entries": some}
+        for part, some in (("all", items), ("first", first), ("last", last))
+    ]
     calls.append({"do": "createPipelineLayout", "as": f"{name}p", "layouts": [f"{name}first", f"{name}last"]})
     return calls + deriving(f"{name}one", [items]) + deriving(f"{name}two", [last, first])
 
@@ -29,7 +32,10 @@ def deriving(name, lists):
     calls = []
     for bit, stage in ((1, "vertex"), (2, "fragment"), (COMPUTE, None)):
         used = [{"group": group} | entry for group, some in enumerate(lists) for entry in some if entry["visibility"] & bit]
-        iface = [{key: value for key, value in entry.items() if key != "visibility"} | ({} if stage is None else {"stage": stage}) for entry in used]
+        iface = [
+            {key: value for key, value in entry.items() if key != "visibility"} | ({} if stage is None else {"stage": stage})
+            for entry in used
+        ]
         call = {"do": "createComputePipeline"} if stage is None else {"do": "createRenderPipeline", "targets": ["r8unorm"]}
         calls += [call | {"as": f"{name}{bit}", "layout": "auto", "iface": iface}] if iface else []
     return calls
@@ -50,19 +56,29 @@ def bound(kind, usage):
         size = size if kind == "uniform" else size + (-size % 4 if name == "past" else -(size % 4))
         layout = {"do": "createBindGroupLayout", "as": f"{name}l", "entries": [{"binding": 0, "visibility": COMPUTE, "kind": kind}]}
         buffer = {"do": "createBuffer", "as": f"{name}b", "size": size, "usage": usage}
-        return [layout, buffer, {"do": "createBindGroup", "as": name, "layout": f"{name}l", "entries": [{"binding": 0, "buffer": f"{name}b", "size": size}]}]
+        return [
+            layout,
+            buffer,
+            {"do": "createBindGroup", "as": name, "layout": f"{name}l", "entries": [{"binding": 0, "buffer": f"{name}b", "size": size}]},
+        ]
+
     return make
 
 
 def pipeline(name, **keys):
     """A render pipeline of a layout of its own."""
-    return [{"do": "createPipelineLayout", "as": f"{name}l", "layouts": []}, {"do": "createRenderPipeline", "as": name, "layout": f"{name}l", "targets": ["r8unorm"]} | keys]
+    return [
+        {"do": "createPipelineLayout", "as": f"{name}l", "layouts": []},
+        {"do": "createRenderPipeline", "as": name, "layout": f"{name}l", "targets": ["r8unorm"]} | keys,
+    ]
 
 
 def attributes(count, name):
     """So many attributes, and one of the last location that they have."""
     listed = [{"format": "uint8x2", "offset": 0, "location": location} for location in range(count)]
-    calls = pipeline(f"{name}all", buffers=[{"stride": 4, "attributes": listed[:count // 2]}, {"stride": 4, "attributes": listed[count // 2:]}])
+    calls = pipeline(
+        f"{name}all", buffers=[{"stride": 4, "attributes": listed[: count // 2]}, {"stride": 4, "attributes": listed[count // 2 :]}]
+    )
     return calls + pipeline(f"{name}last", buffers=[{"stride": 4, "attributes": listed[-1:]}])
 
 
@@ -74,7 +90,10 @@ def stride(count, name):
 
 
 def groups(count, name):
-    calls = [{"do": "createBindGroupLayout", "as": f"{name}l", "entries": []}, {"do": "createPipelineLayout", "as": name, "layouts": [f"{name}l"] * count}]
+    calls = [
+        {"do": "createBindGroupLayout", "as": f"{name}l", "entries": []},
+        {"do": "createPipelineLayout", "as": name, "layouts": [f"{name}l"] * count},
+    ]
     return calls + deriving(f"{name}auto", [[{"binding": 0, "visibility": 7, "kind": "sampler"}]] * count)
 
 
@@ -87,8 +106,14 @@ def colors(count, name):
 
 
 def workgroups(count, name):
-    calls = pipeline(f"{name}r")[:1] + [{"do": "createComputePipeline", "as": f"{name}k", "layout": f"{name}rl"}, {"do": "createEncoder", "as": f"{name}e"}]
-    calls += [{"do": "beginComputePass", "on": f"{name}e", "as": f"{name}p"}, {"do": "setPipeline", "on": f"{name}p", "pipeline": f"{name}k"}]
+    calls = pipeline(f"{name}r")[:1] + [
+        {"do": "createComputePipeline", "as": f"{name}k", "layout": f"{name}rl"},
+        {"do": "createEncoder", "as": f"{name}e"},
+    ]
+    calls += [
+        {"do": "beginComputePass", "on": f"{name}e", "as": f"{name}p"},
+        {"do": "setPipeline", "on": f"{name}p", "pipeline": f"{name}k"},
+    ]
     calls += [{"do": "dispatch", "on": f"{name}p", "x": 1, "y": count, "z": 1}, {"do": "end", "on": f"{name}p"}]
     return calls + [{"do": "finish", "on": f"{name}e", "as": name}]
 
@@ -96,7 +121,11 @@ def workgroups(count, name):
 def alignment(kind, usage):
     """What is bound at an offset, and moved by it."""
     def make(offset, name):
-        layout = {"do": "createBindGroupLayout", "as": f"{name}l", "entries": [{"binding": 0, "visibility": COMPUTE, "kind": kind, "dynamic": True}]}
+        layout = {
+            "do": "createBindGroupLayout",
+            "as": f"{name}l",
+            "entries": [{"binding": 0, "visibility": COMPUTE, "kind": kind, "dynamic": True}],
+        }
         calls = [layout, {"do": "createBuffer", "as": f"{name}b", "size": 4 * offset, "usage": usage}]
         for at in (0, offset):
             entry = {"binding": 0, "buffer": f"{name}b", "offset": at, "size": 4}
@@ -144,13 +173,33 @@ def values(name):
     """What is asked for of a limit, each by a word."""
     default, best = DEFAULTS[name], BEST[name]
     if name in ALIGNMENTS:
-        return {"the-best": best, "twice": 2 * best, "the-greatest": 2**31, "past-the-greatest": 2**32, "half": best // 2, "one-more": best + 1, "one-less": best - 1, "0": 0}
-    found = {"the-best": best, "one-better": best + 1, "the-default": default, "one-worse": default - 1, "0": 0, "1": 1, "far-better": 2**53 - 1}
-    return found | ({"between": (default + best) // 2, "one-above-the-default": default + 1, "one-below-the-best": best - 1} if best != default else {})
+        return {
+            "the-best": best,
+            "twice": 2 * best,
+            "the-greatest": 2**31,
+            "past-the-greatest": 2**32,
+            "half": best // 2,
+            "one-more": best + 1,
+            "one-less": best - 1,
+            "0": 0,
+        }
+    found = {
+        "the-best": best,
+        "one-better": best + 1,
+        "the-default": default,
+        "one-worse": default - 1,
+        "0": 0,
+        "1": 1,
+        "far-better": 2**53 - 1,
+    }
+    return found | (
+        {"between": (default + best) // 2, "one-above-the-default": default + 1, "one-below-the-best": best - 1} if best != default else {}
+    )
 
 
 def script(name, value):
-    """Calls just at a limit of a device that is asked for so much, just past it, and at and past the default. A great binding needs a great buffer."""
+    """Calls just at a limit of a device that is asked for so much, just past it, and at and past the default. A great binding needs a great
+    buffer."""
     asked = {"maxBufferSize": BEST["maxBufferSize"]} if name == "maxStorageBufferBindingSize" else {}
     asked[name] = value
     is_good = is_alignment(value) and value >= BEST[name] if name in ALIGNMENTS else not is_better(name, value, BEST[name])

@@ -34,21 +34,49 @@ def good(random, name):
     if name in ALIGNMENTS:
         return random.choice([256, 512, 2**31, 2**random.randint(8, 31)])
     default, best = DEFAULTS[name], BEST[name]
-    return random.choice([best, best, best - 1, random.randint(default, best), random.randint(default, best), default, default - 1, random.randint(0, default), 0])
+    return random.choice(
+        [
+            best,
+            best,
+            best - 1,
+            random.randint(default, best),
+            random.randint(default, best),
+            default,
+            default - 1,
+            random.randint(0, default),
+            0,
+        ]
+    )
 
 
 def past(random, name):
     """A value that may not be asked for: one better than the best, or no whole number in range, or an alignment that is no power of two."""
-    values = [WHOLE_LIMIT + 1, -1, 1.5, 2**64, None, True, "8", str(BEST[name]), [], {}, Raw("1e3"), Raw("-0"), Raw(f"{BEST[name]}.0"), Raw(f"{BEST[name]}e0")]
+    values = [
+        WHOLE_LIMIT + 1,
+        -1,
+        1.5,
+        2**64,
+        None,
+        True,
+        "8",
+        str(BEST[name]),
+        [],
+        {},
+        Raw("1e3"),
+        Raw("-0"),
+        Raw(f"{BEST[name]}.0"),
+        Raw(f"{BEST[name]}e0"),
+    ]
     if name in ALIGNMENTS:
         return random.choice([*[128, 1, 0, 255, 257, 300, 384, 768, 2**32, 2**33, 2**32 - 1, 2**31 + 1, WHOLE_LIMIT] * 2, *values])
     return random.choice([*[BEST[name] + 1, BEST[name] + 1, BEST[name] + random.choice([4, 256]), 2**32, WHOLE_LIMIT] * 4, *values])
 
 
 NO_NAMES = [
-    "x", "", "maxBufferSize ", "MaxBufferSize", "maxbuffersize", "maxTextureDimension1d", "maxTextureDimension", "maxBindGroupsPlusVertexBuffers",
-    "maxColorAttachmentBytesPerSample", "maxInterStageShaderVariables", "maxComputeInvocationsPerWorkgroup", "maxComputeWorkgroupSizeX",
-    "maxComputeWorkgroupStorageSize", "minStorageBufferOffsetAlignment\0", "budget", "maxQueries", "maxTextureArrayLayer",
+    "x", "", "maxBufferSize ", "MaxBufferSize", "maxbuffersize", "maxTextureDimension1d", "maxTextureDimension",
+    "maxBindGroupsPlusVertexBuffers", "maxColorAttachmentBytesPerSample", "maxInterStageShaderVariables",
+    "maxComputeInvocationsPerWorkgroup", "maxComputeWorkgroupSizeX", "maxComputeWorkgroupStorageSize",
+    "minStorageBufferOffsetAlignment\0", "budget", "maxQueries", "maxTextureArrayLayer",
 ]
 
 

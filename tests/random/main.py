@@ -1,16 +1,16 @@
 """Compares a program with the second implementation in model/, on random scripts.
 
-Each script comes of a seed. Some are good and test the borders of each rule, do mixed work, drop much under a small budget, make
-layouts, bind groups and pipelines, of which many derive their layouts, dispatch in compute passes, draw in render passes, count what is drawn by query sets, execute bundles, draw frames
-of canvases, or set buffers in many pieces; some lose their device before any of their calls; many ask for limits; some are malformed, and some are good ones of which
-bytes are flipped, cut out or repeated; a few fixed ones stand at the limits of size, and at each limit that can be
-asked for. About a quarter have several phases and lanes.
-Exit status and bytes have to be equal. Where lanes run at once the model plays them in the order of the program's report, that is by the
-callers of its entries, which has to be one of the orders that there can be. Each report is also read by itself: behind a loss nothing is valid, queued or
-refused, and what has a fault does nothing. Other seeds make texts that are to
-be checked, small traces of anything, reports with lines changed, and reports with bytes spoiled; there the verdict on a small trace is held to one that tries all orders
-too. Of a difference the seed is named and the script or the text is written to a file. At the end stands how often each rule was met and unmet, part by part as `what met/unmet`, and in how many scripts the callers
-came in turns.
+Each script comes of a seed. Some are good and test the borders of each rule, do mixed work, drop much under a small budget, make layouts,
+bind groups and pipelines, of which many derive their layouts, dispatch in compute passes, draw in render passes, count what is drawn by
+query sets, execute bundles, draw frames of canvases, or set buffers in many pieces; some lose their device before any of their calls; many
+ask for limits; some are malformed, and some are good ones of which bytes are flipped, cut out or repeated; a few fixed ones stand at the
+limits of size, and at each limit that can be asked for. About a quarter have several phases and lanes. Exit status and bytes have to be
+equal. Where lanes run at once the model plays them in the order of the program's report, that is by the callers of its entries, which has
+to be one of the orders that there can be. Each report is also read by itself: behind a loss nothing is valid, queued or refused, and what
+has a fault does nothing. Other seeds make texts that are to be checked, small traces of anything, reports with lines changed, and reports
+with bytes spoiled; there the verdict on a small trace is held to one that tries all orders too. Of a difference the seed is named and the
+script or the text is written to a file. At the end stands how often each rule was met and unmet, part by part as `what met/unmet`, and in
+how many scripts the callers came in turns.
 
 Ends with 1 if there was a difference.
 """
@@ -54,8 +54,8 @@ JUDGED_BYTES = 100_000
 MOST_BEGUN = 1_000
 FIXED = fixed.FIXED | limited.FIXED | checked_texts.FIXED
 SORTS = [
-    "borders", "mixed", "long", "holders", "groups", "passes", "rendering", "queries", "bundles", "canvases", "malformed", "lanes", "malformed lanes", "pieces",
-    "checked orders", "checked reports", "losses", "spoiled bytes", "checked bytes",
+    "borders", "mixed", "long", "holders", "groups", "passes", "rendering", "queries", "bundles", "canvases", "malformed", "lanes",
+    "malformed lanes", "pieces", "checked orders", "checked reports", "losses", "spoiled bytes", "checked bytes",
 ]
 WEIGHTS = [18, 12, 1, 14, 30, 36, 54, 36, 54, 48, 42, 54, 28, 12, 60, 60, 18, 24, 12]
 CHECKED = ["checked orders", "checked reports", "checked bytes"]
@@ -73,7 +73,9 @@ def arguments():
     parser.add_argument("--program", default=TOP / "crates/wgsim/out/wgsim", help="runs as PROGRAM run < SCRIPT")
     parser.add_argument("--count", type=int, default=2000, help="how many random scripts")
     parser.add_argument("--seed", type=int, default=1, help="the seed of the first; the next ones count on")
-    parser.add_argument("--only", help="runs only those whose names begin so: of the sorts of seeds, as `rendering`, and of the fixed ones, as `limit-`")
+    parser.add_argument(
+        "--only", help="runs only those whose names begin so: of the sorts of seeds, as `rendering`, and of the fixed ones, as `limit-`"
+    )
     parser.add_argument("--alone", action="store_true", help="runs the model alone, and tells how often it met each rule")
     parser.add_argument("--jobs", type=int, default=len(os.sched_getaffinity(0)), help="how many processes")
     parser.add_argument("--folder", help="where scripts of differences are written; else a new folder")
@@ -156,7 +158,10 @@ def compare_check(program, name, data):
     except Exception as error:  # A fault of the judge is a difference too.
         wrong = f"the judge failed: {error!r}"
     if wrong is None and program is not None and found != (status, text.encode()):
-        wrong = f"it answers {found[1].decode(errors='backslashreplace')!r} with status {found[0]}, and is to answer {text!r} with status {status}"
+        wrong = (
+            f"it answers {found[1].decode(errors='backslashreplace')!r} with status {found[0]}, and is to answer {text!r} with status"
+            f" {status}"
+        )
     different = None if wrong is None else (wrong, found, wanted, data)
     return name, found[0], 0, different, dict(rules.met), dict(rules.unmet)
 
@@ -174,8 +179,8 @@ def by_all_orders(data):
 
 
 def compare(program, name, data):
-    """Runs both on a script, or the model alone, in some order of turns. The answer has the status, how many turns went to another caller than
-    the one before, what is wrong with what the program gave, if it is, and which rules the model tested."""
+    """Runs both on a script, or the model alone, in some order of turns. The answer has the status, how many turns went to another caller
+    than the one before, what is wrong with what the program gave, if it is, and which rules the model tested."""
     rules.met.clear()
     rules.unmet.clear()
     found = (None, b"") if program is None else found_by(program, data)
@@ -220,7 +225,8 @@ def compare_fixed(program, name):
 
 
 def results_of(pool, tasks):
-    """The results of tasks, in their order. None is kept once it was given, and only so many tasks are begun ahead of the one that is given next."""
+    """The results of tasks, in their order. None is kept once it was given, and only so many tasks are begun ahead of the one that is given
+    next."""
     begun = collections.deque()
     for task in tasks:
         if len(begun) == MOST_BEGUN:
@@ -231,7 +237,8 @@ def results_of(pool, tasks):
 
 
 def tell_difference(folder, name, wrong, found, wanted, data):
-    """Writes the script and both answers, that of the model in the order of the program's where there is one, and says in a line what is wrong."""
+    """Writes the script and both answers, that of the model in the order of the program's where there is one, and says in a line what is
+    wrong."""
     base = pathlib.Path(folder) / re.sub(r"\W+", "-", name).strip("-")
     base.with_suffix(".json").write_bytes(data)
     base.with_suffix(".program").write_bytes(found[1])

@@ -8,14 +8,21 @@ import worlds
 from json_forms import Pairs, Raw, text_of
 
 WORD_LIMIT, WHOLE_LIMIT = 2**32 - 1, 2**53 - 1
-UNKNOWN = ["", "createbuffer", "CreateBuffer", "createBuffer ", "getBindGroupLayouts", "setViewport", "copy", "createBuffer\0", "é", "Lose", "onSubmittedWorkDone"]
+UNKNOWN = [
+    "", "createbuffer", "CreateBuffer", "createBuffer ", "getBindGroupLayouts", "setViewport", "copy", "createBuffer\0", "é", "Lose",
+    "onSubmittedWorkDone",
+]
 UNKNOWN += ["getCurrentTexture", "configure", "Present", "unconfigureCanvas"]
-NAME_KEYS = {"canvas", "buffer", "texture", "source", "target", "on", "object", "layout", "view", "resolve", "sampler", "pipeline", "group", "queries"}
+NAME_KEYS = {
+    "canvas", "buffer", "texture", "source", "target", "on", "object", "layout", "view", "resolve", "sampler", "pipeline", "group",
+    "queries",
+}
 QUERY_WORDS = ["createQuerySet", "resolveQuerySet", "beginOcclusionQuery", "endOcclusionQuery"]
 BUNDLE_WORDS = ["createBundleEncoder", "createBundleEncoder", "finishBundle", "executeBundles", "executeBundles"]
 PASS_WORDS = [
     "beginComputePass", "setPipeline", "setBindGroup", "dispatch", "dispatchIndirect", "end", "createRenderPipeline", "beginRenderPass",
-    "beginRenderPass", "setVertexBuffer", "setIndexBuffer", "draw", "drawIndexed", "drawIndirect", "drawIndexedIndirect", *QUERY_WORDS, *BUNDLE_WORDS,
+    "beginRenderPass", "setVertexBuffer", "setIndexBuffer", "draw", "drawIndexed", "drawIndirect", "drawIndexedIndirect", *QUERY_WORDS,
+    *BUNDLE_WORDS,
 ]
 NUMBERS = [
     "0", "1", "-1", "-0", "1.0", "1.5", "1e3", "1E3", "1e-3", "0e400", "0.0e999999", "4294967295", "4294967296", "9007199254740991",
@@ -24,10 +31,30 @@ NUMBERS = [
     "1" + "0" * 30 + "e-29",
 ]
 NO_NUMBERS = [
-    "1e309", "-1e309", "1e400", "1" + "0" * 309, "01", "00", "-", "+1", ".5", "1.", "1.e3", "1e", "1e+", "0x10", "NaN", "Infinity", "-Infinity",
-    "1_000", "1e99999999999999999999", "١", "-01", "--1",
+    "1e309",
+    "-1e309",
+    "1e400",
+    "1" + "0" * 309,
+    "01", "00", "-", "+1", ".5", "1.", "1.e3", "1e", "1e+", "0x10", "NaN", "Infinity", "-Infinity", "1_000", "1e99999999999999999999",
+    "١", "-01", "--1",
 ]
-VALUES = [None, True, False, "", "x", "all", [], [0], [0, 0, 0], {}, {"a": 1}, 0, 1, WORD_LIMIT, WORD_LIMIT + 1, WHOLE_LIMIT, WHOLE_LIMIT + 1, 2**64, -1, 1.5]
+VALUES = [
+    None, True, False, "", "x", "all",
+    [],
+    [0],
+    [0, 0, 0],
+    {},
+    {"a": 1},
+    0,
+    1,
+    WORD_LIMIT,
+    WORD_LIMIT + 1,
+    WHOLE_LIMIT,
+    WHOLE_LIMIT + 1,
+    2**64,
+    -1,
+    1.5,
+]
 BAD_NAMES = ["", "a" * 65, "a-b", "a b", "é", "a.b", "a\n", "\0", "ａ", "a" * 64 + "é", "_" * 65, "a\ud83d\ude00"[:1] + "😀"]
 GOOD_NAMES = ["a" * 64, "_", "0", "9" * 64, "Z_z9", "do", "as"]
 
@@ -47,7 +74,9 @@ def malformed(random):
         calls = grouping.groups(random)[1][:length] if kind == "bound" else worlds.mixed(random, length)
     top = {"budget": random.choice([0, 1, 1000000, WHOLE_LIMIT]), "phases": [[calls]]} | ({} if asked is None else {"limits": asked})
     for _ in range(random.choice([1, 1, 1, 2, 2, 3])):
-        top = random.choices([of_call, of_names, of_top, of_limits, same], [14, 5, 2, 2, 1] if has_objects else [10, 6, 3, 3, 1])[0](random, top, calls)
+        top = random.choices([of_call, of_names, of_top, of_limits, same], [14, 5, 2, 2, 1] if has_objects else [10, 6, 3, 3, 1])[0](
+            random, top, calls
+        )
     text = text_of(top, random)
     if random.random() < 0.15:
         text = of_text(random, text)
@@ -185,17 +214,21 @@ def key_more(random, call):
 
 
 MORE_KEYS = [
-    "x", "", "DO", "label", "mapped", "size", "usage", "as", "filter", "op", "queries", "depthSlice", "limits", "mode", "kind", "layout", "iface",
-    "binding", "visibility", "group", "type", "dynamic", "minSize", "sample", "multi", "access", "buffer", "offset", "view", "sampler", "do",
-    "on", "index", "offsets", "x", "w", "pipeline", "timestampWrites", "stage", "stride", "step", "attributes", "location", "targets", "depth",
-    "samples", "colors", "resolve", "load", "store", "depthLoad", "depthReadOnly", "stencilStore", "slot", "vertices", "firstIndex", "depthWrite",
-    "depthSlice", "queries", "queries", "baseVertex", "first", "count", "index", "occlusionQuerySet", "querySet", "queryIndex", "bundles",
-    "bundle", "stencilReadOnly", "colorFormats", "depthStencilFormat", "sampleCount", "canvas", "width", "height", "format",
+    "x", "", "DO", "label", "mapped", "size", "usage", "as", "filter", "op", "queries", "depthSlice", "limits", "mode", "kind", "layout",
+    "iface", "binding", "visibility", "group", "type", "dynamic", "minSize", "sample", "multi", "access", "buffer", "offset", "view",
+    "sampler", "do", "on", "index", "offsets", "x", "w", "pipeline", "timestampWrites", "stage", "stride", "step", "attributes",
+    "location", "targets", "depth", "samples", "colors", "resolve", "load",
+    "store",
+    "depthLoad", "depthReadOnly", "stencilStore", "slot", "vertices", "firstIndex", "depthWrite", "depthSlice", "queries", "queries",
+    "baseVertex", "first", "count", "index", "occlusionQuerySet", "querySet", "queryIndex", "bundles", "bundle", "stencilReadOnly",
+    "colorFormats", "depthStencilFormat", "sampleCount", "canvas", "width", "height", "format",
 ]
 WRONG_WORDS = [
-    "Filtering", "filtering", "nonfiltering", "storage", "readonly-storage", "write", "read-write", "sampled", "unfilterable", "sint", "auto",
-    "", "2D", "all", "cube", "2d", "3d-array", "rgba8", "rgba8unorm-SRGB", "depth-only", "color", "Validation", "out-of-memory ", "outofmemory", "internal", None,
-    "load", "clear", "store", "discard", "dont-care", "vertex", "instance", "fragment", "compute", "uint16", "uint32", "float32", "float32x5",
+    "Filtering", "filtering", "nonfiltering", "storage", "readonly-storage", "write", "read-write", "sampled", "unfilterable", "sint",
+    "auto", "", "2D", "all", "cube", "2d", "3d-array", "rgba8", "rgba8unorm-SRGB", "depth-only", "color", "Validation", "out-of-memory ",
+    "outofmemory", "internal", None, "load", "clear",
+    "store",
+    "discard", "dont-care", "vertex", "instance", "fragment", "compute", "uint16", "uint32", "float32", "float32x5",
     "unorm8x2",
 ]
 WORD_KEYS = [
@@ -220,14 +253,19 @@ def other_target(random, call):
 
 
 def other_bundle(random, call):
-    """The keys of a bundle encoder, or the bundles of an executeBundles, of a wrong sort or of one that will do; of any other call something else."""
+    """The keys of a bundle encoder, or the bundles of an executeBundles, of a wrong sort or of one that will do; of any other call
+    something else."""
     if call.get("do") == "createBundleEncoder":
         key = random.choice(["colors", "depth", "depth", "samples", "depthReadOnly", "stencilReadOnly"])
-        call[key] = random.choice([*VALUES, *WRONG_WORDS, "depth24plus", ["rgba8unorm"], [None], ["rgba8unorm", None], {"format": "depth24plus"}])
+        call[key] = random.choice(
+            [*VALUES, *WRONG_WORDS, "depth24plus", ["rgba8unorm"], [None], ["rgba8unorm", None], {"format": "depth24plus"}]
+        )
         return None
     if call.get("do") == "executeBundles":
         bundles = call["bundles"] if isinstance(call.get("bundles"), list) else []
-        call["bundles"] = random.choice([[*bundles, random.choice(VALUES)], [random.choice(VALUES), *bundles], random.choice(VALUES), [bundles], [*bundles, *bundles]])
+        call["bundles"] = random.choice(
+            [[*bundles, random.choice(VALUES)], [random.choice(VALUES), *bundles], random.choice(VALUES), [bundles], [*bundles, *bundles]]
+        )
         return None
     return other_value(random, call)
 
@@ -244,10 +282,17 @@ def other_offsets(random, call):
 
 def canvas(random, call):
     """A call of a canvas with one value that is wrong, or may be; a key that it lacks or has not; or what it names is none."""
-    made = dict(random.choice([
-        {"do": "createCanvas", "width": 4, "height": 4, "as": "k"}, {"do": "configureCanvas", "canvas": "k", "format": "rgba8unorm"},
-        {"do": "configureCanvas", "canvas": "k", "format": "bgra8unorm", "usage": 16}, {"do": "currentTexture", "canvas": "k", "as": "t"}, {"do": "present", "canvas": "k"},
-    ]))
+    made = dict(
+        random.choice(
+            [
+                {"do": "createCanvas", "width": 4, "height": 4, "as": "k"},
+                {"do": "configureCanvas", "canvas": "k", "format": "rgba8unorm"},
+                {"do": "configureCanvas", "canvas": "k", "format": "bgra8unorm", "usage": 16},
+                {"do": "currentTexture", "canvas": "k", "as": "t"},
+                {"do": "present", "canvas": "k"},
+            ]
+        )
+    )
     key = random.choice([key for key in made if key != "do"])
     change = random.randrange(5)
     if change == 0:
@@ -272,26 +317,45 @@ def mapped(random, call):
 
 
 def automatic(random, call):
-    """A layout that is the word `auto`, which is a name where it is not that of a pipeline, or a getBindGroupLayout, with something else wrong or not."""
+    """A layout that is the word `auto`, which is a name where it is not that of a pipeline, or a getBindGroupLayout, with something else
+    wrong or not."""
     made = {"do": random.choice(["createComputePipeline", "createRenderPipeline", "createBindGroup"]), "layout": "auto", "as": "m"}
     made |= random.choice([{"iface": []}, {"entries": []}])
     if random.random() < 0.5:
-        made = {"do": "getBindGroupLayout", "pipeline": random.choice(["k", "auto", call.get("as", "k")]), "index": random.choice([0, 1, WORD_LIMIT, WORD_LIMIT + 1, Raw(random.choice(NUMBERS))]), "as": "m"}
+        made = {
+            "do": "getBindGroupLayout",
+            "pipeline": random.choice(["k", "auto", call.get("as", "k")]),
+            "index": random.choice([0, 1, WORD_LIMIT, WORD_LIMIT + 1, Raw(random.choice(NUMBERS))]),
+            "as": "m",
+        }
         made.pop(random.choice(["do", "pipeline", "index", "as", *["none"] * 8]), None)
-    return made | random.choice([{}, {}, {}, {"x": 1}, {"as": None}, {"layout": ["auto"]}, {"layout": "Auto"}, {"pipeline": 7}, {"as": "auto"}])
+    return made | random.choice(
+        [{}, {}, {}, {"x": 1}, {"as": None}, {"layout": ["auto"]}, {"layout": "Auto"}, {"pipeline": 7}, {"as": "auto"}]
+    )
 
 
 def sliced(random, call):
-    """A begin of a render pass with a slice, good or not, or with its key in another place, and something else wrong or not; `queries` stands
-    behind what else the begin has."""
+    """A begin of a render pass with a slice, good or not, or with its key in another place, and something else wrong or not; `queries`
+    stands behind what else the begin has."""
     color, colors = {"view": "v", "load": "load", "store": "store"}, [None]
     slice = {"depthSlice": random.choice([0, 1, WORD_LIMIT, WORD_LIMIT + 1, None, "x", -1, 1.5, True, [], Raw(random.choice(NUMBERS))])}
     places = [
-        {"colors": [color | slice]}, {"colors": [color | slice]}, {"colors": [None, color, color | slice]}, {"colors": [None, slice]}, {"colors": [5, [slice], slice]}, {"colors": [[slice]]}, {"colors": slice},
-        {"depth": {"view": "v"} | slice}, slice, {"colors": [color, color | {"queries": 0}]}, {"colors": [None] * 1024 + [slice]},
+        {"colors": [color | slice]},
+        {"colors": [color | slice]},
+        {"colors": [None, color, color | slice]},
+        {"colors": [None, slice]},
+        {"colors": [5, [slice], slice]},
+        {"colors": [[slice]]},
+        {"colors": slice},
+        {"depth": {"view": "v"} | slice},
+        slice,
+        {"colors": [color, color | {"queries": 0}]},
+        {"colors": [None] * 1024 + [slice]},
     ]
     places += [{"queries": value} for value in ("q", None, 0, [])]
-    made = {"do": random.choice(["beginRenderPass"] * 5 + ["beginComputePass"]), "on": "e", "colors": colors, "as": "m"} | random.choice(places)
+    made = {"do": random.choice(["beginRenderPass"] * 5 + ["beginComputePass"]), "on": "e", "colors": colors, "as": "m"} | random.choice(
+        places
+    )
     return made | random.choice([{}, {}, {"x": 1}, {"as": None}, {"depth": None}])
 
 
@@ -303,7 +367,11 @@ def other_kind(random, entry):
     elif change == 1:
         entry.update(random.choice([{"buffer": "b"}, {"view": "v"}, {"sampler": "s"}, {"offset": 0}, {"size": 4}, {"format": "r32float"}]))
     else:
-        entry.update(random.choice([{"dynamic": True}, {"minSize": 4}, {"type": "filtering"}, {"sample": "float"}, {"multi": False}, {"access": "read-only"}]))
+        entry.update(
+            random.choice(
+                [{"dynamic": True}, {"minSize": 4}, {"type": "filtering"}, {"sample": "float"}, {"multi": False}, {"access": "read-only"}]
+            )
+        )
 
 
 def needed_gone(random, entry):
@@ -314,7 +382,8 @@ def needed_gone(random, entry):
 
 
 NEEDED_KEYS = [
-    "format", "kind", "group", "binding", "visibility", "buffer", "view", "sampler", "stage", "stride", "attributes", "offset", "location", "load",
+    "format", "kind", "group", "binding", "visibility", "buffer", "view", "sampler", "stage", "stride", "attributes", "offset",
+    "location", "load",
     "store",
 ]
 
@@ -339,12 +408,13 @@ def repeated(random, call):
 
 
 CALL_CHANGES = [
-    other_value, other_number, border_number, other_item, null_item, other_target, other_bundle, other_offsets, long_list, key_gone, key_more,
-    other_word, canvas, unknown, mapped, no_object, repeated,
+    other_value, other_number, border_number, other_item, null_item, other_target, other_bundle, other_offsets, long_list, key_gone,
+    key_more, other_word, canvas, unknown, mapped, no_object, repeated,
 ]
 CALL_WEIGHTS = [4, 4, 3, 4, 3, 3, 4, 3, 2, 4, 3, 3, 2, 3, 3, 2, 3]
 OBJECT_CHANGES = [
-    other_value, other_number, border_number, past_word, key_gone, needed_gone, key_more, other_word, other_kind, no_object, repeated, long_list,
+    other_value, other_number, border_number, past_word, key_gone, needed_gone, key_more, other_word, other_kind, no_object, repeated,
+    long_list,
 ]
 OBJECT_WEIGHTS = [3, 3, 2, 5, 1, 6, 3, 4, 5, 2, 2, 1]
 
@@ -369,7 +439,9 @@ LIST_KEYS = ["buffers", "layouts", "bundles"]
 
 def crossed(random, calls):
     """A call on a pass names a pass or a pipeline of the other kind, if there is one before it."""
-    places = [at for at, call in enumerate(calls) if isinstance(call, dict) and call.get("do") in PASS_WORDS and {"on", "pipeline"} & set(call)]
+    places = [
+        at for at, call in enumerate(calls) if isinstance(call, dict) and call.get("do") in PASS_WORDS and {"on", "pipeline"} & set(call)
+    ]
     pipelines = [at for at in places if "pipeline" in calls[at]]
     if places:
         at = random.choice(pipelines if pipelines and random.random() < 0.5 else places)
@@ -458,7 +530,18 @@ def of_limits(random, top, calls):
     """The limits that are asked for are faulty, as a rule, at times beside what is wrong at the top or with the first phase."""
     top = dict(top.pairs) if isinstance(top, Pairs) else dict(top) if isinstance(top, dict) else {"budget": 1, "phases": []}
     top["limits"] = limiting.faulty(random) if random.random() < 0.85 else {name: limiting.good(random, name) for name in limiting.DEFAULTS}
-    more = random.choice([{}] * 8 + [{"budget": -1}, {"phases": 5}, {"phases": [[]] * 1025}, {"phases": [7]}, {"phases": [[[{"do": "present"}]]]}, {"phases": [[[{"do": "createRenderPipeline", "layout": "auto"}]]]}, {"x": 1}])
+    more = random.choice(
+        [{}] * 8
+        + [
+            {"budget": -1},
+            {"phases": 5},
+            {"phases": [[]] * 1025},
+            {"phases": [7]},
+            {"phases": [[[{"do": "present"}]]]},
+            {"phases": [[[{"do": "createRenderPipeline", "layout": "auto"}]]]},
+            {"x": 1},
+        ]
+    )
     pairs = list((top | more).items())
     if random.random() < 0.15:
         pairs.insert(random.randint(0, len(pairs)), ("limits", random.choice([{}, None, limiting.faulty(random)])))
@@ -476,7 +559,11 @@ def of_text(random, text):
     if change == 2:
         return random.choice(["\ufeff", "\u00a0", "\f", " \r\n\t", "// c\n", "/**/"]) + text
     if change == 3:
-        return text[:at] + random.choice([",", ":", "{", "]", '"', "\\", "'", "\x01", "\x1f", "\x7f", "\n", "é", "\u2028", "0", "-", "e"]) + text[at:]
+        return (
+            text[:at]
+            + random.choice([",", ":", "{", "]", '"', "\\", "'", "\x01", "\x1f", "\x7f", "\n", "é", "\u2028", "0", "-", "e"])
+            + text[at:]
+        )
     if change == 4:
         return text[:max(at - 1, 0)] + text[at:]
     if change == 5:
@@ -489,12 +576,34 @@ def of_text(random, text):
         return in_budget(random.choice(STRINGS), text)
     if change == 9:
         return text.replace('"do"', random.choice(['"d\\u006f"', '"\\u0064o"', "'do'", "do", '"d\\o"', '"d\\x6f"', '"\\ud864o"']), 1)
-    return in_budget(random.choice(["True", "nul", "nulll", "tru", "false", "None", "undefined", "[1,,2]", "[,1]", "{1:2}", "{\"a\"}", "{\"a\":}"]), text)
+    return in_budget(
+        random.choice(["True", "nul", "nulll", "tru", "false", "None", "undefined", "[1,,2]", "[,1]", "{1:2}", '{"a"}', '{"a":}']), text
+    )
 
 
 STRINGS = [
-    '"\\ud83d\\ude00"', '"\\ud83d"', '"\\ude00"', '"\\ud83dx"', '"\\ud83d\\u0041"', '"\\ude00\\ud83d"', '"\\u12"', '"\\u12g4"', '"\\uFFFF"', '"\\u0000"',
-    '"\\a"', '"\\/\\b\\f\\n\\r\\t\\"\\\\"', '"\t"', '"\n"', '"\x00"', '"\x7f"', '"unclosed', '"\\"', '"\\U0041"', '"\\u 123"', '"\\u+123"', "'x'",
+    '"\\ud83d\\ude00"',
+    '"\\ud83d"',
+    '"\\ude00"',
+    '"\\ud83dx"',
+    '"\\ud83d\\u0041"',
+    '"\\ude00\\ud83d"',
+    '"\\u12"',
+    '"\\u12g4"',
+    '"\\uFFFF"',
+    '"\\u0000"',
+    '"\\a"',
+    '"\\/\\b\\f\\n\\r\\t\\"\\\\"',
+    '"\t"',
+    '"\n"',
+    '"\x00"',
+    '"\x7f"',
+    '"unclosed',
+    '"\\"',
+    '"\\U0041"',
+    '"\\u 123"',
+    '"\\u+123"',
+    "'x'",
 ]
 
 

@@ -241,7 +241,16 @@ def on_encoder(world, encoder, on, calls):
         others = [copy | {"do": "copyBufferToTexture"}, copy | {"do": "copyTextureToBuffer"}]
         others.append({"do": "copyTextureToTexture", "source": image, "target": image, "size": nothing})
     if random.random() < world.queries / 2:
-        others = [{"do": "resolveQuerySet", "queries": some_set(world).name, "first": 0, "count": random.choice([0, 1]), "buffer": buffer, "offset": 0}]
+        others = [
+            {
+                "do": "resolveQuerySet",
+                "queries": some_set(world).name,
+                "first": 0,
+                "count": random.choice([0, 1]),
+                "buffer": buffer,
+                "offset": 0,
+            }
+        ]
     calls.insert(random.randint(1, len(calls) - 1), random.choice(others) | {"on": encoder})
 
 
@@ -255,8 +264,8 @@ def shuffled(world, encoder, on, calls):
 # In the order in which several of them can be made.
 SETTING_FAULTS = [offset_past, offset_unaligned, offset_more, offset_missing, index_past, invalid_group]
 DISPATCH_FAULTS = [
-    no_pipeline, no_pipeline, no_group, no_group, other_index, other_layout, other_owner, count_past, count_past, indirect_invalid, indirect_invalid,
-    indirect_usage, indirect_offset, indirect_past, indirect_past,
+    no_pipeline, no_pipeline, no_group, no_group, other_index, other_layout, other_owner, count_past, count_past, indirect_invalid,
+    indirect_invalid, indirect_usage, indirect_offset, indirect_past, indirect_past,
 ]
 ORDER_FAULTS = [invalid_pipeline, pop_too_many, push_too_many, dead_pass, dead_pass, on_encoder, on_encoder, on_encoder, shuffled]
 OFFSET_FAULTS = [offset_past, offset_past, offset_unaligned, offsets_turned]

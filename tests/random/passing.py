@@ -28,15 +28,19 @@ BUDGETS = [2**53 - 1] * 16 + [40_000, 4_000]
 
 
 def passes(random, longest=10, renders=0.1, queries=0.2, bundled=0.08):
-    """A budget, and calls; so many of the passes are render passes, so many of these have a query set, and before so many of their draws bundles
-    are executed."""
+    """A budget, and calls; so many of the passes are render passes, so many of these have a query set, and before so many of their draws
+    bundles are executed."""
     world = World(random, random.choice([0.05, 0.3, 0.6] if renders < 0.5 else [0.02, 0.05, 0.3, 0.5]))
     world.renders, world.queries, world.bundled = renders, queries, bundled
     pool(world)
     if random.random() < 3 * renders:
         target_pool(world)
     kit(world)
-    more = [(RENDER_ACTS, RENDER_WEIGHTS, renders > 0.5), (QUERY_ACTS, QUERY_WEIGHTS, queries > 0.5), (BUNDLE_ACTS, BUNDLE_WEIGHTS, bundled > 0.3)]
+    more = [
+        (RENDER_ACTS, RENDER_WEIGHTS, renders > 0.5),
+        (QUERY_ACTS, QUERY_WEIGHTS, queries > 0.5),
+        (BUNDLE_ACTS, BUNDLE_WEIGHTS, bundled > 0.3),
+    ]
     acts, weights = [sum([one[place] for one in more if one[2]], start) for place, start in enumerate([ACTS, WEIGHTS])]
     count = random.randint(min(3, longest), longest)
     last = last_before_loss(random, count, 0.12)
@@ -186,7 +190,11 @@ def late_on_pass(world, on, is_render):
     random, buffer = world.random, world.buffers[0].name
     calls = [{"do": "end"}, {"do": "popDebugGroup"}, {"do": "pushDebugGroup"}]
     if is_render:
-        calls += [{"do": "draw", "vertices": 1}, {"do": "drawIndexed", "indices": 1}, {"do": "setVertexBuffer", "slot": 9, "buffer": buffer}]
+        calls += [
+            {"do": "draw", "vertices": 1},
+            {"do": "drawIndexed", "indices": 1},
+            {"do": "setVertexBuffer", "slot": 9, "buffer": buffer},
+        ]
         calls += [{"do": word, "buffer": buffer, "offset": 1} for word in ("drawIndirect", "drawIndexedIndirect")]
         calls += [{"do": "beginOcclusionQuery", "index": random.choice([0, 1])}, {"do": "endOcclusionQuery"}]
         calls.append({"do": "setIndexBuffer", "buffer": buffer, "format": "uint32", "offset": 1})
@@ -208,7 +216,9 @@ def outside(world, plan):
         if random.random() < world.queries:
             resolve_queries(world, encoder, good)
         else:
-            random.choice([clear_buffer, copy_buffer, image_copy, image_copy] if good else [clear_buffer, copy_buffer])(world, encoder, good)
+            random.choice([clear_buffer, copy_buffer, image_copy, image_copy] if good else [clear_buffer, copy_buffer])(
+                world, encoder, good
+            )
         added, world.calls = world.calls, kept
         world.calls += [call for call in added if "on" not in call]
         plan.calls += [call for call in added if "on" in call]
@@ -312,8 +322,8 @@ def drop_some(world, things):
 
 
 def let_go(world, plans):
-    """A group, a view or a bundle that a plan names is dropped, with all that stands behind it and the views of that, in some order; some of it
-    may be destroyed."""
+    """A group, a view or a bundle that a plan names is dropped, with all that stands behind it and the views of that, in some order; some
+    of it may be destroyed."""
     random = world.random
     one = pick(world, [thing for plan in plans for thing in plan.named if behind(world, [thing])])
     if one is None:

@@ -27,7 +27,12 @@ def render_pipeline(world, good):
         layout = pipeline_layout_of(world, [layout_of(world, [], True)] * 5, False)
     if is_bad and random.random() < 0.5:
         world.drop(layout)
-    call = {"do": "createRenderPipeline", "layout": layout.name, "iface": some_iface(random, layout.layouts), "buffers": some_vertex_buffers(random)}
+    call = {
+        "do": "createRenderPipeline",
+        "layout": layout.name,
+        "iface": some_iface(random, layout.layouts),
+        "buffers": some_vertex_buffers(random),
+    }
     border(random, call["buffers"])
     call["samples"] = random.choice([1, 1, 4])
     formats = FOUR_COLORS if call["samples"] == 4 else COLOR_FORMATS
@@ -60,7 +65,9 @@ def border(random, buffers):
     elif kind == 3:
         free = [location for location in range(limit("maxVertexAttributes")) if location not in locations_in(buffers)]
         if len(buffers) < MOST_BUFFERS and free:
-            buffers.append({"stride": 0, "step": "vertex", "attributes": [some_attribute(random, limit("maxVertexBufferArrayStride"), free[-1])]})
+            buffers.append(
+                {"stride": 0, "step": "vertex", "attributes": [some_attribute(random, limit("maxVertexBufferArrayStride"), free[-1])]}
+            )
 
 
 def locations_in(buffers):
@@ -115,7 +122,9 @@ def wrong_stride(random, call, layout):
 
 
 def wrong_location(random, call, layout):
-    some_with_attribute(random, call["buffers"])[1]["location"] = random.choice([limit("maxVertexAttributes")] * 2 + [limit("maxVertexAttributes") + 1, GREATEST_32])
+    some_with_attribute(random, call["buffers"])[1]["location"] = random.choice(
+        [limit("maxVertexAttributes")] * 2 + [limit("maxVertexAttributes") + 1, GREATEST_32]
+    )
 
 
 def location_twice(random, call, layout):
@@ -161,7 +170,11 @@ def wrong_depth(random, call, layout):
     elif kind == 1:
         call["depth"] = {"format": "stencil8", "depthWrite": True, "stencilWrite": random.random() < 0.5}
     else:
-        call["depth"] = {"format": random.choice(DEPTH_FORMATS[:2] + ["depth32float"]), "depthWrite": random.random() < 0.5, "stencilWrite": True}
+        call["depth"] = {
+            "format": random.choice(DEPTH_FORMATS[:2] + ["depth32float"]),
+            "depthWrite": random.random() < 0.5,
+            "stencilWrite": True,
+        }
 
 
 def nothing_drawn_to(random, call, layout):

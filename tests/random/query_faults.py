@@ -63,7 +63,8 @@ def begun_within(world, on, calls, count):
 
 @of_queries
 def begun_again(world, on, calls, count):
-    """A query that was begun is begun once more at the end of the pass, where that is of the same index or of another one that was begun."""
+    """A query that was begun is begun once more at the end of the pass, where that is of the same index or of another one that was
+    begun."""
     index = calls[some_place(world, calls, BEGIN)]["index"]
     calls[-1:-1] = [{"do": BEGIN, "on": on, "index": index}, {"do": END, "on": on}]
 
@@ -98,6 +99,6 @@ def both_open(world, on, calls, count):
 
 
 QUERY_FAULTS = [
-    no_set, no_set, invalid_set, empty_set, index_past, index_past, begun_within, begun_within, begun_again, begun_again, end_gone, end_gone, end_more,
-    begin_gone, both_open,
+    no_set, no_set, invalid_set, empty_set, index_past, index_past, begun_within, begun_within, begun_again, begun_again, end_gone,
+    end_gone, end_more, begin_gone, both_open,
 ]

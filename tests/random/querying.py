@@ -46,7 +46,9 @@ def target_of(world, size):
     if old and random.random() < 0.7:
         return random.choice(old[-3:])
     usage = QUERY_RESOLVE | random.choice([0, 12, 12, 12 | 64, 12 | 128])
-    return world.buffer(usage=usage, size=random.choice([size, size, size + 7, STEP + size, 512 + size, 1024 + size]), mapped=random.random() < 0.04)
+    return world.buffer(
+        usage=usage, size=random.choice([size, size, size + 7, STEP + size, 512 + size, 1024 + size]), mapped=random.random() < 0.04
+    )
 
 
 def resolve_queries(world, encoder, good):
@@ -115,6 +117,6 @@ def too_short(world, call, most, size):
 
 
 FAULTS = [
-    bad_set, bad_buffer, no_usage, no_usage, first_past, first_past, first_past, no_queries, count_past, count_past, count_past, offset_unaligned,
-    offset_unaligned, offset_past, too_short, too_short,
+    bad_set, bad_buffer, no_usage, no_usage, first_past, first_past, first_past, no_queries, count_past, count_past, count_past,
+    offset_unaligned, offset_unaligned, offset_past, too_short, too_short,
 ]

@@ -33,7 +33,8 @@ def change_begin(change):
 
 
 def mend_slices(world, begin):
-    """Slices are given where another view is attached that is 3d, and are not given where it is not; so that the fault is what was wanted."""
+    """Slices are given where another view is attached that is 3d, and are not given where it is not; so that the fault is what was
+    wanted."""
     for color in begin["colors"]:
         if color is not None and not color.pop("isMeant", False):
             if dim_at(world, color["view"]) != "3d":
@@ -112,13 +113,16 @@ def wrong_slice(world, begin, colors):
         color.pop("depthSlice", None)
     else:
         whole = named(world.views, color["view"]).texture.call["size"][2]
-        color["depthSlice"] = random.choice([slices_at(world, color["view"])] * 3 + [slices_at(world, color["view"]) + 1, whole - 1, whole, 2**31, GREATEST_32])
+        color["depthSlice"] = random.choice(
+            [slices_at(world, color["view"])] * 3 + [slices_at(world, color["view"]) + 1, whole - 1, whole, 2**31, GREATEST_32]
+        )
     return color
 
 
 @change_slices
 def slice_twice(world, begin, colors):
-    """Rule 306 on slices: one twice by one view or two, or of a texture that is a resolve view too; and slices beside each other, which may be."""
+    """Rule 306 on slices: one twice by one view or two, or of a texture that is a resolve view too; and slices beside each other, which may
+    be."""
     random = world.random
     color = with_volume(world, begin, colors)
     view, count = named(world.views, color["view"]), slices_at(world, color["view"])
@@ -127,7 +131,11 @@ def slice_twice(world, begin, colors):
     if several and random.random() < 0.35:
         random.choice(several)["resolve"] = name
     elif len(begin["colors"]) < MOST_COLORS:
-        near = random.choice([color["depthSlice"]] * 3 + [min(color["depthSlice"] + 1, count - 1), 0, count - 1]) if "depthSlice" in color else 0
+        near = (
+            random.choice([color["depthSlice"]] * 3 + [min(color["depthSlice"] + 1, count - 1), 0, count - 1])
+            if "depthSlice" in color
+            else 0
+        )
         begin["colors"].append({"view": name, "depthSlice": near, "load": random.choice(LOADS), "store": random.choice(STORES)})
     return None
 
@@ -162,7 +170,14 @@ def view_like(world, name, how=None, is_resolve=False):
     width, height, samples, format = size_at(world, name)
     samples = 1 if is_resolve else samples
     is_depth = format in DEPTH_FORMATS
-    texture = {"size": [width, height, 1], "usage": 23 if samples == 1 else 20, "format": format, "dim": "2d", "mips": 1, "samples": samples}
+    texture = {
+        "size": [width, height, 1],
+        "usage": 23 if samples == 1 else 20,
+        "format": format,
+        "dim": "2d",
+        "mips": 1,
+        "samples": samples,
+    }
     view = {"dim": "2d", "baseMip": 0, "mips": 1, "baseLayer": 0, "layers": 1}
     if how == "usage":
         texture["usage"] = 7
@@ -264,7 +279,9 @@ def add_depth(world, begin):
     random = world.random
     width, height, samples, _ = size_at(world, attached(begin)[0][0]["view"])
     format = random.choice(DEPTH_FORMATS)
-    view = new_view(world, {"size": [width, height, 1], "usage": 20, "format": format, "dim": "2d", "mips": 1, "samples": samples}, {"mips": 1})
+    view = new_view(
+        world, {"size": [width, height, 1], "usage": 20, "format": format, "dim": "2d", "mips": 1, "samples": samples}, {"mips": 1}
+    )
     begin["depth"] = {"view": view.name}
     for aspect in ASPECTS_OF[format]:
         begin["depth"] |= {f"{aspect}Load": random.choice(LOADS), f"{aspect}Store": random.choice(STORES)}
@@ -473,7 +490,9 @@ def range_faults(word, bit, step):
         elif kind == 2:
             call.update(offset=size // step * step + step, size=0)
         else:
-            call.update(random.choice([{"size": GREATEST_53}, {"offset": GREATEST_53 - 3}, {"offset": GREATEST_53 - 3, "size": GREATEST_53}]))
+            call.update(
+                random.choice([{"size": GREATEST_53}, {"offset": GREATEST_53 - 3}, {"offset": GREATEST_53 - 3, "size": GREATEST_53}])
+            )
 
     return [invalid, usage, offset, past] + ([slot] if word == "setVertexBuffer" else [])
 
@@ -532,7 +551,11 @@ def indirect(change):
         found = places(calls, *DRAWS)
         if found:
             at = first_or_any(world.random, found)
-            word = calls[at]["do"] if calls[at]["do"] in INDIRECT_BYTES else {"draw": "drawIndirect"}.get(calls[at]["do"], "drawIndexedIndirect")
+            word = (
+                calls[at]["do"]
+                if calls[at]["do"] in INDIRECT_BYTES
+                else {"draw": "drawIndirect"}.get(calls[at]["do"], "drawIndexedIndirect")
+            )
             buffers = [thing for thing in buffers_in(world, INDIRECT) if thing.call["size"] >= INDIRECT_BYTES[word]]
             if buffers:
                 if calls[at]["do"] != word:
@@ -584,16 +607,34 @@ BEGIN_FAULTS = [
 VERTEX_FAULTS = range_faults("setVertexBuffer", VERTEX, 4)
 INDEX_FAULTS = range_faults("setIndexBuffer", INDEX, 4)
 DRAW_FAULTS = [
-    no_pipeline, no_group, other_index, other_layout, other_owner, other_owner, gone("setVertexBuffer"), gone("setVertexBuffer"), gone("setIndexBuffer"),
-    all_gone("setVertexBuffer"), all_gone("setIndexBuffer"), all_gone("setIndexBuffer"), other_slot, less_set, less_set, other_format, huge_numbers, first_more, first_more,
-    indirect_invalid, indirect_usage, indirect_offset, indirect_past, indirect_past, indirect_instead, other_kind, other_kind,
+    no_pipeline, no_group, other_index, other_layout, other_owner, other_owner,
+    gone("setVertexBuffer"),
+    gone("setVertexBuffer"),
+    gone("setIndexBuffer"),
+    all_gone("setVertexBuffer"),
+    all_gone("setIndexBuffer"),
+    all_gone("setIndexBuffer"),
+    other_slot, less_set, less_set, other_format, huge_numbers, first_more, first_more, indirect_invalid, indirect_usage, indirect_offset,
+    indirect_past, indirect_past, indirect_instead, other_kind, other_kind,
 ]
 PIPELINE_FAULTS = [invalid_render_pipeline] + [other_targets] * 5 + [writing_pipeline] * 3
 ORDER_FAULTS = [pop_too_many, push_too_many, dead_pass, dead_pass, dead_pass, dead_pass, on_encoder, on_encoder, shuffled]
 FAULTS = (
-    BEGIN_FAULTS * 3 + [wrong_color, wrong_depth, wrong_loads, wrong_size, attached_twice, attached_twice, wrong_resolve, wrong_resolve, wrong_slice, slice_twice] * 2
-    + SETTING_FAULTS + OFFSET_FAULTS + VERTEX_FAULTS * 3 + INDEX_FAULTS * 3 + DRAW_FAULTS * 2 + PIPELINE_FAULTS * 2 + ORDER_FAULTS * 2
-    + QUERY_FAULTS + [other_owner] * 6
+    BEGIN_FAULTS * 3
+    + [
+        wrong_color, wrong_depth, wrong_loads, wrong_size, attached_twice, attached_twice, wrong_resolve, wrong_resolve, wrong_slice,
+        slice_twice,
+    ]
+    * 2
+    + SETTING_FAULTS
+    + OFFSET_FAULTS
+    + VERTEX_FAULTS * 3
+    + INDEX_FAULTS * 3
+    + DRAW_FAULTS * 2
+    + PIPELINE_FAULTS * 2
+    + ORDER_FAULTS * 2
+    + QUERY_FAULTS
+    + [other_owner] * 6
 )
 
 
@@ -636,8 +677,16 @@ def writing_in_bundle(world, encoder, on, calls):
 
 
 BUNDLE_FAULTS = (
-    SETTING_FAULTS * 2 + OFFSET_FAULTS + VERTEX_FAULTS * 3 + INDEX_FAULTS * 3 + DRAW_FAULTS * 2 + [invalid_render_pipeline, invalid_render_pipeline]
-    + [other_targets] * 8 + [writing_in_bundle] * 5 + [pop_too_many, push_too_many] * 3 + [shuffled] * 3
+    SETTING_FAULTS * 2
+    + OFFSET_FAULTS
+    + VERTEX_FAULTS * 3
+    + INDEX_FAULTS * 3
+    + DRAW_FAULTS * 2
+    + [invalid_render_pipeline, invalid_render_pipeline]
+    + [other_targets] * 8
+    + [writing_in_bundle] * 5
+    + [pop_too_many, push_too_many] * 3
+    + [shuffled] * 3
 )
 
 

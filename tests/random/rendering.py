@@ -26,8 +26,8 @@ class Draw:
 
 
 def drawn(world, on, target, wanted, counts, between=None):
-    """The settings and draws on what is drawn to, with one of so many settings with draws. Between these stand more calls, which unset all, if
-    a function gives any.
+    """The settings and draws on what is drawn to, with one of so many settings with draws. Between these stand more calls, which unset all,
+    if a function gives any.
 
     `wanted` is what is to be wrong with them: `overlap`, `scope`, a key of PAST, or None.
     """

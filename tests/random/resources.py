@@ -179,7 +179,9 @@ VIEW_FAULTS = [
     lambda random, call, texture: call.update(baseLayer=layers_of(texture)),
     lambda random, call, texture: call.update(dim=random.choice(VIEW_DIMS)),
     lambda random, call, texture: call.update(dim=random.choice(VIEW_DIMS), layers=1, baseLayer=0),
-    lambda random, call, texture: call.update(dim=random.choice(["2d", "cube", "cube-array"]), layers=random.choice([2, 5, 7, 11, 13]), baseLayer=0),
+    lambda random, call, texture: call.update(
+        dim=random.choice(["2d", "cube", "cube-array"]), layers=random.choice([2, 5, 7, 11, 13]), baseLayer=0
+    ),
     lambda random, call, texture: call.update(dim="cube", layers=6, baseLayer=0),
     lambda random, call, texture: call.update(dim="cube-array", layers=6, baseLayer=0),
     lambda random, call, texture: call.update(baseMip=2**32 - 1, mips=2**32 - 1),

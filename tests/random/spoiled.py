@@ -1,8 +1,7 @@
 """The bytes of a good script, or of a good report that is to be checked, with some of them flipped, cut out or repeated.
 
-Where a piece is cut out or repeated it begins and ends, as a rule, behind the same letter, so that the rest often still has a reading: a call, a
-key with its value or an item then is missing or stands twice, or a line of a report.
-"""
+Where a piece is cut out or repeated it begins and ends, as a rule, behind the same letter, so that the rest often still has a reading: a
+call, a key with its value or an item then is missing or stands twice, or a line of a report. """
 
 OF_SCRIPTS, OF_REPORTS = b',{}[]":', b"\n\n\n\n "
 

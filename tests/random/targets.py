@@ -85,12 +85,14 @@ def pool_target(world, format=None, samples=None, size=None):
 
 
 def spots(world, formats, samples=None, size=None, dims=("2d", "3d")):
-    """What can be attached: a texture, a mip level and a layer, or a slice of a 3d one, of one of some formats, of a count of samples, and of a
-    size. Of many slices there are some."""
+    """What can be attached: a texture, a mip level and a layer, or a slice of a 3d one, of one of some formats, of a count of samples, and
+    of a size. Of many slices there are some."""
     found = []
     for thing in pooled(world, world.textures):
         call = thing.call
-        is_fit = call["usage"] & RENDER_ATTACHMENT and call["dim"] in dims and call["format"] in formats and samples in (None, call["samples"])
+        is_fit = (
+            call["usage"] & RENDER_ATTACHMENT and call["dim"] in dims and call["format"] in formats and samples in (None, call["samples"])
+        )
         for mip in range(call["mips"] if is_fit else 0):
             places = extent(call, mip)
             if size is None or places[:2] == size:
@@ -104,7 +106,14 @@ def attached_view(world, spot, **wanted):
     random, (thing, mip, layer) = world.random, spot
     if thing.call["dim"] == "3d":
         return view_of(world, thing, {"dim": "3d", "aspect": "all", "baseMip": mip, "mips": 1, "baseLayer": 0, "layers": 1} | wanted)
-    call = {"dim": random.choice(["2d", "2d", "2d", "2d-array"]), "aspect": "all", "baseMip": mip, "mips": 1, "baseLayer": layer, "layers": 1}
+    call = {
+        "dim": random.choice(["2d", "2d", "2d", "2d-array"]),
+        "aspect": "all",
+        "baseMip": mip,
+        "mips": 1,
+        "baseLayer": layer,
+        "layers": 1,
+    }
     if thing.call["samples"] == 4:
         call["dim"] = "2d"
     if random.random() < 0.2:

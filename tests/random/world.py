@@ -135,7 +135,9 @@ class World:
         while encoder.groups > 0 and not self.has_fault():
             self.add({"do": "popDebugGroup", "on": encoder.name})
             encoder.groups -= 1
-        thing = self.make("c", {"do": "finish", "on": encoder.name}, not encoder.finished and encoder.good and not encoder.dropped and encoder.groups == 0)
+        thing = self.make(
+            "c", {"do": "finish", "on": encoder.name}, not encoder.finished and encoder.good and not encoder.dropped and encoder.groups == 0
+        )
         encoder.finished = True
         self.command_buffers.append(thing)
         return thing
@@ -190,7 +192,15 @@ class World:
         thing.dropped_at = thing.dropped_at or len(self.calls)
 
     def everything(self):
-        bound = self.samplers + self.group_layouts + self.derived_layouts + self.pipeline_layouts + self.groups + self.pipelines + self.render_pipelines
+        bound = (
+            self.samplers
+            + self.group_layouts
+            + self.derived_layouts
+            + self.pipeline_layouts
+            + self.groups
+            + self.pipelines
+            + self.render_pipelines
+        )
         return self.resources() + self.views + bound + self.encoders + self.command_buffers + self.bundle_encoders + self.bundles
 
     def resources(self):

@@ -197,7 +197,15 @@ def drop_and_use(world):
     elif kind < 2:
         buffer = world.buffer(good)
         world.drop(buffer)
-        random.choice([world.destroy, world.unmap, world.drop, lambda thing: write_buffer(world, True, thing), lambda thing: world.map(thing, True, {"mode": 1})])(buffer)
+        random.choice(
+            [
+                world.destroy,
+                world.unmap,
+                world.drop,
+                lambda thing: write_buffer(world, True, thing),
+                lambda thing: world.map(thing, True, {"mode": 1}),
+            ]
+        )(buffer)
     elif kind == 2:
         texture = world.texture(good)
         world.drop(texture)
@@ -253,7 +261,9 @@ def destroyed_before_submit(world):
 
 
 def write_after_destroy(world):
-    things = [thing for thing in world.buffers + world.textures if thing.good and thing.call["usage"] == (12 if thing in world.buffers else 3)]
+    things = [
+        thing for thing in world.buffers + world.textures if thing.good and thing.call["usage"] == (12 if thing in world.buffers else 3)
+    ]
     if things:
         thing = world.random.choice(things)
         world.destroy(thing)

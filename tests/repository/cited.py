@@ -11,7 +11,9 @@ DECLARED = re.compile(r"^(?:(?:abbrev|unfoldable) pub|pub (?:record|data)) ([^\s
 BROUGHT = re.compile(r"ghost use Rattle\.(wg_\w+)\.specs\.(\w+)\.\{([^}]*)\}")
 PASSED_ON = re.compile(r"^pub use \w+(?:::\w+)*::(?:\{([^}]*)\}|(\w+));", re.M)
 WORD = re.compile(r"[A-Za-z_][A-Za-z_0-9]*")
-HEAD = re.compile(r"^(?P<indent> *)(?P<public>pub )?(?P<sort>fn|trait|impl)\b(?P<rest>[^\n]*)|\b(?P<clause>requires|ensures)\b[^{\n]*\{", re.M)
+HEAD = re.compile(
+    r"^(?P<indent> *)(?P<public>pub )?(?P<sort>fn|trait|impl)\b(?P<rest>[^\n]*)|\b(?P<clause>requires|ensures)\b[^{\n]*\{", re.M
+)
 
 
 def declared(top):

@@ -159,7 +159,9 @@ def check_clauses(top, crates, findings):
                 findings.append(f"docs/embedding.md: no clause {name} in the code of {crate}")
 
 
-CHECKS = (check_readme, check_crates, check_links, check_definitions, check_coverage, check_numbers, check_words, check_blocks, check_clauses)
+CHECKS = (
+    check_readme, check_crates, check_links, check_definitions, check_coverage, check_numbers, check_words, check_blocks, check_clauses,
+)
 
 
 def check_shown(top, program, findings):

@@ -1,13 +1,15 @@
 """A search for imports that nothing uses, in what crates define and in their code.
 
-A name that a file brings in by `use` or `ghost use` is used where it stands in the rest of the file, comments aside; an operator, as ◌+◌, where
-all its parts do; and also where it stands in a macro of the crate that the file uses. Not looked at are imports that are passed on (`pub use`), and what may be a trait, whose calls do not name it: a trait of the
-repository, and what begins with a capital of a library of the toolchain.
-"""
+A name that a file brings in by `use` or `ghost use` is used where it stands in the rest of the file, comments aside; an operator, as ◌+◌,
+where all its parts do; and also where it stands in a macro of the crate that the file uses. Not looked at are imports that are passed on
+(`pub use`), and what may be a trait, whose calls do not name it: a trait of the repository, and what begins with a capital of a library of
+the toolchain. """
 
 import re
 
-IMPORT = re.compile(r"^[ ]*(?P<passed>pub )?(?P<ghost>ghost )?use (?P<path>[^;\n{]*)(?:\{(?P<names>[^}]*)\})?(?P<other> as \w+)?;?[ ]*$", re.M)
+IMPORT = re.compile(
+    r"^[ ]*(?P<passed>pub )?(?P<ghost>ghost )?use (?P<path>[^;\n{]*)(?:\{(?P<names>[^}]*)\})?(?P<other> as \w+)?;?[ ]*$", re.M
+)
 TRAIT = re.compile(r"\btrait (\w+)")
 MACRO = re.compile(r"^macro_rules! (\w+) \{\n(.*?)^\}", re.M | re.S)
 WORD = re.compile(r"\w+")

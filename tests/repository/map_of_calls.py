@@ -21,7 +21,9 @@ def check_proofs(top, findings):
             folders = [top / "crates" / crate / "proofs" for crate in PROOFS.findall(cell)]
             for stem in STEM.findall(cell) if folders else []:
                 if not any((folder / f"{stem}.antt").is_file() for folder in folders):
-                    findings.append(f"{MAP}: there is no {stem}.antt in the proofs of {', '.join(folder.parent.name for folder in folders)}")
+                    findings.append(
+                        f"{MAP}: there is no {stem}.antt in the proofs of {', '.join(folder.parent.name for folder in folders)}"
+                    )
 
 
 def findings_of(top):

@@ -1,5 +1,5 @@
-"""Checks of what is written in Python: that Python 3.8 reads it, that no module has the name of one of Python's own, what flake8 says of it, and
-what mypy says of the types of what is public. Where flake8 or mypy is not installed (Debian: flake8, mypy), that is said."""
+"""Checks of what is written in Python: that Python 3.8 reads it, that no module has the name of one of Python's own, what flake8 says of
+it, and what mypy says of the types of what is public. Where flake8 or mypy is not installed (Debian: flake8, mypy), that is said."""
 
 import ast
 import os

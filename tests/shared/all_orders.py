@@ -26,8 +26,9 @@ def cells_of(items):
 
 
 def places_of(items):
-    """The places of the cells that are tried, in order: all of each run that is no longer than is tried, and the places on both sides of the ends
-    of every run of accesses and of barriers. Between these a cell is as the one before it: the same steps access it, and it has the same barriers."""
+    """The places of the cells that are tried, in order: all of each run that is no longer than is tried, and the places on both sides of
+    the ends of every run of accesses and of barriers. Between these a cell is as the one before it: the same steps access it, and it has
+    the same barriers. """
     runs = runs_of(items)
     found = {place for low, high in runs if high - low <= MOST_TRIED for place in range(low, high)}
     found.update(place for run in runs for end in run for place in (end - 1, end))
@@ -49,7 +50,11 @@ def bars_of(items, cell):
             number += 1
         elif item[0] == "bar":
             sort, *fields = item[1]
-            is_there = (sort, *fields[:3]) == part[:4] and fields[3] <= part[4] < fields[4] if sort == part[0] == "t" else (sort, *fields) == part[:2]
+            is_there = (
+                (sort, *fields[:3]) == part[:4] and fields[3] <= part[4] < fields[4]
+                if sort == part[0] == "t"
+                else (sort, *fields) == part[:2]
+            )
             found += [number] if is_there else []
     return found
 
@@ -74,8 +79,8 @@ def seen(order, kinds):
 
 
 def clashes(items):
-    """All triples of a reader or the end, a cell and a writer by which it may see otherwise: the write that it sees in the printed order, where
-    the reader may come before that; or another one, where that may come between the two."""
+    """All triples of a reader or the end, a cell and a writer by which it may see otherwise: the write that it sees in the printed order,
+    where the reader may come before that; or another one, where that may come between the two."""
     found = set()
     for cell, kinds in cells_of(items).items():
         printed = seen(sorted(kinds), kinds)

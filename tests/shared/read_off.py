@@ -1,12 +1,15 @@
-"""What is read off a report itself, without the second reading: what a lost device may answer and do, and that what has a fault does nothing.
+"""What is read off a report itself, without the second reading: what a lost device may answer and do, and that what has a fault does
+nothing.
 
-Each step belongs to one entry: that of an operation to the one that queued it, and that of the host to the one that it names. Barriers and clears
-stand before a step, and so belong to its entry too.
-"""
+Each step belongs to one entry: that of an operation to the one that queued it, and that of the host to the one that it names. Barriers and
+clears stand before a step, and so belong to its entry too. """
 
 import re
 
-ENTRY = re.compile(r"\d+ \d+ (?P<word>\w+) (?P<answer>made \d+ (?:in)?valid|op \d+|promise|plain|bad)(?P<fault> fault \S+ \d+ (?:uncaptured|scope \d+))?(?: settle .*)?")
+ENTRY = re.compile(
+    r"\d+ \d+ (?P<word>\w+) (?P<answer>made \d+ (?:in)?valid|op \d+|promise|plain|bad)(?P<fault> fault \S+ \d+ (?:uncaptured|scope"
+    r" \d+))?(?: settle .*)?"
+)
 
 
 def wrong_in(text):
@@ -30,8 +33,8 @@ def is_of_a_lost_device(answer):
 
 
 def wrong_steps(steps, entries, loss):
-    """What is wrong with the steps of a trace: each is of an entry without a fault, in the order of these, and behind the loss there are host
-    writes of unmaps alone, with their clears."""
+    """What is wrong with the steps of a trace: each is of an entry without a fault, in the order of these, and behind the loss there are
+    host writes of unmaps alone, with their clears."""
     queued = {entry["answer"]: number for number, entry in enumerate(entries)}
     last = 0
     for step in steps:

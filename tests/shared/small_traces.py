@@ -57,7 +57,9 @@ def small(random):
     for number in range(random.choice([0, 1, 2, 3, 3, 4, 4, 5])):
         while random.random() < wished:
             lines.append(f"bar {places.part()} {random.choice(['none', set_text(random)])} {set_text(random)}")
-        lines.append(f"step {number} {random.choice(['op', 'op', 'host'])} {random.choice([0, 1, 7, GREATEST_WHOLE])} {random.choice(NAMES)}")
+        lines.append(
+            f"step {number} {random.choice(['op', 'op', 'host'])} {random.choice([0, 1, 7, GREATEST_WHOLE])} {random.choice(NAMES)}"
+        )
         lines += [f"use {places.part()} {set_text(random)}" for _ in range(random.choice([0, 1, 2]))]
         taken = set()
         for _ in range(random.choice([0, 1, 1, 2, 3])):
@@ -128,7 +130,13 @@ def other_bar(random, lines):
         number = random.choice(bars)
         fields = lines[number].split(" ")
         at = random.choice([1, 2] if fields[1] in "bq" else [1, 2, 3, 4, 5, 6])
-        fields[at] = random.choice("bqts") if at == 1 else random.choice(ASPECTS) if at == 3 and fields[1] == "t" else str(random.choice([0, 1, 2, 3]))
+        fields[at] = (
+            random.choice("bqts")
+            if at == 1
+            else random.choice(ASPECTS)
+            if at == 3 and fields[1] == "t"
+            else str(random.choice([0, 1, 2, 3]))
+        )
         lines[number] = " ".join(fields)
 
 
@@ -174,7 +182,9 @@ def spoiled_field(random, lines):
 def other_set(random, fields):
     """A set in a wrong order, with a usage twice, with none, or of other usages."""
     words = random.sample(USAGES, random.choice([1, 2, 2, 3]))
-    fields[-1] = random.choice(["+".join(words), "+".join([*words, words[0]]), "+", words[0] + "+", "none", words[0].upper(), set_text(random)])
+    fields[-1] = random.choice(
+        ["+".join(words), "+".join([*words, words[0]]), "+", words[0] + "+", "none", words[0].upper(), set_text(random)]
+    )
 
 
 def numbered(random, lines):
@@ -218,7 +228,9 @@ def around(random, lines):
 
 
 BAR_CHANGES = [without_bars] * 6 + [moved_bar] * 3 + [doubled] + [other_bar] * 2 + [renumbered]
-CHANGES = BAR_CHANGES + [doubled, left_out, swapped, other_access, other_access, spoiled_field, spoiled_field, spoiled_field, numbered, around]
+CHANGES = BAR_CHANGES + [
+    doubled, left_out, swapped, other_access, other_access, spoiled_field, spoiled_field, spoiled_field, numbered, around,
+]
 
 
 def spoiled_bytes(random, data):

@@ -44,7 +44,10 @@ def wgsim(*words, data=b"", top=TOP, **more):
 def ends_so(status, *words, **more):
     """Runs the tool, which has to end with a status, and answers with what it wrote and said."""
     ran = wgsim(*words, **more)
-    check(ran.returncode == status, f"wgsim {' '.join(words)[:200]}: status {ran.returncode} and not {status}: {ran.stderr[-400:].decode('utf-8', 'replace')}")
+    check(
+        ran.returncode == status,
+        f"wgsim {' '.join(words)[:200]}: status {ran.returncode} and not {status}: {ran.stderr[-400:].decode('utf-8', 'replace')}",
+    )
     return ran.stdout.decode("utf-8", "replace"), ran.stderr.decode("utf-8", "replace")
 
 

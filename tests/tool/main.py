@@ -2,9 +2,10 @@
 
 usage: tests/tool/run [--program PATH] [NAME ..]
 
-The tests are the functions test_.. of the files test_..py of this folder. One that takes a `folder` is given an empty one to write in; one that
-takes a `path` is called with that of each example and case; the others take nothing. With names, as test_words or test_inputs, only the tests of these
-names and files are run. Without --program the program is compiled without its proofs, as `wgsim --unproved` does, and kept.
+The tests are the functions test_.. of the files test_..py of this folder. One that takes a `folder` is given an empty one to write in; one
+that takes a `path` is called with that of each example and case; the others take nothing. With names, as test_words or test_inputs, only
+the tests of these names and files are run. Without --program the program is compiled without its proofs, as `wgsim --unproved` does, and
+kept.
 
 Prints a line for each finding, and fails if there is one.
 """

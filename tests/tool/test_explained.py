@@ -8,7 +8,8 @@ from wgsim.reading import places
 
 
 def test_errors():
-    """What explain says of error scopes, promises, loss and mapped buffers, by four examples; a difference in them is one difference alone."""
+    """What explain says of error scopes, promises, loss and mapped buffers, by four examples; a difference in them is one difference
+    alone."""
     def told(name):
         return wgsim("explain", str(TOP / f"examples/{name}.json")).stdout.decode()
 
@@ -58,7 +59,8 @@ def test_errors():
 BOUND = """{"budget":1000,"phases":[[[
 {"do":"createBuffer","size":16,"usage":64,"as":"b"},
 {"do":"createBuffer","size":16,"usage":0,"as":"none"},
-{"do":"createBindGroupLayout","entries":[{"binding":0,"visibility":4,"kind":"uniform"},{"binding":1,"visibility":4,"kind":"uniform"}],"as":"l"},
+{"do":"createBindGroupLayout","entries":[\
+{"binding":0,"visibility":4,"kind":"uniform"},{"binding":1,"visibility":4,"kind":"uniform"}],"as":"l"},
 {"do":"createBindGroup","layout":"l","entries":[{"binding":0,"buffer":"b"},{"binding":1,"buffer":"none"}],"as":"g"},
 {"do":"createBindGroup","layout":"l","entries":[{"binding":0,"buffer":"b"}],"as":"h"},
 {"do":"createPipelineLayout","layouts":["l","l"],"as":"p"},
@@ -71,7 +73,10 @@ def test_bound():
     """What explain says of bind groups and pipelines: which of the objects is invalid or dropped, and where the layouts were made."""
     told = explained.explain(places.Text(BOUND.encode(), "S"), BOUND.encode(), asked)[0]
     for words in (
-        'follows from entry 1: entry 3, S:5:1: createBindGroup: "none" (3:1), which is bound by entry 1, is invalid since it was made, at entry 1, by rule 100 (rule 12)',
+        (
+            'follows from entry 1: entry 3, S:5:1: createBindGroup: "none" (3:1), which is bound by entry 1, is invalid since it was made,'
+            " at entry 1, by rule 100 (rule 12)"
+        ),
         "rule 150 asks of createBindGroup: ",
         "    l: createBindGroupLayout at S:4:1",
         "rule 160 asks of createComputePipeline: ",
@@ -86,12 +91,14 @@ DISPATCHED = """{"budget":1000,"phases":[[[
 {"do":"createBuffer","size":16,"usage":384,"as":"b"},
 {"do":"createTexture","size":[1,1,1],"usage":4,"format":"r8unorm","as":"t"},
 {"do":"createView","texture":"t","as":"v"},
-{"do":"createBindGroupLayout","entries":[{"binding":0,"visibility":4,"kind":"storage"},{"binding":1,"visibility":4,"kind":"texture"}],"as":"l"},
+{"do":"createBindGroupLayout","entries":[\
+{"binding":0,"visibility":4,"kind":"storage"},{"binding":1,"visibility":4,"kind":"texture"}],"as":"l"},
 {"do":"createPipelineLayout","layouts":["l"],"as":"ls"},
 {"do":"createComputePipeline","layout":"ls","as":"k"},
 {"do":"createBindGroup","layout":"l","entries":[{"binding":0,"buffer":"b"},{"binding":1,"view":"v"}],"as":"g"},
 {"do":"createEncoder","as":"e"},
-{"do":"beginComputePass","on":"e","as":"p"},{"do":"setBindGroup","on":"p","index":0,"group":"g"},{"do":"setPipeline","on":"p","pipeline":"k"},
+{"do":"beginComputePass","on":"e","as":"p"},\
+{"do":"setBindGroup","on":"p","index":0,"group":"g"},{"do":"setPipeline","on":"p","pipeline":"k"},
 {"do":"dispatch","on":"p","x":1},
 {"do":"end","on":"p"},{"do":"dispatch","on":"p","x":0},
 {"do":"finish","on":"e","as":"c"},
@@ -114,13 +121,15 @@ DISPATCHED = """{"budget":1000,"phases":[[[
 {"do":"submit","buffers":["c"]},
 {"do":"createBuffer","size":16,"usage":128,"mapped":true,"as":"up"},
 {"do":"createBindGroup","layout":"l","entries":[{"binding":0,"buffer":"up"},{"binding":1,"view":"v"}],"as":"gu"},
-{"do":"createEncoder","as":"eu"},{"do":"beginComputePass","on":"eu","as":"pu"},{"do":"setBindGroup","on":"pu","index":3,"group":"gu"},{"do":"end","on":"pu"},
+{"do":"createEncoder","as":"eu"},\
+{"do":"beginComputePass","on":"eu","as":"pu"},{"do":"setBindGroup","on":"pu","index":3,"group":"gu"},{"do":"end","on":"pu"},
 {"do":"finish","on":"eu","as":"cu"},
 {"do":"submit","buffers":["cu"]}]]]}"""
 
 
 def test_dispatched():
-    """What explain says of passes: what is set where a dispatch comes, what is left open, what ended a pass, what is reached through groups."""
+    """What explain says of passes: what is set where a dispatch comes, what is left open, what ended a pass, what is reached through
+    groups."""
     told = explained.explain(places.Text(DISPATCHED.encode(), "S"), DISPATCHED.encode(), asked)[0]
     wanted_words = {
         "S:12:23": ["breaks rule 14 ", "    p was ended at S:12:1\n"],
@@ -133,7 +142,11 @@ def test_dispatched():
             "    k: createComputePipeline at S:7:1\n    ls: createPipelineLayout at S:6:1\n    l: createBindGroupLayout at S:5:1\n",
             "    g: createBindGroup at S:8:1\n",
         ],
-        "S:20:56": ["breaks rule 326 ", "is number 2 of 4: S:19:1\n", "    g: createBindGroup at S:8:1\n    l: createBindGroupLayout at S:5:1\n"],
+        "S:20:56": [
+            "breaks rule 326 ",
+            "is number 2 of 4: S:19:1\n",
+            "    g: createBindGroup at S:8:1\n    l: createBindGroupLayout at S:5:1\n",
+        ],
         "S:22:56": ["breaks rule 340 ", "is number 2 of 3: S:22:1\n", "nothing is set there"],
         "S:26:1": ["breaks rule 183 ", "the command that opens what is still open is number 1 of 5: S:24:1\n"],
         "S:28:66": ["breaks rule 240 ", "is number 3 of 4: S:28:1\n", "    x is open there, from S:27:33 on\n"],
@@ -207,12 +220,16 @@ def test_drawn():
         piece = found[1] if found else ""
         for each in words:
             check(each in piece, f"explain of render passes does not say `{each}` of the call at {place}:\n{piece}")
-    for words in ("renderPass, operation 1, of the call at 20:1\n         uses t color mip 0 layer 0 as attachment\n", "uses b as input\n         reads, and leaves unset, t color mip 0 layer 0\n"):
+    for words in (
+        "renderPass, operation 1, of the call at 20:1\n         uses t color mip 0 layer 0 as attachment\n",
+        "uses b as input\n         reads, and leaves unset, t color mip 0 layer 0\n",
+    ):
         check(words in told, f"explain of render passes does not say `{words}`:\n{told.partition('TRACE')[2]}")
 
 
 def test_bundled():
-    """What explain says of render bundles: what a step uses through one, and of a fault what unset the pipeline, and to what a bundle draws."""
+    """What explain says of render bundles: what a step uses through one, and of a fault what unset the pipeline, and to what a bundle
+    draws."""
     data = (TOP / "examples/render-bundle.json").read_bytes()
     trace = explained.explain(places.Text(data, "S"), data, asked)[0].partition("\nTRACE")[2]
     for words in (

@@ -46,11 +46,15 @@ def taken_before(beside, call):
 
 
 def rule_with(script, lane, kept):
-    """The rule that the finish which ends a lane has with the first commands of its encoder alone, among the calls that make objects, bundles with
-    what is recorded in them too, and drop them.
+    """The rule that the finish which ends a lane has with the first commands of its encoder alone, among the calls that make objects,
+    bundles with what is recorded in them too, and drop them.
 
     What these commands leave open is closed."""
-    own, makers = recorded(lane)[0], [n for n, call in enumerate(lane) if call["do"].startswith("create") or call["do"] in ("getBindGroupLayout", "finishBundle", "currentTexture")]
+    own, makers = recorded(lane)[0], [
+        n
+        for n, call in enumerate(lane)
+        if call["do"].startswith("create") or call["do"] in ("getBindGroupLayout", "finishBundle", "currentTexture")
+    ]
     of_canvases = [n for n, call in enumerate(lane) if "canvas" in call]
     drops = [n for n, call in enumerate(lane) if call["do"] == "drop" and call["object"] in {lane[maker]["as"] for maker in makers}]
     bundle_encoders = {lane[maker]["as"] for maker in makers if lane[maker]["do"] == "createBundleEncoder"} - {lane[-1].get("on")}
@@ -68,7 +72,8 @@ def rule_with(script, lane, kept):
 
 
 def first_of(script, lane):
-    """By another way than the tool's, one by one: the first command with which the finish has the rule of the whole recording, or None where that needs no command."""
+    """By another way than the tool's, one by one: the first command with which the finish has the rule of the whole recording, or None
+    where that needs no command."""
     whole, own = rule_with(script, lane, None)
     for kept in range(len(own) + 1):
         if rule_with(script, lane, kept)[0] == whole:
@@ -101,7 +106,7 @@ def test_explained(path):
         check(piece.startswith(beside.script.where(call) + "\n"), f"{where}: not at its call")
         check(f"rule {number} asks of " in piece and 'WebGPU, "' in piece, f"{where}: no sentence of rule {number}:\n{piece}")
         if entry.word == "finish":
-            test_command(where, script, call, beside, piece, number)
+            check_command(where, script, call, beside, piece, number)
 
 
 def test_settled(path):
@@ -121,10 +126,12 @@ def test_settled(path):
     caught = sum(entry.fault[2] != "uncaptured" for entry in entries if entry.fault)
     opened = len(re.findall(r"^    error scope \d+ was opened for (?:validation|out-of-memory) errors at S:\d+:\d+$", told, re.M))
     check(opened == caught, f"{path.name}: explain names {opened} error scopes of {caught} that caught something")
-    check(told.count("LOST at entry") == any(entry.word == "lose" for entry in entries), f"{path.name}: explain does not tell the loss once")
+    check(
+        told.count("LOST at entry") == any(entry.word == "lose" for entry in entries), f"{path.name}: explain does not tell the loss once"
+    )
 
 
-def test_command(where, script, call, beside, piece, number):
+def check_command(where, script, call, beside, piece, number):
     """The command that a finish's explanation names is the right one."""
     named = re.search(r"^    the command that .* is number \d+ of \d+: (\S+)$", piece, re.M)
     lane = taken_before(beside, call)
@@ -140,9 +147,14 @@ def test_command(where, script, call, beside, piece, number):
 
 
 def test_given(path):
-    """Of a report that is there explain tells what it tells of the play that brought it: also the command of each finish, which it then has from the second reading."""
+    """Of a report that is there explain tells what it tells of the play that brought it: also the command of each finish, which it then has
+    from the second reading."""
     data, report = path.read_bytes(), answered(path)[1]
     text = places.Text(data, "S")
     told = [explained.explain(text, data, program)[0].split("\n", 1)[1] for program in (asked, given.Given(report, "R", text))]
     played = re.sub(r"^    \(found by asking .*\n", "", told[0], flags=re.M)
-    check(played == told[1], f"{path.name}: explain tells another thing of the report alone:\n" + "\n".join(difflib.unified_diff(played.splitlines(), told[1].splitlines(), lineterm="", n=1)))
+    check(
+        played == told[1],
+        f"{path.name}: explain tells another thing of the report alone:\n"
+        + "\n".join(difflib.unified_diff(played.splitlines(), told[1].splitlines(), lineterm="", n=1)),
+    )

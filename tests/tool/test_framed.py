@@ -10,8 +10,8 @@ from wgsim.pages import picture
 from wgsim.reading import places
 from wgsim.reading import script as scripts
 
-# A lane whose canvas has a frame with two names, of which the second comes behind its last entry, and an encoder of the next phase that uses it and is
-# refused; beside it a lane with a canvas and no entry.
+# A lane whose canvas has a frame with two names, of which the second comes behind its last entry, and an encoder of the next phase that
+# uses it and is refused; beside it a lane with a canvas and no entry.
 OVER_PHASES = """{"budget":1000000,"phases":[[[{"do":"createCanvas","width":4,"height":4,"as":"k"},
 {"do":"configureCanvas","canvas":"k","format":"rgba8unorm"},
 {"do":"currentTexture","canvas":"k","as":"t"},
@@ -49,15 +49,22 @@ def test_frames():
     steps = [("currentTexture", "canvas", n) for n in (1, 2, 3)], [("present", "canvas", n) for n in (1, 2, 3)]
     check(found == dict(zip((0, 6, 12, 5, 11, 16), sum(steps, []))), f"canvas-frames as JSON has the frames {found}")
     fault = next(each for each in listed if each["kind"] == "fault")
-    check((fault["values"]["canvas"], fault["values"]["frame"], fault["values"]["byCall"]) == ("canvas", 3, "present"), f"canvas-frames as JSON has the values {fault['values']}")
+    check(
+        (fault["values"]["canvas"], fault["values"]["frame"], fault["values"]["byCall"]) == ("canvas", 3, "present"),
+        f"canvas-frames as JSON has the values {fault['values']}",
+    )
     page = html.unescape(picture.picture(places.Text(text.encode(), "S"), text.encode(), asked)[0])
     names = set(re.findall(r"data-row='\d+' aria-label='(.*?)'", page))
-    check(names == {"first frame 1 of canvas, mip 0 layer 0", "second frame 2 of canvas, mip 0 layer 0", "third frame 3 of canvas"}, f"the picture of canvas-frames has the rows {names}")
+    check(
+        names == {"first frame 1 of canvas, mip 0 layer 0", "second frame 2 of canvas, mip 0 layer 0", "third frame 3 of canvas"},
+        f"the picture of canvas-frames has the rows {names}",
+    )
     check("1 canvas, 3 frames" in page and "frame 3: third, object 8" in page, "the picture of canvas-frames has no list of frames")
 
 
 def test_names_of_frames():
-    """A name that was given behind the last entry of a phase is known in the next one, also where a recording is cut short; a canvas without a frame is not listed."""
+    """A name that was given behind the last entry of a phase is known in the next one, also where a recording is cut short; a canvas
+    without a frame is not listed."""
     told = told_of(OVER_PHASES)
     for words in (
         "frame 1: t (also u), object 0, valid, from 3:1 to the end of its phase",
@@ -81,4 +88,7 @@ def test_events():
     told, status = verified.verify((data, "two-lanes"), (wrong.encode(), "R"))
     check(status == 1 and "the next call of caller 0 is present, whose entry is destroy" in told, f"verify says of a wrong word:\n{told}")
     playing = orders.second.Played(data, "two-lanes").begin()
-    check(orders.may_come(playing) == "in phase 0 the turn may be of caller 0 with its currentTexture or of caller 1 with its currentTexture", f"two-lanes begins so: {orders.may_come(playing)}")
+    check(
+        orders.may_come(playing) == "in phase 0 the turn may be of caller 0 with its currentTexture or of caller 1 with its currentTexture",
+        f"two-lanes begins so: {orders.may_come(playing)}",
+    )

@@ -11,7 +11,8 @@ RESULTS = ("as expected", "another order", "differs", "nothing expected", "no an
 
 
 def filled(folder):
-    """A folder with scripts whose results are known: three that are as expected, two that differ, one that races, one without a word, and one that is too long."""
+    """A folder with scripts whose results are known: three that are as expected, two that differ, one that races, one without a word, and
+    one that is too long."""
     for path in GOOD:
         (folder / f"{path.stem} of it.json").write_bytes(path.read_bytes())
         (folder / f"{path.stem} of it.expected").write_bytes(wanted(path)[1][0])
@@ -44,12 +45,21 @@ def test_judge(folder):
     ):
         check(words in told, f"judge does not say `{words}`:\n{told}")
     check(any(f"race.json: {how} (" in told for how in RESULTS[:2]), f"judge does not take a race that came in another order:\n{told}")
-    check(lines[-1].startswith("8 scripts in ") and "2 differs" in lines[-1] and "2 nothing expected" in lines[-1], f"judge has another summary: {lines[-1]}")
+    check(
+        lines[-1].startswith("8 scripts in ") and "2 differs" in lines[-1] and "2 nothing expected" in lines[-1],
+        f"judge has another summary: {lines[-1]}",
+    )
     objects = [json.loads(line) for line in ends_so(1, "judge", "--json", str(folder))[0].splitlines()]
     check([one["script"] for one in objects[:-1]] == names, "judge --json has not an object for each script in the order of names")
     refused = next(one for one in objects if one.get("script") == "refused.json")
-    check((refused["status"], refused["result"], refused["line"], refused["found"]) == (3, "differs", 1, "bad script 10 0 0 0"), f"judge --json: {refused}")
-    check(set(objects[-1]["results"]) == set(RESULTS) and sum(objects[-1]["results"].values()) == objects[-1]["scripts"] == 8, f"judge --json has another summary: {objects[-1]}")
+    check(
+        (refused["status"], refused["result"], refused["line"], refused["found"]) == (3, "differs", 1, "bad script 10 0 0 0"),
+        f"judge --json: {refused}",
+    )
+    check(
+        set(objects[-1]["results"]) == set(RESULTS) and sum(objects[-1]["results"].values()) == objects[-1]["scripts"] == 8,
+        f"judge --json has another summary: {objects[-1]}",
+    )
     for name in ("wrong", "refused"):
         (folder / f"{name}.expected").unlink()
     check("differs" not in ends_so(0, "judge", str(folder))[0], "judge without a difference tells one")
@@ -99,8 +109,14 @@ def test_statuses(folder):
     locked.chmod(0)
     told, _ = ends_so(0 if os.access(locked, os.R_OK) else 9, "judge", str(scripts))
     check(told.startswith("locked.json: "), f"judge of a file that cannot be read: {told}")
-    check(shell(f"{TOP}/wgsim judge '{scripts}' | true").returncode in (0, 5, 141), "judge into a closed pipe: the status is neither 0 nor 5")
+    check(
+        shell(f"{TOP}/wgsim judge '{scripts}' | true").returncode in (0, 5, 141), "judge into a closed pipe: the status is neither 0 nor 5"
+    )
     check(shell(f"{TOP}/wgsim judge '{scripts}' > /dev/full").returncode == 5, "judge onto a full device: the status is not 5")
     check(b"\r" not in shell(f"{TOP}/wgsim judge '{scripts}'").stderr, "judge shows its progress where standard error is no terminal")
-    shown = shell(f"script -qec \"{TOP}/wgsim judge '{scripts}'\" /dev/null < /dev/null") if shell("command -v script").returncode == 0 else None
+    shown = (
+        shell(f"script -qec \"{TOP}/wgsim judge '{scripts}'\" /dev/null < /dev/null")
+        if shell("command -v script").returncode == 0
+        else None
+    )
     check(shown is None or b" of 41 scripts (0:" in shown.stdout, "judge shows no progress on a terminal")

@@ -48,12 +48,16 @@ def test_picture(path):
         counts = reports.Report(answered(path)[1].decode()).counts()
         text = " ".join(tags.text)
         check(len(re.findall(r"step \d+\b", text)) == counts["steps"], f"{path.name}: the picture has not each step")
-        check(page.count("<span class='bar'>") - page.count("<span class='bar'>barrier: from") == counts["barriers"], f"{path.name}: the picture has not each barrier")
+        check(
+            page.count("<span class='bar'>") - page.count("<span class='bar'>barrier: from") == counts["barriers"],
+            f"{path.name}: the picture has not each barrier",
+        )
         check(page.count(">given back<") >= counts["releases"], f"{path.name}: the picture has not each release")
 
 
 def test_picture_words():
-    """A fault has its cause, its rule's sentence, its call and the command that it is about; a store that discards has that word; a row has its mip level and layers."""
+    """A fault has its cause, its rule's sentence, its call and the command that it is about; a store that discards has that word; a row has
+    its mip level and layers."""
     def of(name):
         data = (TOP / f"examples/{name}.json").read_bytes()
         return html.unescape(picture.picture(places.Text(data, name), data, asked)[0])
@@ -70,10 +74,16 @@ def test_picture_words():
         check(words in page, f"the picture of copy-within-one-buffer does not say `{words}`")
     boxes = re.findall(r"<div class='box (\w+)'>(.*?)</div>", of("discarded-and-loaded"))
     said = [(look, lines.split("<br>")[-1]) for look, lines in boxes]
-    check(said == [("discard", "discard"), ("wipe", "write"), ("both", "read and write")], f"the picture of discarded-and-loaded has the boxes {said}")
+    check(
+        said == [("discard", "discard"), ("wipe", "write"), ("both", "read and write")],
+        f"the picture of discarded-and-loaded has the boxes {said}",
+    )
     page = of("layers-written-apart")
     names = set(re.findall(r"data-row='\d+' aria-label='(.*?)'", page))
-    check(names and all(re.search(r" mip 0 layers? [\d\u2013, ]+$", name) for name in names if not name.startswith("b")), f"layers-written-apart: the rows are {names}")
+    check(
+        names and all(re.search(r" mip 0 layers? [\d\u2013, ]+$", name) for name in names if not name.startswith("b")),
+        f"layers-written-apart: the rows are {names}",
+    )
 
 
 def test_picture_of_a_report(folder):
@@ -108,7 +118,10 @@ def test_checking():
     ran = subprocess.run([sys.executable, "-c", code], input="\n".join([*mended, ""]).encode(), capture_output=True, timeout=60)
     proposed = re.search(r"^    (bar .*)", answer, re.M)[1]
     check(proposed.encode() in ran.stdout, f"docs/checking.md: the mended trace has not the barrier that is proposed, {proposed}")
-    check(asked.program.check(ran.stdout) == (0, b"agrees\n"), f"docs/checking.md: {asked.program.check(ran.stdout)} is said of the mended trace {ran.stdout}")
+    check(
+        asked.program.check(ran.stdout) == (0, b"agrees\n"),
+        f"docs/checking.md: {asked.program.check(ran.stdout)} is said of the mended trace {ran.stdout}",
+    )
 
 
 def renumbered(report):
@@ -130,10 +143,16 @@ def test_diff(folder):
         ran = wgsim("diff", *words)
         lines = ran.stdout.decode().splitlines()
         check(ran.returncode == 1 and "2 differences" in lines[2] and lines[3].startswith("entry 3"), f"diff {words}: {ran.stdout}")
-        check("    A: lane 0 createEncoder made e valid" in lines and "    B: read of b bytes 0 to 11" in lines, f"diff {words} does not go by names: {ran.stdout}")
+        check(
+            "    A: lane 0 createEncoder made e valid" in lines and "    B: read of b bytes 0 to 11" in lines,
+            f"diff {words} does not go by names: {ran.stdout}",
+        )
     lost = TOP / "examples/lost-device.report"
     other.write_text(renumbered(lost.read_text()))
     ran = wgsim("diff", str(lost), str(other))
-    check(ran.returncode == 1 and b"1 difference; the first:\nentry 1 of B alone" in ran.stdout, f"diff with an entry more does not go by promises: {ran.stdout}")
+    check(
+        ran.returncode == 1 and b"1 difference; the first:\nentry 1 of B alone" in ran.stdout,
+        f"diff with an entry more does not go by promises: {ran.stdout}",
+    )
     ran = wgsim("diff", str(report), str(TOP / "examples/unknown-name.report"))
     check(ran.returncode == 1 and b"bad script 10" in ran.stdout, f"diff with a refusal: {ran.stdout}")

@@ -9,7 +9,8 @@ from wgsim.reading import places
 from wgsim.reading import script as scripts
 
 LANES = """{"budget":1,"phases":[[[{"do":"createBuffer","size":16,"usage":8,"as":"b"},{"do":"createEncoder","as":"e"},
-{"do":"clearBuffer","on":"e","buffer":"b"},{"do":"finish","on":"e","as":"c"}]],[[],[{"do":"destroy","object":"b"}],[{"do":"submit","buffers":["c"]}]]]}"""
+{"do":"clearBuffer","on":"e","buffer":"b"},{"do":"finish","on":"e","as":"c"}]],\
+[[],[{"do":"destroy","object":"b"}],[{"do":"submit","buffers":["c"]}]]]}"""
 
 OF_LANES = """history
 0 0 createBuffer made 0 valid
@@ -24,8 +25,10 @@ acc write b 0 0 16
 end
 """
 
-PASSES = ["createEncoder as e", "beginComputePass on e as p", "beginComputePass on e as q", "end on q", "pushDebugGroup on q", "end on p", "end on p", "finish on e as c",
-          "pushDebugGroup on e"]
+PASSES = [
+    "createEncoder as e", "beginComputePass on e as p", "beginComputePass on e as q", "end on q", "pushDebugGroup on q", "end on p",
+    "end on p", "finish on e as c", "pushDebugGroup on e",
+]
 
 # A buffer that one lane destroys and a bind group that it drops, while another records an encoder that is refused, and submits a good one.
 RACING = """{"budget":1000,"phases":[[[{"do":"createBuffer","size":16,"usage":12,"as":"b"},
@@ -68,7 +71,8 @@ class InTurns:
 
 
 def test_lanes():
-    """What explain and picture say of several phases and lanes goes by the order of the report, and not by that of the text or of another run."""
+    """What explain and picture say of several phases and lanes goes by the order of the report, and not by that of the text or of another
+    run."""
     program = InTurns(RACING.encode(), OF_RACING.encode())
     told, status = explained.explain(places.Text(RACING.encode(), "S"), RACING.encode(), program)
     check(status == 0 and "cannot match" not in told, f"lanes: explain cannot match script and report:\n{told}")
@@ -84,11 +88,16 @@ def test_lanes():
     ):
         check(words in told, f"lanes: explain does not say `{words}`:\n{told}")
     page, status = picture.picture(places.Text(RACING.encode(), "S"), RACING.encode(), program)
-    check(status == 0 and "line 6: submit breaks rule 192" in page, "lanes: the picture does not show the submit that has a fault at its place")
+    check(
+        status == 0 and "line 6: submit breaks rule 192" in page,
+        "lanes: the picture does not show the submit that has a fault at its place",
+    )
     other = OF_RACING.replace("2 1 drop", "2 0 drop")
     said = []
     explained.set_beside(places.Text(RACING.encode(), "S"), other, lambda *lines: said.extend(lines))
-    check("entry 2 is of drop, and the call at S:3:3 is createEncoder" in " ".join(said), f"lanes: a report of another order is taken: {said}")
+    check(
+        "entry 2 is of drop, and the call at S:3:3 is createEncoder" in " ".join(said), f"lanes: a report of another order is taken: {said}"
+    )
 
 
 def test_to_come():
@@ -96,7 +105,10 @@ def test_to_come():
     beside = explained.set_beside(places.Text(LANES.encode(), "S"), OF_LANES, lambda *lines: check(False, f"lanes: {lines}"))
     found = {entry: call.word for entry, call in beside.call_of.items()}
     check(found == {0: "createBuffer", 1: "createEncoder", 2: "finish", 3: "submit", 4: "destroy"}, f"lanes: {found}")
-    check(beside.command_of[0].word == "clearBuffer" and beside.named("b", 0) == "b", "lanes: a step has not its command, or a part not its name")
+    check(
+        beside.command_of[0].word == "clearBuffer" and beside.named("b", 0) == "b",
+        "lanes: a step has not its command, or a part not its name",
+    )
     calls_of = [dict(zip(["do", *call.split()[1::2]], [call.split()[0], *call.split()[2::2]])) for call in PASSES]
     text = json.dumps({"budget": 1, "phases": [[calls_of]]})
     script = scripts.read(places.Text(text.encode(), "S"))

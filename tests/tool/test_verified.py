@@ -29,7 +29,10 @@ def test_legal(path):
         lines = report.splitlines(True)
         for number, without in ((n, b"".join(lines[:n] + lines[n + 1 :])) for n in {len(lines) // 2, len(lines) - 1}):
             told, status = verifying.verify((path.read_bytes(), path.name), (without, "R"))
-            check(status == 1 and told.startswith(f"R:{first_other(report, without)}: "), f"{path.name}: line {number + 1} is left out, and verify says:\n{told}")
+            check(
+                status == 1 and told.startswith(f"R:{first_other(report, without)}: "),
+                f"{path.name}: line {number + 1} is left out, and verify says:\n{told}",
+            )
 
 
 def first_other(one, other):
@@ -41,15 +44,35 @@ def first_other(one, other):
 # A report of an example, what is put in place of what, the first wrong line, and what verify says of it.
 WRONG = [
     ("error-scopes", "made 1 invalid fault", "made 1 valid fault", ["is to be: ", "invalid, since rule"]),
-    ("write-of-an-invalid-buffer", " fault validation 12 uncaptured", "", ["rule 12 is the first that is unmet; it asks of writeBuffer", 'WebGPU, "Invalid Internal Objects']),
+    (
+        "write-of-an-invalid-buffer",
+        " fault validation 12 uncaptured",
+        "",
+        ["rule 12 is the first that is unmet; it asks of writeBuffer", 'WebGPU, "Invalid Internal Objects'],
+    ),
     ("write-of-an-invalid-buffer", "validation 12 ", "validation 13 ", ["rule 12 is the first that is unmet"]),
-    ("two-overlapping-writes", "writeBuffer op 2", "writeBuffer plain fault validation 202 uncaptured", ["no rule is unmet", "this one is number 2"]),
+    (
+        "two-overlapping-writes",
+        "writeBuffer op 2",
+        "writeBuffer plain fault validation 202 uncaptured",
+        ["no rule is unmet", "this one is number 2"],
+    ),
     ("two-overlapping-writes", "2 0 writeBuffer", "2 1 writeBuffer", ["the turn is of caller 0"]),
     ("two-overlapping-writes", "1 0 writeBuffer", "5 0 writeBuffer", ["this is number 1"]),
     ("two-overlapping-writes", "2 0 writeBuffer", "2 0 submit", ["the next call of caller 0 is writeBuffer"]),
-    ("two-overlapping-writes", "bar b 0 copy-dst copy-dst\n", "", ["is to be: bar b 0 copy-dst copy-dst", "a barrier stands before it: the part was last used as copy-dst"]),
+    (
+        "two-overlapping-writes",
+        "bar b 0 copy-dst copy-dst\n",
+        "",
+        ["is to be: bar b 0 copy-dst copy-dst", "a barrier stands before it: the part was last used as copy-dst"],
+    ),
     ("two-overlapping-writes", "trace\nstep 0", "trace\nbar b 0 none copy-dst\nstep 0", ["no further barrier stands before it"]),
-    ("two-overlapping-writes", "acc write b 0 4 12", "acc write b 0 4 13", ["is to be: acc write b 0 4 12", "is of writeBuffer, of entry 2, "]),
+    (
+        "two-overlapping-writes",
+        "acc write b 0 4 12",
+        "acc write b 0 4 13",
+        ["is to be: acc write b 0 4 12", "is of writeBuffer, of entry 2, "],
+    ),
     ("two-overlapping-writes", "end\n", "end\n\n", ["nothing comes after that"]),
     ("two-overlapping-writes", "end\n", "end", ["with no end of the line"]),
     ("two-overlapping-writes", "trace\n", "", ["the script is through"]),
@@ -74,18 +97,38 @@ def test_wrong():
         report = (right[:at] + new + right[at + len(old) :]).encode()
         told, status = verifying.verify((path.read_bytes(), path.name), (report, "R"))
         line = first_other(right.encode(), report)
-        check(status == 1 and told.startswith(f"R:{line}: "), f"{name}, `{new}` in place of `{old}`: verify does not name line {line}:\n{told}")
+        check(
+            status == 1 and told.startswith(f"R:{line}: "),
+            f"{name}, `{new}` in place of `{old}`: verify does not name line {line}:\n{told}",
+        )
         for each in words:
             check(each in told, f"{name}, `{new}` in place of `{old}`: verify does not say `{each}`:\n{told}")
 
 
 def long_script(count):
-    """A script of so many calls: a buffer, writes of it, a complete and a destroy; and its report, line by line as docs/report.md has them."""
+    """A script of so many calls: a buffer, writes of it, a complete and a destroy; and its report, line by line as docs/report.md has
+    them."""
     write = {"do": "writeBuffer", "buffer": "b", "offset": 0, "size": 4}
-    calls = [{"do": "createBuffer", "size": 16, "usage": 8, "as": "b"}, *[write] * (count - 3), {"do": "complete", "op": count - 3}, {"do": "destroy", "object": "b"}]
-    entries = ["0 0 createBuffer made 0 valid", *[f"{n} 0 writeBuffer op {n}" for n in range(1, count - 2)], f"{count - 2} 0 complete plain", f"{count - 1} 0 destroy plain"]
-    steps = [f"{'bar b 0 copy-dst copy-dst' + chr(10) if n else ''}step {n} op {n + 1} writeBuffer\nuse b 0 copy-dst\nacc write b 0 0 4" for n in range(count - 3)]
-    return json.dumps({"budget": 16, "phases": [[calls]]}).encode(), "\n".join(["history", *entries, "trace", *steps, "free b 0", "end", ""]).encode()
+    calls = [
+        {"do": "createBuffer", "size": 16, "usage": 8, "as": "b"},
+        *[write] * (count - 3),
+        {"do": "complete", "op": count - 3},
+        {"do": "destroy", "object": "b"},
+    ]
+    entries = [
+        "0 0 createBuffer made 0 valid",
+        *[f"{n} 0 writeBuffer op {n}" for n in range(1, count - 2)],
+        f"{count - 2} 0 complete plain",
+        f"{count - 1} 0 destroy plain",
+    ]
+    steps = [
+        f"{'bar b 0 copy-dst copy-dst' + chr(10) if n else ''}step {n} op {n + 1} writeBuffer\nuse b 0 copy-dst\nacc write b 0 0 4"
+        for n in range(count - 3)
+    ]
+    return (
+        json.dumps({"budget": 16, "phases": [[calls]]}).encode(),
+        "\n".join(["history", *entries, "trace", *steps, "free b 0", "end", ""]).encode(),
+    )
 
 
 def seconds(run):
@@ -99,7 +142,8 @@ def seconds(run):
 
 
 def test_long():
-    """40,000 calls are verified and played in time: writes by a report that is made line by line, and the generated script by its counts."""
+    """40,000 calls are verified and played in time: writes by a report that is made line by line, and the generated script by its
+    counts."""
     script, report = long_script(40_000)
     folder = TOP / "tools/out"
     folder.mkdir(exist_ok=True)
@@ -110,12 +154,22 @@ def test_long():
             paths[1].write_bytes(text)
             told, took = seconds(lambda status=status: ends_so(status, "verify", *map(str, paths))[0])
             check(took < SECONDS, f"a report of 40,000 entries that is {name}: verified in {took:.1f} seconds")
-        check("is to be: free b 0" in told and "its last operation, 39997, is complete" in told, f"a report that is wrong at its end: {told}")
+        check(
+            "is to be: free b 0" in told and "its last operation, 39997, is complete" in told, f"a report that is wrong at its end: {told}"
+        )
         paths[0].write_bytes(wgsim("script", "8000").stdout)
         told, took = seconds(lambda: ends_so(0, "run", "--callers", ",".join(["0"] * 32_017), str(paths[0]))[0])
         check(took < SECONDS, f"the generated script of 8000 iterations: played in {took:.1f} seconds")
-        counts = (told.split("\ntrace\n")[0].count("\n"), len(set(re.findall(r" op (\d+)$", told, re.M))), told.count(" fault "), told.count("\nfree "))
-        check(counts == (17 + 4 * 8000, 2 * 8000, 0, 8), f"the generated script of 8000 iterations: entries, operations, faults and releases are {counts}")
+        counts = (
+            told.split("\ntrace\n")[0].count("\n"),
+            len(set(re.findall(r" op (\d+)$", told, re.M))),
+            told.count(" fault "),
+            told.count("\nfree "),
+        )
+        check(
+            counts == (17 + 4 * 8000, 2 * 8000, 0, 8),
+            f"the generated script of 8000 iterations: entries, operations, faults and releases are {counts}",
+        )
     finally:
         for path in paths:
             path.unlink()
@@ -139,7 +193,10 @@ def test_callers():
     ):
         told, said = ends_so(1, "run", "--callers", ",".join(callers), str(RACE))
         check(words in said and not told, f"run --callers {callers}: {said}")
-    check(ends_so(0, "run", "--callers", "", data=b'{"budget":0,"phases":[[[],[]],[]]}')[0] == "history\ntrace\nend\n", "a script of no calls has no empty order")
+    check(
+        ends_so(0, "run", "--callers", "", data=b'{"budget":0,"phases":[[[],[]],[]]}')[0] == "history\ntrace\nend\n",
+        "a script of no calls has no empty order",
+    )
 
 
 def test_outcomes():
@@ -157,7 +214,9 @@ def test_outcomes():
         check(len(found) == orders_of(path) == len(set(texts)), f"outcomes of {path.name}: {len(found)} of {orders_of(path)} orders")
         check(set(reports) <= set(texts), f"outcomes of {path.name}: not the reports beside it")
         for _, _, callers, text in found:
-            check((",".join(callers_of(text.encode())) or "none") == callers, f"outcomes of {path.name}: callers {callers} of another report")
+            check(
+                (",".join(callers_of(text.encode())) or "none") == callers, f"outcomes of {path.name}: callers {callers} of another report"
+            )
     told, said = ends_so(0, "outcomes", str(RACE))
     check(told.count("\noutcome ") == orders_of(RACE) and "not proved" in said, f"outcomes of a race: {said}")
     lanes = [[{"do": "workDone"}] * 6] * 3
@@ -166,7 +225,8 @@ def test_outcomes():
 
 
 def orders_of(path):
-    """How many orders of turns a script has, by the entries that each caller has in each phase of its reports, each phase by its first report."""
+    """How many orders of turns a script has, by the entries that each caller has in each phase of its reports, each phase by its first
+    report."""
     script = json.loads(path.read_bytes())
     total = 1
     for lanes in script["phases"]:
@@ -212,7 +272,10 @@ def test_statuses(folder):
             ends_so(status, *words, str(folder / name))
     frame = ",".join(callers_of(report.read_bytes()))
     for words in (f"verify '{script}' '{report}'", f"outcomes '{script}'", f"run --callers {frame} '{script}'"):
-        check(shell(f"{TOP}/wgsim {words} | true").returncode in (0, 5, 141), f"wgsim {words} into a closed pipe: the status is neither 0 nor 5")
+        check(
+            shell(f"{TOP}/wgsim {words} | true").returncode in (0, 5, 141),
+            f"wgsim {words} into a closed pipe: the status is neither 0 nor 5",
+        )
         check(shell(f"{TOP}/wgsim {words} > /dev/full").returncode == 5, f"wgsim {words} onto a full device: the status is not 5")
     for words in (f"verify - '{report}'", "outcomes", "run --callers 0"):
         check(shell(f"{TOP}/wgsim {words} <&-").returncode == 4, f"wgsim {words} with no standard input: the status is not 4")

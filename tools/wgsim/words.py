@@ -62,14 +62,17 @@ def which_program():
 
 def parser_of(found):
     """The reader of all words, and that of each command by its name."""
-    shared = {"formatter_class": argparse.RawDescriptionHelpFormatter, "allow_abbrev": False, "parents": [which_program()]}
-    parser = Parser(prog=NAME, description=ABOUT, epilog=STATUSES, add_help=False, **shared)
+    def shared():
+        # The parent is another one for each, since a parser changes what it takes of its parent.
+        return {"formatter_class": argparse.RawDescriptionHelpFormatter, "allow_abbrev": False, "parents": [which_program()]}
+
+    parser = Parser(prog=NAME, description=ABOUT, epilog=STATUSES, add_help=False, **shared())
     parser.set_defaults(is_proved=False, is_unproved=False, command=None)
     parser.add_argument("--help", action="store_true", help="this text")
     parser.add_argument("--version", action="store_true", help="which sources this is, and which programs there are of them")
     several, each = parser.add_subparsers(title="commands", metavar="COMMAND", dest="command", parser_class=Parser), {}
     for name, module in found.items():
-        each[name] = several.add_parser(name, help=module.HELP, description=module.__doc__, **shared)
+        each[name] = several.add_parser(name, help=module.HELP, description=module.__doc__, **shared())
         module.add_words(each[name])
     return parser, each
 
@@ -83,7 +86,9 @@ def read(parser, each, found, given):
         raise Wrong(why, own.format_usage())
 
     for word in more:
-        wrong(f"{words.command or NAME} takes no {word}" if word.startswith("-") else f"{words.command or NAME} takes no further word {word}")
+        wrong(
+            f"{words.command or NAME} takes no {word}" if word.startswith("-") else f"{words.command or NAME} takes no further word {word}"
+        )
     if words.help or words.version:
         if len(given) > 1:
             wrong(f"{'--help' if words.help else '--version'} stands alone")

@@ -62,7 +62,10 @@ def flat(case, where, view, dims):
     told = case.second.textures.told(view)
     if told["dim"] not in dims:
         asked = " or ".join([", ".join(dims[:-1]), dims[-1]])
-        return Cause(f"{where}: {case.named(view)} has the dim {told['dim']}, and {asked} is asked for", {"view": view.call["as"], "dim": told["dim"], "allowed": list(dims)})
+        return Cause(
+            f"{where}: {case.named(view)} has the dim {told['dim']}, and {asked} is asked for",
+            {"view": view.call["as"], "dim": told["dim"], "allowed": list(dims)},
+        )
     for key, word in (("mips", "mip level"), ("layers", "layer")):
         if told[key] != 1:
             return Cause(
@@ -96,7 +99,10 @@ def slice_of(case, place, number, view):
         said = f"color {place}: {case.named(view)} has the dim 3d, and depthSlice is left out"
         return Cause(said, values, f"Give one from 0 to {depth - 1}." if depth > 1 else "Give 0, which is the only slice.")
     if number >= depth:
-        said = f"color {place}: depthSlice is {number}, and mip level {told['baseMip']} of {case.named(view.uses['texture'])}, to which {case.named(view)} looks, has {plural(depth, 'slice')}"
+        said = (
+            f"color {place}: depthSlice is {number}, and mip level {told['baseMip']} of {case.named(view.uses['texture'])}, to which"
+            f" {case.named(view)} looks, has {plural(depth, 'slice')}"
+        )
         return Cause(said, {**values, "most": depth - 1}, f"The greatest is {depth - 1}.")
     return None
 
@@ -138,7 +144,14 @@ def load_and_store(case):
             is_given = state[key] is not None
             if is_given == (has and not state[read_only]):
                 continue
-            values = {"view": view.call["as"], "format": format, "key": key, "given": state[key], "hasAspect": has, "readOnly": state[read_only]}
+            values = {
+                "view": view.call["as"],
+                "format": format,
+                "key": key,
+                "given": state[key],
+                "hasAspect": has,
+                "readOnly": state[read_only],
+            }
             if not is_given:
                 return Cause(
                     f"{key} is left out, and {format} of {case.named(view)} has {aspect}, with {read_only} false",
@@ -159,8 +172,13 @@ def alike(case):
         pairs.append(("samples", *(each.uses["texture"].call["samples"] for each in (views[0][1], view))))
         for what, one, other in pairs:
             if one != other:
-                said = f"{views[0][0]} ({case.named(views[0][1])}) has {the(what)} {one}, and {where} ({case.named(view)}) has {the(what)} {other}"
-                return Cause(said, {"first": views[0][1].call["as"], "other": view.call["as"], "what": what, "firstHas": one, "otherHas": other})
+                said = (
+                    f"{views[0][0]} ({case.named(views[0][1])}) has {the(what)} {one}, and {where} ({case.named(view)}) has"
+                    f" {the(what)} {other}"
+                )
+                return Cause(
+                    said, {"first": views[0][1].call["as"], "other": view.call["as"], "what": what, "firstHas": one, "otherHas": other}
+                )
     return None
 
 
@@ -180,7 +198,9 @@ def apart(case):
             both = first(common(case, cell, another) for cell in cells for another in others)
             if both:
                 values = {"first": view.call["as"], "other": second.call["as"], **case.part_values(both)}
-                remedy = "Give each a slice of its own." if both[0] == "s" and one.startswith("color") and other.startswith("color") else None
+                remedy = (
+                    "Give each a slice of its own." if both[0] == "s" and one.startswith("color") and other.startswith("color") else None
+                )
                 return Cause(f"{one} ({case.named(view)}) and {other} ({case.named(second)}) both attach {case.part(both)}", values, remedy)
     return None
 
@@ -211,7 +231,9 @@ def resolve_of(case, place, view, resolve):
     if wrong:
         return wrong
     if target["samples"] != 1:
-        return Cause(f"{where} ({case.named(resolve)}) has {target['samples']} samples, and 1 is asked for", {**values, "samples": target["samples"]})
+        return Cause(
+            f"{where} ({case.named(resolve)}) has {target['samples']} samples, and 1 is asked for", {**values, "samples": target["samples"]}
+        )
     pairs = [("format", color["format"], target["format"])]
     pairs += zip(("width", "height"), case.second.attachments.width_and_height(view), case.second.attachments.width_and_height(resolve))
     for what, one, other in pairs:

@@ -30,7 +30,11 @@ def late(case):
 def finished(case):
     encoder = case.uses["on"]
     by = case.history.finishes(encoder)[0]
-    return Cause(f"{case.named(encoder)} was finished before, at {case.place(by)}", {"object": encoder.call["as"], "by": case.place(by)}, "Finish it once.")
+    return Cause(
+        f"{case.named(encoder)} was finished before, at {case.place(by)}",
+        {"object": encoder.call["as"], "by": case.place(by)},
+        "Finish it once.",
+    )
 
 
 @rule(182)
@@ -38,7 +42,12 @@ def open_pass(case):
     found = case.second.passes.Walk(case.commands).open_pass
     if found is None:
         return None
-    return Cause(f"{case.named(found)} is still open", {"object": found.call["as"], "begun": case.place(found)}, "End it before the finish.", about=found)
+    return Cause(
+        f"{case.named(found)} is still open",
+        {"object": found.call["as"], "begun": case.place(found)},
+        "End it before the finish.",
+        about=found,
+    )
 
 
 def open_groups(commands):
@@ -55,7 +64,11 @@ def open_groups(commands):
 def left_open(case, place, opened):
     if not opened:
         return None
-    many = f"a debug group of {case.named(place)} is open, pushed" if len(opened) == 1 else f"{len(opened)} debug groups of {case.named(place)} are open, the first pushed"
+    many = (
+        f"a debug group of {case.named(place)} is open, pushed"
+        if len(opened) == 1
+        else f"{len(opened)} debug groups of {case.named(place)} are open, the first pushed"
+    )
     values = {"object": place.call["as"], "open": len(opened), "pushed": case.place(opened[0])}
     return Cause(f"{many} at {case.place(opened[0])}", values, f"Pop {'it' if len(opened) == 1 else 'them'} before.", about=opened[0])
 
@@ -75,7 +88,11 @@ def groups_of_pass(case):
 def no_group(case):
     place = case.uses["on"]
     pushed = sum(command.do == "pushDebugGroup" for command in case.earlier)
-    told = "none was pushed on it" if pushed == 0 else f"{plural(pushed, 'group')} pushed on it {'was' if pushed == 1 else 'were'} popped before"
+    told = (
+        "none was pushed on it"
+        if pushed == 0
+        else f"{plural(pushed, 'group')} pushed on it {'was' if pushed == 1 else 'were'} popped before"
+    )
     return Cause(
         f"no debug group of {case.named(place)} is open: {told}",
         {"object": place.call["as"], "pushed": pushed},

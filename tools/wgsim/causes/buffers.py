@@ -20,8 +20,16 @@ def beside(case, mode, may):
     others = has & ~(mode | may)
     if not has & mode or not others:
         return None
-    said = f"usage is {bits.said(has, bits.BUFFER)}; beside {bits.one(mode, bits.BUFFER)} only {bits.one(may, bits.BUFFER)} may stand, and not {bits.each(others, bits.BUFFER)}"
-    values = {"usage": has, "usageWords": bits.words(has, bits.BUFFER), "notAllowed": others, "notAllowedWords": bits.words(others, bits.BUFFER)}
+    said = (
+        f"usage is {bits.said(has, bits.BUFFER)}; beside {bits.one(mode, bits.BUFFER)} only {bits.one(may, bits.BUFFER)} may stand, and not"
+        f" {bits.each(others, bits.BUFFER)}"
+    )
+    values = {
+        "usage": has,
+        "usageWords": bits.words(has, bits.BUFFER),
+        "notAllowed": others,
+        "notAllowedWords": bits.words(others, bits.BUFFER),
+    }
     return Cause(said, values, "Map a buffer of its own, and copy between the two.")
 
 
@@ -55,7 +63,10 @@ def budget(case):
     if asked <= left:
         return None
     largest = [(case.history.entries()[entry], -size) for size, entry in case.play.live[:LARGEST] if size]
-    said = f"{case.name(case.entry)} takes {plural(asked, 'byte')}, and of the budget of {plural(total, 'byte')}, {taken} are taken and {left} are left"
+    said = (
+        f"{case.name(case.entry)} takes {plural(asked, 'byte')}, and of the budget of {plural(total, 'byte')}, {taken} are taken and"
+        f" {left} are left"
+    )
     if largest:
         said += "; most is taken by " + listed(f"{case.named(thing)} with {size}" for thing, size in largest)
     values = {"asked": asked, "budget": total, "taken": taken, "left": left}
@@ -63,5 +74,7 @@ def budget(case):
     return Cause(
         said,
         values,
-        "Destroy or drop what is not needed any longer, and complete the work that uses it." if asked <= total else "It is more than the whole budget.",
+        "Destroy or drop what is not needed any longer, and complete the work that uses it."
+        if asked <= total
+        else "It is more than the whole budget.",
     )

@@ -30,7 +30,12 @@ def place_drawn(case):
 
 def pipeline_drawn(case, pipeline):
     call = pipeline.call
-    return Drawn(case, pipeline, "pipeline", case.second.bundles.Targets(call["targets"], call["depth"] and call["depth"]["format"], call["samples"], set()))
+    return Drawn(
+        case,
+        pipeline,
+        "pipeline",
+        case.second.bundles.Targets(call["targets"], call["depth"] and call["depth"]["format"], call["samples"], set()),
+    )
 
 
 def bundle_drawn(case, bundle):
@@ -45,14 +50,22 @@ def difference(one, other, remedy):
             said = f"{one.color} {place} of {one.name} is {mine or 'null'}, and {other.color} {place} of {other.name} is {theirs or 'null'}"
             return Cause(said, {**values, "at": place, one.color_key: mine, other.color_key: theirs})
     if len(one.colors) != len(other.colors):
-        said = f"{one.name} has {plural(len(one.colors), one.color)}, and {other.name} has {plural(len(other.colors), other.color)}, without nulls at the end"
+        said = (
+            f"{one.name} has {plural(len(one.colors), one.color)}, and {other.name} has {plural(len(other.colors), other.color)}, without"
+            " nulls at the end"
+        )
         return Cause(said, {**values, f"{one.color_key}s": len(one.colors), f"{other.color_key}s": len(other.colors)})
     if one.depth != other.depth:
         told = [f"the depth {format}" if format else "no depth" for format in (one.depth, other.depth)]
-        return Cause(f"{one.name} has {told[0]}, and {other.name} has {told[1]}", {**values, f"{one.word}Depth": one.depth, f"{other.word}Depth": other.depth})
+        return Cause(
+            f"{one.name} has {told[0]}, and {other.name} has {told[1]}",
+            {**values, f"{one.word}Depth": one.depth, f"{other.word}Depth": other.depth},
+        )
     if one.samples != other.samples:
         said = f"{one.name} has {plural(one.samples, 'sample')}, and {other.name} has {other.samples}"
-        return Cause(said, {**values, f"{one.word}Samples": one.samples, f"{other.word}Samples": other.samples}, remedy.format(other.samples))
+        return Cause(
+            said, {**values, f"{one.word}Samples": one.samples, f"{other.word}Samples": other.samples}, remedy.format(other.samples)
+        )
     return None
 
 

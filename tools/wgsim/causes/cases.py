@@ -15,10 +15,12 @@ WITH_MEMORY = ("createBuffer", "createTexture", "createQuerySet")
 
 
 class Case:
-    """A rule that is unmet: the history up to its entry, the call of the entry, and the command that brought it where it is one of an encoder.
+    """A rule that is unmet: the history up to its entry, the call of the entry, and the command that brought it where it is one of an
+    encoder.
 
-    `played` is the call that the rule is of: the command, or the call of the entry. `earlier` has the commands before it on the same encoder,
-    pass or bundle encoder, `open_pass` the pass that is open where it comes, and `commands` all of the encoder that a finish ends."""
+    `played` is the call that the rule is of: the command, or the call of the entry. `earlier` has the commands before it on the same
+    encoder, pass or bundle encoder, `open_pass` the pass that is open where it comes, and `commands` all of the encoder that a finish
+    ends."""
 
     def __init__(self, play, entry, played=None, earlier=(), open_pass=None, commands=()):
         self.play = play
@@ -61,7 +63,8 @@ class Case:
         return self.history.objects[part[1]]
 
     def part(self, part):
-        """A part or a cell in words: a buffer, bytes of it, a subresource of a texture, or slices of one. No rule tells of queries by their cells."""
+        """A part or a cell in words: a buffer, bytes of it, a subresource of a texture, or slices of one. No rule tells of queries by their
+        cells."""
         named = self.named(self.object_of(part))
         if part[0] == "s":
             aspect, mip, low, high = part[2:]
@@ -75,7 +78,13 @@ class Case:
     def part_values(self, part):
         values = {"object": self.object_of(part).call["as"]}
         if part[0] == "s":
-            return {**values, "aspect": self.second.formats.ASPECTS[part[2]], "mip": part[3], "firstSlice": part[4], "lastSlice": part[5] - 1}
+            return {
+                **values,
+                "aspect": self.second.formats.ASPECTS[part[2]],
+                "mip": part[3],
+                "firstSlice": part[4],
+                "lastSlice": part[5] - 1,
+            }
         if part[0] == "t":
             return {**values, "aspect": self.second.formats.ASPECTS[part[2]], "mip": part[3], "layer": part[4]}
         return {**values, "firstByte": part[2], "lastByte": part[3] - 1} if len(part) > 2 else values
@@ -188,8 +197,8 @@ class Play:
 
 
 class Told:
-    """What is told of a fault: its cause, or None with the reason why there is none; the command that invalidated the encoder, if one did; and the
-    command that a fault of a finish is about, with its number among those of the encoder and how many these are, or None."""
+    """What is told of a fault: its cause, or None with the reason why there is none; the command that invalidated the encoder, if one did;
+    and the command that a fault of a finish is about, with its number among those of the encoder and how many these are, or None."""
 
     def __init__(self, cause=None, why_none=None, command=None, about=None):
         self.cause = cause

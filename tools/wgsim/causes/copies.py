@@ -33,7 +33,9 @@ def two_buffers(case):
     source = case.uses["source"]
     if source is not case.uses["target"]:
         return None
-    return Cause(f"source and target are both {case.named(source)}", {"object": source.call["as"]}, "Copy to another buffer, and from there back.")
+    return Cause(
+        f"source and target are both {case.named(source)}", {"object": source.call["as"]}, "Copy to another buffer, and from there back."
+    )
 
 
 @rule(255)
@@ -67,7 +69,11 @@ def one_sample(case):
     if texture.call["samples"] == 1:
         return None
     said = f"{case.named(texture)} has {texture.call['samples']} samples, and 1 is asked for"
-    return Cause(said, {"object": texture.call["as"], "samples": texture.call["samples"], "asked": 1}, "Resolve it in a render pass to a texture of 1 sample.")
+    return Cause(
+        said,
+        {"object": texture.call["as"], "samples": texture.call["samples"], "asked": 1},
+        "Resolve it in a render pass to a texture of 1 sample.",
+    )
 
 
 @rule(258, 207)
@@ -76,7 +82,9 @@ def spots(case):
     call = case.call
     if case.do != "copyTextureToTexture":
         return spot(case, case.uses["texture"], ("mip", call["mip"]), ("origin", call["origin"]))
-    return first(spot(case, case.uses[key], (f"{key}Mip", call[f"{key}Mip"]), (f"{key}Origin", call[f"{key}Origin"])) for key in ("source", "target"))
+    return first(
+        spot(case, case.uses[key], (f"{key}Mip", call[f"{key}Mip"]), (f"{key}Origin", call[f"{key}Origin"])) for key in ("source", "target")
+    )
 
 
 def spot(case, texture, mip, origin):
@@ -85,7 +93,9 @@ def spot(case, texture, mip, origin):
     (mip_key, level), (_, start) = mip, origin
     named, values = case.named(texture), {"object": call["as"], mip_key: level}
     if level >= call["mips"]:
-        return Cause(f"{mip_key} is {level}, and {named} has {plural(call['mips'], 'mip level')}, counted from 0", {**values, "mips": call["mips"]})
+        return Cause(
+            f"{mip_key} is {level}, and {named} has {plural(call['mips'], 'mip level')}, counted from 0", {**values, "mips": call["mips"]}
+        )
     whole = case.second.formats.extent(call, level)
     for name, low, length, there in zip(EXTENTS[call["dim"]], start, size, whole):
         if low + length > there:
@@ -96,8 +106,13 @@ def spot(case, texture, mip, origin):
     why = "4 samples" if call["samples"] == 4 else f"the format {call['format']}"
     for name, low, length, there in list(zip(EXTENTS[call["dim"]], start, size, whole))[:2]:
         if (low, length) != (0, there):
-            said = f"{named} has {why}, so that the whole {name} is copied, which is {there} at mip level {level}, and here it is {length} from {low} on"
-            return Cause(said, {**values, "extent": name, "origin": low, "size": length, "has": there}, f"Copy from 0 on, with the {name} {there}.")
+            said = (
+                f"{named} has {why}, so that the whole {name} is copied, which is {there} at mip level {level}, and here it is"
+                f" {length} from {low} on"
+            )
+            return Cause(
+                said, {**values, "extent": name, "origin": low, "size": length, "has": there}, f"Copy from 0 on, with the {name} {there}."
+            )
     return None
 
 
@@ -238,7 +253,11 @@ def apart(case):
         return None
     aspect, mip, layer = both[0]
     said = f"{case.named(source)} {aspect} mip {mip} layer {layer} is both copied from and copied to"
-    return Cause(said, {"object": source.call["as"], "aspect": aspect, "mip": mip, "layer": layer, "count": len(both)}, "Copy by way of another texture.")
+    return Cause(
+        said,
+        {"object": source.call["as"], "aspect": aspect, "mip": mip, "layer": layer, "count": len(both)},
+        "Copy by way of another texture.",
+    )
 
 
 @rule(276)

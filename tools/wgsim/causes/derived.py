@@ -23,9 +23,16 @@ def one_kind(case):
             key = next((key for key in ("kind", *OF_KINDS) if one.get(key) != other.get(key)), None)
             if key is not None:
                 words = [f"entry {place} of iface ({used.get('stage', 'compute')})" for place, used in ((numbers[0], one), (number, other))]
-                said = f"{words[0]} and {words[1]} both name binding {binding} of group {group}: the {key} is {told(one[key])} in the first, and {told(other[key])} in the second"
+                said = (
+                    f"{words[0]} and {words[1]} both name binding {binding} of group {group}: the {key} is {told(one[key])} in the first,"
+                    f" and {told(other[key])} in the second"
+                )
                 values = {"entries": [numbers[0], number], "group": group, "binding": binding, "key": key, "has": [one[key], other[key]]}
-                return Cause(said, {**values, "stages": [one.get("stage", "compute"), other.get("stage", "compute")]}, "Name it with one kind, or give one of them another binding.")
+                return Cause(
+                    said,
+                    {**values, "stages": [one.get("stage", "compute"), other.get("stage", "compute")]},
+                    "Name it with one kind, or give one of them another binding.",
+                )
     return None
 
 

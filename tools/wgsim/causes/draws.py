@@ -67,7 +67,10 @@ def indirect_range(case):
     there = buffer.call["size"]
     if offset + length <= there:
         return None
-    said = f"offset {offset} and the {length} bytes that a {case.do} reads end at {offset + length}, and {case.named(buffer)} has {plural(there, 'byte')}"
+    said = (
+        f"offset {offset} and the {length} bytes that a {case.do} reads end at {offset + length}, and {case.named(buffer)} has"
+        f" {plural(there, 'byte')}"
+    )
     return Cause(said, {"object": buffer.call["as"], "offset": offset, "reads": length, "end": offset + length, "bytes": there})
 
 
@@ -85,7 +88,9 @@ def vertex_buffers_set(case):
         return None
     unset, again = unset_before(case, "setVertexBuffer", slot=missing[0])
     said = f"no vertex buffer is set at slot {missing[0]}, and {case.named(pipeline)} has {plural(len(asked), 'vertex buffer')}{unset}"
-    return Cause(said, {"slot": missing[0], "missing": missing, "pipeline": pipeline.call["as"], "buffers": len(asked)}, f"Set one {again}.")
+    return Cause(
+        said, {"slot": missing[0], "missing": missing, "pipeline": pipeline.call["as"], "buffers": len(asked)}, f"Set one {again}."
+    )
 
 
 @rule(352)
@@ -108,12 +113,25 @@ def indices(case):
     asked = (low + count) * size
     if asked <= there:
         return None
-    said = f"firstIndex {low} and indices {count} ask for ({low} + {count}) * {size} = {asked} bytes, and {bytes_set(case, setting, there)} as the index buffer at {case.place(setting)}"
-    values = {"firstIndex": low, "indices": count, "bytesOfIndex": size, "asked": asked, "bytes": there, "object": setting.uses["buffer"].call["as"]}
+    said = (
+        f"firstIndex {low} and indices {count} ask for ({low} + {count}) * {size} = {asked} bytes, and {bytes_set(case, setting, there)} as"
+        f" the index buffer at {case.place(setting)}"
+    )
+    values = {
+        "firstIndex": low,
+        "indices": count,
+        "bytesOfIndex": size,
+        "asked": asked,
+        "bytes": there,
+        "object": setting.uses["buffer"].call["as"],
+    }
     return Cause(
         said,
         values,
-        f"{plural(there // size, 'index') if there // size == 1 else f'{there // size} indices'} of {setting.call['format']} {'is' if there // size == 1 else 'are'} there.",
+        (
+            f"{plural(there // size, 'index') if there // size == 1 else f'{there // size} indices'} of"
+            f" {setting.call['format']} {'is' if there // size == 1 else 'are'} there."
+        ),
     )
 
 
@@ -139,7 +157,10 @@ def elements_of(case, at, one):
     low, count = case.call[low_key], case.call[count_key]
     last = asked - (low + count - 1) * one["stride"]
     product = f"({low} + {count} - 1) * {one['stride']} + {last} = {asked}"
-    said = f"slot {at}: {low_key} {low} and {count_key} {count} ask for {product} bytes, and {bytes_set(case, setting, there)} at {case.place(setting)}"
+    said = (
+        f"slot {at}: {low_key} {low} and {count_key} {count} ask for {product} bytes, and {bytes_set(case, setting, there)} at"
+        f" {case.place(setting)}"
+    )
     values = {
         "slot": at,
         "step": one["step"],

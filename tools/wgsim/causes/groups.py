@@ -95,7 +95,10 @@ def buffer_range(case):
         cause = multiple("offset", offset, 256, one.words)
         if cause is None and size == 0:
             cause = one.cause(
-                f"{with_left_out('size', 0, is_left_out)} is nothing to bind, at offset {offset} of {case.named(one.thing)}, which has {one.thing.call['size']} bytes",
+                (
+                    f"{with_left_out('size', 0, is_left_out)} is nothing to bind, at offset {offset} of {case.named(one.thing)}, which has"
+                    f" {one.thing.call['size']} bytes"
+                ),
                 {"offset": offset, "size": 0, "bytes": one.thing.call["size"]},
             )
         cause = cause or fits(case, one.thing, offset, size, is_left_out=is_left_out, where=one.words)

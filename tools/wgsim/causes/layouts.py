@@ -6,8 +6,8 @@ from .making import Cause, limited, listed, plural, rule
 
 
 class Derived:
-    """A layout that a pipeline derives, in place of a case of createBindGroupLayout: its entries, and of each binding the numbers of the entries of
-    the interface that name it."""
+    """A layout that a pipeline derives, in place of a case of createBindGroupLayout: its entries, and of each binding the numbers of the
+    entries of the interface that name it."""
 
     def __init__(self, case, group, items, naming):
         self.second = case.second
@@ -99,7 +99,10 @@ def vertex_writes(case):
             }
             other = "read-only-storage" if entry["kind"] == "storage" else "read-only"
             return Cause(
-                f"{said} has the {what} and the visibility {bits.said(entry['visibility'], bits.STAGES)}, and VERTEX (1) may not see what is written",
+                (
+                    f"{said} has the {what} and the visibility {bits.said(entry['visibility'], bits.STAGES)}, and VERTEX (1) may not see"
+                    " what is written"
+                ),
                 values,
                 f"{'Let no entry of the vertex stage name it' if isinstance(case, Derived) else 'Take VERTEX away'}, or make it {other}.",
             )
@@ -215,7 +218,10 @@ def exclusive(case):
     for place, layout in enumerate(case.uses["layouts"]):
         if layout.owner is not None:
             return Cause(
-                f"{case.named(layout)}, which is item {place} of layouts, was got of {case.named(layout.owner)}, which derived it for itself",
+                (
+                    f"{case.named(layout)}, which is item {place} of layouts, was got of {case.named(layout.owner)}, which derived it for"
+                    " itself"
+                ),
                 {"item": place, "layout": layout.call["as"], "pipeline": layout.owner.call["as"]},
                 "Make a layout of the same entries by createBindGroupLayout.",
             )

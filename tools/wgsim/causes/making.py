@@ -4,10 +4,11 @@ from wgsim.reading import bits, limits
 
 
 class Cause:
-    """Why a rule is unmet: the condition that failed, as a sentence; the values on both sides, by name; and what to do, as a sentence, or None.
+    """Why a rule is unmet: the condition that failed, as a sentence; the values on both sides, by name; and what to do, as a sentence, or
+    None.
 
-    `follows_from` is the entry whose fault brought this one, where it is nothing but a consequence, and `about` the command that a rule of the
-    finish itself is about."""
+    `follows_from` is the entry whose fault brought this one, where it is nothing but a consequence, and `about` the command that a rule of
+    the finish itself is about."""
 
     def __init__(self, condition, values, remedy=None, follows_from=None, about=None):
         self.condition = condition
@@ -66,7 +67,10 @@ def to_add(case, thing, bit, names):
     for mode, may in ((1, 8), (2, 4)) if names is bits.BUFFER else ():
         if (usage | bit) & mode and (usage | bit) & ~(mode | may):
             clash = mode if bit != mode else usage & ~may
-            return f"It cannot be added beside {' and '.join(bits.words(clash, names))}: copy between {case.name(thing)} and a buffer that has it."
+            return (
+                f"It cannot be added beside {' and '.join(bits.words(clash, names))}: copy between {case.name(thing)} and a buffer that"
+                " has it."
+            )
     frame = case.play.call_of(thing).frame
     if frame is not None:
         return f'Add it where "{frame.canvas.name}" is configured, at {case.play.script.at(frame.configured)}.'
@@ -125,7 +129,14 @@ def fits(case, thing, offset, size, keys=("offset", "size"), is_left_out=False, 
     there = thing.call["size"]
     if offset + size <= there:
         return None
-    said = f"{where}{keys[0]} {offset} and {with_left_out(keys[1], size, is_left_out)} end at {offset + size}, and {case.named(thing)} has {plural(there, 'byte')}"
+    said = (
+        f"{where}{keys[0]} {offset} and {with_left_out(keys[1], size, is_left_out)} end at {offset + size}, and {case.named(thing)} has"
+        f" {plural(there, 'byte')}"
+    )
     values = {"object": thing.call["as"], keys[0]: offset, keys[1]: size, "end": offset + size, "bytes": there}
-    remedy = f"From {offset} on {plural(there - offset, 'byte')} {'is' if there - offset == 1 else 'are'} there." if offset < there else f"No byte is there from {offset} on."
+    remedy = (
+        f"From {offset} on {plural(there - offset, 'byte')} {'is' if there - offset == 1 else 'are'} there."
+        if offset < there
+        else f"No byte is there from {offset} on."
+    )
     return Cause(said, values, remedy)

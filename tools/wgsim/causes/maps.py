@@ -47,7 +47,10 @@ def map_usage(case):
     usage = buffer.call["usage"]
     if usage & number:
         return None
-    said = f"mode is {bits.said(number, bits.MODES)}, and {case.named(buffer)} has usage {bits.said(usage, bits.BUFFER)}; {bits.one(number, bits.BUFFER)} is missing"
+    said = (
+        f"mode is {bits.said(number, bits.MODES)}, and {case.named(buffer)} has usage {bits.said(usage, bits.BUFFER)};"
+        f" {bits.one(number, bits.BUFFER)} is missing"
+    )
     values = {
         "mode": number,
         "object": buffer.call["as"],

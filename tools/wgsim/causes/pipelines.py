@@ -30,7 +30,10 @@ def unused(case, layout, used):
     """What a pipeline layout does not offer to an entry of the interface: a condition with its values, or None."""
     layouts = layout.uses["layouts"]
     if used["group"] >= len(layouts):
-        return f"{case.named(layout)} has {plural(len(layouts), 'layout')}, and none at {used['group']}", {"layout": layout.call["as"], "layouts": len(layouts)}
+        return f"{case.named(layout)} has {plural(len(layouts), 'layout')}, and none at {used['group']}", {
+            "layout": layout.call["as"],
+            "layouts": len(layouts),
+        }
     group = layouts[used["group"]]
     has = {entry["binding"]: entry for entry in group.entries}
     found, stage = has.get(used["binding"]), used.get("stage", "compute")
@@ -49,7 +52,10 @@ def unused(case, layout, used):
             "missing": bit,
             "missingWord": stage.upper(),
         }
-        return f"{case.named(group)} has the visibility {bits.said(seen, bits.STAGES)} there, and {bits.one(bit, bits.STAGES)} is missing", values
+        return (
+            f"{case.named(group)} has the visibility {bits.said(seen, bits.STAGES)} there, and {bits.one(bit, bits.STAGES)} is missing",
+            values,
+        )
     for key in ("kind", *OF_KINDS):
         if key in used and found.get(key) != used[key]:
             return f"the {key} is {told(used[key])}, and {told(found[key])} in {case.named(group)}", {
@@ -67,7 +73,11 @@ def buffers_of(case):
 
 def attributes_of(case):
     """All attributes, each with the numbers of its buffer and of itself, words for it, and its buffer."""
-    return [(f"attribute {number} of buffer {place}: ", place, number, attribute, one) for place, one in buffers_of(case) for number, attribute in enumerate(one["attributes"])]
+    return [
+        (f"attribute {number} of buffer {place}: ", place, number, attribute, one)
+        for place, one in buffers_of(case)
+        for number, attribute in enumerate(one["attributes"])
+    ]
 
 
 @rule(161)
@@ -118,7 +128,13 @@ def attributes(case):
 def placed(case, where, place, number, attribute, one):
     """An attribute ends past its stride, or stands at an odd offset."""
     size, offset = case.second.formats.VERTEX_FORMATS[attribute["format"]], attribute["offset"]
-    values, widest = {"buffer": place, "attribute": number, "offset": offset, "format": attribute["format"], "bytes": size}, case.history.limits["maxVertexBufferArrayStride"]
+    values, widest = {
+        "buffer": place,
+        "attribute": number,
+        "offset": offset,
+        "format": attribute["format"],
+        "bytes": size,
+    }, case.history.limits["maxVertexBufferArrayStride"]
     most = one["stride"] or widest
     if offset + size > most:
         limit = f"the stride is {one['stride']}" if one["stride"] else f"the stride is 0, where at most {widest} is allowed"
@@ -143,10 +159,12 @@ def targets(case):
 
 
 def wrong_colors(case, word, formats):
-    """What is wrong with the formats of targets of a pipeline, or of colors of a bundle encoder, where some may be null: there are too many, or
-    one has no color."""
+    """What is wrong with the formats of targets of a pipeline, or of colors of a bundle encoder, where some may be null: there are too
+    many, or one has no color."""
     if len(formats) > MOST_COLORS:
-        return Cause(f"{word}s has {len(formats)} items, and at most {MOST_COLORS} are allowed", {f"{word}s": len(formats), "most": MOST_COLORS})
+        return Cause(
+            f"{word}s has {len(formats)} items, and at most {MOST_COLORS} are allowed", {f"{word}s": len(formats), "most": MOST_COLORS}
+        )
     for place, format in enumerate(formats):
         if format is not None and not case.second.formats.is_color(format):
             return Cause(
@@ -185,7 +203,11 @@ def nothing(case, word, formats):
     if case.call["depth"] is not None or any(format is not None for format in formats):
         return None
     given = f"{word}s is empty" if not formats else f"each {word} is null"
-    return Cause(f"{given}, and depth is left out, so that nothing is drawn to", {f"{word}s": len(formats), "depth": False}, f"Give a {word} or depth.")
+    return Cause(
+        f"{given}, and depth is left out, so that nothing is drawn to",
+        {f"{word}s": len(formats), "depth": False},
+        f"Give a {word} or depth.",
+    )
 
 
 @rule(166)

@@ -30,7 +30,11 @@ def resolved_from(case):
         return Cause(f"first is {first}, and {case.named(made)} has {queries(there)}, counted from 0", values)
     if first + count > there:
         remedy = f"From {first} on {queries(there - first)} {'is' if there - first == 1 else 'are'} there."
-        return Cause(f"first {first} and count {count} end at {first + count}, and {case.named(made)} has {queries(there)}", {**values, "end": first + count}, remedy)
+        return Cause(
+            f"first {first} and count {count} end at {first + count}, and {case.named(made)} has {queries(there)}",
+            {**values, "end": first + count},
+            remedy,
+        )
     return None
 
 
@@ -45,9 +49,16 @@ def resolved_bytes(case):
     there, end = buffer.call["size"], offset + QUERY_BYTES * count
     if end <= there:
         return None
-    said = f"offset {offset} and {count} * {QUERY_BYTES} = {QUERY_BYTES * count} bytes of {queries(count)} end at {end}, and {case.named(buffer)} has {plural(there, 'byte')}"
+    said = (
+        f"offset {offset} and {count} * {QUERY_BYTES} = {QUERY_BYTES * count} bytes of {queries(count)} end at {end}, and"
+        f" {case.named(buffer)} has {plural(there, 'byte')}"
+    )
     values = {"object": buffer.call["as"], "offset": offset, "count": count, "end": end, "bytes": there}
-    remedy = f"From {offset} on there is room for {queries((there - offset) // QUERY_BYTES)}." if offset <= there else f"No byte is there from {offset} on."
+    remedy = (
+        f"From {offset} on there is room for {queries((there - offset) // QUERY_BYTES)}."
+        if offset <= there
+        else f"No byte is there from {offset} on."
+    )
     return Cause(said, values, remedy)
 
 
@@ -87,7 +98,11 @@ def pass_with_queries(case):
     place = case.uses["on"]
     if set_of(place) is not None:
         return None
-    return Cause(f"{case.named(place)} has no query set", {"pass": place.call["as"], "index": case.call["index"]}, "Name one under queries where it is begun.")
+    return Cause(
+        f"{case.named(place)} has no query set",
+        {"pass": place.call["as"], "index": case.call["index"]},
+        "Name one under queries where it is begun.",
+    )
 
 
 @rule(361)
@@ -96,7 +111,10 @@ def index(case):
     there = made.call["count"]
     if number < there:
         return None
-    return Cause(f"index is {number}, and {case.named(made)} has {queries(there)}, counted from 0", {"object": made.call["as"], "index": number, "queries": there})
+    return Cause(
+        f"index is {number}, and {case.named(made)} has {queries(there)}, counted from 0",
+        {"object": made.call["as"], "index": number, "queries": there},
+    )
 
 
 @rule(362)

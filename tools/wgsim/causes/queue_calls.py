@@ -10,7 +10,8 @@ TEXTURE_DST = 2
 
 @rule(11)
 def dropped(case):
-    """A call names what was dropped; a finish, of a bundle too, that a command of its encoder names what was dropped before the encoder was made."""
+    """A call names what was dropped; a finish, of a bundle too, that a command of its encoder names what was dropped before the encoder was
+    made."""
     if case.is_of_commands:
         return first(dropped_before(case, command) for command in case.commands)
     for key, thing in case.named_things():
@@ -30,7 +31,10 @@ def dropped_before(case, command):
     for key, thing in command.named():
         if case.history.was_dropped_before(thing, encoder):
             by = case.place(case.history.drop_of(thing))
-            said = f"{case.named(thing)}, which is the {case.called(key)} of the {command.do} at {case.place(command)}, was dropped at {by}, before {case.named(encoder)} was made"
+            said = (
+                f"{case.named(thing)}, which is the {case.called(key)} of the {command.do} at {case.place(command)}, was dropped at {by},"
+                f" before {case.named(encoder)} was made"
+            )
             values = {"object": thing.call["as"], "key": key, "command": case.place(command), "by": by, "encoder": encoder.call["as"]}
             return Cause(said, values, "Drop it after the encoder is made, or later.", about=command)
     return None
@@ -42,7 +46,9 @@ def invalid(case):
     for key, thing in case.named_things():
         if not thing.is_valid:
             said = f"{case.named(thing)}, which is {key}, is invalid since it was made, at entry {thing.entry}, by rule {thing.rule}"
-            return Cause(said, {"object": thing.call["as"], "key": key, "madeAt": thing.entry, "madeByRule": thing.rule}, follows_from=thing.entry)
+            return Cause(
+                said, {"object": thing.call["as"], "key": key, "madeAt": thing.entry, "madeByRule": thing.rule}, follows_from=thing.entry
+            )
     return None
 
 
@@ -53,7 +59,11 @@ def consumed(case):
         if by is not case.entry:
             how = "" if by.is_met else ", which was refused and took it all the same"
             values = {"object": buffer.call["as"], "by": case.place(by), "byEntry": by.entry}
-            return Cause(f"{case.named(buffer)} was submitted before, at {case.place(by)}{how}", values, "Record the commands again, on a new encoder.")
+            return Cause(
+                f"{case.named(buffer)} was submitted before, at {case.place(by)}{how}",
+                values,
+                "Record the commands again, on a new encoder.",
+            )
     return None
 
 
@@ -63,7 +73,11 @@ def named_twice(case):
     if pair is None:
         return None
     buffer = case.uses["buffers"][pair[0]]
-    return Cause(f"{case.named(buffer)} stands in buffers twice, at {pair[0]} and {pair[1]}", {"object": buffer.call["as"], "at": list(pair)}, "Name it once.")
+    return Cause(
+        f"{case.named(buffer)} stands in buffers twice, at {pair[0]} and {pair[1]}",
+        {"object": buffer.call["as"], "at": list(pair)},
+        "Name it once.",
+    )
 
 
 def used(case, *words):
@@ -109,8 +123,16 @@ def gone(case, thing, by=""):
     frame = f'frame {ending.frame.number} of "{canvas.name}" ({case.play.script.at(canvas.call)})'
     values.update(canvas=canvas.name, frame=ending.frame.number)
     if ending.word == "present":
-        return Cause(f"{case.named(thing)}{by} was presented at {at}, as {frame}", values, "Use it before, and take a new currentTexture for each frame.")
-    return Cause(f"{case.named(thing)}{by} was given up by the {ending.word} at {at}, as {frame}", values, "Use it before, or take a new currentTexture.")
+        return Cause(
+            f"{case.named(thing)}{by} was presented at {at}, as {frame}",
+            values,
+            "Use it before, and take a new currentTexture for each frame.",
+        )
+    return Cause(
+        f"{case.named(thing)}{by} was given up by the {ending.word} at {at}, as {frame}",
+        values,
+        "Use it before, or take a new currentTexture.",
+    )
 
 
 @rule(200)

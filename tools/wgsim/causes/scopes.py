@@ -57,7 +57,9 @@ def of_attachments(case, begin):
         for touch_view, words in ((view, "a color"), (resolve, "a resolve view")):
             if touch_view is not None:
                 touches = attachments.touches_of_view(touch_view, "attachment", None)
-                found += [(cell, Use(case, usage, f"{case.named(touch_view)}, attached as {words} at {at}", begin)) for cell, usage, _ in touches]
+                found += [
+                    (cell, Use(case, usage, f"{case.named(touch_view)}, attached as {words} at {at}", begin)) for cell, usage, _ in touches
+                ]
     for view in attachments.depth_of(begin):
         touches = attachments.touches_of_depth(begin.call["depth"], view)
         found += [(cell, Use(case, usage, f"{case.named(view)}, attached as depth at {at}", begin)) for cell, usage, _ in touches]
@@ -88,7 +90,8 @@ def clash(case, uses):
 
 
 def brought_by(case, command, uses):
-    """The command with which a scope is no longer compatible: of a render pass or a bundle that of the first use that clashes with one before it."""
+    """The command with which a scope is no longer compatible: of a render pass or a bundle that of the first use that clashes with one
+    before it."""
     first = {}
     for cell, use in uses if command.do in WHOLE else []:
         if clash(case, [first.setdefault(case.second.cells.part_of(cell), use), use]):
@@ -111,8 +114,21 @@ def scope(case):
 
 def clashing(case, command, part, one, other, about):
     what = WHOLE.get(command.do, f"the {command.do}")
-    said = f"{case.part(part)} is used as {one.usage} by {one.words}, and as {other.usage} by {other.words}, in the one scope of {what} at {case.place(command)}"
-    values = {**case.part_values(part), "first": one.usage, "firstBy": one.at, "other": other.usage, "otherBy": other.at, "scope": case.place(command)}
-    remedies = {"beginRenderPass": "Use them in two render passes.", "finishBundle": "Use them in two bundles, and execute these in two render passes."}
+    said = (
+        f"{case.part(part)} is used as {one.usage} by {one.words}, and as {other.usage} by {other.words}, in the one scope of {what} at"
+        f" {case.place(command)}"
+    )
+    values = {
+        **case.part_values(part),
+        "first": one.usage,
+        "firstBy": one.at,
+        "other": other.usage,
+        "otherBy": other.at,
+        "scope": case.place(command),
+    }
+    remedies = {
+        "beginRenderPass": "Use them in two render passes.",
+        "finishBundle": "Use them in two bundles, and execute these in two render passes.",
+    }
     remedy = remedies.get(command.do, "Use them in two dispatches, or bind both for reading alone.")
     return Cause(said, values, remedy, about=about)

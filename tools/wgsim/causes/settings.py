@@ -49,7 +49,10 @@ def moved(case):
         offset, size, _ = groups.range_of(entry, thing)
         end = move + offset + size
         if end > thing.call["size"]:
-            said = f"binding {entry['binding']} of {case.named(group)}: the offset {offset}, the given offset {move} and the size {size} end at {end}, and {case.named(thing)} has {plural(thing.call['size'], 'byte')}"
+            said = (
+                f"binding {entry['binding']} of {case.named(group)}: the offset {offset}, the given offset {move} and the size {size} end"
+                f" at {end}, and {case.named(thing)} has {plural(thing.call['size'], 'byte')}"
+            )
             values = {
                 "group": group.call["as"],
                 "binding": entry["binding"],
@@ -84,8 +87,8 @@ def unset_before(case, word, **keys):
 
 
 class Asked:
-    """A layout that a pipeline asks a group for: its index and entries, words for it, its name or None where it is derived, and the setBindGroup
-    there, or None."""
+    """A layout that a pipeline asks a group for: its index and entries, words for it, its name or None where it is derived, and the
+    setBindGroup there, or None."""
 
     def __init__(self, case, at, entries):
         pipeline = case.settings.pipeline
@@ -131,7 +134,11 @@ def of_another(case, asked, other, set_there, values):
     pipeline = case.settings.pipeline
     why = f"{case.named(other)} was got of {case.named(other.owner)}, which derived it for itself" if other.owner else "it takes no other's"
     owner = other.owner.call["as"] if other.owner else None
-    remedy = f"Make the group of a layout that getBindGroupLayout gives of {case.name(pipeline)}." if asked.owner else f'Make the group of "{asked.name}", or of a layout with the same entries that no pipeline derived.'
+    remedy = (
+        f"Make the group of a layout that getBindGroupLayout gives of {case.name(pipeline)}."
+        if asked.owner
+        else f'Make the group of "{asked.name}", or of a layout with the same entries that no pipeline derived.'
+    )
     return Cause(set_there + why, {**values, "groupPipeline": owner, "difference": why}, remedy)
 
 
@@ -185,15 +192,25 @@ def overlap(case, one, other):
         return None
     cell, found = both[0]
     common = ("b", cell[1], max(cell[2], found[2]), min(cell[3], found[3])) if cell[0] == "b" else cell
-    words = [f"binding {each['binding']} of {case.named(whose)} at index {where} ({each['kind']})" for where, whose, each in ((at, group, asked), (other_at, other_group, other_asked))]
-    said = f"{words[0]} and {words[1]} overlap in {case.part(common)}, and {bits.each(seen, bits.STAGES)} {'sees' if bin(seen).count('1') == 1 else 'see'} both"
+    words = [
+        f"binding {each['binding']} of {case.named(whose)} at index {where} ({each['kind']})"
+        for where, whose, each in ((at, group, asked), (other_at, other_group, other_asked))
+    ]
+    said = (
+        f"{words[0]} and {words[1]} overlap in {case.part(common)}, and"
+        f" {bits.each(seen, bits.STAGES)} {'sees' if bin(seen).count('1') == 1 else 'see'} both"
+    )
     values = {
         "groups": [group.call["as"], other_group.call["as"]],
         "indexes": [at, other_at],
         "bindings": [asked["binding"], other_asked["binding"]],
         "kinds": [asked["kind"], other_asked["kind"]],
     }
-    return Cause(said, {**values, "visibility": seen, **case.part_values(common)}, "Bind parts that have nothing in common, or both for reading alone.")
+    return Cause(
+        said,
+        {**values, "visibility": seen, **case.part_values(common)},
+        "Bind parts that have nothing in common, or both for reading alone.",
+    )
 
 
 @rule(343)

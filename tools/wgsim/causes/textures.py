@@ -121,7 +121,11 @@ def attached_1d(case):
     if case.call["dim"] != "1d" or not has & RENDER_ATTACHMENT:
         return None
     said = f"a 1d texture may not have RENDER_ATTACHMENT (16), and its usage is {bits.said(has, bits.TEXTURE)}"
-    return Cause(said, {"dim": "1d", "usage": has, "usageWords": bits.words(has, bits.TEXTURE), "notAllowed": 16}, "Take it away, or take a 2d texture.")
+    return Cause(
+        said,
+        {"dim": "1d", "usage": has, "usageWords": bits.words(has, bits.TEXTURE), "notAllowed": 16},
+        "Take it away, or take a 2d texture.",
+    )
 
 
 @rule(118)

@@ -25,7 +25,10 @@ def aspect(case):
     texture, call, view = known(case)
     if case.second.formats.named_aspects(call["format"], view["aspect"]):
         return None
-    said = f"aspect is {view['aspect']}, and {case.named(texture)} has the format {call['format']}, which has {case.aspects(call['format'])} alone"
+    said = (
+        f"aspect is {view['aspect']}, and {case.named(texture)} has the format {call['format']}, which has"
+        f" {case.aspects(call['format'])} alone"
+    )
     return Cause(
         said,
         {"aspect": view["aspect"], "object": call["as"], "format": call["format"]},
@@ -39,11 +42,17 @@ def run_of(case, key, base, count, of):
     have = call["mips"] if key == "mips" else case.second.formats.layer_count(call)
     if view[count] < 1:
         return Cause(
-            f"{that_is(case, view, count)}, which is less than 1, at {base} {view[base]} of {case.named(texture)}, which has {plural(have, of)}",
+            (
+                f"{that_is(case, view, count)}, which is less than 1, at {base} {view[base]} of {case.named(texture)}, which has"
+                f" {plural(have, of)}"
+            ),
             {count: view[count], base: view[base], "object": call["as"], "has": have},
         )
     if view[base] + view[count] > have:
-        said = f"{base} {view[base]} and {told(case, view, count)} end at {view[base] + view[count]}, and {case.named(texture)} has {plural(have, of)}"
+        said = (
+            f"{base} {view[base]} and {told(case, view, count)} end at {view[base] + view[count]}, and {case.named(texture)} has"
+            f" {plural(have, of)}"
+        )
         return Cause(said, {base: view[base], count: view[count], "end": view[base] + view[count], "object": call["as"], "has": have})
     return None
 

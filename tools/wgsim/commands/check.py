@@ -1,5 +1,5 @@
-"""Whether the barriers of a report, or of a trace of your own, are enough: agrees, differs with the two steps and the barrier that is missing,
-or bad trace with what is wrong."""
+"""Whether the barriers of a report, or of a trace of your own, are enough: agrees, differs with the two steps and the barrier that is
+missing, or bad trace with what is wrong."""
 
 from wgsim import inputs
 

@@ -1,4 +1,5 @@
-"""The trace as one HTML page: steps, barriers, clears and releases. With --check the same of a trace, with what `check` finds marked in it."""
+"""The trace as one HTML page: steps, barriers, clears and releases. With --check the same of a trace, with what `check` finds marked in
+it."""
 
 from wgsim import inputs
 

@@ -62,7 +62,8 @@ class Beside:
         return [call for call in self.script.lanes[phase, lane] if call.event is not None]
 
     def names_at_the_end(self, phase):
-        """The calls of canvases behind the last entry of each lane of a phase: they make none, and what they name may be used in later phases."""
+        """The calls of canvases behind the last entry of each lane of a phase: they make none, and what they name may be used in later
+        phases."""
         lanes = [lane for (of, _), lane in self.script.lanes.items() if of == phase]
         return [call for lane in lanes for call in lane[after_entry(lane) :] if calls.canvas(call.word) is not None]
 

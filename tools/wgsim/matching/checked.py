@@ -1,8 +1,7 @@
 """`wgsim check`: whether the barriers of a trace are enough, by the program, and in words what its answer means in the text.
 
-`agrees` is a line. Of `differs` it is told which step reads, which writes, what may be seen, and which barrier is missing and where (clash.py);
-of `bad trace` which line it is, what of it breaks the rule, and what was expected (notrace.py).
-"""
+`agrees` is a line. Of `differs` it is told which step reads, which writes, what may be seen, and which barrier is missing and where
+(clash.py); of `bad trace` which line it is, what of it breaks the rule, and what was expected (notrace.py). """
 
 import json
 
@@ -68,7 +67,12 @@ class Checked:
 
     def facts(self):
         """All of it as an object, for a machine."""
-        found = {"kind": self.line.split(" ")[0] if self.status != BAD_TRACE else "bad trace", "answer": self.line, "status": self.status, "by": self.program.said}
+        found = {
+            "kind": self.line.split(" ")[0] if self.status != BAD_TRACE else "bad trace",
+            "answer": self.line,
+            "status": self.status,
+            "by": self.program.said,
+        }
         if self.why:
             found["unmatched"] = self.why
         if self.status == BAD_TRACE:

@@ -1,5 +1,5 @@
-"""What a line `differs K J CELL` means in its trace: which step reads and which writes, what the reader sees as printed and what it may see, and
-the barrier that is missing.
+"""What a line `differs K J CELL` means in its trace: which step reads and which writes, what the reader sees as printed and what it may
+see, and the barrier that is missing.
 
 The program tells the three. The rest is found here, in the lines of the trace, and is no part of what is proved.
 """
@@ -32,7 +32,8 @@ class Clash:
         return next((each for each in reversed(self.writes) if step is None or each.number < step.number), None)
 
     def find(self):
-        """Which of the three cases it is, what the reader may see, and between which two steps a barrier is missing, at the latest in front of the second."""
+        """Which of the three cases it is, what the reader may see, and between which two steps a barrier is missing, at the latest in front
+        of the second."""
         if self.writer is self.seen:
             self.case, self.otherwise, self.apart = LAST, self.last_before(self.writer), (self.writer, self.reader)
         elif self.reader is None or self.writer.number < self.reader.number:
@@ -102,7 +103,11 @@ class Told:
         clash = self.clash
         one, other = clash.apart
         between = f"{part_said(clash.cell, self.named_so.name)} between {step_said(one)} and {step_said(other)}"
-        lines = [f"a barrier is missing, on {between}. This one is enough, in front of {self.name}:{other.at}:", f"    {clash.barrier()}", f"    {other.line}"]
+        lines = [
+            f"a barrier is missing, on {between}. This one is enough, in front of {self.name}:{other.at}:",
+            f"    {clash.barrier()}",
+            f"    {other.line}",
+        ]
         wider = clash.wider()
         lines += [f"or, for all layers that both access: {wider}"] if wider else []
         unused = " and of ".join(step_said(step) for step in clash.unused())

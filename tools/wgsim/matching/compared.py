@@ -1,7 +1,8 @@
 """Sets what a browser answered beside what the program says of the same calls: where they agree, where they differ, and what is outside.
 
 The verdict of a call is one of
-    agrees    both take it, or both refuse it, with an error of the same kind that reaches the same error scope; and its promise is settled alike
+    agrees    both take it, or both refuse it, with an error of the same kind that reaches the same error scope; and its promise is settled
+        alike
     differs   one of them refuses it alone, or they tell another kind, another scope or another settlement
     known     they differ as docs/coverage.md says that they do
     outside   the browser alone refuses it, and it used what a script cannot say: that may be the reason, or not
@@ -44,7 +45,15 @@ class Verdict:
         return f"{self.how} {where}: {self.word}: core {self.core}; browser {self.browser}{why}"
 
     def json(self):
-        return {"call": self.number, "do": self.word, "at": self.at, "verdict": self.how, "core": self.core, "browser": self.browser, "why": self.why}
+        return {
+            "call": self.number,
+            "do": self.word,
+            "at": self.at,
+            "verdict": self.how,
+            "core": self.core,
+            "browser": self.browser,
+            "why": self.why,
+        }
 
 
 class Passed(Verdict):
@@ -161,9 +170,13 @@ class Compared:
         if self.refused:
             return [self.refused]
         agreed = self.of(AGREES)
-        lines = [verdict.text() for verdict in agreed[:1]] + ([f"and at {count(len(agreed) - 1, 'further call')}"] if len(agreed) > 1 else [])
+        lines = [verdict.text() for verdict in agreed[:1]] + (
+            [f"and at {count(len(agreed) - 1, 'further call')}"] if len(agreed) > 1 else []
+        )
         others = [verdict for verdict in self.verdicts if verdict.how not in (AGREES, FOLLOWS)]
-        lines += [verdict.text() for verdict in others[:LONGEST]] + ([f"and at {count(len(others) - LONGEST, 'further call')}"] if len(others) > LONGEST else [])
+        lines += [verdict.text() for verdict in others[:LONGEST]] + (
+            [f"and at {count(len(others) - LONGEST, 'further call')}"] if len(others) > LONGEST else []
+        )
         follow = len(self.of(FOLLOWS))
         lines += [f"{count(follow, 'call')} that {'follows' if follow == 1 else 'follow'} from an earlier one"] if follow else []
         lines += [noted(note) for note in self.answers.notes]
@@ -172,7 +185,13 @@ class Compared:
         return lines + ([f"left out, since no script says it: {'; '.join(self.left())}"] if self.left() else [])
 
     def json(self):
-        return {"refused": self.refused, "calls": len(self.pages.calls), "told": [verdict.json() for verdict in self.verdicts], "left": self.left(), "notes": self.answers.notes}
+        return {
+            "refused": self.refused,
+            "calls": len(self.pages.calls),
+            "told": [verdict.json() for verdict in self.verdicts],
+            "left": self.left(),
+            "notes": self.answers.notes,
+        }
 
 
 def same_error(fault, answer):
@@ -200,7 +219,8 @@ def browser_of(answer):
 
 
 def is_of(row, call, fault, answer, settled):
-    """Whether a difference is one that is known: by the rule of the program, the words of the browser, and the call, as far as the row has them."""
+    """Whether a difference is one that is known: by the rule of the program, the words of the browser, and the call, as far as the row has
+    them."""
     holds = [
         fault is None if "rules" not in row else fault is not None and fault[1] in row["rules"],
         settled is None if "settled" not in row else settled == tuple(row["settled"]),

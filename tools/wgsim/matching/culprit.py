@@ -1,11 +1,10 @@
 """Finds the command that a finish's fault is about, by asking the program about shorter recordings of the encoder, be it one of a bundle.
 
-A command makes no fault when it is recorded: the first rule that is unmet stays with the encoder, and the finish tells
-it. So the script is cut behind the finish, and of the encoder's recording its first commands alone are kept. The first
-number of commands with which the finish has the fault of the whole recording ends with the command that brought it.
-The calls of several lanes are asked about as those of one lane, in the order in which the device took them: so their order
-is that of the report, whatever another run would bring. Calls that make nothing that the recording names are left out, as long as what is named is as valid as it was.
-"""
+A command makes no fault when it is recorded: the first rule that is unmet stays with the encoder, and the finish tells it. So the script is
+cut behind the finish, and of the encoder's recording its first commands alone are kept. The first number of commands with which the finish
+has the fault of the whole recording ends with the command that brought it. The calls of several lanes are asked about as those of one lane,
+in the order in which the device took them: so their order is that of the report, whatever another run would bring. Calls that make nothing
+that the recording names are left out, as long as what is named is as valid as it was. """
 
 from wgsim.reading import calls, rules
 from wgsim.reading.report import NotReport, Report
@@ -50,8 +49,8 @@ class Cuts:
             self.needed = None
 
     def makers(self):
-        """The calls that make what the encoder's commands name, and what those name in turn, of a bundle what is recorded in it, and the drops of
-        all that."""
+        """The calls that make what the encoder's commands name, and what those name in turn, of a bundle what is recorded in it, and the
+        drops of all that."""
         found, waiting = {self.encoder.call, *self.commands, self.finish}, [self.encoder.call, *self.commands]
         while waiting:
             for _, name in waiting.pop().names():
@@ -73,7 +72,8 @@ class Cuts:
         return made == [entry.answer[2] for entry in kept if entry.object() is not None]
 
     def rule(self, kept, closed):
-        """The rule that the finish has with the first `kept` commands alone; of what they leave open that is closed first which `closed` names."""
+        """The rule that the finish has with the first `kept` commands alone; of what they leave open that is closed first which `closed`
+        names."""
         closers = self.closers(kept, closed)
         case = (kept, *closers)
         if case not in self.asked:
@@ -89,8 +89,8 @@ class Cuts:
         return last.fault[1] if last.fault else None
 
     def cut(self, kept, closers):
-        """The calls up to the finish, in the order of the report and as one lane, without late calls and without the later commands of its encoder,
-        in place of which the closers stand."""
+        """The calls up to the finish, in the order of the report and as one lane, without late calls and without the later commands of its
+        encoder, in place of which the closers stand."""
         gone = set(self.commands[kept:])
         before = self.beside.turns[: self.beside.turns.index(self.finish) + 1]
         texts = [self.script.text.of(call.value) for call in before if self.is_kept(call, gone)]
@@ -124,8 +124,8 @@ class Cuts:
         return open_pass, groups, is_active
 
     def closers(self, kept, closed):
-        """Calls that close what the first commands leave open: the pass with its debug groups and its query (`pass`), the debug groups of the encoder
-        (`groups`)."""
+        """Calls that close what the first commands leave open: the pass with its debug groups and its query (`pass`), the debug groups of
+        the encoder (`groups`)."""
         open_pass, groups, is_active = self.opened(kept)
         closing = []
         if "pass" in closed and open_pass:
@@ -165,8 +165,8 @@ def told(beside, rule, cause):
 
 
 def broken(rule, word, found):
-    """The rule that a call with a fault breaks, alone in a list, as it is of the command that the fault is about, if there is one. A finish has
-    rule 11 twice, of its encoder and then of what its commands name."""
+    """The rule that a call with a fault breaks, alone in a list, as it is of the command that the fault is about, if there is one. A finish
+    has rule 11 twice, of its encoder and then of what its commands name."""
     asked = rules.of(rule, found.call.word if found and rule not in OF_FINISH else word)
     return asked[-1:] if found and rule == DROPPED else asked[:1]
 
@@ -198,5 +198,9 @@ def said_of(rule, drawn_on):
         return "names what was dropped before the encoder was made"
     if rule == SCOPE:
         whole = {None: None, "render pass": "pass", "bundle encoder": "bundle"}[drawn_on and calls.makes(drawn_on.word)]
-        return f"makes the usage scope of its {whole} one that is not compatible" if whole else "has the first usage scope that is not compatible"
+        return (
+            f"makes the usage scope of its {whole} one that is not compatible"
+            if whole
+            else "has the first usage scope that is not compatible"
+        )
     return "opens what is still open" if rule in OPEN else "invalidated the encoder"

@@ -80,7 +80,11 @@ class Comparison:
             together = min(b - a, d - c)
             for n in range(together):
                 first = self.one.beside.report.entries[a + n]
-                self.add(f"{heading('entry', a + n, c + n)}{self.one.where(first)}", self.side(self.one, ours[a + n]), self.side(self.other, theirs[c + n]))
+                self.add(
+                    f"{heading('entry', a + n, c + n)}{self.one.where(first)}",
+                    self.side(self.one, ours[a + n]),
+                    self.side(self.other, theirs[c + n]),
+                )
             self.alone("entry", self.one, ours, a + together, b)
             self.alone("entry", self.other, theirs, c + together, d)
 
@@ -141,7 +145,9 @@ def entry_text(beside, entry):
     number = entry.object()
     if number is not None and number in beside.names:
         words[words.index("made") + 1] = beside.names[number]
-    settled = [f", {'its promise' if made == entry.number else f'promise {beside.promises.get(made)}'} is {how}" for made, how in entry.settled]
+    settled = [
+        f", {'its promise' if made == entry.number else f'promise {beside.promises.get(made)}'} is {how}" for made, how in entry.settled
+    ]
     return "lane " + " ".join(words) + "".join(settled)
 
 

@@ -57,7 +57,8 @@ class Explained:
         self.lines += lines
 
     def head(self):
-        """How much of everything the report has. Of the faults those are counted that have a cause of their own, with what follows beside them."""
+        """How much of everything the report has. Of the faults those are counted that have a cause of their own, with what follows beside
+        them."""
         entries = self.beside.report.entries
         follow = sum(self.causes.follows(entry) for entry in entries if entry.fault)
         faults = sum(entry.fault is not None for entry in entries)
@@ -86,7 +87,9 @@ class Explained:
         told = self.causes.of(entry)
         by = f" in the {told.command.word} at {self.place(told.command).strip()}" if told.command else ""
         where = f"entry {entry.number}, {self.beside.script.where(call)}"
-        self.say("", f"follows from entry {self.causes.root(entry)}: {where}: {entry.word}{by}: {told.cause.condition} (rule {entry.fault[1]})")
+        self.say(
+            "", f"follows from entry {self.causes.root(entry)}: {where}: {entry.word}{by}: {told.cause.condition} (rule {entry.fault[1]})"
+        )
         self.say(*[f"    {line}" for line in self.pages.said(call)])
         self.say(*[f"    {line}" for line in self.scopes.of_fault(entry)])
 
@@ -133,7 +136,9 @@ class Explained:
         self.say(f"    breaks rule {number} ({kind} error, {uncaught})")
         told = self.causes.of(entry)
         self.say(*[f"    {line}" for line in ([told.cause.text()] if told.cause else [told.why_none] if told.why_none else [])])
-        self.say(*[f"    {line}" for line in self.pages.made(told.cause.text(), self.beside.script)] if told.cause and self.pages.calls else [])
+        self.say(
+            *[f"    {line}" for line in self.pages.made(told.cause.text(), self.beside.script)] if told.cause and self.pages.calls else []
+        )
         self.say(*[f"    {line}" for line in self.scopes.of_fault(entry)])
         found = None
         if call is not None and calls.ends_encoder(call.word):
@@ -152,7 +157,9 @@ class Explained:
         self.say(f"    the command that {found.said} is number {found.number} of {found.total}: {script.where(found.call)}")
         self.say(f"        {script.said(found.call)}", *[f"        {line}" for line in self.pages.said(found.call)])
         if self.program.plays:
-            self.say(f"    (found by asking the program about {count(found.asked, 'recording')} of the encoder, cut short at different commands)")
+            self.say(
+                f"    (found by asking the program about {count(found.asked, 'recording')} of the encoder, cut short at different commands)"
+            )
         for _, name in found.call.names():
             self.invalid(name.what)
         if number == LOCKED and found.call.locked_by is not None:
@@ -183,8 +190,8 @@ class Explained:
                 self.say(f"    {name}: made by {finish.word} at {script.where(finish)}, of {script.said(place.call)}")
 
     def set_at(self, call, is_of_scope):
-        """What is set where a dispatch or a draw comes, with the layouts of it all; of the scope of a render pass or a bundle all that it has
-        attached, set and executed."""
+        """What is set where a dispatch or a draw comes, with the layouts of it all; of the scope of a render pass or a bundle all that it
+        has attached, set and executed."""
         is_whole = is_of_scope and self.beside.script.drawn_on(call) is not None
         if is_whole:
             self.attached_at(call)
@@ -242,7 +249,8 @@ class Explained:
 
     @functools.cached_property
     def first_with(self):
-        """Of a word and a name the first call that has both, as the device took them, behind the number of its turn and the name's place in it."""
+        """Of a word and a name the first call that has both, as the device took them, behind the number of its turn and the name's place in
+        it."""
         found = {}
         for turn, call in enumerate(self.beside.turns):
             ended = call.frame.names() if call.event == "destroy" and call.frame is not None else []
@@ -262,8 +270,8 @@ class Explained:
                 self.say(f"    {name}: {other.word} at {self.beside.script.where(other)}")
 
     def reached(self, call):
-        """The names that a call uses, those that the commands of the command buffers and bundles among them use, and what is bound in bind groups and of
-        what views are; of the texture of a canvas all its names."""
+        """The names that a call uses, those that the commands of the command buffers and bundles among them use, and what is bound in bind
+        groups and of what views are; of the texture of a canvas all its names."""
         script, waiting, names = self.beside.script, [name.what for _, name in call.names()], set()
         while waiting:
             name = waiting.pop()
@@ -294,7 +302,11 @@ class Explained:
         for item in self.beside.report.items:
             if isinstance(item, Release):
                 frame = self.beside.frame_of(item.object)
-                self.say("", f"release  the memory of {self.beside.named(item.sort, item.object)}" + (f", {frame.said()}" if frame is not None else ""))
+                self.say(
+                    "",
+                    f"release  the memory of {self.beside.named(item.sort, item.object)}"
+                    + (f", {frame.said()}" if frame is not None else ""),
+                )
                 continue
             self.say("")
             for part, before, after in item.barriers:

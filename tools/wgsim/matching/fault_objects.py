@@ -25,7 +25,11 @@ def of_fault(text, beside, scopes, causes_of, entry):
     cause = told.cause
     rule = culprit.broken(number, entry.word, culprit.told(beside, number, told))[0]
     pages = browser_answers.Pages(text.name)
-    in_page = {"page": pages.at(call), "commandPage": pages.at(told.command) if told.command else None} if pages.calls and call is not None else {}
+    in_page = (
+        {"page": pages.at(call), "commandPage": pages.at(told.command) if told.command else None}
+        if pages.calls and call is not None
+        else {}
+    )
     return {
         "kind": "fault",
         "entry": entry.number,
@@ -57,7 +61,14 @@ def of_promise(text, beside, scopes, entry):
     by = scopes.settler.get(entry.number)
     how = next((how for promise, how in by.settled if promise == entry.number), None) if by else None
     call = beside.call_of.get(entry.number)
-    return {"kind": "promise", "entry": entry.number, "call": place(text, call), "do": entry.word, "settled": how, "settledBy": by.number if by else None}
+    return {
+        "kind": "promise",
+        "entry": entry.number,
+        "call": place(text, call),
+        "do": entry.word,
+        "settled": how,
+        "settledBy": by.number if by else None,
+    }
 
 
 def of_status(text, beside, entry):
@@ -65,7 +76,14 @@ def of_status(text, beside, entry):
     call, number = beside.call_of.get(entry.number), entry.object()
     words = {"made": entry.answer[-1], "op": "queued", "promise": "promise", "bad": "bad"}
     status = words.get(entry.answer[0]) or ("late" if entry.word == "late" else "refused" if entry.fault else "done")
-    found = {"kind": "status", "entry": entry.number, "lane": entry.lane, "call": place(text, call), "do": call.word if call else entry.word, "status": status}
+    found = {
+        "kind": "status",
+        "entry": entry.number,
+        "lane": entry.lane,
+        "call": place(text, call),
+        "do": call.word if call else entry.word,
+        "status": status,
+    }
     if number is not None:
         found.update(object=number, name=beside.names.get(number))
     if entry.operation() is not None:

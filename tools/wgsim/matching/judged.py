@@ -1,9 +1,8 @@
 """`wgsim judge`: every script of a folder is run, as many at once as there are processors, and what is expected of it is compared.
 
-A script is a file NAME.json, and NAME.expected beside it has the report that is expected. Where lanes race, a run may bring another order of
-turns than the one that is expected; then both reports have to be ones that the script can have, by the second reading. Where NAME.answers.json
-lies beside it, it was recorded in a browser, and what that answered is compared call by call.
-"""
+A script is a file NAME.json, and NAME.expected beside it has the report that is expected. Where lanes race, a run may bring another order
+of turns than the one that is expected; then both reports have to be ones that the script can have, by the second reading. Where
+NAME.answers.json lies beside it, it was recorded in a browser, and what that answered is compared call by call. """
 
 import collections
 import concurrent.futures
@@ -26,7 +25,14 @@ from wgsim.reading.report import count
 SAME, OTHER, DIFFERS, ALONE, FAILED = "as expected", "another order", compared.DIFFERS, "nothing expected", "no answer"
 RECORDED = (compared.AGREES, compared.KNOWN, compared.OUTSIDE)
 HOWS = (SAME, OTHER, *RECORDED, DIFFERS, ALONE, FAILED)
-WRITTEN = {0: "a report", exit_status.REFUSED: "refused", exit_status.TOO_LARGE: "too large", exit_status.NO_MEMORY: "no memory", exit_status.UNREAD: "cannot be read", exit_status.UNWRITTEN: "could not be written"}
+WRITTEN = {
+    0: "a report",
+    exit_status.REFUSED: "refused",
+    exit_status.TOO_LARGE: "too large",
+    exit_status.NO_MEMORY: "no memory",
+    exit_status.UNREAD: "cannot be read",
+    exit_status.UNWRITTEN: "could not be written",
+}
 
 
 class Result:
@@ -69,7 +75,9 @@ class Judge:
         path = self.folder / name
         try:
             with open(path, "rb") as file:
-                ran = subprocess.run([self.program.path, "run"], stdin=file, stdout=subprocess.PIPE, stderr=subprocess.DEVNULL, close_fds=False)
+                ran = subprocess.run(
+                    [self.program.path, "run"], stdin=file, stdout=subprocess.PIPE, stderr=subprocess.DEVNULL, close_fds=False
+                )
         except OSError:
             return Result(name, exit_status.UNREAD, FAILED)
         if ran.returncode not in OWN or ran.returncode in (exit_status.UNREAD, exit_status.UNWRITTEN):
@@ -141,7 +149,9 @@ def scripts_of(name):
     if not folder.is_dir():
         raise exit_status.End(exit_status.UNREAD, f"{name} is no folder" if folder.exists() else f"{name}: there is no such folder")
     try:
-        found = sorted(path.name for path in folder.iterdir() if path.suffix == ".json" and path.is_file() and not browser_answers.is_beside(path.name))
+        found = sorted(
+            path.name for path in folder.iterdir() if path.suffix == ".json" and path.is_file() and not browser_answers.is_beside(path.name)
+        )
     except OSError as error:
         raise exit_status.End(exit_status.UNREAD, f"{name}: {error.strerror}") from None
     if not found:
@@ -170,6 +180,15 @@ def judge(name, is_json, program, write):
 def summary(counts, total, took, is_json):
     """The last line: how many scripts have which result."""
     if is_json:
-        return json.dumps({"scripts": total, "seconds": round(took, 1), "results": {how: counts[how] for how in HOWS if counts[how] or how not in RECORDED}}) + "\n"
+        return (
+            json.dumps(
+                {
+                    "scripts": total,
+                    "seconds": round(took, 1),
+                    "results": {how: counts[how] for how in HOWS if counts[how] or how not in RECORDED},
+                }
+            )
+            + "\n"
+        )
     told = ", ".join(f"{counts[how]} {how}" for how in HOWS if counts[how])
     return f"{count(total, 'script')} in {took:.1f} seconds: {told}\n"

@@ -1,8 +1,7 @@
 """Finds what a line `bad trace RULE LINE` means in the text: the place, what stands there, and what was expected.
 
-The program tells the rule and the line. What of that breaks the rule is found here, by the forms of lines in docs/report.md, and is no part of
-what is proved; where nothing is found the line alone is shown.
-"""
+The program tells the rule and the line. What of that breaks the rule is found here, by the forms of lines in docs/report.md, and is no part
+of what is proved; where nothing is found the line alone is shown. """
 
 import re
 
@@ -16,8 +15,8 @@ LINES = ("step", "use", "acc", "bar", "free", "end")
 KINDS = ("read", "write", "both", "drop", "readdrop")
 ASPECTS = ("color", "depth", "stencil")
 NAMES = (
-    "clear", "writeBuffer", "writeTexture", "copyBufferToBuffer", "copyBufferToTexture", "copyTextureToBuffer", "copyTextureToTexture", "clearBuffer",
-    "resolveQuerySet", "dispatch", "renderPass", "hostRead", "hostWrite",
+    "clear", "writeBuffer", "writeTexture", "copyBufferToBuffer", "copyBufferToTexture", "copyTextureToBuffer", "copyTextureToTexture",
+    "clearBuffer", "resolveQuerySet", "dispatch", "renderPass", "hostRead", "hostWrite",
 )
 # What a rule refuses, in the words of the table in docs/report.md, "What `check` writes".
 BYTES, ENDED, NO_TRACE = "a byte is neither LF nor from 32 to 126", "the text does not end with LF", "no line is `trace`"
@@ -30,7 +29,8 @@ REFUSES = (BYTES, ENDED, NO_TRACE, FORM, NUMBER, USE, ACC, BAR, BEHIND, LAST, TW
 
 
 class Found(Exception):
-    """What of a text breaks a rule: what is refused, the number of the line, the column, what stands there, what was expected, and a hint."""
+    """What of a text breaks a rule: what is refused, the number of the line, the column, what stands there, what was expected, and a
+    hint."""
 
     def __init__(self, refuses, line, column, found, expected, hint=None):
         super().__init__(refuses)
@@ -56,16 +56,30 @@ def of_text(data):
     bad = re.search(rb"[^\n -~]", data)
     if bad is not None:
         byte, start = bad[0][0], bad.start()
-        hint = {13: "lines end with LF alone, and not with CR and LF", 9: "words are parted by one space"}.get(byte, "a trace has ASCII letters alone" if byte > 127 else None)
+        hint = {13: "lines end with LF alone, and not with CR and LF", 9: "words are parted by one space"}.get(
+            byte, "a trace has ASCII letters alone" if byte > 127 else None
+        )
         at = data.count(b"\n", 0, start) + 1, start - data.rfind(b"\n", 0, start)
         return Found(BYTES, *at, f"the byte 0x{byte:02x}", "LF, or a byte from 32 to 126", hint)
     if not data.endswith(b"\n"):
         at = data.count(b"\n") + 1, len(data) - data.rfind(b"\n")
-        return Found(ENDED, *at, "the end of the text" + (" within a line" if data else ", which is empty"), "LF at the end of the last line, which is `end`")
+        return Found(
+            ENDED,
+            *at,
+            "the end of the text" + (" within a line" if data else ", which is empty"),
+            "LF at the end of the last line, which is `end`",
+        )
     lines = data.decode("ascii").split("\n")
     at = next((number for number, each in enumerate(lines, 1) if each.strip() == "trace"), 1)
     hint = "it is the report of a script that is refused, which has no trace" if data.startswith(b"bad script ") else None
-    return Found(NO_TRACE, at, 1, f"`{lines[at - 1]}`" if lines[at - 1].strip() == "trace" else "no line `trace`", "the line `trace`, without spaces, before the first step", hint)
+    return Found(
+        NO_TRACE,
+        at,
+        1,
+        f"`{lines[at - 1]}`" if lines[at - 1].strip() == "trace" else "no line `trace`",
+        "the line `trace`, without spaces, before the first step",
+        hint,
+    )
 
 
 def form(lines, line):
@@ -163,7 +177,11 @@ class Fields:
 
 def step(fields):
     fields.number("the number of the step")
-    what = "the number of an entry, or one of your own" if fields.one_of(("op", "host")) == "host" else "the number of an operation, or one of your own"
+    what = (
+        "the number of an entry, or one of your own"
+        if fields.one_of(("op", "host")) == "host"
+        else "the number of an operation, or one of your own"
+    )
     fields.number(what)
     fields.one_of(NAMES)
 
@@ -199,14 +217,26 @@ def place(lines, line):
     if before == "end":
         raise Found(BEHIND, line, 1, f"a line behind `end`: `{text}`", f"`end`, at line {line - 1}, as the last line")
     if before == "bar" and word not in ("bar", "step"):
-        raise Found(BAR, line, 1, f"`{text}` behind a `bar` line", "the step in front of which the barrier stands, or a further barrier", "a barrier behind the last step is left out" if word == "end" else None)
+        raise Found(
+            BAR, line, 1, f"`{text}` behind a `bar` line", "the step in front of which the barrier stands, or a further barrier",
+            "a barrier behind the last step is left out" if word == "end" else None,
+        )
     if word == "use" and before not in ("step", "use"):
-        raise Found(USE, line, 1, f"a `use` line behind {said_of(before)}", "a `use` line right behind its `step` line, or behind another one of that step")
+        raise Found(
+            USE, line, 1, f"a `use` line behind {said_of(before)}",
+            "a `use` line right behind its `step` line, or behind another one of that step",
+        )
     if word == "acc" and before not in ("step", "use", "acc"):
-        raise Found(ACC, line, 1, f"an `acc` line behind {said_of(before)}", "an `acc` line behind its `step` line, the `use` lines of that, or another one of that step")
+        raise Found(
+            ACC, line, 1, f"an `acc` line behind {said_of(before)}",
+            "an `acc` line behind its `step` line, the `use` lines of that, or another one of that step",
+        )
     steps = sum(each.startswith("step ") for each in lines[first : line - 1])
     if word == "step" and text.split(" ")[1] != str(steps):
-        raise Found(NUMBER, line, 6, f"step {text.split(' ')[1]}", f"step {steps}: steps are counted from 0, and {steps} stand{'s' * (steps == 1)} before it")
+        raise Found(
+            NUMBER, line, 6, f"step {text.split(' ')[1]}",
+            f"step {steps}: steps are counted from 0, and {steps} stand{'s' * (steps == 1)} before it",
+        )
     if line >= len(lines) - 1:
         raise Found(LAST, line, 1, f"`{text}` as the last line", "a further line, `end`")
 
@@ -238,7 +268,10 @@ def explained(name, data, rule, line):
     if found is None:
         shown = [f"    {data.decode('ascii', 'replace').splitlines()[line - 1]}"] if line else []
         return [f"  what of it breaks trace rule {rule} was not found: the program tells no more than the line above", *shown]
-    lines = [f"  trace rule {rule} refuses: {found.refuses}", "", f"{name}:{found.line}:{found.column}", f"  found:    {found.found}", f"  expected: {found.expected}"]
+    lines = [
+        f"  trace rule {rule} refuses: {found.refuses}", "", f"{name}:{found.line}:{found.column}", f"  found:    {found.found}",
+        f"  expected: {found.expected}",
+    ]
     lines += [f"  {found.hint}"] if found.hint else []
     return lines + marked(data.split(b"\n")[found.line - 1].decode("utf-8", "replace"), found.column)
 

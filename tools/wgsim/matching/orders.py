@@ -25,7 +25,9 @@ def forced(data, name, callers):
             raise exit_status.End(exit_status.DIFFERENT, f"entry {number} cannot be of caller {caller}: {may_come(playing)}")
         playing.take(caller)
     if playing.open_lanes():
-        raise exit_status.End(exit_status.DIFFERENT, f"the callers end at entry {len(callers)}, before the script does: {may_come(playing)}")
+        raise exit_status.End(
+            exit_status.DIFFERENT, f"the callers end at entry {len(callers)}, before the script does: {may_come(playing)}"
+        )
     return exit_status.SAME, second.text_of(playing.history)
 
 
@@ -56,7 +58,10 @@ def outcomes(data, name):
         return
     total = orders(script.events())
     if total > MOST:
-        raise exit_status.End(exit_status.TOO_MANY, f"{name}: the lanes can take turns in {told(total)} orders, and at most {MOST:,} are listed; `wgsim run --callers` plays one")
+        raise exit_status.End(
+            exit_status.TOO_MANY,
+            f"{name}: the lanes can take turns in {told(total)} orders, and at most {MOST:,} are listed; `wgsim run --callers` plays one",
+        )
     yield f"{name}: {count(total, 'order')} of turns\n"
     for number, callers in enumerate(each_order(script), 1):
         playing = script.begin()

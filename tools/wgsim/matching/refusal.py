@@ -19,7 +19,8 @@ TOP_KEYS = "the keys budget and phases, with or without limits, and no other"
 
 
 class Refusal:
-    """A refusal: its rule, the offset of its place in the text, what stands there, what was expected, and what of the rule it is that refuses."""
+    """A refusal: its rule, the offset of its place in the text, what stands there, what was expected, and what of the rule it is that
+    refuses."""
 
     def __init__(self, rule, place):
         self.rule = rule
@@ -42,7 +43,9 @@ class Refusal:
 
 def sentence(rule, place):
     """The sentence of a rule of scripts; of a rule that has several, that of the kind of place."""
-    row = next((row for row in rules.script_rows(rule) if len(rules.place_of(row)) == len(place)), None) or next(iter(rules.script_rows(rule)), None)
+    row = next((row for row in rules.script_rows(rule) if len(rules.place_of(row)) == len(place)), None) or next(
+        iter(rules.script_rows(rule)), None
+    )
     return row["refuses"] if row else None
 
 
@@ -91,12 +94,19 @@ def at_top(refusal, text, top):
 def wrong_limits(refusal, text, asked):
     """What is wrong with the limits that a script asks for: each name with the number that was asked for, the default and the best."""
     if asked.kind != "object":
-        return refusal.by("`limits` that is no object").at(asked.start, f"{kind_of(asked)} under limits", "an object from names of limits to whole numbers")
+        return refusal.by("`limits` that is no object").at(
+            asked.start, f"{kind_of(asked)} under limits", "an object from names of limits to whole numbers"
+        )
     for name in dict.fromkeys(key.what for key, _ in asked.what):
         key, value, limit = asked.key(name), asked.member(name), limits.TABLE.get(name)
         if limit is None:
             refusal.by("A name of `limits` that the table of limits lacks")
-            return refusal.at(key.start, f"the name {quoted(name)}", "the name of a limit that a script can ask for: docs/script.md has them", near(name, limits.TABLE))
+            return refusal.at(
+                key.start,
+                f"the name {quoted(name)}",
+                "the name of a limit that a script can ask for: docs/script.md has them",
+                near(name, limits.TABLE),
+            )
         found = f"{shown(text.of(value))} for {name}, whose default is {limit.default} and whose best is {limit.best}"
         if not is_whole(value, 53):
             refusal.by("A limit that is no whole number in range")
@@ -158,7 +168,9 @@ def wrong_keys(refusal, value, word, keys, others=()):
     for key, _ in value.what:
         if key.what not in keys and key.what not in others:
             refusal.by(of_keys(refusal, "a key that it does not have", "A key that the call does not have"))
-            return refusal.at(key.start, f"the key {quoted(key.what)}", f"no such key: {word} {has}", lacking.key(key.what) or near(key.what, keys))
+            return refusal.at(
+                key.start, f"the key {quoted(key.what)}", f"no such key: {word} {has}", lacking.key(key.what) or near(key.what, keys)
+            )
     for name, key in keys.items():
         if value.member(name) is None and not key.may_be_left_out:
             refusal.by(of_keys(refusal, "no key of some name that it needs", "A needed key that is missing"))
@@ -198,10 +210,18 @@ def wrong_values(refusal, text, owner, keys):
 def why_wrong(wrong, key, is_whole_value):
     """What rule 8 refuses of a value, or of an item of it, that is not what its key asks for."""
     if is_whole_value and key.sort in ("three", *ITEMS) and wrong.kind == "list":
-        return "A list of other than three numbers where three are asked for" if key.sort == "three" else "A list in a call of more than 1,024 items"
+        return (
+            "A list of other than three numbers where three are asked for"
+            if key.sort == "three"
+            else "A list in a call of more than 1,024 items"
+        )
     is_number = key.sort in ("number", "numbers", "three") and wrong.kind == "number"
     if is_number:
-        return "A number out of range" if wrong.what.isdigit() or wrong.what[1:].isdigit() else "A number that is no whole number in decimal digits"
+        return (
+            "A number out of range"
+            if wrong.what.isdigit() or wrong.what[1:].isdigit()
+            else "A number that is no whole number in decimal digits"
+        )
     if key.sort in ("word", "words") and wrong.kind == "string":
         return "A word that the key does not have"
     return "A value of the wrong type"
@@ -223,7 +243,9 @@ def wrong_object(refusal, text, item, sort):
     form = calls.form_of(sort, item)
     if form is None and by is None:
         refusal.by("An object in a call, with no key of some name that it needs")
-        return refusal.at(item.start, "none of the keys " + ", ".join(forms), f"one of them: {said} has just one", near_key(item, forms, sort))
+        return refusal.at(
+            item.start, "none of the keys " + ", ".join(forms), f"one of them: {said} has just one", near_key(item, forms, sort)
+        )
     if form is None:
         kind = calls.Key(calls.OBJECTS[sort]["keys"][by])
         value = item.member(by)
@@ -234,7 +256,9 @@ def wrong_object(refusal, text, item, sort):
         refusal.by("A word that the key does not have" if value.kind == "string" else "A value of the wrong type")
         return refusal.at(value.start, f"{shown(text.of(value))} under {by}", kind.expected(), hint)
     keys = calls.keys_of_object(sort, item)
-    return wrong_keys(refusal, item, f"{said} with {f'a {form}' if by is None else f'the {by} {form}'}", keys) or wrong_values(refusal, text, item, keys)
+    return wrong_keys(refusal, item, f"{said} with {f'a {form}' if by is None else f'the {by} {form}'}", keys) or wrong_values(
+        refusal, text, item, keys
+    )
 
 
 def near_key(item, wanted, sort):
@@ -301,11 +325,20 @@ def used_names(refusal, text, call, top):
         is_visible = maker is not None and sees(user, maker)
         if refusal.rule == 10 and not is_visible:
             may_be_auto = calls.may_be_auto(user.word, key)
-            wanted = f"the name of {calls.either(kinds)} that an earlier call gave" + (f', or the word "{calls.AUTO}"' if may_be_auto else "")
-            return refusal.at(value.start, f"the name {quoted(value.what)} under {key}", wanted, unseen(script, user, value.what, maker, [calls.AUTO] * may_be_auto))
+            wanted = f"the name of {calls.either(kinds)} that an earlier call gave" + (
+                f', or the word "{calls.AUTO}"' if may_be_auto else ""
+            )
+            return refusal.at(
+                value.start,
+                f"the name {quoted(value.what)} under {key}",
+                wanted,
+                unseen(script, user, value.what, maker, [calls.AUTO] * may_be_auto),
+            )
         if refusal.rule == 11 and is_visible and calls.makes(maker.word) not in kinds:
             is_one = f"{value.what} is {calls.either([calls.makes(maker.word)])}, made at {script.where(maker)}: {script.said(maker)}"
-            return refusal.by(why_wrong_kind(user, maker)).at(value.start, f"the name {value.what} under {key}", f"the name of {calls.either(kinds)}", is_one, undropped(user, maker))
+            return refusal.by(why_wrong_kind(user, maker)).at(
+                value.start, f"the name {value.what} under {key}", f"the name of {calls.either(kinds)}", is_one, undropped(user, maker)
+            )
         if refusal.rule == 12 and is_visible and key in OWN and maker.place[:2] != user.place[:2]:
             made = f"{value.what} was made in phase {maker.place[0]}, lane {maker.place[1]}, at {script.where(maker)}: {script.said(maker)}"
             return refusal.at(value.start, f"the name {value.what} under {key}", f"{OWN[key]} that this lane made in this phase", made)
@@ -323,12 +356,20 @@ def is_shown(user, maker):
 
 def why_wrong_kind(user, maker):
     """What rule 11 refuses of a name."""
-    return "A `drop` names what a `currentTexture` made" if is_shown(user, maker) else "The name that is used stands for something of a wrong kind"
+    return (
+        "A `drop` names what a `currentTexture` made"
+        if is_shown(user, maker)
+        else "The name that is used stands for something of a wrong kind"
+    )
 
 
 def undropped(user, maker):
     """What to do in place of a drop of the texture of a canvas, or None."""
-    return "the texture of a canvas is not dropped: the next present or configureCanvas destroys it, and so may a destroy" if is_shown(user, maker) else None
+    return (
+        "the texture of a canvas is not dropped: the next present or configureCanvas destroys it, and so may a destroy"
+        if is_shown(user, maker)
+        else None
+    )
 
 
 def unset_canvas(refusal, text, call, top):
@@ -337,9 +378,18 @@ def unset_canvas(refusal, text, call, top):
     value = call.member("canvas")
     maker = script.made.get(value.what)
     made = f"{value.what} was made at {script.where(maker)}: {script.said(maker)}" if maker is not None else None
-    later = next((each for each in script.calls if calls.canvas(each.word) == "configures" and scripts.string_of(each.value, "canvas") == value.what), None)
+    later = next(
+        (
+            each
+            for each in script.calls
+            if calls.canvas(each.word) == "configures" and scripts.string_of(each.value, "canvas") == value.what
+        ),
+        None,
+    )
     comes = f"it is configured only later, at {script.where(later)}" if later is not None else "no call configures it"
-    return refusal.at(value.start, f"the name {value.what} under canvas", "a canvas that an earlier configureCanvas has configured", made, comes)
+    return refusal.at(
+        value.start, f"the name {value.what} under canvas", "a canvas that an earlier configureCanvas has configured", made, comes
+    )
 
 
 def of_pass(script, user, kinds):
@@ -412,4 +462,8 @@ def marked(line, column):
     whole = line.expandtabs(1).rstrip("\r")
     first = max(0, column - 60)
     before, after = escaped(whole[first : column - 1]), escaped(whole[column - 1 : first + 100])
-    return ["", f"  {'..' if first else ''}{before}{after}{'..' if first + 100 < len(whole) else ''}", "  " + " " * (len(before) + 2 * bool(first)) + "^"]
+    return [
+        "",
+        f"  {'..' if first else ''}{before}{after}{'..' if first + 100 < len(whole) else ''}",
+        "  " + " " * (len(before) + 2 * bool(first)) + "^",
+    ]

@@ -100,7 +100,11 @@ class Scopes:
         if entry.word == "unmap":
             return self.maps.unmapped(entry)
         if entry.word == "lose":
-            return "the device is lost from here on" if entry is self.lost else f"done: the device is lost already, since {self.numbered(self.lost)}"
+            return (
+                "the device is lost from here on"
+                if entry is self.lost
+                else f"done: the device is lost already, since {self.numbered(self.lost)}"
+            )
         return self.on_lost(entry) if self.is_lost_before(entry) else None
 
     def work(self, entry):

@@ -1,9 +1,8 @@
-"""`wgsim verify`: whether a report is one that its script can have, for the callers that it names; and where it is not, its first line that is
-wrong, what is right there, and why.
+"""`wgsim verify`: whether a report is one that its script can have, for the callers that it names; and where it is not, its first line that
+is wrong, what is right there, and why.
 
-The callers of the entries say in which order the lanes took their turns. The second reading plays the script in that order, entry by entry as
-the report goes on, and each line has to be the one that it has.
-"""
+The callers of the entries say in which order the lanes took their turns. The second reading plays the script in that order, entry by entry
+as the report goes on, and each line has to be the one that it has. """
 
 import re
 
@@ -107,7 +106,10 @@ class Verified:
             lines.append(f"the turn is of caller {ours.lane}: no other lane of the phase has a further call that makes an entry")
         if other.word != ours.word:
             word = second.canvases.said_by(played.call)["do"]
-            lines.append(f"the next call of caller {played.caller} is {word}" + (", which is late" if ours.word == "late" else f", whose entry is {played.do}" if word != played.do else ""))
+            lines.append(
+                f"the next call of caller {played.caller} is {word}"
+                + (", which is late" if ours.word == "late" else f", whose entry is {played.do}" if word != played.do else "")
+            )
         if other.fault != ours.fault:
             lines += self.of_fault(played) if played.fault else [self.why_no_fault(played)]
         if other.answer != ours.answer:
@@ -125,7 +127,11 @@ class Verified:
         lines = []
         for rule in rules.of(number, word)[:1]:
             lines += [f"rule {number} is the first that is unmet; it asks of {rule.label}: {rule.asks}", rules.section(rule)]
-        caught = "no open error scope catches it" if played.catcher is None else f"error scope {played.catcher} is the innermost that catches {kind} errors"
+        caught = (
+            "no open error scope catches it"
+            if played.catcher is None
+            else f"error scope {played.catcher} is the innermost that catches {kind} errors"
+        )
         return [*lines, caught]
 
     def why_no_fault(self, played):
@@ -134,7 +140,11 @@ class Verified:
     def of_answer(self, played):
         """What the answer of an entry says."""
         if played.made is not None:
-            valid = "valid, since no rule is unmet" if played.is_valid else "invalid, since " + ("the device is lost" if played.on_lost else f"rule {played.rule} is unmet")
+            valid = (
+                "valid, since no rule is unmet"
+                if played.is_valid
+                else "invalid, since " + ("the device is lost" if played.on_lost else f"rule {played.rule} is unmet")
+            )
             return f"objects are numbered from 0 on: this one is number {played.made}, and {valid}"
         if played.op is not None:
             return f"it is queued: operations are numbered from 1 on, and this one is number {played.op}"
@@ -143,13 +153,18 @@ class Verified:
         if played.do == "complete":
             before = self.history.completed_before if played.answer == "plain" else self.history.completed()
             return f"{played.answer}, since operations were complete up to {before}, and were queued up to {self.history.issued()}"
-        return "nothing is made and nothing queued" + (", since a rule is unmet" if played.fault else ", since the device is lost" if played.on_lost else "")
+        return "nothing is made and nothing queued" + (
+            ", since a rule is unmet" if played.fault else ", since the device is lost" if played.on_lost else ""
+        )
 
     def of_settled(self, played):
         """Which promises an entry settles."""
         if not played.settled:
             return ["it settles no promise"]
-        found = [f"it settles the promise of entry {promise.entry}, of the call at {self.where(promise)}: {how}" for promise, how in played.settled[:5]]
+        found = [
+            f"it settles the promise of entry {promise.entry}, of the call at {self.where(promise)}: {how}"
+            for promise, how in played.settled[:5]
+        ]
         return found + ([f"and {len(played.settled) - 5} more"] if played.settled[5:] else [])
 
     def why_free(self, thing, by):
@@ -165,7 +180,11 @@ class Verified:
             return self.why_free(*item[1:])
         step = item[1]
         kind, number = step.at.split(" ")
-        by = self.history.entries()[int(number)] if kind == "host" else next(played for played in self.history.entries() if played.op == int(number))
+        by = (
+            self.history.entries()[int(number)]
+            if kind == "host"
+            else next(played for played in self.history.entries() if played.op == int(number))
+        )
         what = "the clear of fresh memory" if step.name == "clear" else step.name
         word = line.split(" ")[0]
         lines = [f"the line is of {what}, of entry {by.entry}, of the call at {self.where(by)}"]
@@ -174,7 +193,10 @@ class Verified:
             was = "never used before, and is of a texture" if before == "none" else f"last used as {before}"
             lines.append(f"a barrier stands before it: the part was {was}, and is used as {after} now")
         elif (theirs or "").startswith("bar "):
-            lines.append("no further barrier stands before it: a first use of a buffer or query set has none, nor has what is used as before and only read")
+            lines.append(
+                "no further barrier stands before it: a first use of a buffer or query set has none, nor has what is used as before and"
+                " only read"
+            )
         return lines
 
     def where(self, played):

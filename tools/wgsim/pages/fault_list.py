@@ -31,7 +31,10 @@ def fault(beside, entry, told):
     number = entry.fault[1]
     where = f"line {beside.script.line(call)}" if call else f"entry {entry.number}"
     caught = "uncaptured" if entry.fault[2] == "uncaptured" else f"caught by error {entry.fault[2]}"
-    lines = [f"<p class='fault'><b>Fault at {where}: {escape(entry.word)} breaks rule {number}</b> <small>{entry.fault[0]} error, {caught}</small></p>"]
+    lines = [
+        f"<p class='fault'><b>Fault at {where}: {escape(entry.word)} breaks rule {number}</b> <small>{entry.fault[0]} error,"
+        f" {caught}</small></p>"
+    ]
     found = culprit.told(beside, number, told)
     lines += [f"<p>{escape(why)}</p>" for why in (told.cause.text() if told.cause else told.why_none,) if why]
     for rule in culprit.broken(number, entry.word, found):

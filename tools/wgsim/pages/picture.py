@@ -76,7 +76,8 @@ def columns(report):
 
 
 class Row:
-    """A resource, or one aspect and mip level of a texture: the columns in which it is used first and last, and its layers that are used."""
+    """A resource, or one aspect and mip level of a texture: the columns in which it is used first and last, and its layers that are
+    used."""
 
     def __init__(self, key):
         self.sort, self.object, self.aspect, self.mip = key
@@ -104,7 +105,9 @@ class Row:
 
     def image(self):
         runs = self.runs()
-        said = [f"{low}" if high - low == 1 else f"{low}\u2013{high - 1}" for low, high in runs[:MOST_RUNS]] + [".."] * (len(runs) > MOST_RUNS)
+        said = [f"{low}" if high - low == 1 else f"{low}\u2013{high - 1}" for low, high in runs[:MOST_RUNS]] + [".."] * (
+            len(runs) > MOST_RUNS
+        )
         is_one = len(runs) == 1 and runs[0][1] - runs[0][0] == 1
         return f"mip {self.mip} {'layer' if is_one else 'layers'} {', '.join(said)}"
 
@@ -250,7 +253,8 @@ def page(title, body, script=""):
     early = "<script>document.documentElement.classList.add('scripted')</script>\n" if script else ""
     return (
         "<!DOCTYPE html>\n<html lang='en'>\n<head>\n<meta charset='utf-8'>\n<meta name='viewport' content='width=device-width'>\n"
-        f"<title>{escape(title)}</title>\n<style>\n{STYLE}</style>\n{early}</head>\n<body>\n<h1>{escape(title)}</h1>\n{body}\n{script}</body>\n</html>\n"
+        f"<title>{escape(title)}</title>\n<style>\n{STYLE}</style>\n{early}</head>\n"
+        f"<body>\n<h1>{escape(title)}</h1>\n{body}\n{script}</body>\n</html>\n"
     )
 
 
@@ -258,19 +262,23 @@ def controls():
     """What the script of the page is told by: which kinds and which resource to show, and which steps to open."""
     kinds = "".join(f"<label><input type='checkbox' data-kind='{kind}' checked>{words}</label>" for kind, words in KINDS)
     return (
-        f"<form class='controls' hidden>\n<fieldset><legend>Show</legend>{kinds}</fieldset>\n"
-        "<fieldset><legend>Resource</legend><input id='resource' list='resources' placeholder='any name' aria-label='name of a resource'>"
-        "<datalist id='resources'></datalist><label><input type='checkbox' id='alone'>only its steps</label>"
-        "<button type='button' id='all'>All resources</button></fieldset>\n"
-        "<fieldset class='folds'><legend>Steps</legend><input id='goto' type='number' min='0' placeholder='number' aria-label='number of a step'>"
-        "<button type='button' id='open'>Open all</button><button type='button' id='fold'>Fold all</button></fieldset>\n"
-        "<output id='told' aria-live='polite'></output>\n</form>"
+        f"<form class='controls' hidden>\n<fieldset><legend>Show</legend>{kinds}</fieldset>\n<fieldset><legend>Resource</legend><input"
+        " id='resource' list='resources' placeholder='any name' aria-label='name of a resource'><datalist"
+        " id='resources'></datalist><label><input type='checkbox' id='alone'>only its steps</label><button type='button' id='all'>All"
+        " resources</button></fieldset>\n<fieldset class='folds'><legend>Steps</legend><input id='goto' type='number' min='0'"
+        " placeholder='number' aria-label='number of a step'><button type='button' id='open'>Open all</button><button type='button'"
+        " id='fold'>Fold all</button></fieldset>\n<output id='told' aria-live='polite'></output>\n</form>"
     )
 
 
 def drawn(name, beside, head, notes, causes_of):
     """The page of a report beside its script, which has a name."""
-    lines = [f"<p>{escape(head)}: {escape(summary(beside.report))}.</p>", *(f"<p>{escape(note)}</p>" for note in notes if note), faults(beside, causes_of), *canvases(beside)]
+    lines = [
+        f"<p>{escape(head)}: {escape(summary(beside.report))}.</p>",
+        *(f"<p>{escape(note)}</p>" for note in notes if note),
+        faults(beside, causes_of),
+        *canvases(beside),
+    ]
     if not beside.report.items:
         return page(name, "\n".join([*lines, "<p>The trace is empty: no accepted work touches memory.</p>"]))
     return page_of_steps(name, lines, Picture(beside))
@@ -279,7 +287,10 @@ def drawn(name, beside, head, notes, causes_of):
 def page_of_steps(name, lines, picture, legend=LEGEND):
     """The page of a picture, with some lines above it."""
     shown = "".join(f"<span class='{look}'>{escape(what)}</span>" for look, what in legend)
-    lines = [*lines, f"<p class='legend'>{shown}</p>", "<p>Time goes from left to right, and then down. A click on a name dims all else.</p>", controls(), picture.steps()]
+    lines = [
+        *lines, f"<p class='legend'>{shown}</p>", "<p>Time goes from left to right, and then down. A click on a name dims all else.</p>",
+        controls(), picture.steps(),
+    ]
     return page(name, "\n".join(lines), f"<script>\n{SCRIPT}</script>\n")
 
 
@@ -289,7 +300,10 @@ def canvases(beside):
     if not found:
         return []
     items = [f"<li>{escape(head)}<ul>{''.join(f'<li>{escape(line)}</li>' for line in lines)}</ul></li>" for head, lines in found]
-    return [f"<details class='canvases'><summary>{count(len(found), 'canvas')}, {count(sum(len(lines) for _, lines in found), 'frame')}</summary><ul>{''.join(items)}</ul></details>"]
+    return [
+        f"<details class='canvases'><summary>{count(len(found), 'canvas')},"
+        f" {count(sum(len(lines) for _, lines in found), 'frame')}</summary><ul>{''.join(items)}</ul></details>"
+    ]
 
 
 def picture(text, data, program):

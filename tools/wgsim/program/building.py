@@ -99,7 +99,10 @@ def build():
         out, told = run.communicate(SHORTEST)
     if run.returncode != 0 or out != ITS_REPORT:
         sys.stderr.write(said + (out + told).decode("utf-8", "replace"))
-        raise exit_status.End(exit_status.NOT_BUILT, f"the program could not be built: `{' '.join(words)}` in crates/wgsim ended with {run.returncode}, as above")
+        raise exit_status.End(
+            exit_status.NOT_BUILT,
+            f"the program could not be built: `{' '.join(words)}` in crates/wgsim ended with {run.returncode}, as above",
+        )
     if sum_of_sources() != sources:
         raise exit_status.End(exit_status.NOT_BUILT, "the sources changed while the program was built: run it again")
     STAMP.write_text(stamp_of(PROGRAM, sources), encoding="utf-8")
@@ -123,7 +126,9 @@ def prove(at_once, start):
         say("a proof was stopped from outside, maybe for want of memory; going on with one crate at a time")
         return "".join(said)
     sys.stderr.write("".join(telling(said)))
-    raise exit_status.End(exit_status.NOT_BUILT, f"not every crate was proved: `{' '.join(words)}` in crates/wgsim ended with {run.returncode}, as above")
+    raise exit_status.End(
+        exit_status.NOT_BUILT, f"not every crate was proved: `{' '.join(words)}` in crates/wgsim ended with {run.returncode}, as above"
+    )
 
 
 def telling(said):

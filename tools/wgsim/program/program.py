@@ -12,7 +12,10 @@ from wgsim.program import building, unproved
 NAMED = "WGSIM_PROGRAM"
 SHORTEST = building.SHORTEST
 OWN = {0, exit_status.WORDS, exit_status.REFUSED, exit_status.UNREAD, exit_status.UNWRITTEN, exit_status.NO_MEMORY, exit_status.TOO_LARGE}
-OF_CHECK = {0, exit_status.UNREAD, exit_status.UNWRITTEN, exit_status.NO_MEMORY, exit_status.TOO_LARGE, exit_status.DIFFERS, exit_status.BAD_TRACE}
+OF_CHECK = {
+    0, exit_status.UNREAD, exit_status.UNWRITTEN, exit_status.NO_MEMORY, exit_status.TOO_LARGE, exit_status.DIFFERS,
+    exit_status.BAD_TRACE,
+}
 
 
 class Program:
@@ -44,7 +47,10 @@ class Program:
             building.say(f"this answer is from {self.said}, which claims nothing{first}")
             return
         why = "no program is proved here yet" if not building.PROGRAM.exists() else "the sources have changed since the program was proved"
-        building.say(f"{why}, so this answer is from {self.said}{first}; `./wgsim prove` proves and builds it, in {building.from_nothing()} from nothing")
+        building.say(
+            f"{why}, so this answer is from {self.said}{first}; `./wgsim prove` proves and builds it, in {building.from_nothing()} from"
+            " nothing"
+        )
 
     def is_kept(self):
         """Whether there is a program to run: the unproved one has to be compiled first."""

@@ -1,4 +1,5 @@
-"""What proofs take: of each crate the processor seconds of the table proof_costs.json, and from these and the pace of a run what is left of it."""
+"""What proofs take: of each crate the processor seconds of the table proof_costs.json, and from these and the pace of a run what is left of
+it."""
 
 import json
 import pathlib
@@ -14,7 +15,8 @@ def seconds_of(crate):
 
 
 def clock_of(crates, below, at_once):
-    """The seconds of the clock that some crates take: their sum by so many at once, or the longest chain of those that stand on each other."""
+    """The seconds of the clock that some crates take: their sum by so many at once, or the longest chain of those that stand on each
+    other."""
     chains = {}
     for crate in in_order(crates, below):
         chains[crate] = seconds_of(crate) + max([chains[other] for other in below.get(crate, []) if other in chains], default=0)

@@ -23,7 +23,12 @@ MODES = {1: "READ", 2: "WRITE"}
 KINDS = {"usage of a buffer": BUFFER, "usage of a texture": TEXTURE, "visibility": STAGES, "mode of a mapAsync": MODES}
 
 # The keys of calls whose numbers are such: by the call, or by any call that has them.
-OF_CALLS = {("createBuffer", "usage"): BUFFER, ("createTexture", "usage"): TEXTURE, ("configureCanvas", "usage"): TEXTURE, ("mapAsync", "mode"): MODES}
+OF_CALLS = {
+    ("createBuffer", "usage"): BUFFER,
+    ("createTexture", "usage"): TEXTURE,
+    ("configureCanvas", "usage"): TEXTURE,
+    ("mapAsync", "mode"): MODES,
+}
 VISIBILITY = "visibility"
 MOST = 2**32 - 1
 
@@ -55,7 +60,8 @@ def each(number, names):
 
 
 def of_call(call):
-    """The numbers of a script's call that have names, but for 0, in words: `usage 12 = COPY_SRC | COPY_DST`, each once, in the order of the text."""
+    """The numbers of a script's call that have names, but for 0, in words: `usage 12 = COPY_SRC | COPY_DST`, each once, in the order of the
+    text."""
     found = []
     for key, value in call.value.what if call.value.kind == "object" else []:
         names = OF_CALLS.get((call.word, key.what))
@@ -98,10 +104,15 @@ def of_words(given):
     for word in asked:
         if word not in known:
             near = difflib.get_close_matches(word, known, 1)
-            raise exit_status.End(exit_status.WORDS, f"{word or 'nothing'} is no word" + (f"; the nearest is {near[0]}" if near else f"; the words are {', '.join(known)}"))
+            raise exit_status.End(
+                exit_status.WORDS,
+                f"{word or 'nothing'} is no word" + (f"; the nearest is {near[0]}" if near else f"; the words are {', '.join(known)}"),
+            )
     found = [(number_of(asked, names), kind) for kind, names in KINDS.items() if has_all(asked, names)]
     if not found:
-        told = "; ".join(f"{word} is of {' or '.join(kind for kind, names in KINDS.items() if word in names.values())}" for word in dict.fromkeys(asked))
+        told = "; ".join(
+            f"{word} is of {' or '.join(kind for kind, names in KINDS.items() if word in names.values())}" for word in dict.fromkeys(asked)
+        )
         raise exit_status.End(exit_status.WORDS, f"no kind has all of these words: {told}")
     return [f"{number:<4}  {kind}" for number, kind in found]
 

@@ -1,4 +1,5 @@
-"""What lies beside a script that was recorded: NAME.answers.json, what the browser answered, and NAME.calls.json, where in the page each call is."""
+"""What lies beside a script that was recorded: NAME.answers.json, what the browser answered, and NAME.calls.json, where in the page each
+call is."""
 
 import json
 import pathlib

@@ -17,8 +17,8 @@ AUTO = "auto"
 
 
 class Key:
-    """What the value of a key has to be: `sort` with its `detail`, whether the key may be left out, whether an item of its list may be null, and whether
-    the word `auto` may stand in place of a name."""
+    """What the value of a key has to be: `sort` with its `detail`, whether the key may be left out, whether an item of its list may be
+    null, and whether the word `auto` may stand in place of a name."""
 
     def __init__(self, text):
         words = text.split()
@@ -32,7 +32,8 @@ class Key:
         self.detail = " ".join(words[1:])
 
     def is_name(self, value):
-        """Whether a value under this key is a name that is used, as far as its form tells: an object of the name `auto` is not reached where that word may stand."""
+        """Whether a value under this key is a name that is used, as far as its form tells: an object of the name `auto` is not reached
+        where that word may stand."""
         return self.sort == "name" and value.kind == "string" and not (self.may_be_auto and value.what == AUTO)
 
     def kinds(self):
@@ -60,7 +61,10 @@ class Key:
         if self.sort == "object":
             return f"an object, {OBJECTS[self.detail]['said']}"
         if self.sort == "objects":
-            return f"a list of at most 1024 {'items' if self.may_have_null else 'objects'}, each {OBJECTS[self.detail]['said']}{self.or_null()}"
+            return (
+                f"a list of at most 1024 {'items' if self.may_have_null else 'objects'}, each"
+                f" {OBJECTS[self.detail]['said']}{self.or_null()}"
+            )
         if self.sort == "new":
             return "a new name, of 1 to 64 letters, digits and _"
         return "a value"
@@ -87,7 +91,8 @@ def keys_of(word):
 
 
 def form_key(sort):
-    """The key of a sort of objects whose word tells the form of one, or None where the form is told by which key is there, or there are no forms."""
+    """The key of a sort of objects whose word tells the form of one, or None where the form is told by which key is there, or there are no
+    forms."""
     found = [name for name, text in OBJECTS[sort]["keys"].items() if text == f"word {OBJECTS[sort].get('forms')}"]
     return found[0] if found else None
 

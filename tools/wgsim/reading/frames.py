@@ -1,8 +1,7 @@
 """The canvases of a script: which entry each of their calls makes, if any, and which frame of its canvas a texture is.
 
-A frame begins with a currentTexture that finds no texture, and ends with the next present or configureCanvas of its canvas. It has the names that
-the currentTextures between the two gave.
-"""
+A frame begins with a currentTexture that finds no texture, and ends with the next present or configureCanvas of its canvas. It has the
+names that the currentTextures between the two gave. """
 
 from wgsim.reading import bits, calls
 
@@ -22,8 +21,8 @@ class Canvas:
 
 
 class Frame:
-    """A frame: its number among those of its canvas, from 1; the call that said the format and usage of its texture; those that named it, of which
-    the first made it; and the one that ended it, if one did."""
+    """A frame: its number among those of its canvas, from 1; the call that said the format and usage of its texture; those that named it,
+    of which the first made it; and the one that ended it, if one did."""
 
     def __init__(self, canvas):
         self.canvas = canvas
@@ -50,7 +49,8 @@ class Canvases:
         self.of_name = {}
 
     def take(self, call, name):
-        """Notes a call of a canvas, which has the name under its key `canvas`, or makes it; and gives the call its frame, if it has to do with one."""
+        """Notes a call of a canvas, which has the name under its key `canvas`, or makes it; and gives the call its frame, if it has to do
+        with one."""
         does = calls.canvas(call.word)
         if does == MAKES:
             self.of_name.setdefault(call.gives, Canvas(call))
@@ -87,7 +87,10 @@ def texture(script, frame):
     """Of what the texture of a frame is made: what its canvas and the configure say."""
     format, usage = frame.configured.value.member("format").what, frame.configured.number("usage", 16)
     made, configured = script.at(frame.canvas.call), script.at(frame.configured)
-    return f"the texture of {frame.canvas.name}: {extent(frame.canvas)} (made at {made}), of {format} with usage {bits.said(usage, bits.TEXTURE)} (configured at {configured})"
+    return (
+        f"the texture of {frame.canvas.name}: {extent(frame.canvas)} (made at {made}), of {format} with usage"
+        f" {bits.said(usage, bits.TEXTURE)} (configured at {configured})"
+    )
 
 
 def of_fault(script, call):
@@ -97,7 +100,10 @@ def of_fault(script, call):
 
 def listed(beside):
     """Each canvas that has frames, as a line, with a line for each of them."""
-    return [(f"{canvas.name}, {extent(canvas)}, made at {beside.script.at(canvas.call)}", [line(beside, frame) for frame in canvas.frames]) for canvas in beside.script.canvases.with_frames()]
+    return [
+        (f"{canvas.name}, {extent(canvas)}, made at {beside.script.at(canvas.call)}", [line(beside, frame) for frame in canvas.frames])
+        for canvas in beside.script.canvases.with_frames()
+    ]
 
 
 def line(beside, frame):

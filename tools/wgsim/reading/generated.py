@@ -39,7 +39,15 @@ def iteration(name, spot):
     return [
         {"do": "writeBuffer", "buffer": source, "offset": offset, "size": 64},
         {"do": "createEncoder", "as": f"e{name}"},
-        {"do": "copyBufferToBuffer", "on": f"e{name}", "source": source, "sourceOffset": offset, "target": target, "targetOffset": offset, "size": 128},
+        {
+            "do": "copyBufferToBuffer",
+            "on": f"e{name}",
+            "source": source,
+            "sourceOffset": offset,
+            "target": target,
+            "targetOffset": offset,
+            "size": 128,
+        },
         {"do": "finish", "on": f"e{name}", "as": f"c{name}"},
         {"do": "submit", "buffers": [f"c{name}"]},
     ]
@@ -59,5 +67,8 @@ def phases(count, lanes):
 
 def text(count, lanes):
     """The text of the script, with a line for each call."""
-    lanes_of = [",\n".join("[\n" + ",\n".join(json.dumps(call, separators=(",", ":")) for call in lane) + "\n]" for lane in phase) for phase in phases(count, lanes)]
+    lanes_of = [
+        ",\n".join("[\n" + ",\n".join(json.dumps(call, separators=(",", ":")) for call in lane) + "\n]" for lane in phase)
+        for phase in phases(count, lanes)
+    ]
     return f'{{"budget":{BUDGET},"phases":[\n' + ",\n".join(f"[{lane}]" for lane in lanes_of) + "\n]}\n"

@@ -86,7 +86,9 @@ class Reader:
 
     def whole(self):
         if self.next() == "\ufeff":
-            self.fail("a byte order mark, the bytes EF BB BF, before the text", "the text alone: save it as UTF-8 without a byte order mark")
+            self.fail(
+                "a byte order mark, the bytes EF BB BF, before the text", "the text alone: save it as UTF-8 without a byte order mark"
+            )
         value = self.value(0)
         self.space()
         if self.at < len(self.text):
@@ -98,7 +100,9 @@ class Reader:
         letter = self.next()
         if letter != "" and letter in "{[":
             if depth == DEEPEST:
-                self.fail(f"a list or an object that is nested {DEEPEST + 1} deep", f"lists and objects that are nested at most {DEEPEST} deep")
+                self.fail(
+                    f"a list or an object that is nested {DEEPEST + 1} deep", f"lists and objects that are nested at most {DEEPEST} deep"
+                )
             return self.object(depth + 1) if letter == "{" else self.list(depth + 1)
         if letter == '"':
             return self.string()

@@ -38,7 +38,8 @@ def of(number, call=None):
 
 
 def completed(rule, whole):
-    """A rule whose words are `as above`, with those of the rule above in place of them. The table itself stays as it is: a row may have several numbers.
+    """A rule whose words are `as above`, with those of the rule above in place of them. The table itself stays as it is: a row may have
+    several numbers.
 
     The section is that of the rule's own call, but where the row above has one of its own."""
     made = copy.copy(rule)

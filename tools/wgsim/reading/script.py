@@ -1,4 +1,5 @@
-"""A script as its writer sees it: each call with its place, its text and its names, and what is recorded on each encoder, be it one of a bundle."""
+"""A script as its writer sees it: each call with its place, its text and its names, and what is recorded on each encoder, be it one of a
+bundle."""
 
 from wgsim.reading import calls, frames
 
@@ -7,8 +8,8 @@ SETS = {"setPipeline": None, "setBindGroup": "index", "setVertexBuffer": "slot",
 
 
 class Call:
-    """A call of a script. `place` is its phase, lane and number in the lane, `locked_by` the pass that is open on the encoder on which it records,
-    `frame` the frame of a canvas that it begins, names or ends."""
+    """A call of a script. `place` is its phase, lane and number in the lane, `locked_by` the pass that is open on the encoder on which it
+    records, `frame` the frame of a canvas that it begins, names or ends."""
 
     def __init__(self, value, place):
         self.value = value
@@ -60,7 +61,11 @@ def names_in(value, keys):
         if wanted.sort == "names" and member.kind == "list":
             found += [(key, item, wanted.kinds()) for item in member.what if item.kind == "string"]
         if wanted.sort in ("object", "objects"):
-            items = [item for item in ([member] if wanted.sort == "object" else member.what if member.kind == "list" else []) if item.kind == "object"]
+            items = [
+                item
+                for item in ([member] if wanted.sort == "object" else member.what if member.kind == "list" else [])
+                if item.kind == "object"
+            ]
             found += [name for item in items for name in names_in(item, calls.keys_of_object(wanted.detail, item))]
     return found
 
@@ -73,7 +78,8 @@ def string_of(value, key):
 
 
 class Place:
-    """An encoder, a bundle encoder or a pass, on which calls record, with the calls that ended it. A pass has the encoder that it was begun on."""
+    """An encoder, a bundle encoder or a pass, on which calls record, with the calls that ended it. A pass has the encoder that it was begun
+    on."""
 
     def __init__(self, call, encoder=None):
         self.call = call
@@ -108,7 +114,8 @@ class Script:
             self.record(call)
 
     def record(self, call):
-        """Notes what a call does to the encoders, bundle encoders, passes and canvases, as far as the order of the calls alone decides it."""
+        """Notes what a call does to the encoders, bundle encoders, passes and canvases, as far as the order of the calls alone decides
+        it."""
         on = string_of(call.value, "on")
         place = self.places.get(on)
         if calls.makes_encoder(call.word):
@@ -141,7 +148,8 @@ class Script:
 
     def set_at(self, call):
         """What is set of a pass or a bundle where a call records on it: the last setPipeline, the last setBindGroup of each index and
-        setVertexBuffer of each slot, least indexes and slots first, and the last setIndexBuffer. Bundles that are executed unset all of it."""
+        setVertexBuffer of each slot, least indexes and slots first, and the last setIndexBuffer. Bundles that are executed unset all of it.
+        """
         found = {}
         for command in self.before(call):
             if command.word in SETS:
@@ -157,7 +165,8 @@ class Script:
         return place.commands if place is not None else []
 
     def drawn_on(self, call):
-        """The call that made what a call draws on: the begin of a render pass, or the making of a bundle encoder; or None where it is on neither."""
+        """The call that made what a call draws on: the begin of a render pass, or the making of a bundle encoder; or None where it is on
+        neither."""
         place = self.places.get(string_of(call.value, "on"))
         return place.call if place is not None and calls.makes(place.call.word) in ("render pass", "bundle encoder") else None
 

@@ -11,12 +11,18 @@ USAGES = (
 )
 # The usage of what steps of some names do; that of others hangs on what they touch.
 OF_NAMES = {
-    "clear": "clear", "writeBuffer": "copy-dst", "writeTexture": "copy-dst", "clearBuffer": "copy-dst", "hostRead": "host-read", "hostWrite": "host-write",
+    "clear": "clear",
+    "writeBuffer": "copy-dst",
+    "writeTexture": "copy-dst",
+    "clearBuffer": "copy-dst",
+    "hostRead": "host-read",
+    "hostWrite": "host-write",
 }
 
 
 class Touch:
-    """A step that accesses a cell: its number and name, its line and that of the access, both with their numbers, and its usages of the cell's part."""
+    """A step that accesses a cell: its number and name, its line and that of the access, both with their numbers, and its usages of the
+    cell's part."""
 
     def __init__(self, number, at, line):
         self.number, self.at, self.line = number, at, line
@@ -50,7 +56,8 @@ def guessed(name, sort, only_reads):
 
 
 def touches(lines, cell):
-    """The steps of a trace that access a cell, in order, and the number of the line `end`. The lines are those of the whole text, of a trace that is one."""
+    """The steps of a trace that access a cell, in order, and the number of the line `end`. The lines are those of the whole text, of a
+    trace that is one."""
     first, found, step, used, number = lines.index("trace") + 1, [], None, part_of(cell), -1
     of_cells, of_part = owner_of(cell), owner_of(used)
     for at, line in enumerate(lines[first:], first + 1):
@@ -80,7 +87,8 @@ def has(words, inner):
 
 
 def part_of(cell):
-    """The part in which a cell lies: a whole buffer or query set, its layer, or of a slice layer 0 of its mip level, which is all slices."""
+    """The part in which a cell lies: a whole buffer or query set, its layer, or of a slice layer 0 of its mip level, which is all
+    slices."""
     if cell.sort in ("b", "q"):
         return Part(cell.words[:2])
     low, high = (0, 1) if cell.sort == "s" else (cell.low, cell.high)

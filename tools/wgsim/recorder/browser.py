@@ -20,14 +20,17 @@ NAMES = ("chromium", "chromium-browser", "google-chrome", "google-chrome-stable"
 # Headless, with WebGPU on a graphics driver that runs on the processor, and without what a browser does by itself.
 FLAGS = (
     "--headless=new", "--remote-debugging-pipe", "--no-first-run", "--no-default-browser-check", "--disable-dev-shm-usage",
-    "--enable-unsafe-webgpu", "--enable-features=Vulkan", "--use-webgpu-adapter=swiftshader", "--use-vulkan=swiftshader", "--use-angle=swiftshader",
-    "--disable-background-networking", "--disable-component-update", "--disable-sync", "--disable-default-apps", "--disable-extensions",
-    "--disable-background-timer-throttling", "--disable-renderer-backgrounding", "--disable-backgrounding-occluded-windows",
+    "--enable-unsafe-webgpu", "--enable-features=Vulkan", "--use-webgpu-adapter=swiftshader", "--use-vulkan=swiftshader",
+    "--use-angle=swiftshader", "--disable-background-networking", "--disable-component-update", "--disable-sync",
+    "--disable-default-apps", "--disable-extensions", "--disable-background-timer-throttling", "--disable-renderer-backgrounding",
+    "--disable-backgrounding-occluded-windows",
 )
 # A name that is not this machine's has no address; all else would go to a proxy that is not there, but for what is this machine's.
 ALONE = (
     "--host-resolver-rules=MAP * ~NOTFOUND , EXCLUDE localhost , EXCLUDE 127.0.0.1 , EXCLUDE [::1]",
-    "--proxy-server=127.0.0.1:9", "--proxy-bypass-list=localhost;127.0.0.1;[::1]", "--force-webrtc-ip-handling-policy=disable_non_proxied_udp",
+    "--proxy-server=127.0.0.1:9",
+    "--proxy-bypass-list=localhost;127.0.0.1;[::1]",
+    "--force-webrtc-ip-handling-policy=disable_non_proxied_udp",
 )
 PIECE = 1 << 16
 # The files on which Chromium reads commands and writes answers.

@@ -1,4 +1,5 @@
-"""`wgsim record`: what a page asks of WebGPU in a browser is written down as a script, with what the browser answered and from where it was called."""
+"""`wgsim record`: what a page asks of WebGPU in a browser is written down as a script, with what the browser answered and from where it was
+called."""
 
 import contextlib
 import functools
@@ -33,7 +34,13 @@ def is_here(address):
 class Files(http.server.SimpleHTTPRequestHandler):
     """Serves the folder of a page to the browser alone, and says nothing of it."""
 
-    extensions_map = {**http.server.SimpleHTTPRequestHandler.extensions_map, ".js": "text/javascript", ".mjs": "text/javascript", ".wasm": "application/wasm", ".wgsl": "text/plain"}
+    extensions_map = {
+        **http.server.SimpleHTTPRequestHandler.extensions_map,
+        ".js": "text/javascript",
+        ".mjs": "text/javascript",
+        ".wasm": "application/wasm",
+        ".wgsl": "text/plain",
+    }
 
     def log_message(self, *words):
         pass
@@ -48,7 +55,10 @@ def served(page):
     """The address at which a browser finds a page: its own, or that of its folder, which is served on this machine meanwhile."""
     if re.match(r"https?://", page):
         if not is_here(page):
-            raise exit_status.End(exit_status.WORDS, f"{page} is not of this machine; a page of another one is recorded by hand, with `wgsim record --one-file`")
+            raise exit_status.End(
+                exit_status.WORDS,
+                f"{page} is not of this machine; a page of another one is recorded by hand, with `wgsim record --one-file`",
+            )
         yield page
         return
     path = pathlib.Path(page)
@@ -105,7 +115,13 @@ def recorded(page, named, frames=FRAMES, seconds=SECONDS):
     with tempfile.TemporaryDirectory(prefix="wgsim-record-", ignore_cleanup_errors=True) as folder, served(page) as address:
         path = browser.found(named)
         if path is None:
-            raise exit_status.End(exit_status.UNREAD, f"none of {', '.join(browser.NAMES)} is installed; another one is named by --browser, and `wgsim record --one-file` is for browsers of any kind")
+            raise exit_status.End(
+                exit_status.UNREAD,
+                (
+                    f"none of {', '.join(browser.NAMES)} is installed; another one is named by --browser, and `wgsim record --one-file` is"
+                    " for browsers of any kind"
+                ),
+            )
         try:
             with browser.opened(path, os.path.join(folder, "profile")) as browsing:
                 visit = Visit(browsing, address, asked)
@@ -115,7 +131,10 @@ def recorded(page, named, frames=FRAMES, seconds=SECONDS):
     if visit.failed:
         raise exit_status.End(exit_status.UNREAD, f"{page}: the browser cannot open it: {visit.failed}")
     if found is None:
-        raise exit_status.End(exit_status.NO_ANSWER, f"{page}: the browser told nothing within {seconds + BESIDE} seconds" + "".join(f"\n    {line}" for line in visit.said[:3]))
+        raise exit_status.End(
+            exit_status.NO_ANSWER,
+            f"{page}: the browser told nothing within {seconds + BESIDE} seconds" + "".join(f"\n    {line}" for line in visit.said[:3]),
+        )
     if address != page:
         found["page"] = os.path.basename(page)
     found["elsewhere"], found["said"] = list(dict.fromkeys(visit.elsewhere)), visit.said[:10]
@@ -146,7 +165,14 @@ def script_of(script):
 
 def object_of(told):
     """An object with a key in each line, and an item of its lists too."""
-    return "{\n" + ",\n".join(f"{json.dumps(key)}: {listed(value) if isinstance(value, list) else json.dumps(value, ensure_ascii=False)}" for key, value in told.items()) + "\n}\n"
+    return (
+        "{\n"
+        + ",\n".join(
+            f"{json.dumps(key)}: {listed(value) if isinstance(value, list) else json.dumps(value, ensure_ascii=False)}"
+            for key, value in told.items()
+        )
+        + "\n}\n"
+    )
 
 
 def write(found, name, folder):
@@ -159,7 +185,9 @@ def write(found, name, folder):
             head = {"form": 1, "page": found["page"], "browser": found["browser"]}
             rest = {key: value for key, value in one.items() if key not in ("script", "calls")}
             (out / f"{own}.json").write_text(script_of(one["script"]), encoding="utf-8")
-            (out / f"{own}.answers.json").write_text(object_of({**head, **rest, "elsewhere": found["elsewhere"], "said": found["said"]}), encoding="utf-8")
+            (out / f"{own}.answers.json").write_text(
+                object_of({**head, **rest, "elsewhere": found["elsewhere"], "said": found["said"]}), encoding="utf-8"
+            )
             (out / f"{own}.calls.json").write_text(object_of({"form": 1, "page": found["page"], "calls": one["calls"]}), encoding="utf-8")
             written.append((out / f"{own}.json", one))
     except OSError as error:
@@ -173,7 +201,10 @@ def told(found, written):
     for path, one in written:
         errors = sum("error" in answer or "throws" in answer for answer in one["answers"])
         passed = f", and {len(one['passed'])} that a script cannot say" if one["passed"] else ""
-        lines.append(f"{path}: {len(one['calls'])} calls{passed}; {errors} of them made an error in the browser; it ended because: {one['ended']['why']}")
+        lines.append(
+            f"{path}: {len(one['calls'])} calls{passed}; {errors} of them made an error in the browser; it ended because:"
+            f" {one['ended']['why']}"
+        )
     if not written:
         lines.append("nothing was recorded: the page opened no device of WebGPU")
     lines += [f"the page asked for {address}, which is not of this machine, and did not get it" for address in found["elsewhere"]]
