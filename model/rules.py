@@ -6,10 +6,11 @@ tests stop at the first that is unmet.
 """
 
 import collections
+from typing import Tuple
 
 # How often each rule of each call was found met, and unmet, since the program began.
-met = collections.Counter()
-unmet = collections.Counter()
+met: "collections.Counter[Tuple[str, int, str]]" = collections.Counter()
+unmet: "collections.Counter[Tuple[str, int, str]]" = collections.Counter()
 
 
 def note(call, number, what, is_met):
