@@ -1,17 +1,15 @@
 """What the program answers to the bytes of a script, and whether a report is one of those that the script can have."""
 
-from . import canvases
-from . import history
-from . import judge
-from . import names
-from . import report
-from . import script
-from . import turns
+from __future__ import annotations
+
+from typing import Any, Callable
+
+from . import canvases, history, judge, names, report, script, turns
 
 DONE, BAD_SCRIPT, TOO_LARGE = 0, 3, 7
 
 
-def read(data):
+def read(data: bytes) -> Any:
     """The setup of a script, which is its budget and its limits, and its phases as they are played; and where it is refused, the status and
     the text that is written then, or None."""
     if len(data) > script.MOST_BYTES:
@@ -24,7 +22,7 @@ def read(data):
     return history.Setup(budget, limits), canvases.as_played(phases), None
 
 
-def answer(data, choose=turns.only_one):
+def answer(data: bytes, choose: Callable[..., Any] = turns.only_one) -> tuple[int, str]:
     """The exit status, and the text that is written. Of several callers that may have a turn one is chosen; as a rule there is to be
     one."""
     setup, phases, refusal = read(data)
@@ -33,12 +31,12 @@ def answer(data, choose=turns.only_one):
     return DONE, report.report(turns.play_chosen(setup, phases, choose))
 
 
-def check(data):
+def check(data: bytes) -> tuple[int, str]:
     """The exit status, and the text that is written, where a text is checked."""
     return (TOO_LARGE, "") if len(data) > judge.MOST_BYTES else judge.check(data)
 
 
-def callers_of(found):
+def callers_of(found: Any) -> Any:
     """The callers of a report, entry by entry: the second field of each line of its history."""
     lines = found.decode("utf-8", "backslashreplace").split("\n")
     if lines[0] != "history":
@@ -54,7 +52,7 @@ def callers_of(found):
     raise turns.NotLegal("the history of the report has no end")
 
 
-def differences(data, status, found):
+def differences(data: Any, status: Any, found: Any) -> Any:
     """What is wrong with a status and a report that were found, in a line, or None; and the status and the report that were to be found, in
     the order of turns of the one that was, as far as they are known."""
     setup, phases, wanted = read(data)

@@ -3,11 +3,17 @@
 The colors of a pass are the dictionaries that the script has, with all of their keys, or None where they are null.
 """
 
-from . import formats
-from . import textures
+from __future__ import annotations
+
+from typing import TYPE_CHECKING, Any, Iterator
+
+from . import formats, textures
 from .cells import do_meet, in_slices, in_texture
 from .limits import of_all as limits_of_all
 from .rules import at_most
+
+if TYPE_CHECKING:
+    from model.history import Played
 
 MOST_COLORS = limits_of_all("maxColorAttachments")
 FLAT_DIMS = ("2d", "2d-array")
@@ -20,23 +26,23 @@ ACCESSES = {("load", "store"): "both", ("load", "discard"): "readdrop", ("clear"
 ASPECT_KEYS = {"depth": ("depthLoad", "depthStore", "depthReadOnly"), "stencil": ("stencilLoad", "stencilStore", "stencilReadOnly")}
 
 
-def colors_of(begin):
+def colors_of(begin: Played) -> list[tuple[dict[str, str | None], Played, None]]:
     """The colors of a pass that are not null, each with its view, and its resolve view or None."""
     views = iter(begin.uses["colors"])
     colors = [color for color in begin.call["colors"] if color is not None]
     return [(color, next(views), None if color["resolve"] is None else next(views)) for color in colors]
 
 
-def depth_of(begin):
+def depth_of(begin: Played) -> list[Any]:
     """The view of `depth` in a list, or none."""
     return begin.uses["depth"]
 
 
-def texture_of(view):
+def texture_of(view: Played) -> dict[str, Any]:
     return view.uses["texture"].call
 
 
-def begin_rules(begin):
+def begin_rules(begin: Played) -> Iterator[tuple[int, str, bool]]:
     """The own rules of beginRenderPass, after those on the views that it names."""
     colors, depth = colors_of(begin), depth_of(begin)
     views = [view for _, view, _ in colors]
@@ -56,14 +62,14 @@ def begin_rules(begin):
             yield from resolve_rules(view, resolve)
 
 
-def color_rules(number, which, view, dims):
+def color_rules(number: int, which: str, view: Played, dims: Any) -> Iterator[tuple[int, str, bool]]:
     """Rule 302, which is asked of a resolve view by rule 307, of fewer dimensions."""
     yield number, f"RENDER_ATTACHMENT, {which}", texture_of(view)["usage"] & textures.RENDER_ATTACHMENT != 0
     yield number, f"format, {which}", formats.is_color(texture_of(view)["format"])
     yield from flat_rules(number, which, view, dims)
 
 
-def slice_rules(depth_slice, view):
+def slice_rules(depth_slice: Any, view: Played) -> Iterator[tuple[int, str, bool]]:
     """Rule 308: a slice is given of a 3d view and of no other, and the mip level has it."""
     is_3d = textures.told(view)["dim"] == "3d"
     yield 308, f"depthSlice, {'3d' if is_3d else '2d or 2d-array'}", (depth_slice is not None) == is_3d
@@ -71,18 +77,18 @@ def slice_rules(depth_slice, view):
         yield at_most(308, "depthSlice", depth_slice, depth_of_level(view) - 1)
 
 
-def depth_of_level(view):
+def depth_of_level(view: Any) -> Any:
     return formats.extent(texture_of(view), textures.told(view)["baseMip"])[2]
 
 
-def flat_rules(number, which, view, dims):
+def flat_rules(number: int, which: str, view: Played, dims: Any) -> Iterator[tuple[int, str, bool]]:
     told = textures.told(view)
     yield number, f"dimension {told['dim']}, {which}", told["dim"] in dims
     yield number, f"one mip, {which}", told["mips"] == 1
     yield number, f"one layer, {which}", told["layers"] == 1
 
 
-def depth_rules(view):
+def depth_rules(view: Played) -> Iterator[Any]:
     """Rule 303."""
     format = texture_of(view)["format"]
     yield 303, "RENDER_ATTACHMENT", texture_of(view)["usage"] & textures.RENDER_ATTACHMENT != 0
@@ -91,7 +97,7 @@ def depth_rules(view):
     yield from flat_rules(303, "depth", view, FLAT_DIMS)
 
 
-def load_rules(depth, format):
+def load_rules(depth: dict[str, Any], format: str) -> Iterator[tuple[int, str, bool]]:
     """Rule 304: load and store are given where the format has the aspect and that is not read-only, and else neither is."""
     for aspect, (load, store, read_only) in ASPECT_KEYS.items():
         has_aspect = aspect in formats.aspects_of(format)
@@ -101,11 +107,11 @@ def load_rules(depth, format):
             yield 304, f"{key}, {how}", (depth[key] is not None) == (has_aspect and not depth[read_only])
 
 
-def width_and_height(view):
+def width_and_height(view: Played) -> tuple[Any, ...]:
     return formats.extent(texture_of(view), textures.told(view)["baseMip"])[:2]
 
 
-def alike_rules(views):
+def alike_rules(views: list[Played]) -> Iterator[Any]:
     """Rule 305, on the views of all colors and of `depth`."""
     for other in views[1:]:
         for name, one, two in zip(("width", "height"), width_and_height(views[0]), width_and_height(other)):
@@ -113,7 +119,7 @@ def alike_rules(views):
         yield 305, "samples", texture_of(views[0])["samples"] == texture_of(other)["samples"]
 
 
-def apart_rules(colors, depth):
+def apart_rules(colors: Any, depth: Any) -> Iterator[Any]:
     """Rule 306: no cell is attached twice, be it a subresource or a slice. A resolve view attaches all cells that it has."""
     attached = [("color" if color["depthSlice"] is None else "slice", cells_of(view, color["depthSlice"])) for color, view, _ in colors]
     attached += [(f"resolve view {textures.told(resolve)['dim']}", cells_of(resolve)) for _, _, resolve in colors if resolve is not None]
@@ -123,12 +129,12 @@ def apart_rules(colors, depth):
             yield 306, f"{one} and {other}", not any(do_meet(cell, found) for cell in cells for found in others)
 
 
-def cells_of(view, depth_slice=None):
+def cells_of(view: Played, depth_slice: Any = None) -> list[tuple[Any, ...]]:
     """The cells that a view attaches: all that it has, or the one slice that is given."""
     return [cell for cell, _, _ in touches_of_view(view, None, None, depth_slice)]
 
 
-def resolve_rules(view, resolve):
+def resolve_rules(view: Played, resolve: Played) -> Iterator[tuple[int, str, bool]]:
     """Rule 307, on the view of a color and its resolve view."""
     yield 307, "samples of the color", texture_of(view)["samples"] == 4
     yield from color_rules(307, "resolve view", resolve, FLAT_DIMS)
@@ -138,18 +144,18 @@ def resolve_rules(view, resolve):
         yield 307, name, one == two
 
 
-def attached_views(begin):
+def attached_views(begin: Played) -> list[Played]:
     """The views of the colors and of `depth`, of which there is one at least."""
     return [view for _, view, _ in colors_of(begin)] + depth_of(begin)
 
 
-def color_formats(begin):
+def color_formats(begin: Played) -> list[Any]:
     """Of each color of a pass the format, or None where it is null."""
     found = iter([texture_of(view)["format"] for _, view, _ in colors_of(begin)])
     return [None if color is None else next(found) for color in begin.call["colors"]]
 
 
-def without_last_nulls(items):
+def without_last_nulls(items: list[Any] | tuple[()]) -> list[Any]:
     items = list(items)
     while items and items[-1] is None:
         items.pop()
@@ -168,7 +174,7 @@ def touches(begin):
     return found
 
 
-def touches_of_depth(depth, view):
+def touches_of_depth(depth: dict[str, Any], view: Played) -> list[tuple[tuple[Any, ...], str, str]]:
     """Each aspect goes by its own keys."""
     found = []
     for aspect, mip, layer in textures.subresources_of_view(view):
@@ -178,7 +184,7 @@ def touches_of_depth(depth, view):
     return found
 
 
-def touches_of_view(view, usage, kind, depth_slice=None):
+def touches_of_view(view: Any, usage: Any, kind: Any, depth_slice: Any = None) -> list[Any]:
     """The subresources of a view, or of a 3d one the slice of its mip level that is given."""
     texture, subresources = view.uses["texture"], textures.subresources_of_view(view)
     if depth_slice is None:

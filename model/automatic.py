@@ -4,9 +4,16 @@ A pipeline whose `layout` is `auto` derives layouts from its interface: of each 
 layout, with an entry for each binding that the interface names in that group. An interface may name one binding several times, each time
 with its stage. """
 
+from __future__ import annotations
+
+from typing import TYPE_CHECKING, Any, Iterator
+
 from .groups import COMPUTE, MOST_LAYOUTS, STAGES, layout_rules, pipeline_layout_rules
 from .pipelines import kind_rules
 from .rules import at_most
+
+if TYPE_CHECKING:
+    from model.history import Played
 
 AUTO = "auto"
 
@@ -14,43 +21,43 @@ AUTO = "auto"
 NOT_OF_KIND = ("group", "stage", "dynamic", "minSize")
 
 
-def is_automatic(pipeline):
+def is_automatic(pipeline: Played) -> bool:
     """A pipeline derives its layouts, where it names none."""
     return pipeline.call["layout"] == AUTO
 
 
-def layouts_of(pipeline):
+def layouts_of(pipeline: Played) -> Any:
     """The entries of each bind group layout of a valid pipeline, by group."""
     if is_automatic(pipeline):
         return merged(pipeline.call["iface"])
     return entries_of_each(pipeline.uses["layout"])
 
 
-def entries_of_each(pipeline_layout):
+def entries_of_each(pipeline_layout: Played) -> Any:
     """The entries of each bind group layout of a pipeline layout."""
     return [layout.entries for layout in pipeline_layout.uses["layouts"]]
 
 
-def entries_of(layout):
+def entries_of(layout: Played) -> Any:
     """The entries of a valid bind group layout: its own, or those that its pipeline has for its group."""
     if layout.do == "createBindGroupLayout":
         return layout.call["entries"]
     return layout.uses["pipeline"].layouts[layout.call["index"]]
 
 
-def owner_of(layout):
+def owner_of(layout: Played) -> Played | None:
     """The pipeline that a bind group layout is exclusive to, or None: it is so where it was got of a pipeline that derived it."""
     if layout.do == "createBindGroupLayout":
         return None
     return owner_in_use(layout.uses["pipeline"])
 
 
-def owner_in_use(pipeline):
+def owner_in_use(pipeline: Played) -> Played | None:
     """Where a pipeline is in use, the one that the groups which it asks for have to be exclusive to, or None."""
     return pipeline if is_automatic(pipeline) else None
 
 
-def stage_of(used):
+def stage_of(used: dict[str, Any]) -> int:
     """The bit of the stage that names a binding: an entry of the interface of a compute pipeline tells no stage."""
     return STAGES[used["stage"]] if "stage" in used else COMPUTE
 
@@ -69,12 +76,12 @@ def merged(iface):
     return layouts
 
 
-def never_dynamic(used):
+def never_dynamic(used: dict[str, Any]) -> dict[str, int]:
     """A buffer is not dynamic and of any size, whatever the interface says of that."""
     return {"dynamic": False, "minSize": 0} if "minSize" in used else {}
 
 
-def derived_rules(iface, limits):
+def derived_rules(iface: list[dict[str, Any]], limits: dict[str, int]) -> Iterator[tuple[int, str, bool]]:
     """Rules 167 and 168, on the interface of a pipeline that derives its layouts."""
     first = {}
     for used in iface:
@@ -90,13 +97,13 @@ def derived_rules(iface, limits):
     yield from within(pipeline_layout_rules(layouts, limits))
 
 
-def within(rules):
+def within(rules: Iterator[Any]) -> Iterator[tuple[int, str, bool]]:
     """The rules of layouts, all as one rule of the pipeline."""
     for number, what, is_met in rules:
         yield 168, f"as {number}: {what}", is_met
 
 
-def got_rules(pipeline, index):
+def got_rules(pipeline: Played, index: int) -> Iterator[tuple[int, str, bool]]:
     """The own rule of getBindGroupLayout, on a valid pipeline."""
     how = "derived" if is_automatic(pipeline) else "named"
     last = len(pipeline.layouts) - 1
@@ -104,13 +111,13 @@ def got_rules(pipeline, index):
     yield 169, f"{what}, {how}", index <= last
 
 
-def exclusive_rules(layouts):
+def exclusive_rules(layouts: list[Any]) -> Iterator[tuple[int, str, bool]]:
     """Rule 143: no layout of a pipeline layout is one that a pipeline derived for itself."""
     for layout in layouts:
         yield 143, "exclusive", layout.owner is None
 
 
-def owner_rules(pipeline, group):
+def owner_rules(pipeline: Any, group: Played) -> Iterator[tuple[int, str, bool]]:
     """Rule 341 on whose the layout of a group is that is set where a pipeline is in use."""
     owner, wanted = group.uses["layout"].owner, owner_in_use(pipeline)
     if wanted is None:

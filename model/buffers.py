@@ -1,22 +1,29 @@
 """The rules of calls on buffers."""
 
+from __future__ import annotations
+
+from typing import TYPE_CHECKING, Any, Iterator
+
 from .rules import at_most
+
+if TYPE_CHECKING:
+    from model.history import Played
 
 MAP_READ, MAP_WRITE, COPY_SRC, COPY_DST = 1, 2, 4, 8
 ALL_USAGES = 1023
 
 
-def fits(buffer, offset, size):
+def fits(buffer: dict[str, Any], offset: Any, size: Any) -> bool:
     """A range fits a buffer where it ends within it."""
     return offset + size <= buffer["size"]
 
 
-def rest(buffer, is_valid, offset):
+def rest(buffer: dict[str, Any], is_valid: bool, offset: int) -> int:
     """What remains of a buffer from an offset on: 0 past its end, and of an invalid buffer."""
     return max(buffer["size"] - offset, 0) if is_valid else 0
 
 
-def create_rules(call, limits):
+def create_rules(call: dict[str, Any], limits: dict[str, int]) -> Iterator[tuple[int, str, bool]]:
     usage = call["usage"]
     yield 100, "some usage", usage != 0
     yield 100, "known usages", usage <= ALL_USAGES
@@ -26,7 +33,7 @@ def create_rules(call, limits):
     yield 104, "mapped size", not call["mapped"] or call["size"] % 4 == 0
 
 
-def write_rules(call, buffer):
+def write_rules(call: dict[str, int | str], buffer: dict[str, Any]) -> Iterator[tuple[int, str, bool]]:
     """The rules of writeBuffer on its range, after those that the buffer is of this device, not dropped, and valid."""
     yield 200, "COPY_DST", buffer["usage"] & COPY_DST != 0
     yield 201, "offset", call["offset"] % 4 == 0
@@ -34,7 +41,7 @@ def write_rules(call, buffer):
     yield 202, "range", fits(buffer, call["offset"], call["size"])
 
 
-def copy_rules(call, source, target):
+def copy_rules(call: Any, source: Played, target: Played) -> Iterator[Any]:
     """The own rules of copyBufferToBuffer. `source` and `target` are objects."""
     size = call["size"]
     yield 250, "COPY_SRC", source.call["usage"] & COPY_SRC != 0
@@ -47,7 +54,7 @@ def copy_rules(call, source, target):
     yield 254, "two buffers", source.made != target.made
 
 
-def clear_rules(buffer, offset, size):
+def clear_rules(buffer: dict[str, Any], offset: int, size: int) -> Iterator[tuple[int, str, bool]]:
     """The own rules of clearBuffer."""
     yield 275, "COPY_DST", buffer["usage"] & COPY_DST != 0
     yield 276, "offset", offset % 4 == 0

@@ -1,9 +1,15 @@
 """Render bundles: the rules of bundle encoders, what a pass or a bundle draws to, and the rules that ask that this agrees."""
 
-from . import attachments
-from . import formats
+from __future__ import annotations
+
+from typing import TYPE_CHECKING, Any, Iterator
+
+from . import attachments, formats
 from .limits import of_all as limits_of_all
 from .rules import at_most
+
+if TYPE_CHECKING:
+    from model.history import Played
 
 MOST_COLORS = limits_of_all("maxColorAttachments")
 ASPECTS = ("depth", "stencil")
@@ -13,14 +19,14 @@ class Targets:
     """What is drawn to: the formats of the colors, each or None; the format of the depth or None; the samples; and which aspects are only
     read, as the keys say that were given, be it of an aspect that the format does not have."""
 
-    def __init__(self, colors, depth, samples, read_only):
+    def __init__(self, colors: list[Any], depth: str | None, samples: int, read_only: set[Any]) -> None:
         self.colors = attachments.without_last_nulls(colors)
         self.depth = depth
         self.samples = samples
         self.read_only = read_only
 
 
-def targets_of(place):
+def targets_of(place: Played) -> Targets | None:
     """What is drawn to by commands on a place: a valid bundle encoder, or a render pass that was begun without a fault; of a compute pass
     None."""
     call = place.call
@@ -34,7 +40,7 @@ def targets_of(place):
     return Targets(attachments.color_formats(place), depth, samples, read_only)
 
 
-def create_rules(call):
+def create_rules(call: dict[str, Any]) -> Iterator[tuple[int, str, bool]]:
     """The rules of createBundleEncoder."""
     colors, depth = [format for format in call["colors"] if format is not None], call["depth"]
     yield at_most(175, "colors", len(call["colors"]), MOST_COLORS)
@@ -51,7 +57,7 @@ def create_rules(call):
             yield 177, "format", formats.may_have_four_samples(format)
 
 
-def pipeline_rules(pipeline, place):
+def pipeline_rules(pipeline: dict[Any, Any], place: Played) -> Iterator[tuple[int, str, bool]]:
     """Rules 320 and 321, on a pipeline that is set on a place; a compute pass asks for nothing."""
     targets = targets_of(place)
     if targets is not None:

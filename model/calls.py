@@ -4,6 +4,10 @@ A key is a tuple of its name, the sort of its value, and the value that it has w
 uses stand in the order in which script rules 10, 11 and 12 look at them.
 """
 
+from __future__ import annotations
+
+from typing import Any
+
 from .formats import ACCESS_WORDS, ASPECT_WORDS, FORMATS, SAMPLE_WORDS, TEXTURE_DIMS, VERTEX_FORMATS, VIEW_DIMS
 from .scopes import FILTERS
 
@@ -49,7 +53,7 @@ OBJECT = (
 COMMAND_BUFFERS = ("names", ("command buffer",))
 
 
-def word(words):
+def word(words: Any) -> tuple[Any, ...]:
     """The sort of a value that is one of some words."""
     return ("word", tuple(words))
 
@@ -105,7 +109,7 @@ def iface_entry_keys(item):
     return [("group", WORD32, NEEDED), ("binding", WORD32, NEEDED), KIND, *KIND_KEYS[item["kind"]]]
 
 
-def render_iface_entry_keys(item):
+def render_iface_entry_keys(item: dict[Any, Any]) -> list[Any]:
     return [("stage", word(("vertex", "fragment")), NEEDED), *iface_entry_keys(item)]
 
 
@@ -113,16 +117,16 @@ def group_entry_keys(item):
     return [("binding", WORD32, NEEDED), *BOUND_KEYS[bound_by(item)]]
 
 
-def bound_by(item):
+def bound_by(item: dict[Any, Any]) -> str:
     """What an entry of a bind group binds: a buffer, a view or a sampler. One that has none of these keys lacks a buffer."""
     return next((key for key in BOUND_KEYS if key in item), "buffer")
 
 
-def attribute_keys(item):
+def attribute_keys(item: Any) -> Any:
     return [("format", word(VERTEX_FORMATS), NEEDED), ("offset", WORD32, NEEDED), ("location", WORD32, NEEDED)]
 
 
-def vertex_buffer_keys(item):
+def vertex_buffer_keys(item: dict[Any, Any]) -> list[Any]:
     return [
         ("stride", WORD32, NEEDED),
         ("step", word(("vertex", "instance")), "vertex"),
@@ -130,15 +134,15 @@ def vertex_buffer_keys(item):
     ]
 
 
-def depth_state_keys(item):
+def depth_state_keys(item: dict[Any, Any]) -> Any:
     return [("format", word(FORMATS), NEEDED), ("depthWrite", FLAG, False), ("stencilWrite", FLAG, False)]
 
 
-def color_keys(item):
+def color_keys(item: dict[Any, Any]) -> list[Any]:
     return [("view", VIEW, NEEDED), ("depthSlice", WORD32, None), ("resolve", VIEW, None), ("load", LOAD, NEEDED), ("store", STORE, NEEDED)]
 
 
-def depth_keys(item):
+def depth_keys(item: dict[Any, Any]) -> list[Any]:
     return [
         ("view", VIEW, NEEDED), ("depthLoad", LOAD, None), ("depthStore", STORE, None), ("depthReadOnly", FLAG, False),
         ("stencilLoad", LOAD, None), ("stencilStore", STORE, None), ("stencilReadOnly", FLAG, False),
@@ -299,7 +303,7 @@ GIVEN = {
 }
 
 
-def is_auto(sort, value):
+def is_auto(sort: tuple[Any, ...], value: str) -> bool:
     """A value that may be a name or the word `auto` is that word. An object of that name is not reached so."""
     return sort[0] == "name or auto" and value == "auto"
 
@@ -309,7 +313,7 @@ def name_keys(do):
     return [(key, sort) for key, sort, _ in CALLS[do] if sort[0] in WITH_NAMES]
 
 
-def names_in(sort, value):
+def names_in(sort: Any, value: Any) -> Any:
     """The names that a value uses, in order, each with what it may stand for. What is left out, or is null, uses none."""
     if sort[0] not in WITH_NAMES or value is None:
         return []

@@ -3,6 +3,10 @@
 A canvas is no object of the device, so the script is played without them: a call of a canvas is played as the createTexture or the destroy
 that it is, and is passed over where it is none. Only the lane that made a canvas names it, so its lane alone tells which. """
 
+from __future__ import annotations
+
+from typing import Any, Iterator
+
 from .rules import note
 
 CANVAS_CALLS = {"createCanvas", "configureCanvas", "currentTexture", "present"}
@@ -11,7 +15,7 @@ CANVAS_CALLS = {"createCanvas", "configureCanvas", "currentTexture", "present"}
 class Canvas:
     """A canvas: its extent, what it was last configured with, and the createTexture of its current texture, or None where it has none."""
 
-    def __init__(self, call):
+    def __init__(self, call: dict[str, int | str]) -> None:
         self.extent = [call["width"], call["height"], 1]
         self.setting = {}
         self.current = None
@@ -26,19 +30,19 @@ class Canvas:
         """A currentTexture that finds a texture: it is no event, and its name stands for that one too."""
         self.current["also"].append(call["as"])
 
-    def destroy(self, call):
+    def destroy(self, call: dict[Any, Any]) -> dict[str, dict[str, str] | str] | None:
         """The destroy that a call is which ends the current texture, or None where there is none. What the script itself destroyed is
         current all the same, and so is what is invalid."""
         current, self.current = self.current, None
         return current and {"do": "destroy", "object": current["as"], "of": call}
 
 
-def as_played(phases):
+def as_played(phases: list[Any]) -> list[Any]:
     """The phases of a script, each call of a canvas being the event that it is, at its place, or left out."""
     return [[list(events_in(lane)) for lane in lanes] for lanes in phases]
 
 
-def events_in(lane):
+def events_in(lane: list[Any]) -> Iterator[tuple[Any, ...]]:
     canvases = {}
     for place, call in lane:
         event = event_of(canvases, call) if call["do"] in CANVAS_CALLS else call
@@ -46,7 +50,7 @@ def events_in(lane):
             yield place, event
 
 
-def event_of(canvases, call):
+def event_of(canvases: dict[Any, Any], call: dict[Any, Any]) -> dict[Any, Any] | None:
     """The event that a call of a canvas is after the earlier ones of its lane, or None."""
     if call["do"] == "createCanvas":
         canvases[call["as"]] = Canvas(call)
@@ -60,12 +64,12 @@ def event_of(canvases, call):
     return canvas.destroy(call)
 
 
-def said_by(call):
+def said_by(call: dict[str, str]) -> Any:
     """The call of the script that a call is which is played."""
     return call.get("of", call)
 
 
-def names_of(call):
+def names_of(call: dict[Any, Any]) -> list[str]:
     """The names that stand for what a call makes: its own, and of the texture of a canvas those of each later currentTexture that found
     it."""
     return [call["as"], *call.get("also", ())]

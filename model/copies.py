@@ -1,11 +1,16 @@
 """The rules of copies that a texture has a part in, and of writeTexture; subresources and bytes of such copies."""
 
-from . import buffers
-from . import formats
-from . import textures
+from __future__ import annotations
+
+from typing import TYPE_CHECKING, Any, Iterator
+
+from . import buffers, formats, textures
+
+if TYPE_CHECKING:
+    from model.history import Played
 
 
-def spot_rules(number, which, texture, mip, origin, size):
+def spot_rules(number: int, which: str, texture: dict[str, Any], mip: Any, origin: Any, size: Any) -> Iterator[tuple[int, str, bool]]:
     """Rules 258 and 207: the place of a copy is in the texture.
 
     The mip level exists; origin and size are in its extent and layers; a depth, stencil or multisampled texture is
@@ -21,7 +26,7 @@ def spot_rules(number, which, texture, mip, origin, size):
         yield number, f"{which} whole height of {what}", (origin[1], size[1]) == (0, level[1])
 
 
-def layout_rules(number, call, texel, room):
+def layout_rules(number: int, call: dict[str, Any], texel: int, room: int) -> Iterator[tuple[int, str, bool]]:
     """Rules 262 and 209: the layout of texels is right, and its bytes from the offset on are within the room."""
     (width, height, depth), row, rows = call["size"], call["bytesPerRow"], call["rowsPerImage"]
     if row is None:
@@ -36,7 +41,7 @@ def layout_rules(number, call, texel, room):
     yield number, "bytes", call["offset"] + bytes_of(call, texel) <= room
 
 
-def bytes_of(call, texel):
+def bytes_of(call: dict[Any, Any], texel: int) -> int:
     """The bytes that a right layout takes: 0 at depth 0; else the images but the last, and of that the rows but the last, and
     of that the texels. What is not given is multiplied by 0."""
     (width, height, depth), row, rows = call["size"], call["bytesPerRow"] or 0, call["rowsPerImage"] or 0
@@ -46,13 +51,13 @@ def bytes_of(call, texel):
     return images + (row * (height - 1) + width * texel if height > 0 else 0)
 
 
-def has_gaps(call, texel):
+def has_gaps(call: Any, texel: int) -> bool:
     """Rows or images leave bytes between them: the layout takes more bytes than the texels have."""
     width, height, depth = call["size"]
     return bytes_of(call, texel) > width * height * depth * texel
 
 
-def write_texture_rules(call, texture, is_destroyed):
+def write_texture_rules(call: dict[str, Any], texture: dict[str, Any], is_destroyed: bool) -> Iterator[tuple[int, str, bool]]:
     """The rules of writeTexture, after those that the texture is of this device, not dropped, and valid. Nothing has to be aligned."""
     yield 205, "COPY_DST", texture["usage"] & textures.COPY_DST != 0
     yield 206, "samples", texture["samples"] == 1
@@ -63,11 +68,11 @@ def write_texture_rules(call, texture, is_destroyed):
     yield 210, "destroyed", not is_destroyed
 
 
-def aspect_word(call, texture):
+def aspect_word(call: dict[Any, Any], texture: dict[str, Any]) -> str:
     return f"{call['aspect']} of {texture['format']}"
 
 
-def buffer_to_texture_rules(call, buffer, texture):
+def buffer_to_texture_rules(call: dict[Any, Any], buffer: dict[str, Any], texture: dict[str, Any]) -> Iterator[tuple[int, str, bool]]:
     yield 255, "COPY_SRC", buffer["usage"] & buffers.COPY_SRC != 0
     yield 256, "COPY_DST", texture["usage"] & textures.COPY_DST != 0
     yield 257, "samples", texture["samples"] == 1
@@ -77,7 +82,7 @@ def buffer_to_texture_rules(call, buffer, texture):
     yield from placed_rules(call, buffer, texture, texel)
 
 
-def texture_to_buffer_rules(call, buffer, texture):
+def texture_to_buffer_rules(call: dict[str, int | str], buffer: dict[str, Any], texture: dict[str, Any]) -> Iterator[tuple[int, str, bool]]:
     yield 265, "COPY_SRC", texture["usage"] & textures.COPY_SRC != 0
     yield 266, "COPY_DST", buffer["usage"] & buffers.COPY_DST != 0
     yield 257, "samples", texture["samples"] == 1
@@ -87,7 +92,7 @@ def texture_to_buffer_rules(call, buffer, texture):
     yield from placed_rules(call, buffer, texture, texel)
 
 
-def placed_rules(call, buffer, texture, texel):
+def placed_rules(call: dict[Any, Any], buffer: dict[str, Any], texture: dict[str, Any], texel: int) -> Iterator[tuple[int, str, bool]]:
     """Rules 260, 261 and 262, on how the texels lie in the buffer."""
     if call["bytesPerRow"] is not None:
         yield 260, "bytesPerRow", call["bytesPerRow"] % 256 == 0
@@ -98,7 +103,7 @@ def placed_rules(call, buffer, texture, texel):
     yield from layout_rules(262, call, texel, buffer["size"])
 
 
-def texture_to_texture_rules(call, source, target):
+def texture_to_texture_rules(call: dict[str, Any], source: Played, target: Played) -> Iterator[tuple[int, str, bool]]:
     """The own rules of copyTextureToTexture. `source` and `target` are objects."""
     one, other, size = source.call, target.call, call["size"]
     yield 270, "COPY_SRC", one["usage"] & textures.COPY_SRC != 0
@@ -113,11 +118,13 @@ def texture_to_texture_rules(call, source, target):
         yield 274, f"subresources of {one['dim']}", not set(taken) & set(filled)
 
 
-def aspects_of(texture):
+def aspects_of(texture: Any) -> tuple[Any, ...]:
     return formats.aspects_of(texture["format"])
 
 
-def subresources(texture, aspects, mip, origin, size):
+def subresources(
+    texture: dict[str, Any], aspects: list[str] | tuple[Any, ...], mip: int, origin: list[int] | tuple[int, int, int], size: list[int]
+) -> list[tuple[str, int, int]]:
     """The subresources of a copy, as triples of aspect, mip level and layer.
 
     Of a 2D texture as many layers as the depth from the origin on, whatever the width and the height; else the one layer.
@@ -129,11 +136,11 @@ def subresources(texture, aspects, mip, origin, size):
     return [(aspect, mip, layer) for aspect in aspects for layer in layers]
 
 
-def covers_all(texture, mip, size):
+def covers_all(texture: dict[str, Any], mip: int, size: list[int]) -> bool:
     """A copy covers all texels of each cell that it is to: the whole width and height of the level."""
     width, height, _ = formats.extent(texture, mip)
     return size[:2] == [width, height]
 
 
-def has_no_texel(size):
+def has_no_texel(size: list[int]) -> bool:
     return 0 in size

@@ -1,10 +1,16 @@
 """Vertex and index buffers as they are set in a render pass, the rules of draws, and what they touch."""
 
-from . import buffers
-from . import formats
+from __future__ import annotations
+
+from typing import TYPE_CHECKING, Any, Iterator
+
+from . import buffers, formats
 from .cells import in_buffer, set_in_buffer
 from .limits import of_all as limits_of_all
 from .rules import at_most
+
+if TYPE_CHECKING:
+    from model.history import Played
 
 VERTEX, INDEX, INDIRECT = 32, 16, 256
 SLOTS = limits_of_all("maxVertexBuffers")
@@ -19,13 +25,13 @@ INDIRECT_BYTES = {"dispatchIndirect": 12, "drawIndirect": 16, "drawIndexedIndire
 ELEMENT_KEYS = {"vertex": ("firstVertex", "vertices"), "instance": ("firstInstance", "instances")}
 
 
-def range_set(command):
+def range_set(command: Played) -> tuple[int, int]:
     """The offset and the size of the range that a setVertexBuffer or setIndexBuffer sets; a size that is left out is what remains."""
     buffer, offset, size = command.uses["buffer"], command.call["offset"], command.call["size"]
     return offset, buffers.rest(buffer.call, buffer.is_valid, offset) if size is None else size
 
 
-def vertex_buffer_rules(command):
+def vertex_buffer_rules(command: Played) -> Iterator[tuple[int, str, bool]]:
     """The own rules of setVertexBuffer."""
     buffer, (offset, size) = command.uses["buffer"].call, range_set(command)
     yield 330, "VERTEX", buffer["usage"] & VERTEX != 0
@@ -34,7 +40,7 @@ def vertex_buffer_rules(command):
     yield 333, range_word(command, buffer, offset, size), buffers.fits(buffer, offset, size)
 
 
-def index_buffer_rules(command):
+def index_buffer_rules(command: Played) -> Iterator[tuple[int, str, bool]]:
     """The own rules of setIndexBuffer."""
     buffer, (offset, size) = command.uses["buffer"].call, range_set(command)
     yield 335, "INDEX", buffer["usage"] & INDEX != 0
@@ -42,13 +48,13 @@ def index_buffer_rules(command):
     yield 337, range_word(command, buffer, offset, size), buffers.fits(buffer, offset, size)
 
 
-def range_word(command, buffer, offset, size):
+def range_word(command: Played, buffer: dict[str, Any], offset: int, size: int) -> str:
     """A word for the counts: what range is set."""
     how = "size left out" if command.call["size"] is None else "just the end" if offset + size == buffer["size"] else "range"
     return f"{how}, empty" if size == 0 else how
 
 
-def indirect_rules(command):
+def indirect_rules(command: Played) -> Iterator[tuple[int, str, bool]]:
     """The rules of an indirect dispatch or draw on the numbers that it reads."""
     buffer, offset, length = command.uses["buffer"].call, command.call["offset"], INDIRECT_BYTES[command.do]
     yield 344, "INDIRECT", buffer["usage"] & INDIRECT != 0
@@ -56,7 +62,7 @@ def indirect_rules(command):
     yield 346, "just the end" if offset + length == buffer["size"] else "range", buffers.fits(buffer, offset, length)
 
 
-def draw_rules(command, settings):
+def draw_rules(command: Any, settings: Any) -> Iterator[Any]:
     """The rules of a draw on vertex and index buffers. An indirect one asks only that they are set."""
     wanted, vertex_buffers = settings.pipeline.call["buffers"], settings.vertex_buffers
     for slot in range(len(wanted)):
@@ -71,21 +77,21 @@ def draw_rules(command, settings):
                 yield from element_rules(command.call, vertex_buffer, vertex_buffers[slot])
 
 
-def index_rules(command, setting):
+def index_rules(command: Any, setting: Any) -> Iterator[Any]:
     """Rule 353: the indices that are read lie in the range that is set."""
     asked = (command.call["firstIndex"] + command.call["indices"]) * INDEX_BYTES[setting.call["format"]]
     _, size = range_set(setting)
     yield at_most(353, f"bytes, {setting.call['format']}", asked, size)
 
 
-def element_rules(call, vertex_buffer, setting):
+def element_rules(call: dict[str, int | str], vertex_buffer: dict[str, Any], setting: Played) -> Iterator[tuple[int, str, bool]]:
     """Rule 351: what a draw asks of a vertex buffer of its pipeline lies in the range that is set."""
     _, size = range_set(setting)
     asked = bytes_asked(call, vertex_buffer)
     yield at_most(351, f"bytes, step {vertex_buffer['step']}{', none' if asked == 0 else ''}", asked, size)
 
 
-def bytes_asked(call, vertex_buffer):
+def bytes_asked(call: Any, vertex_buffer: dict[Any, Any]) -> int:
     """The bytes that a draw asks of a vertex buffer: the strides of all elements but the last, and of that up to the greatest end of
     an attribute. No bytes where it asks no element."""
     first, count = ELEMENT_KEYS[vertex_buffer["step"]]
@@ -94,18 +100,18 @@ def bytes_asked(call, vertex_buffer):
     return (elements - 1) * vertex_buffer["stride"] + max(ends, default=0) if elements > 0 else 0
 
 
-def attribute_end(attribute):
+def attribute_end(attribute: Any) -> int:
     return attribute["offset"] + formats.VERTEX_FORMATS[attribute["format"]]
 
 
-def touches_of_range(command):
+def touches_of_range(command: Played) -> list[Any]:
     """What a setVertexBuffer or setIndexBuffer makes its pass touch: the range, and where that is empty the buffer alone."""
     if command.do not in ("setVertexBuffer", "setIndexBuffer"):
         return []
     return set_in_buffer(command.uses["buffer"], *range_set(command), "input", "read")
 
 
-def touches_of_indirect(command):
+def touches_of_indirect(command: Played) -> list[Any]:
     """The numbers that an indirect dispatch or draw reads."""
     if command.do not in INDIRECT_BYTES:
         return []

@@ -1,5 +1,9 @@
 """Texture formats, and the extents of textures and their mip levels."""
 
+from __future__ import annotations
+
+from typing import Any
+
 ASPECT_WORDS = ("all", "depth-only", "stencil-only")
 TEXTURE_DIMS = ("1d", "2d", "3d")
 VIEW_DIMS = ("1d", "2d", "2d-array", "cube", "cube-array", "3d")
@@ -100,66 +104,66 @@ TEXELS_FROM = {
 TEXELS_TO = {place: count for place, count in TEXELS_FROM.items() if place[0] != "depth32float"}
 
 
-def aspects_of(format):
+def aspects_of(format: Any) -> Any:
     return FORMATS[format][0]
 
 
-def has_storage_access(format):
+def has_storage_access(format: str) -> bool:
     return FORMATS[format][1]
 
 
-def has_access(format, access):
+def has_access(format: str, access: str) -> bool:
     """The format can be accessed as storage in one of the three ways."""
     return format in READ_WRITE if access == "read-write" else has_storage_access(format)
 
 
-def sampled_as(format, aspect):
+def sampled_as(format: str, aspect: str) -> Any:
     """As what an aspect is sampled."""
     return {"color": COLOR_SAMPLED.get(format), "depth": "depth", "stencil": "uint"}[aspect]
 
 
-def may_have_four_samples(format):
+def may_have_four_samples(format: str) -> bool:
     return FORMATS[format][2]
 
 
-def is_color(format):
+def is_color(format: Any) -> bool:
     return aspects_of(format) == COLOR
 
 
-def named_aspects(format, named):
+def named_aspects(format: str, named: Any) -> Any:
     """The aspects of a format that a word names: all of them, or the depth alone, or the stencil alone."""
     if named == "all":
         return aspects_of(format)
     return tuple(aspect for aspect in aspects_of(format) if f"{aspect}-only" == named)
 
 
-def copied_aspect(format, named):
+def copied_aspect(format: str, named: str) -> Any:
     """The one aspect that a copy between a buffer and a texture takes, or None where the word doesn't name one alone."""
     aspects = named_aspects(format, named)
     return aspects[0] if len(aspects) == 1 else None
 
 
-def texel_from(format, named):
+def texel_from(format: str, named: Any) -> Any:
     """The bytes of a texel that is copied from a texture, or None where the aspect can't be."""
     return TEXELS_FROM.get((format, copied_aspect(format, named)))
 
 
-def texel_to(format, named):
+def texel_to(format: str, named: str) -> Any:
     """The bytes of a texel that is copied to a texture, or None where the aspect can't be."""
     return TEXELS_TO.get((format, copied_aspect(format, named)))
 
 
-def are_copy_compatible(one, other):
+def are_copy_compatible(one: str, other: str) -> bool:
     """Two formats are equal, or differ in `-srgb` alone."""
     return one.replace("-srgb", "") == other.replace("-srgb", "")
 
 
-def layer_count(texture):
+def layer_count(texture: dict[str, Any]) -> int:
     """A 2D texture has its depth as layers; others have one layer."""
     return texture["size"][2] if texture["dim"] == "2d" else 1
 
 
-def extent(texture, mip):
+def extent(texture: dict[str, Any], mip: Any) -> tuple[int, int, int]:
     """Width, height, and depth or layers of a mip level.
 
     Each level halves width, height and, of a 3D texture, depth, rounded down, and none falls below 1. Layers stay.

@@ -4,12 +4,17 @@ An entry of a layout or of a bind group is the dictionary that the script has, w
 of a bind group goes with the object that it binds.
 """
 
-from . import buffers
-from . import formats
-from . import textures
+from __future__ import annotations
+
+from typing import TYPE_CHECKING, Any, Iterator
+
+from . import buffers, formats, textures
 from .calls import bound_by
 from .limits import of_all as limits_of_all
 from .rules import at_most
+
+if TYPE_CHECKING:
+    from model.history import Played
 
 VERTEX, FRAGMENT, COMPUTE = 1, 2, 4
 STAGES = {"vertex": VERTEX, "fragment": FRAGMENT, "compute": COMPUTE}
@@ -58,7 +63,7 @@ WANTED = {
 ALSO_SAMPLED = {("float", "unfilterable-float"), ("depth", "unfilterable-float")}
 
 
-def layout_rules(entries, limits):
+def layout_rules(entries: list[Any], limits: dict[str, int]) -> Iterator[tuple[int, str, bool]]:
     """The rules of createBindGroupLayout."""
     bindings = [entry["binding"] for entry in entries]
     yield 130, "bindings", len(set(bindings)) == len(bindings)
@@ -81,23 +86,23 @@ def layout_rules(entries, limits):
     yield from dynamic_rules(137, entries, limits)
 
 
-def is_written(entry):
+def is_written(entry: dict[Any, Any]) -> bool:
     """Shaders may write a storage buffer that is not only read, and a storage texture that is not only read."""
     return entry["kind"] == "storage" or entry["kind"] == "storage-texture" and entry["access"] != "read-only"
 
 
-def written_what(entry):
+def written_what(entry: Any) -> Any:
     """What the vertex stage sees, for the counts: those kinds of which some may not be seen there, or any other."""
     if entry["kind"] == "storage-texture":
         return f"storage texture, {entry['access']}"
     return entry["kind"] if entry["kind"] in STORAGE_KINDS else "any of the others"
 
 
-def is_flat(entry):
+def is_flat(entry: dict[str, int | str]) -> bool:
     return entry["dim"] not in ("cube", "cube-array")
 
 
-def seen_rules(number, entries, limits):
+def seen_rules(number: Any, entries: Any, limits: Any) -> Iterator[tuple[int, str, bool]]:
     """Rules 136 and 141: what each stage sees of each sort."""
     for stage, bit in STAGES.items():
         for sort, (kinds, limit) in SEEN_LIMITS.items():
@@ -105,14 +110,14 @@ def seen_rules(number, entries, limits):
             yield at_most(number, f"{stage} {sort}", count, limits[limit])
 
 
-def dynamic_rules(number, entries, limits):
+def dynamic_rules(number: Any, entries: Any, limits: Any) -> Iterator[tuple[int, str, bool]]:
     """Rules 137 and 142: what is dynamic of each sort."""
     for sort, (kinds, limit) in DYNAMIC_LIMITS.items():
         count = sum(entry["kind"] in kinds and entry["dynamic"] for entry in entries)
         yield at_most(number, f"dynamic {sort}", count, limits[limit])
 
 
-def pipeline_layout_rules(layouts, limits):
+def pipeline_layout_rules(layouts: list[Any], limits: dict[str, int]) -> Iterator[tuple[int, str, bool]]:
     """The rules of createPipelineLayout on the entries of its layouts, after those on each layout."""
     yield at_most(140, "layouts", len(layouts), MOST_LAYOUTS)
     entries = [entry for layout in layouts for entry in layout]
@@ -120,7 +125,7 @@ def pipeline_layout_rules(layouts, limits):
     yield from dynamic_rules(142, entries, limits)
 
 
-def group_rules(layout, bound, limits):
+def group_rules(layout: Any, bound: Any, limits: Any) -> Iterator[tuple[int, str, bool]]:
     """The rules of createBindGroup on the entries of its layout, and on pairs of an entry and what it binds, after those on each
     object."""
     wanted = {entry["binding"]: entry for entry in layout}
@@ -139,7 +144,7 @@ def group_rules(layout, bound, limits):
             yield 157, f"{asked['type']}", takes_sampler(asked["type"], thing.call["kind"])
 
 
-def range_of(entry, buffer):
+def range_of(entry: dict[Any, Any], buffer: Played) -> tuple[int, int, str]:
     """The offset and the size of what is bound of a buffer; a size that is left out is what remains, and then has no number of
     its own."""
     if entry["size"] is None:
@@ -147,7 +152,7 @@ def range_of(entry, buffer):
     return entry["offset"], entry["size"], "size"
 
 
-def buffer_rules(in_buffers, limits):
+def buffer_rules(in_buffers: list[Any], limits: dict[str, int]) -> Iterator[tuple[int, str, bool]]:
     """Rules 152, 153 and 154, on what is asked, a buffer, an offset, a size, and a word for the size."""
     for asked, buffer, _, _, _ in in_buffers:
         yield 152, asked["kind"], buffer["usage"] & BUFFER_KINDS[asked["kind"]][0] != 0
@@ -163,7 +168,7 @@ def buffer_rules(in_buffers, limits):
             yield 154, f"just the least of {word}" if size == asked["minSize"] else f"least {word}", size >= asked["minSize"]
 
 
-def view_rules(bound):
+def view_rules(bound: Any) -> Iterator[tuple[int, str, bool]]:
     """Rules 155 and 156, on pairs of what is asked and a view."""
     told = [(asked, textures.told(view), view.uses["texture"].call) for asked, view in bound]
     for asked, view, texture in told:
@@ -177,7 +182,7 @@ def view_rules(bound):
             yield 156, f"dimension {asked['dim']}", view["dim"] == asked["dim"]
 
 
-def sampled_rules(asked, view, texture):
+def sampled_rules(asked: dict[Any, Any], view: Any, texture: dict[Any, Any]) -> Iterator[Any]:
     """Rule 155: what a view has to be that is sampled."""
     yield 155, "TEXTURE_BINDING", texture["usage"] & textures.TEXTURE_BINDING != 0
     aspects = formats.named_aspects(texture["format"], view["aspect"])
@@ -188,10 +193,10 @@ def sampled_rules(asked, view, texture):
     yield 155, "multi" if asked["multi"] else "not multi", (texture["samples"] == 4) == asked["multi"]
 
 
-def takes_sample(asked, sampled):
+def takes_sample(asked: str, sampled: str) -> bool:
     return asked == sampled or (sampled, asked) in ALSO_SAMPLED
 
 
-def takes_sampler(asked, kind):
+def takes_sampler(asked: Any, kind: Any) -> Any:
     """A sampler is of the kind that is asked for; one that does not filter will do for one that does."""
     return kind == asked or (kind, asked) == ("non-filtering", "filtering")

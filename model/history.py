@@ -4,13 +4,13 @@ All looking back is over plain lists: the calls that were played, oldest first, 
 is asked for again and again is kept beside them, and brought up to date by each call that is added, so that no call walks what came before
 it. """
 
+from __future__ import annotations
+
 import collections
 import functools
+from typing import Any
 
-from . import automatic
-from . import maps
-from . import passes
-from . import scopes
+from . import automatic, maps, passes, scopes
 from .calls import ENCODERS, FINISHES, ONE_NAME, RESOURCES, WAITING, name_keys, names_in
 from .lives import Lives
 
@@ -23,7 +23,7 @@ class Played:
     be they valid or not; a later one has none.
     """
 
-    def __init__(self, call, uses, caller):
+    def __init__(self, call: dict[Any, Any], uses: dict[Any, Any], caller: int) -> None:
         self.call = call
         self.caller = caller
         self.do = call["do"]
@@ -43,23 +43,23 @@ class Played:
         self.released = []
 
     @property
-    def is_met(self):
+    def is_met(self) -> bool:
         """The call leaves no rule unmet. Whether the device is lost is not looked at."""
         return self.rule is None
 
     @property
-    def is_valid(self):
+    def is_valid(self) -> bool:
         """The object that this call made is valid exactly where no rule is unmet and the device was not lost before."""
         return self.is_met and not self.on_lost
 
-    def referred(self):
+    def referred(self) -> list[Any]:
         """The objects that the call names, in the order of its keys."""
         found = []
         for value in self.uses.values():
             found += value if type(value) is list else [value]
         return found
 
-    def named(self):
+    def named(self) -> list[Any]:
         """The objects that a command names, with their keys: all but what it stands on. A begin of a render pass names its views and its
         query set."""
         found = []
@@ -69,42 +69,42 @@ class Played:
         return found
 
     @functools.cached_property
-    def layouts(self):
+    def layouts(self) -> Any:
         """The entries of each bind group layout that a valid pipeline has, by group."""
         return automatic.layouts_of(self)
 
     @functools.cached_property
-    def entries(self):
+    def entries(self) -> Any:
         """The entries of a valid bind group layout."""
         return automatic.entries_of(self)
 
     @functools.cached_property
-    def owner(self):
+    def owner(self) -> Played | None:
         """The pipeline that a bind group layout is exclusive to, or None."""
         return automatic.owner_of(self)
 
     @functools.cached_property
-    def names(self):
+    def names(self) -> list[Any]:
         """The objects that the commands of a finish name themselves, each once."""
         return list(dict.fromkeys(thing for command in self.commands for _, thing in command.named()))
 
     @functools.cached_property
-    def resources(self):
+    def resources(self) -> list[Played]:
         """The buffers, textures and query sets that they name, themselves or through others, each once."""
         return list(dict.fromkeys(found for thing in self.names for found in resources_in(thing)))
 
     @functools.cached_property
-    def touches(self):
+    def touches(self) -> list[Any]:
         """What a bundle touches in each pass that executes it, each once."""
         return list(dict.fromkeys(passes.touches_of_drawing(self.commands)))
 
 
-def encoder_of(place):
+def encoder_of(place: Played) -> Played:
     """The encoder of what a command stands on: itself, be it one of a bundle, or the one on which the pass was begun."""
     return place if place.do in ENCODERS else place.uses["on"]
 
 
-def resources_in(thing):
+def resources_in(thing: Played) -> list[Any]:
     """The buffers, textures and query sets that one names who names an object: it itself, the texture of a view, what a bind group
     binds, or what the commands of a bundle name, themselves or through these."""
     if thing.do in RESOURCES:
@@ -119,13 +119,13 @@ def resources_in(thing):
 class Setup:
     """What a device is opened with: the bytes of its budget, and its limits by their names."""
 
-    def __init__(self, budget, limits):
+    def __init__(self, budget: int, limits: dict[str, int]) -> None:
         self.budget = budget
         self.limits = limits
 
 
 class History:
-    def __init__(self, setup):
+    def __init__(self, setup: Setup) -> None:
         self.budget = setup.budget
         self.limits = setup.limits
         self.objects = []
@@ -149,7 +149,7 @@ class History:
         self.scopes = scopes.Stack()
         self.lives = Lives(self)
 
-    def add(self, played):
+    def add(self, played: Played) -> None:
         """Adds a call that was answered, or a command that was recorded, and notes what it changes."""
         if played.entry is None:
             encoder = encoder_of(played.uses["on"])
@@ -177,7 +177,7 @@ class History:
         scopes.follow(self.scopes, played)
         played.released = self.lives.follow(played)
 
-    def follow_promises(self, played):
+    def follow_promises(self, played: Played) -> None:
         """Notes which promises wait after an entry, for which operations, and of which buffer."""
         if played.do in WAITING:
             self.unsettled[played] = True
@@ -189,7 +189,7 @@ class History:
             if promise.do == "mapAsync" and promise is not played:
                 del self.pending[promise.uses["buffer"]]
 
-    def uses_of(self, call):
+    def uses_of(self, call: dict[Any, Any]) -> dict[Any, Any]:
         """The objects that the names of a call stand for, key by key; of an object, and of a list of names or of objects, a list. Where a
         name is left out there is none of its key."""
         uses = {}
@@ -201,80 +201,80 @@ class History:
                 uses[key] = found[0]
         return uses
 
-    def entries(self):
+    def entries(self) -> list[Any]:
         return self.with_entry
 
-    def is_lost(self):
+    def is_lost(self) -> bool:
         """The device is lost from its first loss on."""
         return self.has_loss
 
-    def finishes(self, encoder):
+    def finishes(self, encoder: Played) -> list[Any]:
         """The finishes that named an encoder or a bundle encoder, accepted, refused or on a lost device."""
         return self.finished[encoder]
 
-    def has_finished(self, encoder):
+    def has_finished(self, encoder: Played) -> bool:
         return self.finishes(encoder) != []
 
-    def has_ended(self, place):
+    def has_ended(self, place: Played) -> bool:
         """An encoder or a bundle encoder has ended from its first finish on. A pass has ended where its encoder has, or by its own end, if
         it was open."""
         encoder = encoder_of(place)
         return self.has_finished(encoder) or place in self.walks[encoder].ended
 
-    def commands_on(self, encoder):
+    def commands_on(self, encoder: Played) -> list[Played]:
         """The commands that were recorded on an encoder and on its passes, in order; a late one was not."""
         return self.recorded[encoder]
 
-    def commands_of(self, made):
+    def commands_of(self, made: Played) -> list[Any]:
         """The commands of a command buffer or a bundle: those of its encoder if it came of the first finish, else none."""
         return made.commands
 
-    def is_destroyed(self, thing):
+    def is_destroyed(self, thing: Played) -> bool:
         """Some destroy that met its rules named the object, be it on a lost device."""
         return thing in self.destroyed
 
-    def drop_of(self, thing):
+    def drop_of(self, thing: Played) -> Any:
         """The drop that met its rules and named the object, be it on a lost device; there is one at most, or None."""
         return self.drops.get(thing)
 
-    def is_dropped(self, thing):
+    def is_dropped(self, thing: Played) -> bool:
         return self.drop_of(thing) is not None
 
-    def was_dropped_before(self, thing, other):
+    def was_dropped_before(self, thing: Played, other: Played) -> bool:
         """The object was dropped before the other one was made."""
         drop = self.drop_of(thing)
         return drop is not None and drop.entry < other.entry
 
-    def is_consumed(self, command_buffer):
+    def is_consumed(self, command_buffer: Played) -> bool:
         """Some submit listed the command buffer, accepted, refused or on a lost device."""
         return command_buffer in self.consumed
 
-    def issued(self):
+    def issued(self) -> int:
         """How many operations were queued; they are numbered from 1."""
         return self.last_op
 
-    def completed(self):
+    def completed(self) -> int:
         """The number of the last completion that was not bad, or 0."""
         return self.last_completed
 
-    def waiting(self):
+    def waiting(self) -> list[Any]:
         """The promises of workDones and mapAsyncs that no entry has settled, in their order."""
         return list(self.unsettled)
 
-    def waiting_until(self, op):
+    def waiting_until(self, op: int) -> list[Any]:
         """Those of them that wait for an operation which is not complete and is at most the one of a number, in their order."""
         found = [promise for one in range(self.completed() + 1, op + 1) for promise in self.waiting_for[one] if promise in self.unsettled]
         return sorted(found, key=lambda promise: promise.entry)
 
-    def pending_map(self, buffer):
+    def pending_map(self, buffer: Played) -> Any:
         """The mapAsync of a buffer whose promise waits, of which there is one at most, or None."""
         return self.pending.get(buffer)
 
-    def last_use(self, thing):
+    def last_use(self, thing: Played) -> int:
         """The last operation that uses an object, or 0."""
         return self.last_ops.get(thing, 0)
 
-    def used_by(self, played):
+    def used_by(self, played: Played) -> list[Played]:
         """What an operation uses: a write its target, also where its size is 0; a submit what its commands name, with the textures of the
         views that they attach, what is bound in the groups that they set, and what the bundles name that they execute. A query set is used
         also where no query of it is begun."""
@@ -282,15 +282,15 @@ class History:
             return self.resources_of(played.uses["buffers"])
         return [played.uses["buffer" if played.do == "writeBuffer" else "texture"]]
 
-    def named_by(self, command_buffers):
+    def named_by(self, command_buffers: list[Played]) -> list[Played]:
         """The objects that the commands of some command buffers name themselves."""
         return [thing for one in command_buffers for thing in one.names]
 
-    def resources_of(self, command_buffers):
+    def resources_of(self, command_buffers: list[Played]) -> list[Played]:
         """The buffers, textures and query sets that the commands of some command buffers name, themselves, through a view that they
         attach, through a bind group, or through a bundle, whether or not a step comes of it."""
         return [found for one in command_buffers for found in one.resources]
 
-    def live_bytes(self):
+    def live_bytes(self) -> int:
         """The bytes of all that is valid and was not released."""
         return self.lives.bytes

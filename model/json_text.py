@@ -7,7 +7,10 @@ A number of decimal digits alone, without a sign, is a Python int; any other num
 that a value is written as a whole number.
 """
 
+from __future__ import annotations
+
 import re
+from typing import Any
 
 MOST_NESTED = 127
 SPACE = re.compile(r"[ \t\n\r]*")
@@ -26,25 +29,25 @@ class NoJson(Exception):
 class Text:
     """A text and how far it was read."""
 
-    def __init__(self, text):
+    def __init__(self, text: str) -> None:
         self.text = text
         self.at = 0
 
-    def peek(self):
+    def peek(self) -> str:
         """The next character, or nothing at the end."""
         return self.text[self.at:self.at + 1]
 
     def skip_space(self):
         self.at = SPACE.match(self.text, self.at).end()
 
-    def take(self, wanted):
+    def take(self, wanted: str) -> None:
         """Goes past the text that is wanted here."""
         if not self.text.startswith(wanted, self.at):
             raise NoJson(f"{wanted!r} is wanted at {self.at}")
         self.at += len(wanted)
 
 
-def read(data):
+def read(data: bytes) -> dict[str, int | list[list[list[Any]]]]:
     """The value that some bytes stand for."""
     try:
         text = Text(data.decode("utf-8", "strict"))
@@ -57,7 +60,7 @@ def read(data):
     return value
 
 
-def read_value(text, nested):
+def read_value(text: Text, nested: int) -> Any:
     """A value that stands inside so many lists and objects."""
     text.skip_space()
     first = text.peek()
@@ -74,14 +77,14 @@ def read_value(text, nested):
     return read_number(text)
 
 
-def open_nested(text, bracket, nested):
+def open_nested(text: Text, bracket: str, nested: int) -> None:
     if nested > MOST_NESTED:
         raise NoJson("nested too deep")
     text.take(bracket)
     text.skip_space()
 
 
-def has_next(text, closing):
+def has_next(text: Text, closing: str) -> bool:
     """Goes past a comma, after which a value must follow, or past the closing bracket."""
     text.skip_space()
     if text.peek() == closing:
@@ -91,7 +94,7 @@ def has_next(text, closing):
     return True
 
 
-def read_list(text, nested):
+def read_list(text: Text, nested: int) -> Any:
     open_nested(text, "[", nested)
     items = []
     if text.peek() == "]":
@@ -103,7 +106,7 @@ def read_list(text, nested):
             return items
 
 
-def read_object(text, nested):
+def read_object(text: Text, nested: int) -> Any:
     open_nested(text, "{", nested)
     members = {}
     if text.peek() == "}":
@@ -136,7 +139,7 @@ def read_string(text):
         pieces.append(read_escape(text))
 
 
-def read_escape(text):
+def read_escape(text: Text) -> str:
     """What follows a backslash; an escaped surrogate comes with its other half, or there is no reading."""
     letter = text.peek()
     text.at += 1
@@ -156,7 +159,7 @@ def read_escape(text):
     return chr(code)
 
 
-def read_code(text):
+def read_code(text: Text) -> int:
     found = FOUR_DIGITS.match(text.text, text.at)
     if not found:
         raise NoJson("four digits are wanted")
@@ -164,7 +167,7 @@ def read_code(text):
     return int(found.group(), 16)
 
 
-def read_number(text):
+def read_number(text: Text) -> Any:
     """A number; one of more than 20 digits is past every whole number that counts, and so may be a float."""
     found = NUMBER.match(text.text, text.at)
     if not found:

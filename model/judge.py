@@ -6,8 +6,11 @@ and the same write of each cell is the last one. Of a step that may read another
 All cells of one owner (a buffer, a query set, an aspect and a mip level of a texture) that the same lines name are alike, so the cells are
 cut at the ends of all runs of lines, and of each piece the first cell stands for all. """
 
+from __future__ import annotations
+
 import bisect
 import collections
+from typing import Any, Iterator
 
 from . import trace_text
 from .formats import ASPECTS
@@ -18,7 +21,7 @@ MOST_BYTES = 67_108_864
 SORTS = "bqts"
 
 
-def check(data):
+def check(data: bytes) -> tuple[int, str]:
     """The exit status, and the text that is written."""
     try:
         items = [item for _, item in trace_text.read(data)]
@@ -35,25 +38,25 @@ class Cell:
     """A cell of a trace, which stands for a piece of cells that are alike: the steps that read it, those that write it, and those before
     which a barrier on its part stands, in order."""
 
-    def __init__(self, cell, bars):
+    def __init__(self, cell: tuple[Any, ...], bars: list[Any]) -> None:
         self.cell = cell
         self.bars = bars
         self.reads = []
         self.writes = []
 
-    def is_before(self, one, other):
+    def is_before(self, one: int | None, other: int | None) -> bool:
         """A barrier on the part stands before a step behind the one that is the other or before it. Every step is before the end, None,
         which is before none."""
         if one is None or other is None:
             return other is None and one is not None
         return bisect.bisect_right(self.bars, other) > bisect.bisect_right(self.bars, one)
 
-    def seen_by(self, reader):
+    def seen_by(self, reader: int | None) -> int:
         """The last step before another one, or before the end, that writes the cell; or None."""
         before = len(self.writes) if reader is None else bisect.bisect_left(self.writes, reader)
         return self.writes[before - 1] if before > 0 else None
 
-    def differs(self, reader, writer):
+    def differs(self, reader: int | None, writer: int) -> bool:
         """The reader may see otherwise by the writer: it may come before the write that it is to see, or the writer may come between the
         two."""
         if writer == reader:
@@ -64,7 +67,7 @@ class Cell:
         return not self.is_before(reader, writer) and (seen is None or not self.is_before(writer, seen))
 
 
-def verdict(items):
+def verdict(items: Any) -> Any:
     """The least triple of a step or the end, None; a cell; and a step that may be seen otherwise: the end last, and cells as they are
     printed. None where there is none."""
     clashes = [
@@ -75,7 +78,7 @@ def verdict(items):
     return min(clashes)[3] if clashes else None
 
 
-def first_clash(cell):
+def first_clash(cell: Cell) -> list[Any]:
     """The least reader of a cell by which some writer is seen otherwise, and the least such writer; in a list, or none."""
     for reader in [*cell.reads, None]:
         for writer in cell.writes:
@@ -84,22 +87,22 @@ def first_clash(cell):
     return []
 
 
-def place_of(reader):
+def place_of(reader: int | None) -> float | int:
     return float("inf") if reader is None else reader
 
 
-def order_of(cell):
+def order_of(cell: Any) -> Any:
     """Cells in printed order: by object, sort, aspect, mip level and place."""
     return cell[1], SORTS.index(cell[0]), *cell[2:]
 
 
-def cell_text(cell):
+def cell_text(cell: tuple[Any, ...]) -> str:
     sort, number, *image, place = cell
     middle = [ASPECTS[image[0]], image[1]] if image else []
     return " ".join(map(str, [sort, number, *middle, place, place + 1]))
 
 
-def cells_of(items):
+def cells_of(items: Any) -> Iterator[Cell]:
     """The cells of a trace that stand for all that it accesses, each with its reads, writes and barriers."""
     accesses, bars, steps = collections.defaultdict(list), collections.defaultdict(list), 0
     for item in items:

@@ -1,7 +1,10 @@
 """The limits of a device: those that a script asks for, and else the defaults. The numbers stand in docs/limits.json alone."""
 
+from __future__ import annotations
+
 import json
 import pathlib
+from typing import Any
 
 TABLE = json.loads((pathlib.Path(__file__).resolve().parents[1] / "docs/limits.json").read_text(encoding="utf-8"))["limits"]
 
@@ -13,18 +16,18 @@ ALIGNMENTS = {row["name"] for row in TABLE if row.get("better") == "smaller"}
 ALIGNMENTS_END = 2**32
 
 
-def of_all(name):
+def of_all(name: Any) -> Any:
     """A limit that is the same for every device, whatever is asked for: its best is its default."""
     if DEFAULTS[name] != BEST[name]:
         raise ValueError(f"{name} may be asked for")
     return DEFAULTS[name]
 
 
-def is_better(name, one, other):
+def is_better(name: str, one: int, other: int) -> bool:
     return one < other if name in ALIGNMENTS else one > other
 
 
-def is_alignment(value):
+def is_alignment(value: Any) -> Any:
     """A power of two that has 32 bits."""
     return 0 < value < ALIGNMENTS_END and value & (value - 1) == 0
 

@@ -4,7 +4,14 @@ A mapping is a triple of its mode, its offset and its size. A buffer is mapped b
 map of it as mapped, until it is unmapped or destroyed. It is pending while the promise of a map of it waits.
 """
 
+from __future__ import annotations
+
+from typing import TYPE_CHECKING, Any, Iterator
+
 from . import buffers
+
+if TYPE_CHECKING:
+    from model.history import History, Played
 
 READ, WRITE = 1, 2
 
@@ -12,7 +19,7 @@ READ, WRITE = 1, 2
 USAGE_OF = {READ: buffers.MAP_READ, WRITE: buffers.MAP_WRITE}
 
 
-def asked_by(call, buffer):
+def asked_by(call: dict[Any, Any], buffer: Played) -> tuple[int, int, int]:
     """The mapping that a mapAsync asks for; a size that is left out is what remains of the buffer."""
     size = call["size"]
     if size is None:
@@ -20,7 +27,7 @@ def asked_by(call, buffer):
     return call["mode"], call["offset"], size
 
 
-def map_rules(history, call, buffer):
+def map_rules(history: History, call: dict[Any, Any], buffer: Played) -> Iterator[tuple[int, str, bool]]:
     """The rules of mapAsync, after those that the buffer is of this device, not dropped, and valid."""
     mode, offset, size = asked_by(call, buffer)
     yield 220, "offset", offset % 8 == 0
@@ -31,23 +38,23 @@ def map_rules(history, call, buffer):
     yield from idle_rules(history, 225, buffer)
 
 
-def idle_rules(history, number, buffer):
+def idle_rules(history: History, number: int, buffer: Played) -> Iterator[tuple[int, str, bool]]:
     """Rules 203 and 225: the buffer is not pending, mapped or destroyed."""
     yield number, "pending", not is_pending(history, buffer)
     yield number, "mapped", mapping_of(history, buffer) is None
     yield number, "destroyed", not history.is_destroyed(buffer)
 
 
-def is_pending(history, buffer):
+def is_pending(history: History, buffer: Played) -> bool:
     return history.pending_map(buffer) is not None
 
 
-def mapping_of(history, buffer):
+def mapping_of(history: History, buffer: Played) -> tuple[int, int, int] | None:
     """The mapping of a buffer, or None where it is not mapped, as the last entry says that changed it."""
     return history.mappings.get(buffer)
 
 
-def follow(mappings, played):
+def follow(mappings: dict[Any, Any], played: Played) -> None:
     """Notes in the mappings of buffers what an entry changes of them."""
     if played.do == "createBuffer":
         mappings[played] = mapping_at_creation(played)
@@ -58,18 +65,18 @@ def follow(mappings, played):
             mappings[promise.uses["buffer"]] = asked_by(promise.call, promise.uses["buffer"])
 
 
-def mapping_at_creation(buffer):
+def mapping_at_creation(buffer: Played) -> tuple[int, int, int] | None:
     """A valid buffer with `mapped` true is mapped for writing, over all of its bytes."""
     return (WRITE, 0, buffer.call["size"]) if buffer.call["mapped"] and buffer.is_valid else None
 
 
-def unmapped_by(played):
+def unmapped_by(played: Played) -> list[Any]:
     """The object that an event unmaps, if it is one: that of an unmap or a destroy that meets its rules, be it on a lost device."""
     key = {"unmap": "buffer", "destroy": "object"}.get(played.do)
     return [] if key is None or not played.is_met else [played.uses[key]]
 
 
-def host_accesses(played):
+def host_accesses(played: Played) -> list[Any]:
     """The host accesses of an entry, as triples of a step's name, a buffer and a mapping.
 
     At an unmap the write of what was mapped for writing; a destroy makes none. Of each map for reading that the entry settles as

@@ -1,17 +1,20 @@
 """The bytes that a buffer, a texture or a query set takes of the budget of its device."""
 
-from . import formats
-from . import queries
+from __future__ import annotations
+
+from typing import Any
+
+from . import formats, queries
 
 
-def bytes_of(call):
+def bytes_of(call: dict[str, Any]) -> int:
     """Those of what a createBuffer, createTexture or createQuerySet makes that meets its own rules."""
     if call["do"] == "createQuerySet":
         return call["count"] * queries.BYTES
     return call["size"] if call["do"] == "createBuffer" else texture_bytes(call)
 
 
-def texture_bytes(texture):
+def texture_bytes(texture: dict[str, Any]) -> int:
     """Of each mip level its width by its height by its depth or layers, by the samples, by the bytes of a texel."""
     texels = 0
     for mip in range(texture["mips"]):

@@ -4,7 +4,10 @@ The calls are gone through in reading order. Of each call come first the names t
 items of a list one after another; then 15, which a currentTexture alone can break; then the name that it gives. Of each name that is used
 10, 11 and 12 are tested. """
 
+from __future__ import annotations
+
 import re
+from typing import Any
 
 from .calls import GIVEN, name_keys, names_in
 from .script import ask
@@ -15,7 +18,7 @@ WELL_FORMED = re.compile(r"[A-Za-z0-9_]{1,64}")
 PIPELINE_OF = {"compute pass": "compute pipeline", "render pass": "render pipeline", "bundle encoder": "render pipeline"}
 
 
-def bind(phases):
+def bind(phases: list[Any]) -> None:
     """Refuses a script whose names break a rule."""
     given, configured = {}, set()
     for place, call in (found for lanes in phases for lane in lanes for found in lane):
@@ -32,14 +35,16 @@ def bind(phases):
             given[call["as"]] = (place, GIVEN[call["do"]])
 
 
-def wanted(call, key, kinds, given):
+def wanted(call: dict[Any, Any], key: str, kinds: tuple[Any, ...], given: dict[str, tuple[tuple[int, int, int], str]]) -> Any:
     """What a name may stand for. Of a pipeline that is set that says which on which it is set, whose name is looked at before."""
     if call["do"] == "setPipeline" and key == "pipeline":
         return [PIPELINE_OF[given[call["on"]][1]]]
     return kinds
 
 
-def ask_used(place, key, name, kinds, given):
+def ask_used(
+    place: tuple[int, int, int], key: str, name: str, kinds: tuple[Any, ...], given: dict[str, tuple[tuple[int, int, int], str]]
+) -> None:
     """Rule 10: an earlier call gave the name, and it is visible. Rule 11: what it stands for is of a kind that the key takes. Rule 12: the
     encoder, bundle encoder or pass under `on`, or the canvas, was made by this lane, in this phase."""
     ask(10, "given", name in given, place)
@@ -50,6 +55,6 @@ def ask_used(place, key, name, kinds, given):
         ask(12, f"own lane of this phase, {key}", maker[:2] == place[:2], place)
 
 
-def is_visible(maker, place):
+def is_visible(maker: tuple[int, int, int], place: tuple[int, int, int]) -> bool:
     """A name that was given before in reading order is visible in later phases, and in its own phase to its own lane."""
     return maker[0] < place[0] or maker[:2] == place[:2]

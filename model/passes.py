@@ -1,17 +1,19 @@
 """Passes: which one is open, the rules of its commands, and what its dispatches, or the pass as a whole, use."""
 
-import collections
+from __future__ import annotations
 
-from . import attachments
-from . import bound_groups
-from . import bundles
-from . import draws
-from . import queries
+import collections
+from typing import TYPE_CHECKING, Any, Iterator
+
+from . import attachments, bound_groups, bundles, draws, queries
 from .calls import BEGINS, DISPATCHES, DRAWS
 from .cells import part_of
 from .draws import INDIRECT_BYTES
 from .limits import of_all as limits_of_all
 from .rules import at_most, first_unmet
+
+if TYPE_CHECKING:
+    from model.history import Played
 
 MOST_COUNT = limits_of_all("maxComputeWorkgroupsPerDimension")
 
@@ -26,7 +28,7 @@ class Walk:
     A pass that is begun while another one is open is dead: it neither opens nor ends.
     """
 
-    def __init__(self, commands=()):
+    def __init__(self, commands: list[Played] | tuple[()] = ()) -> None:
         self.open_pass = None
         self.ended = set()
         self.on = collections.defaultdict(list)
@@ -34,7 +36,7 @@ class Walk:
         for command in commands:
             self.take(command)
 
-    def take(self, command):
+    def take(self, command: Any) -> None:
         place = command.uses["on"]
         self.on[place].append(command)
         self.groups[place] = groups_after(self.groups[place], command)
@@ -49,19 +51,19 @@ class Settings:
     """What is set of a pass or a bundle after some of its commands, each as the command that set it last, how many of its debug groups are
     open, which queries were begun in it, and whether one is active."""
 
-    def __init__(self):
+    def __init__(self) -> None:
         self.unset()
         self.open_groups = 0
         self.begun = set()
         self.is_active = False
 
-    def unset(self):
+    def unset(self) -> None:
         self.pipeline = None
         self.groups = {}
         self.vertex_buffers = {}
         self.index_buffer = None
 
-    def take(self, command):
+    def take(self, command: Any) -> None:
         self.open_groups = groups_after(self.open_groups, command)
         if command.do == "setPipeline":
             self.pipeline = command.uses["pipeline"]
@@ -80,20 +82,20 @@ class Settings:
             self.unset()
 
 
-def groups_after(count, command):
+def groups_after(count: int, command: Played) -> int:
     """How many debug groups are open after a command on the same encoder or pass: a push opens one, a pop closes one if there is one."""
     if command.do == "pushDebugGroup":
         return count + 1
     return max(count - 1, 0) if command.do == "popDebugGroup" else count
 
 
-def pass_rule(begin, commands):
+def pass_rule(begin: Any, commands: list[Played]) -> int | None:
     """The first rule that a pass leaves unmet: one of its begin, or else of its commands; or None."""
     rule = first_unmet(begin.do, begin_rules(begin))
     return rule_in(commands) if rule is None else rule
 
 
-def rule_in(commands, where=""):
+def rule_in(commands: list[Played], where: str = "") -> int | None:
     """The first rule that the commands of a pass or of a bundle encoder leave unmet, which are counted with a word for where they stand; or
     None."""
     settings = Settings()
@@ -105,14 +107,14 @@ def rule_in(commands, where=""):
     return None
 
 
-def begin_rules(begin):
+def begin_rules(begin: Played) -> Iterator[tuple[int, str, bool]]:
     """The rules of the begin of a pass that go to the pass. That of a compute pass has none."""
     if begin.do == "beginRenderPass":
         yield from named_rules(begin)
         yield from attachments.begin_rules(begin)
 
 
-def command_rules(command, settings):
+def command_rules(command: Played, settings: Settings) -> Iterator[tuple[int, str, bool]]:
     """The rules of a command of a pass or of a bundle encoder by what is set where it comes: those on what it names, then its own."""
     yield from named_rules(command)
     call, uses = command.call, command.uses
@@ -140,7 +142,7 @@ def command_rules(command, settings):
         yield from bundles.execute_rules(uses["bundles"], uses["on"])
 
 
-def work_rules(command, settings):
+def work_rules(command: Played, settings: Settings) -> Iterator[tuple[int, str, bool]]:
     """The rules of a dispatch or a draw after those on what is bound."""
     if command.do == "dispatch":
         for key in ("x", "y", "z"):
@@ -151,28 +153,28 @@ def work_rules(command, settings):
         yield from draws.draw_rules(command, settings)
 
 
-def named_rules(command):
+def named_rules(command: Played) -> Iterator[tuple[int, str, bool]]:
     """Rules 10 and 12 on each object that a command names: it is of this device, which no script can leave unmet, and valid."""
     for key, thing in command.named():
         yield 10, key, True
         yield 12, key, thing.is_valid
 
 
-def touches_of_dispatch(dispatch, settings):
+def touches_of_dispatch(dispatch: Played, settings: Settings) -> Any:
     """What a dispatch touches by what is set where it comes: all that the groups bind which its pipeline asks for, and the counts of one
     that is indirect."""
     touches = [touch for _, setting in bound_groups.asked_for(settings) for _, found in bound_groups.touched(setting) for touch in found]
     return touches + draws.touches_of_indirect(dispatch)
 
 
-def touches_of_pass(begin, commands):
+def touches_of_pass(begin: Played, commands: list[Played]) -> list[Any]:
     """What a render pass touches: what is attached, what its commands set or execute, and the queries that are begun in it. Of a query set
     of which none is begun nothing is."""
     begun = [touch for command in commands for touch in queries.touches_of_begun(begin, command)]
     return attachments.touches(begin) + begun + touches_of_drawing(commands)
 
 
-def touches_of_drawing(commands):
+def touches_of_drawing(commands: list[Played]) -> Any:
     """What the commands of a render pass or of a bundle encoder touch: all that they set, whatever comes of it, the numbers of indirect
     draws, and what the bundles touch that they execute, be it several times."""
     touches = []
@@ -184,7 +186,7 @@ def touches_of_drawing(commands):
     return touches + [touch for bundle in executed for touch in bundle.touches]
 
 
-def scopes_of(commands):
+def scopes_of(commands: list[Played]) -> Iterator[tuple[Any, ...]]:
     """Of each command of an encoder, in order, what its usage scope touches, which is that of a dispatch or of a render pass; of any other
     command None."""
     on, settings = Walk(commands).on, collections.defaultdict(Settings)
@@ -196,14 +198,14 @@ def scopes_of(commands):
         settings[command.uses["on"]].take(command)
 
 
-def scope_rules(commands):
+def scope_rules(commands: list[Played]) -> Iterator[tuple[int, str, bool]]:
     """Rule 184: the usage scope of each dispatch and of each render pass is compatible. The commands are those of an encoder that no rule
     invalidated."""
     for _, touches in scopes_of(commands):
         yield from scope_rule(touches or [])
 
 
-def scope_rule(touches):
+def scope_rule(touches: list[Any]) -> Iterator[tuple[int, str, bool]]:
     """Rule 184 on what is touched in one usage scope, in which query sets are not looked at."""
     uses = {}
     for cell, usage, _ in touches:

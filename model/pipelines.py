@@ -1,5 +1,9 @@
 """The rules of pipelines: what the interface uses, and what a render pipeline reads and draws to."""
 
+from __future__ import annotations
+
+from typing import Any, Iterator
+
 from . import formats
 from .draws import attribute_end
 from .groups import COMPUTE, STAGES
@@ -10,13 +14,13 @@ MOST_VERTEX_BUFFERS = limits_of_all("maxVertexBuffers")
 MOST_TARGETS = limits_of_all("maxColorAttachments")
 
 
-def compute_rules(layouts, iface):
+def compute_rules(layouts: Any, iface: list[Any] | tuple[()]) -> Iterator[tuple[int, str, bool]]:
     """The own rule of createComputePipeline, on the entries of the layouts of its layout."""
     for used in iface:
         yield from used_rules(layouts, used, COMPUTE)
 
 
-def used_rules(layouts, used, stage):
+def used_rules(layouts: Any, used: Any, stage: Any) -> Iterator[tuple[int, str, bool]]:
     """Rule 160, on an entry of the interface and the stage that uses it."""
     yield 160, "group", used["group"] < len(layouts)
     found = [entry for entry in layouts[used["group"]] if entry["binding"] == used["binding"]]
@@ -25,7 +29,7 @@ def used_rules(layouts, used, stage):
     yield from kind_rules(160, found[0], used)
 
 
-def kind_rules(number, entry, used, where=""):
+def kind_rules(number: int, entry: dict[Any, Any], used: dict[Any, Any], where: str = "") -> Iterator[tuple[int, str, bool]]:
     """Two entries have the same kind, be they of a layout or of an interface. Whether a buffer is dynamic and its least size are not of the
     kind."""
     yield number, f"kind{where}", entry["kind"] == used["kind"]
@@ -34,7 +38,7 @@ def kind_rules(number, entry, used, where=""):
             yield number, f"{key} of {used['kind']}{where}", entry[key] == used[key]
 
 
-def render_rules(layouts, call, limits):
+def render_rules(layouts: list[Any], call: dict[str, Any], limits: dict[str, int]) -> Iterator[tuple[int, str, bool]]:
     """The own rules of createRenderPipeline."""
     for used in call["iface"]:
         yield from used_rules(layouts, used, STAGES[used["stage"]])
@@ -55,7 +59,7 @@ def render_rules(layouts, call, limits):
             yield 166, "format", formats.may_have_four_samples(format)
 
 
-def vertex_buffer_rules(vertex_buffers, limits):
+def vertex_buffer_rules(vertex_buffers: list[dict[str, Any]] | tuple[()], limits: dict[str, int]) -> Iterator[tuple[int, str, bool]]:
     """Rule 161."""
     yield at_most(161, "vertex buffers", len(vertex_buffers), MOST_VERTEX_BUFFERS)
     yield at_most(161, "attributes", sum(len(one["attributes"]) for one in vertex_buffers), limits["maxVertexAttributes"])
@@ -64,7 +68,7 @@ def vertex_buffer_rules(vertex_buffers, limits):
         yield at_most(161, "stride", one["stride"], limits["maxVertexBufferArrayStride"])
 
 
-def attribute_rules(vertex_buffers, limits):
+def attribute_rules(vertex_buffers: list[dict[str, Any]] | tuple[()], limits: dict[str, int]) -> Iterator[tuple[int, str, bool]]:
     """Rule 162."""
     locations = [attribute["location"] for one in vertex_buffers for attribute in one["attributes"]]
     for location in locations:
@@ -78,7 +82,7 @@ def attribute_rules(vertex_buffers, limits):
             yield 162, f"offset, a multiple of {step}", attribute["offset"] % step == 0
 
 
-def depth_rules(depth):
+def depth_rules(depth: dict[str, bool | str]) -> Iterator[tuple[int, str, bool]]:
     """Rule 164."""
     aspects = formats.aspects_of(depth["format"])
     yield 164, "depth or stencil", not formats.is_color(depth["format"])

@@ -1,15 +1,22 @@
 """Promises: which of them an event settles, and how. A promise is the call that made it."""
 
+from __future__ import annotations
+
+from typing import TYPE_CHECKING, Any
+
 from . import maps
 from .rules import note
 from .scopes import how_popped
+
+if TYPE_CHECKING:
+    from model.history import History, Played
 
 # How a promise is settled for which the wait ends, and how one that waits when the device is lost.
 AT_THE_END = {"workDone": "done", "mapAsync": "mapped"}
 AT_THE_LOSS = {"workDone": "done", "mapAsync": "aborted"}
 
 
-def settled_by(history, played):
+def settled_by(history: History, played: Played) -> list[Any]:
     """What an event settles that comes after a history and is answered: pairs of a promise and how, in the promises' order."""
     if played.do == "popErrorScope":
         return [(played, how_popped(history, played))]
@@ -25,7 +32,7 @@ def settled_by(history, played):
     return [(promise, "aborted") for promise in pending if promise is not None]
 
 
-def settled_map(history, played):
+def settled_map(history: History, played: Played) -> list[Any]:
     """A mapAsync settles its own promise: aborted on a lost device, rejected where it has a fault, and mapped where every
     operation that uses the buffer is complete; else it waits."""
     note("mapAsync", 0, "not lost", not played.on_lost)
@@ -36,13 +43,13 @@ def settled_map(history, played):
     return [(played, "mapped")] if is_over(played, history.completed()) else []
 
 
-def settled_at_once(history, played):
+def settled_at_once(history: History, played: Played) -> list[Any]:
     """A workDone settles its own promise where all that was queued is complete or the device is lost."""
     note("workDone", 0, "not lost", not played.on_lost)
     return [(played, "done")] if played.on_lost or is_over(played, history.completed()) else []
 
 
-def is_over(promise, completed):
+def is_over(promise: Any, completed: Any) -> Any:
     """A promise waits for no longer where the operations up to the one that it waits for are complete."""
     note(promise.do, 0, "complete", promise.awaited <= completed)
     return promise.awaited <= completed

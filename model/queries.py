@@ -1,8 +1,16 @@
 """Query sets: the rules of their making, of resolves and of occlusion queries, and which queries are touched."""
 
+from __future__ import annotations
+
+from typing import TYPE_CHECKING, Any, Iterator
+
 from . import buffers
 from .cells import in_buffer, in_queries
 from .rules import at_most
+
+if TYPE_CHECKING:
+    from model.history import Played
+    from model.passes import Settings
 
 MOST_QUERIES = 4096
 QUERY_RESOLVE = 512
@@ -12,11 +20,11 @@ ALIGNMENT = 256
 BYTES = 8
 
 
-def create_rules(call):
+def create_rules(call: dict[str, int | str]) -> Iterator[tuple[int, str, bool]]:
     yield at_most(170, "queries", call["count"], MOST_QUERIES)
 
 
-def resolve_rules(call, query_set, buffer):
+def resolve_rules(call: Any, query_set: Any, buffer: dict[Any, Any]) -> Iterator[Any]:
     """The own rules of resolveQuerySet. That the first query is in the set is asked also where none is resolved."""
     length = BYTES * call["count"]
     what = "none" if length == 0 else "some"
@@ -28,7 +36,7 @@ def resolve_rules(call, query_set, buffer):
     yield 283, f"{how}, {what}", buffers.fits(buffer, call["offset"], length)
 
 
-def begin_rules(query_set, index, settings):
+def begin_rules(query_set: Played, index: int, settings: Settings) -> Iterator[tuple[int, str, bool]]:
     """The own rules of beginOcclusionQuery, where the pass has a query set or None, and by what was begun in it before."""
     yield 360, "query set", query_set is not None
     yield at_most(361, "index", index, query_set.call["count"] - 1)
@@ -36,14 +44,14 @@ def begin_rules(query_set, index, settings):
     yield 363, "not begun before", index not in settings.begun
 
 
-def touches_of_resolve(resolve):
+def touches_of_resolve(resolve: Played) -> list[tuple[tuple[str, int, int, int], str, str]]:
     """The queries are read, and the bytes are written; of no query nothing is touched."""
     call, uses = resolve.call, resolve.uses
     read = in_queries(uses["queries"], call["first"], call["count"], "query-read", "read")
     return read + in_buffer(uses["buffer"], call["offset"], BYTES * call["count"], "copy-dst", "write")
 
 
-def touches_of_begun(begin, command):
+def touches_of_begun(begin: Played, command: Played) -> list[Any]:
     """What a beginOcclusionQuery makes its pass touch: the one query of the pass's set."""
     if command.do != "beginOcclusionQuery":
         return []

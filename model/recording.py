@@ -4,15 +4,20 @@ A command makes no fault when it is recorded. The first rule that goes to an enc
 on. A pass keeps the first rule of its begin and its own commands, and hands it over by its end.
 """
 
-from . import buffers
-from . import copies
-from . import passes
-from . import queries
+from __future__ import annotations
+
+from typing import TYPE_CHECKING, Any, Iterator
+
+from . import buffers, copies, passes, queries
 from .calls import BEGINS
 from .rules import first_unmet
 
+if TYPE_CHECKING:
+    from model.history import Played
+    from model.passes import Walk
 
-def verdict(encoder, commands):
+
+def verdict(encoder: Played, commands: list[Any]) -> int | None:
     """The rule that went to an encoder or a bundle encoder first, by the commands that were recorded on it and on its passes, or None."""
     if encoder.do == "createBundleEncoder":
         return passes.rule_in(commands, " in a bundle")
@@ -25,7 +30,7 @@ def verdict(encoder, commands):
     return None
 
 
-def rule_given(command, walk):
+def rule_given(command: Played, walk: Walk) -> int | None:
     """The rule that a command gives its encoder after the earlier ones, or None: one on the encoder its own, and the end of the open pass
     that of the pass."""
     place = command.uses["on"]
@@ -36,7 +41,7 @@ def rule_given(command, walk):
     return None
 
 
-def command_rules(command, walk):
+def command_rules(command: Played, walk: Walk) -> Iterator[tuple[int, str, bool]]:
     """The rules of a command on an encoder, after the earlier commands. All but the first of a begin go to the pass that it begins."""
     yield 240, "no pass is open", walk.open_pass is None
     if command.do not in BEGINS:
@@ -44,7 +49,7 @@ def command_rules(command, walk):
         yield from own_rules(command, walk.groups[command.uses["on"]])
 
 
-def own_rules(command, open_groups):
+def own_rules(command: Played, open_groups: int) -> Iterator[tuple[int, str, bool]]:
     call, uses = command.call, command.uses
     if command.do == "copyBufferToBuffer":
         yield from buffers.copy_rules(call, uses["source"], uses["target"])
@@ -63,7 +68,7 @@ def own_rules(command, open_groups):
         yield 285, "open group", open_groups > 0
 
 
-def clear_size(clear):
+def clear_size(clear: Played) -> int:
     """The size of a clearBuffer; where it is left out, what remains of the buffer."""
     buffer = clear.uses["buffer"]
     if clear.call["size"] is None:

@@ -1,25 +1,33 @@
 """The reply to each call, after all that were played before it."""
 
-import collections
+from __future__ import annotations
 
-from . import automatic
-from . import buffers
-from . import bundles
-from . import canvases
-from . import copies
-from . import groups
-from . import maps
-from . import memory
-from . import passes
-from . import pipelines
-from . import promises
-from . import queries
-from . import recording
-from . import scopes
-from . import textures
+import collections
+from typing import TYPE_CHECKING, Any, Iterator
+
+from . import (
+    automatic,
+    buffers,
+    bundles,
+    canvases,
+    copies,
+    groups,
+    maps,
+    memory,
+    passes,
+    pipelines,
+    promises,
+    queries,
+    recording,
+    scopes,
+    textures,
+)
 from .calls import BEGINS, FINISHES, MADE, PROMISING, QUEUED, RECORDING, bound_by
 from .history import Played, resources_in
 from .rules import first_unmet, note
+
+if TYPE_CHECKING:
+    from model.history import History
 
 BUDGET_RULE, LATE_RULE = 13, 14
 
@@ -47,7 +55,7 @@ def answer_call(history, call, caller):
     return played
 
 
-def rule_of(history, played):
+def rule_of(history: History, played: Played) -> int | None:
     """The first unmet rule of an event, or None. On a lost device only those rules are tested by which a call does something."""
     if played.on_lost and played.do not in AS_EVER:
         return None
@@ -55,14 +63,14 @@ def rule_of(history, played):
     return first_unmet(f"{word} on a lost device" if played.on_lost else word, rules_of(history, played))
 
 
-def fault_of(played):
+def fault_of(played: Played) -> Any:
     """The kind and the rule of the fault of an event whose rule is known, or None: a lost device makes no fault."""
     if played.is_met or played.on_lost:
         return None
     return "out-of-memory" if played.rule == BUDGET_RULE else "validation", played.rule
 
 
-def answer_of(history, played):
+def answer_of(history: Any, played: Any) -> Any:
     """The answer to an event whose fault is known; an object or an operation gets its number.
 
     A workDone waits for all operations that were queued before it, a mapAsync for those that use its buffer. An unmap ends the
@@ -91,7 +99,7 @@ def answer_of(history, played):
     return "plain"
 
 
-def answer_of_complete(history, op):
+def answer_of_complete(history: History, op: int) -> str:
     """A completion is bad where its number is not above what is complete, or is above what was queued."""
     is_new, is_issued = op > history.completed(), op <= history.issued()
     note("complete", 0, "above what is complete", is_new)
@@ -99,7 +107,7 @@ def answer_of_complete(history, op):
     return "plain" if is_new and is_issued else "bad"
 
 
-def rules_of(history, played):
+def rules_of(history: History, played: Played) -> Any:
     """The rules of an event."""
     call, uses = played.call, played.uses
     if played.do in RECORDING:
@@ -142,13 +150,13 @@ def rules_of(history, played):
     return iter([])
 
 
-def pipeline_layout_rules(history, layouts):
+def pipeline_layout_rules(history: History, layouts: list[Any]) -> Iterator[tuple[int, str, bool]]:
     """The own rules of createPipelineLayout, on valid layouts."""
     yield from groups.pipeline_layout_rules([layout.entries for layout in layouts], history.limits)
     yield from automatic.exclusive_rules(layouts)
 
 
-def pipeline_rules(history, played):
+def pipeline_rules(history: History, played: Played) -> Iterator[tuple[int, str, bool]]:
     """The rules of a pipeline: on the layout that it names, or on those that it derives, and then its own by these."""
     if automatic.is_automatic(played):
         yield from automatic.derived_rules(played.call["iface"], history.limits)
@@ -160,33 +168,33 @@ def pipeline_rules(history, played):
         yield from pipelines.render_rules(played.layouts, played.call, history.limits)
 
 
-def making_rules(history, call, own_rules):
+def making_rules(history: History, call: dict[str, Any], own_rules: Iterator[Any]) -> Iterator[tuple[int, str, bool]]:
     """The rules of what takes memory: its own, and then that the budget is enough for it beside what is live before the call."""
     yield from own_rules
     yield BUDGET_RULE, "budget", history.live_bytes() + memory.bytes_of(call) <= history.budget
 
 
-def own_and_kept(history, what, thing):
+def own_and_kept(history: History, what: str, thing: Played) -> Iterator[tuple[int, str, bool]]:
     """An object that a call names is of this device, which no script can leave unmet, and was not dropped."""
     yield 10, what, True
     yield 11, what, not history.is_dropped(thing)
 
 
-def of_object(history, what, thing, further_rules):
+def of_object(history: History, what: str, thing: Played, further_rules: Any) -> Iterator[tuple[int, str, bool]]:
     """The rules of a call that asks for a valid object, and then the further ones of the call."""
     yield from own_and_kept(history, what, thing)
     yield 12, what, thing.is_valid
     yield from further_rules
 
 
-def of_objects(history, named, further_rules):
+def of_objects(history: History, named: list[Any], further_rules: Any) -> Iterator[Any]:
     """The same of several objects one after another, given as pairs of a word and an object."""
     for what, thing in named:
         yield from of_object(history, what, thing, [])
     yield from further_rules
 
 
-def bind_group_rules(history, call, uses):
+def bind_group_rules(history: History, call: dict[Any, Any], uses: dict[Any, Any]) -> Iterator[tuple[int, str, bool]]:
     """The rules of createBindGroup: its layout and what its entries bind, and then its own. That something that is bound is
     destroyed or mapped breaks none."""
     bound = list(zip(call["entries"], uses["entries"]))
@@ -195,12 +203,12 @@ def bind_group_rules(history, call, uses):
     yield from groups.group_rules(uses["layout"].entries, bound, history.limits)
 
 
-def write_buffer_rules(history, call, buffer):
+def write_buffer_rules(history: History, call: dict[str, int | str], buffer: Played) -> Iterator[tuple[int, str, bool]]:
     yield from buffers.write_rules(call, buffer.call)
     yield from maps.idle_rules(history, 203, buffer)
 
 
-def finish_rules(history, encoder):
+def finish_rules(history: History, encoder: Played) -> Iterator[tuple[int, str, bool]]:
     """The rules of a finish after those of its encoder: first the rule that invalidated it, then what was recorded. Those of a finishBundle
     are the same, but that no pass can be open, and that all commands are in one usage scope."""
     yield 180, "ended", not history.has_finished(encoder)
@@ -218,7 +226,7 @@ def finish_rules(history, encoder):
     yield from passes.scope_rule(passes.touches_of_drawing(commands)) if is_bundle else passes.scope_rules(commands)
 
 
-def submit_rules(history, command_buffers):
+def submit_rules(history: Any, command_buffers: Any) -> Iterator[tuple[int, str, bool]]:
     """The rules of each command buffer in turn, then those of all."""
     yield from of_objects(history, [("command buffer", one) for one in command_buffers], [])
     yield 190, "consumed", not any(history.is_consumed(one) for one in command_buffers)
@@ -231,7 +239,7 @@ def submit_rules(history, command_buffers):
             yield 193, f"destroyed {what}{how[thing]}", not history.is_destroyed(thing)
 
 
-def used_rules(history, used, how):
+def used_rules(history: History, used: list[Any], how: dict[Played, str]) -> Iterator[tuple[int, str, bool]]:
     """Rule 192: no buffer that a command names, itself or through a bind group or a bundle, is pending, mapped or destroyed."""
     for thing in used:
         yield 192, f"pending buffer{how[thing]}", not maps.is_pending(history, thing)
@@ -239,7 +247,7 @@ def used_rules(history, used, how):
         yield 192, f"destroyed buffer{how[thing]}", not history.is_destroyed(thing)
 
 
-def ways_of(named):
+def ways_of(named: list[Played]) -> dict[Played, str]:
     """Of each buffer, texture and query set a word for the counts, where no command names it itself."""
     ways = collections.defaultdict(lambda: " in a bind group")
     bundled = dict.fromkeys(inner for one in named if one.do == "finishBundle" for inner in one.names)

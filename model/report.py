@@ -4,27 +4,36 @@ Rows of a step, and barriers before it, are printed in the order of object, aspe
 or are neighbours, and have equal values, are one row.
 """
 
+from __future__ import annotations
+
+from typing import TYPE_CHECKING, Any
+
 from .calls import RECORDING
 from .formats import ASPECTS
 from .steps import USAGES
 from .traces import trace_of
 
+if TYPE_CHECKING:
+    from model.history import History, Played
+    from model.script import Refused
+    from model.steps import Step
+
 # The letter of what is released, by the call that made it.
 LETTERS = {"createBuffer": "b", "createTexture": "t", "createQuerySet": "q"}
 
 
-def report(history):
+def report(history: History) -> str:
     lines = ["history"] + [entry_line(played) for played in history.entries()]
     lines += ["trace"] + [line for line, _ in trace_lines(trace_of(history))] + ["end"]
     return "".join(line + "\n" for line in lines)
 
 
-def refusal(refused):
+def refusal(refused: Refused) -> str:
     """The line that stands in place of a report."""
     return " ".join(["bad script", str(refused.rule), *map(str, refused.place)]) + "\n"
 
 
-def entry_line(played):
+def entry_line(played: Played) -> str:
     """Number, caller, word and answer of an entry, then its fault, if there is one, and then each promise that it settled."""
     word = "late" if played.do in RECORDING else played.do
     line = f"{played.entry} {played.caller} {word} {played.answer}"
@@ -33,11 +42,11 @@ def entry_line(played):
     return line + "".join(f" settle {promise.entry} {how}" for promise, how in played.settled)
 
 
-def catcher_text(place):
+def catcher_text(place: Any) -> str:
     return "uncaptured" if place is None else f"scope {place}"
 
 
-def trace_lines(items):
+def trace_lines(items: Any) -> Any:
     """The lines of the trace, each with its item: a barrier's is the step that it stands before."""
     lines, bars, count = [], [], 0
     for item in items:
@@ -52,7 +61,7 @@ def trace_lines(items):
     return lines
 
 
-def step_lines(number, step):
+def step_lines(number: int, step: Step) -> list[str]:
     uses = joined([(place_of(part), set_text(usages)) for part, usages in step.uses.items()])
     accesses = joined([(place_of(cell), kind) for cell, kind in step.accesses])
     lines = [f"step {number} {step.at} {step.name}"]
@@ -60,7 +69,7 @@ def step_lines(number, step):
     return lines + [f"acc {kind} {cell_text(place)}" for place, kind in accesses]
 
 
-def place_of(thing):
+def place_of(thing: tuple[Any, ...]) -> tuple[Any, ...]:
     """A part or cell as a row: what it is of, and its first and last place. A whole buffer or query set has no place."""
     if thing[0] == "s":
         return (thing[1], "s", *thing[2:4]), thing[4], thing[5]
@@ -70,7 +79,7 @@ def place_of(thing):
     return (thing[1], "t", *thing[2:4]), thing[4], thing[4] + 1
 
 
-def joined(rows):
+def joined(rows: Any) -> Any:
     """Rows in printed order, with neighbours of equal values made one."""
     result = []
     for (owner, low, high), value in sorted(rows):
@@ -83,16 +92,16 @@ def joined(rows):
     return result
 
 
-def set_text(usages):
+def set_text(usages: set[str]) -> str:
     return "+".join(usage for usage in USAGES if usage in usages)
 
 
-def part_text(place):
+def part_text(place: tuple[Any, ...]) -> str:
     (number, sort, *_), _, _ = place
     return cell_text(place) if sort == "t" else f"{sort} {number}"
 
 
-def cell_text(place):
+def cell_text(place: tuple[Any, ...]) -> str:
     (number, sort, *rest), low, high = place
     if not rest:
         return f"{sort} {number} {low} {high}"

@@ -5,25 +5,28 @@ things gives a triple for each, all of its number. A later rule may look at what
 tests stop at the first that is unmet.
 """
 
+from __future__ import annotations
+
 import collections
+from typing import Any, Tuple
 
 # How often each rule of each call was found met, and unmet, since the program began.
-met = collections.Counter()
-unmet = collections.Counter()
+met: "collections.Counter[Tuple[str, int, str]]" = collections.Counter()
+unmet: "collections.Counter[Tuple[str, int, str]]" = collections.Counter()
 
 
-def note(call, number, what, is_met):
+def note(call: Any, number: Any, what: Any, is_met: Any) -> None:
     """Counts a test of a rule."""
     (met if is_met else unmet)[(call, number, what)] += 1
 
 
-def at_most(number, what, count, most):
+def at_most(number: Any, what: Any, count: Any, most: Any) -> Any:
     """A triple that asks for a count of at most some limit. Just as many has a part of its own, so that it is told how often a
     script came up to the limit."""
     return number, f"just the most of {what}" if count == most else what, count <= most
 
 
-def first_unmet(call, triples):
+def first_unmet(call: Any, triples: Any) -> Any:
     """The number of the first rule that is unmet, or None."""
     for number, what, is_met in triples:
         note(call, number, what, is_met)

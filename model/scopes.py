@@ -4,7 +4,14 @@ A fault is a pair of its kind and its rule. A scope's place is its number on the
 outermost, all of them counted.
 """
 
+from __future__ import annotations
+
+from typing import TYPE_CHECKING, Any
+
 from .rules import note
+
+if TYPE_CHECKING:
+    from model.history import History, Played
 
 # The filters of scopes; a scope catches the faults whose kind is its filter.
 FILTERS = ("validation", "out-of-memory", "internal")
@@ -13,11 +20,11 @@ FILTERS = ("validation", "out-of-memory", "internal")
 class Scope:
     """An open error scope: its filter, and the first fault that it received, or None."""
 
-    def __init__(self, filter):
+    def __init__(self, filter: str) -> None:
         self.filter = filter
         self.first = None
 
-    def receive(self, fault):
+    def receive(self, fault: Any) -> None:
         if self.first is None:
             self.first = fault
 
@@ -25,23 +32,23 @@ class Scope:
 class Stack:
     """The error scopes that are open, outermost first, and of each filter the places of those that have it."""
 
-    def __init__(self):
+    def __init__(self) -> None:
         self.open = []
         self.places = {filter: [] for filter in FILTERS}
 
-    def push(self, filter):
+    def push(self, filter: str) -> None:
         self.places[filter].append(len(self.open))
         self.open.append(Scope(filter))
 
-    def pop(self):
+    def pop(self) -> None:
         self.places[self.open.pop().filter].pop()
 
-    def innermost(self, kind):
+    def innermost(self, kind: str) -> Any:
         """The place of the innermost scope that catches a kind of fault, or None."""
         return self.places[kind][-1] if self.places[kind] else None
 
 
-def follow(stack, played):
+def follow(stack: Stack, played: Played) -> None:
     """Notes on the stack of the scopes that are open what an entry does to it: a pop closes the last, but where there is none, and but on a
     lost device. The stack is the device's, whichever lane pushes and pops."""
     if played.do == "pushErrorScope":
@@ -52,7 +59,7 @@ def follow(stack, played):
         stack.open[played.catcher].receive(played.fault)
 
 
-def catcher_of(history, fault):
+def catcher_of(history: History, fault: tuple[str, int] | None) -> Any:
     """The place of the innermost open scope that catches a fault; None where it is uncaptured, or there is no fault."""
     if fault is None:
         return None
@@ -65,7 +72,7 @@ def catcher_of(history, fault):
     return place
 
 
-def how_popped(history, pop):
+def how_popped(history: History, pop: Played) -> str:
     """How the promise of a pop is settled: null on a lost device; else by the scope that was opened last, if there is one."""
     note("popErrorScope", 0, "not lost", not pop.on_lost)
     if pop.on_lost:

@@ -4,8 +4,11 @@ The first refusal that is found is the answer. At the top the rules are tested i
 is gone through in order, of each phase and of each lane 4 is tested when it is come to, and of each call 5, 6, 7 and 8.
 """
 
-from . import json_text
-from . import limits
+from __future__ import annotations
+
+from typing import Any, Callable
+
+from . import json_text, limits
 from .calls import CALLS, FLAG, KIND, NAME, NEEDED, ONE_NAME, THREE, WHOLE, WITH_KIND, WORD32, WORDS32
 from .rules import note
 
@@ -21,13 +24,13 @@ GREATEST_WORD32 = 2**32 - 1
 class Refused(Exception):
     """A script breaks a rule at a place: none, or phase, lane and call as far as the rule has them."""
 
-    def __init__(self, rule, place):
+    def __init__(self, rule: int, place: Any) -> None:
         super().__init__(rule, place)
         self.rule = rule
         self.place = place
 
 
-def ask(rule, what, is_met, place=()):
+def ask(rule: int, what: str, is_met: bool, place: Any = ()) -> None:
     """Refuses the script unless the rule is met."""
     note("script", rule, what, is_met)
     if not is_met:
@@ -52,7 +55,7 @@ def read(data):
     return top["budget"], asked, phases
 
 
-def read_limits(asked):
+def read_limits(asked: Any) -> dict[str, int]:
     """Rule 14: the limits of the device that a script asks for are no better than the best. The answer is what they are then."""
     ask(14, "object", type(asked) is dict)
     for name, value in asked.items():
@@ -65,7 +68,7 @@ def read_limits(asked):
     return limits.given(asked)
 
 
-def read_json(data):
+def read_json(data: bytes) -> dict[str, int | list[list[list[Any]]]]:
     try:
         top = json_text.read(data)
     except json_text.NoJson:
@@ -74,7 +77,7 @@ def read_json(data):
     return top
 
 
-def read_phase(number, phase, calls_before):
+def read_phase(number: int, phase: Any, calls_before: int) -> Any:
     """The lanes of a phase, before which so many calls stand in the script."""
     ask(4, "list of lanes", type(phase) is list, (number,))
     ask(4, "lanes", len(phase) <= MOST_LANES, (number,))
@@ -101,12 +104,12 @@ def read_call(place, call):
     return {"do": do, **read_values(place, "", call, keys)}
 
 
-def read_values(place, where, value, keys):
+def read_values(place: Any, where: Any, value: Any, keys: Any) -> Any:
     """The values of a call, or of an object in it, one key after another."""
     return {key: read_value(place, where, sort, value[key]) if key in value else default for key, sort, default in keys}
 
 
-def read_value(place, where, sort, value):
+def read_value(place: tuple[Any, ...], where: str, sort: Any, value: Any) -> Any:
     """Rule 8: the value is of the sort that its key has. Objects get all their keys."""
     if sort == WHOLE:
         ask(8, f"whole number{where}", is_whole(value, GREATEST_WHOLE), place)
@@ -132,7 +135,7 @@ def read_value(place, where, sort, value):
     return value
 
 
-def read_list(place, sort, value):
+def read_list(place: Any, sort: Any, value: Any) -> Any:
     """A list of names, of words, or of objects; of the latter two with nulls among them or not."""
     ask_list(place, sort[0], value)
     if sort[0] == "names":
@@ -145,12 +148,12 @@ def read_list(place, sort, value):
     return [None if item is None and is_nullable else read_item(place, sort[1], item) for item in value]
 
 
-def ask_list(place, of, value):
+def ask_list(place: Any, of: str, value: Any) -> None:
     ask(8, f"list of {of}", type(value) is list, place)
     ask(8, f"items, {of}", len(value) <= MOST_ITEMS, place)
 
 
-def read_item(place, keys_of, item):
+def read_item(place: Any, keys_of: Callable[..., Any], item: Any) -> dict[str, str | None]:
     """An object in a call, which breaks rule 8 alone. Where its keys hang on its kind, that is looked at first."""
     ask(8, "object", type(item) is dict, place)
     if keys_of in WITH_KIND:
@@ -162,5 +165,5 @@ def read_item(place, keys_of, item):
     return read_values(place, " in an object", item, keys)
 
 
-def is_whole(value, greatest):
+def is_whole(value: Any, greatest: int) -> bool:
     return type(value) is int and value <= greatest

@@ -1,12 +1,15 @@
 """The steps of an entry, those of its operation or of the host, each with what it uses and accesses."""
 
-from . import copies
-from . import formats
-from . import passes
-from . import queries
-from . import recording
+from __future__ import annotations
+
+from typing import TYPE_CHECKING, Any
+
+from . import copies, formats, passes, queries, recording
 from .cells import in_buffer, in_slices, in_texture, is_empty, part_of
 from .maps import host_accesses
+
+if TYPE_CHECKING:
+    from model.history import History, Played
 
 # Usages in printed order.
 USAGES = (
@@ -23,7 +26,7 @@ DROPPING = ("drop", "readdrop")
 class Step:
     """A step: where it happens, its uses by part, and its accesses, pairs of a cell and `read`, `write`, `both`, `drop` or `readdrop`."""
 
-    def __init__(self, at, name, touches):
+    def __init__(self, at: str, name: str, touches: Any) -> None:
         self.at = at
         self.name = name
         self.uses = {}
@@ -33,17 +36,17 @@ class Step:
             self.accesses += [] if is_empty(cell) else [(cell, kind)]
         self.cells = {kinds: [cell for cell, kind in self.accesses if kind in kinds] for kinds in (READING, WRITING, DROPPING)}
 
-    def reads(self):
+    def reads(self) -> Any:
         return self.cells[READING]
 
-    def writes(self):
+    def writes(self) -> Any:
         return self.cells[WRITING]
 
-    def drops(self):
+    def drops(self) -> list[Any]:
         return self.cells[DROPPING]
 
 
-def groups_of(history, played):
+def groups_of(history: History, played: Played) -> list[Any]:
     """The steps of an entry, a group for each command buffer of a submit, for a write, or for a host access."""
     if played.op is None:
         return [host_steps(played.entry, *access) for access in host_accesses(played)]
@@ -52,7 +55,7 @@ def groups_of(history, played):
     return [write_steps(played)]
 
 
-def host_steps(entry, name, buffer, mapping):
+def host_steps(entry: Any, name: str, buffer: Played, mapping: tuple[int, int, int]) -> list[Any]:
     """The step of a host access, over the range of a mapping; an empty range makes none.
 
     A host write reads its range before it writes it, since what the caller left as it was stays.
@@ -63,7 +66,7 @@ def host_steps(entry, name, buffer, mapping):
     return [Step(f"host {entry}", name, touches)] if touches else []
 
 
-def command_steps(commands, at):
+def command_steps(commands: list[Played], at: str) -> list[Step]:
     """The steps of recorded commands. A dispatch makes one whatever it touches, and so does a render pass as a whole; a copy, clear
     or resolve of size 0 makes none, nor do others."""
     steps = []
@@ -76,17 +79,17 @@ def command_steps(commands, at):
     return steps
 
 
-def write_steps(played):
+def write_steps(played: Played) -> list[Any]:
     """The step of a queue write; one of size 0 makes none."""
     touches = write_touches(played) if played.do == "writeBuffer" else to_texture(played, "texture", played.call)
     return [Step(f"op {played.op}", played.do, touches)] if touches else []
 
 
-def write_touches(played):
+def write_touches(played: Played) -> list[Any]:
     return in_buffer(played.uses["buffer"], played.call["offset"], played.call["size"], "copy-dst", "write")
 
 
-def touches_of(command):
+def touches_of(command: Played) -> Any:
     """What the step of a command touches: cells, each with the usage of its part and the kind of its access."""
     call, uses = command.call, command.uses
     if command.do == "clearBuffer":
@@ -105,29 +108,33 @@ def touches_of(command):
     return []
 
 
-def one_aspect(call, texture):
+def one_aspect(call: dict[Any, Any], texture: dict[str, Any]) -> list[str]:
     return [formats.copied_aspect(texture["format"], call["aspect"])]
 
 
-def from_texture(texture, aspects, mip, origin, size):
+def from_texture(
+    texture: Played, aspects: list[str] | tuple[Any, ...], mip: int, origin: list[int] | tuple[int, int, int], size: list[int]
+) -> list[tuple[tuple[Any, ...], str, str]]:
     """What a copy is from is used as copy-src and read."""
     return in_copy(texture, aspects, mip, origin, size, "copy-src", "read")
 
 
-def in_copy(texture, aspects, mip, origin, size, usage, kind):
+def in_copy(texture: Any, aspects: Any, mip: Any, origin: Any, size: Any, usage: Any, kind: Any) -> list[tuple[tuple[Any, ...], str, str]]:
     """The cells that a copy touches: of a 3D texture as many slices as its depth from its origin on, of another one its subresources."""
     if texture.call["dim"] == "3d":
         return [touch for aspect in aspects for touch in in_slices(texture, aspect, mip, origin[2], size[2], usage, kind)]
     return in_texture(texture, copies.subresources(texture.call, aspects, mip, origin, size), usage, kind)
 
 
-def filled(texture, aspects, mip, origin, size):
+def filled(
+    texture: Played, aspects: list[str] | tuple[Any, ...], mip: int, origin: list[int] | tuple[int, int, int], size: list[int]
+) -> list[tuple[tuple[Any, ...], str, str]]:
     """What a copy is to is used as copy-dst and written; read too where the copy leaves some of it as it was."""
     kind = "write" if copies.covers_all(texture.call, mip, size) else "both"
     return in_copy(texture, aspects, mip, origin, size, "copy-dst", kind)
 
 
-def to_texture(played, key, call):
+def to_texture(played: Played, key: str, call: dict[Any, Any]) -> list[tuple[tuple[Any, ...], str, str]]:
     """A copy of bytes to the one aspect of a texture."""
     if copies.has_no_texel(call["size"]):
         return []
@@ -135,7 +142,7 @@ def to_texture(played, key, call):
     return filled(texture, one_aspect(call, texture.call), call["mip"], call["origin"], call["size"])
 
 
-def buffer_to_texture(command):
+def buffer_to_texture(command: Played) -> list[tuple[tuple[Any, ...], str, str] | tuple[tuple[str, int, int, int], str, str]]:
     """The bytes that the layout takes are read."""
     call, buffer, texture = command.call, command.uses["buffer"], command.uses["texture"]
     touches = to_texture(command, "texture", call)
@@ -145,7 +152,7 @@ def buffer_to_texture(command):
     return in_buffer(buffer, call["offset"], length, "copy-src", "read") + touches
 
 
-def texture_to_buffer(command):
+def texture_to_buffer(command: Played) -> list[tuple[tuple[Any, ...], str, str] | tuple[tuple[str, int, int, int], str, str]]:
     """The bytes that the layout takes are written; read too where the texels leave gaps in them."""
     call, buffer, texture = command.call, command.uses["buffer"], command.uses["texture"]
     if copies.has_no_texel(call["size"]):
@@ -156,7 +163,7 @@ def texture_to_buffer(command):
     return source + in_buffer(buffer, call["offset"], copies.bytes_of(call, texel), "copy-dst", kind)
 
 
-def texture_to_texture(command):
+def texture_to_texture(command: Played) -> list[tuple[tuple[Any, ...], str, str]]:
     """All aspects are copied."""
     call, source, target = command.call, command.uses["source"], command.uses["target"]
     if copies.has_no_texel(call["size"]):

@@ -1,7 +1,14 @@
 """The rules of createTexture and createView, and what a view is of which keys are left out."""
 
+from __future__ import annotations
+
+from typing import TYPE_CHECKING, Any, Iterator
+
 from . import formats
 from .rules import at_most
+
+if TYPE_CHECKING:
+    from model.history import Played
 
 COPY_SRC, COPY_DST, TEXTURE_BINDING, STORAGE_BINDING, RENDER_ATTACHMENT = 1, 2, 4, 8, 16
 ALL_USAGES = 31
@@ -25,7 +32,7 @@ def create_rules(call, limits):
         yield 118, "storage access", formats.has_storage_access(call["format"])
 
 
-def limit_rules(dim, width, height, depth, limits):
+def limit_rules(dim: str, width: int, height: int, depth: int, limits: dict[str, int]) -> Iterator[tuple[int, str, bool]]:
     """Rule 112: width, height, and depth or layers are within the limits of the dimension."""
     if dim == "1d":
         yield at_most(112, "1d width", width, limits["maxTextureDimension1D"])
@@ -40,7 +47,7 @@ def limit_rules(dim, width, height, depth, limits):
             yield at_most(112, f"3d {name}", length, limits["maxTextureDimension3D"])
 
 
-def mip_rules(call):
+def mip_rules(call: dict[str, Any]) -> Iterator[tuple[int, str, bool]]:
     """Rule 113: there is a mip level, and at most floor(log2 of the greatest extent) + 1; a 1D texture has one."""
     extents = call["size"] if call["dim"] == "3d" else call["size"][:2]
     yield 113, "no mips", call["mips"] >= 1
@@ -50,7 +57,7 @@ def mip_rules(call):
         yield 113, f"{call['dim']} mips", call["mips"] <= max(extents).bit_length()
 
 
-def four_sample_rules(call):
+def four_sample_rules(call: dict[str, Any]) -> Iterator[tuple[int, str, bool]]:
     """Rule 115: what a texture with 4 samples has to be."""
     yield 115, "2d", call["dim"] == "2d"
     yield 115, "one mip", call["mips"] == 1
@@ -60,7 +67,7 @@ def four_sample_rules(call):
     yield 115, "format", formats.may_have_four_samples(call["format"])
 
 
-def view_of(call, texture, is_valid):
+def view_of(call: dict[str, Any], texture: dict[str, Any], is_valid: bool) -> dict[str, int | str]:
     """A createView with the keys that were left out.
 
     The dimension is that of the texture, and of a 2D texture with several layers an array. The mip levels are those that
@@ -75,7 +82,7 @@ def view_of(call, texture, is_valid):
     return {**call, **{key: value for key, value in left_out.items() if call[key] is None}}
 
 
-def told(view):
+def told(view: Played) -> dict[str, int | str]:
     """What a valid view is, with the keys that were left out."""
     return view_of(view.call, view.uses["texture"].call, True)
 
@@ -89,13 +96,13 @@ def subresources_of_view(view):
     return [(aspect, mip, layer) for aspect in aspects for mip in mips for layer in layers]
 
 
-def dim_by(texture):
+def dim_by(texture: dict[str, Any]) -> str:
     if texture["dim"] == "2d" and formats.layer_count(texture) > 1:
         return "2d-array"
     return texture["dim"]
 
 
-def view_rules(view, texture):
+def view_rules(view: Any, texture: dict[Any, Any]) -> Iterator[Any]:
     """The rules of createView, after those that the texture is of this device, not dropped, and valid."""
     dim, layers = view["dim"], view["layers"]
     yield 120, view["aspect"], formats.named_aspects(texture["format"], view["aspect"]) != ()
@@ -111,7 +118,7 @@ def view_rules(view, texture):
         yield 126, "samples", dim == "2d"
 
 
-def layers_of_dim_rules(dim, layers):
+def layers_of_dim_rules(dim: Any, layers: Any) -> Iterator[tuple[int, str, bool]]:
     """Rule 124: 1d, 2d and 3d have one layer, a cube six, a cube-array a multiple of six."""
     if dim in ("1d", "2d", "3d"):
         yield 124, f"{dim} layer", layers == 1

@@ -8,8 +8,11 @@ and not kept, since nothing hangs on them. Parts are `("b", N)`, `("q", N)` or `
 low, high)`, `("q", N, low, high)`, or `("t", ..)` and `("s", ..)` with the fields of such a part. An aspect is its place in the printed
 order. """
 
+from __future__ import annotations
+
 import bisect
 import re
+from typing import Any
 
 from .formats import ASPECTS
 from .steps import READING, USAGES, WRITING
@@ -31,7 +34,7 @@ BEHIND_A_BAR = {"bar", "step"}
 class Refused(Exception):
     """A text breaks a rule of traces in a line; the text as a whole in line 0."""
 
-    def __init__(self, rule, line):
+    def __init__(self, rule: int, line: int) -> None:
         super().__init__(rule, line)
         self.rule = rule
         self.line = line
@@ -70,7 +73,7 @@ def read(data):
     return items
 
 
-def lines_of(data):
+def lines_of(data: bytes) -> list[bytes] | None:
     """Rule 1: the lines of a text, which has line ends and printed letters alone, ends with a line end, and has a line `trace`."""
     if not data.endswith(b"\n") or re.search(rb"[^\n -~]", data):
         raise Refused(1, 0)
@@ -80,7 +83,7 @@ def lines_of(data):
     return lines
 
 
-def is_new(given, cells):
+def is_new(given: Any, cells: tuple[Any, ...]) -> bool:
     """No cell stands in the earlier lines of a step; then they are noted there, by what they are of."""
     *owner, low, high = cells
     runs = given.setdefault(tuple(owner), [])
@@ -89,7 +92,7 @@ def is_new(given, cells):
     return all(one[1] <= other[0] for one, other in zip(runs[max(at - 1, 0):], runs[max(at - 1, 0) + 1:at + 2]))
 
 
-def line_of(line):
+def line_of(line: str) -> Any:
     """The word of a line and its fields, or NoForm."""
     if line == "end":
         return ("end",)
@@ -107,13 +110,13 @@ def line_of(line):
     raise NoForm(line)
 
 
-def number_of(text, most=GREATEST_WHOLE):
+def number_of(text: str, most: int = GREATEST_WHOLE) -> int:
     if NUMBER.fullmatch(text) is None or len(text) > len(str(most)) or int(text) > most:
         raise NoForm(text)
     return int(text)
 
 
-def set_of(text):
+def set_of(text: str) -> frozenset[str]:
     """A set of usages: some, in printed order, each once."""
     words = text.split("+")
     if words != [usage for usage in USAGES if usage in words]:
@@ -121,7 +124,7 @@ def set_of(text):
     return frozenset(words)
 
 
-def part_of(fields):
+def part_of(fields: list[str]) -> tuple[Any, ...]:
     """A whole buffer or query set, or layers of a texture."""
     if len(fields) == 2 and fields[0] in ("b", "q"):
         return fields[0], number_of(fields[1])
@@ -130,7 +133,7 @@ def part_of(fields):
     raise NoForm(fields)
 
 
-def cells_of(fields):
+def cells_of(fields: list[str]) -> tuple[Any, ...]:
     """Bytes of a buffer, queries of a set, layers of a texture, or slices of a 3D texture, which have color alone."""
     if len(fields) == 4 and fields[0] in ("b", "q"):
         return (fields[0], number_of(fields[1]), *run_of(fields[2:], GREATEST_WHOLE if fields[0] == "b" else GREATEST_WORD32))
@@ -139,14 +142,14 @@ def cells_of(fields):
     raise NoForm(fields)
 
 
-def image_of(fields):
+def image_of(fields: list[str]) -> tuple[Any, ...]:
     sort, number, aspect, mip, *run = fields
     if aspect not in ASPECTS:
         raise NoForm(aspect)
     return (sort, number_of(number), ASPECTS.index(aspect), number_of(mip, GREATEST_WORD32), *run_of(run, GREATEST_WORD32))
 
 
-def run_of(fields, most):
+def run_of(fields: list[str], most: int) -> tuple[int, int]:
     low, high = (number_of(field, most) for field in fields)
     if low >= high:
         raise NoForm(fields)

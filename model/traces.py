@@ -4,8 +4,11 @@ An item is `("bar", part, from, to)`, `("step", step)` or `("free", object, entr
 clears by the cells that are set, both as the steps of the trace so far have left them.
 """
 
+from __future__ import annotations
+
 import bisect
 import collections
+from typing import Any
 
 from .steps import Step, groups_of
 
@@ -13,7 +16,7 @@ from .steps import Step, groups_of
 ONLY_READ = {"input", "constant", "storage-read", "attachment-read", "copy-src", "query-read", "host-read"}
 
 
-def trace_of(history):
+def trace_of(history: Any) -> Any:
     """The items of the trace, entry by entry: its steps, then what it releases."""
     trace = Trace()
     for played in history.entries():
@@ -27,11 +30,11 @@ class Cells:
     """A set of cells: of each buffer, query set and mip level of a 3D texture the runs of bytes, queries or slices that are in it, in order
     and with gaps between them, and subresources."""
 
-    def __init__(self):
+    def __init__(self) -> None:
         self.runs = collections.defaultdict(lambda: ([], []))
         self.subresources = set()
 
-    def add(self, cell):
+    def add(self, cell: tuple[Any, ...]) -> None:
         """Takes a cell into the set."""
         if cell[0] == "t":
             self.subresources.add(cell)
@@ -42,7 +45,7 @@ class Cells:
         low, high = min([begin, *lows[first:last][:1]]), max([end, *highs[first:last][-1:]])
         lows[first:last], highs[first:last] = [low], [high]
 
-    def remove(self, cell):
+    def remove(self, cell: tuple[Any, ...]) -> None:
         """Takes a cell out of the set."""
         if cell[0] == "t":
             self.subresources.discard(cell)
@@ -55,7 +58,7 @@ class Cells:
         ]
         lows[first:last], highs[first:last] = [low for low, _ in left], [high for _, high in left]
 
-    def outside(self, cell):
+    def outside(self, cell: tuple[Any, ...]) -> list[Any]:
         """The pieces of a cell that are not in the set."""
         if cell[0] == "t":
             return [] if cell in self.subresources else [cell]
@@ -70,13 +73,13 @@ class Cells:
 class Trace:
     """The items so far, of each part its last set of usages, and the cells that are set: whose last write did not leave them unset."""
 
-    def __init__(self):
+    def __init__(self) -> None:
         self.items = []
         self.last_sets = {}
         self.set = Cells()
 
 
-def add_group(trace, group):
+def add_group(trace: Trace, group: list[Any]) -> None:
     """Before a group stands one clear of what some step of it reads, no earlier step of it writes, and is unset."""
     if not group:
         return
@@ -98,7 +101,7 @@ def add_group(trace, group):
         add_step(trace, step)
 
 
-def add_clear(trace, cells, at):
+def add_clear(trace: Trace, cells: Cells, at: str) -> None:
     """A clear uses its parts as `clear` and writes its cells; one of no cells is no step."""
     runs = [(*owner, low, high) for owner, (lows, highs) in cells.runs.items() for low, high in zip(lows, highs)]
     found = runs + list(cells.subresources)
@@ -106,7 +109,7 @@ def add_clear(trace, cells, at):
         add_step(trace, Step(at, "clear", [(cell, "clear", "write") for cell in found]))
 
 
-def add_step(trace, step):
+def add_step(trace: Trace, step: Step) -> None:
     """Before a step stands a barrier on each part that it uses, but where its set is the last one and only reads, and but at
     the first use of a buffer or a query set."""
     for part, usages in sorted(step.uses.items()):

@@ -4,9 +4,16 @@ An order is a list of callers, one for each entry. A caller is the number of a l
 make no entry and take no turn; which these are is told by the lane alone, since none but it can end its encoders and passes.
 """
 
+from __future__ import annotations
+
+from typing import TYPE_CHECKING, Any
+
 from .calls import BEGINS, FINISHES, RECORDING
 from .history import History
 from .replies import answer_call
+
+if TYPE_CHECKING:
+    from model.history import Setup
 
 
 class NotLegal(Exception):
@@ -17,7 +24,7 @@ class NotFixed(Exception):
     """The order of a script is not fixed: in some phase several lanes have entries."""
 
 
-def events_of(lane):
+def events_of(lane: Any) -> list[Any]:
     """Of each call of a lane, in order, whether it makes an entry: each but recording calls, and of these the late ones.
 
     A recording call is late where the lane has, before it, a finish of its encoder or bundle encoder, which of one on a pass is the encoder
@@ -44,7 +51,7 @@ def events_of(lane):
     return events
 
 
-def stretches_of(lane):
+def stretches_of(lane: Any) -> Any:
     """A lane cut behind each of its events, and what it records after the last."""
     stretches = [[]]
     for call, is_event in zip(lane, events_of(lane)):
@@ -57,14 +64,14 @@ def stretches_of(lane):
 class Turns:
     """A script that is being played, with the stretches of each lane of the phase in which it is."""
 
-    def __init__(self, setup, phases):
+    def __init__(self, setup: Setup, phases: list[Any]) -> None:
         self.history = History(setup)
         self.phases = phases
         self.phase = -1
         self.lanes, self.rests = [], []
         self.leave()
 
-    def leave(self):
+    def leave(self) -> None:
         """Goes to the next phase in which some lane has an event, or behind the last one."""
         while not self.open_lanes() and self.phase < len(self.phases):
             for caller, rest in enumerate(self.rests):
@@ -75,16 +82,16 @@ class Turns:
             self.lanes, self.rests = [found for found, _ in cut], [rest for _, rest in cut]
             self.places = [0] * len(lanes)
 
-    def open_lanes(self):
+    def open_lanes(self) -> list[Any]:
         """The callers that have a further event in this phase; none where all phases are left."""
         return [caller for caller, lane in enumerate(self.lanes) if self.places[caller] < len(lane)]
 
-    def record(self, commands, caller):
+    def record(self, commands: list[Any], caller: int) -> None:
         for command in commands:
             if answer_call(self.history, command, caller).entry is not None:
                 raise AssertionError(f"{command} is late, which its lane does not tell")
 
-    def take(self, caller):
+    def take(self, caller: int) -> None:
         """Plays the next event of a caller, which has one, and what it records before it."""
         *commands, event = self.lanes[caller][self.places[caller]]
         self.places[caller] += 1
@@ -94,7 +101,7 @@ class Turns:
         self.leave()
 
 
-def play(setup, phases, callers):
+def play(setup: Any, phases: Any, callers: Any) -> Any:
     """The history of a script in an order. What is wrong with the order is told of its first entry that no order has there."""
     turns = Turns(setup, phases)
     for number, caller in enumerate(callers):
@@ -111,7 +118,7 @@ def play(setup, phases, callers):
     return turns.history
 
 
-def play_chosen(setup, phases, choose):
+def play_chosen(setup: Any, phases: Any, choose: Any) -> Any:
     """The history of a script in which each turn is of the caller that is chosen of those that have a further event."""
     turns = Turns(setup, phases)
     while turns.open_lanes():
@@ -119,7 +126,7 @@ def play_chosen(setup, phases, choose):
     return turns.history
 
 
-def only_one(callers):
+def only_one(callers: Any) -> Any:
     """The caller of a turn whose order is fixed."""
     if len(callers) > 1:
         raise NotFixed(f"the callers {', '.join(map(str, callers))} have events in one phase")

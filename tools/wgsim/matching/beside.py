@@ -1,7 +1,16 @@
 """Sets a report beside its script: which call made each entry, each object and each step, and by which name."""
 
+from __future__ import annotations
+
+from typing import TYPE_CHECKING, Any
+
 from wgsim.reading import calls
 from wgsim.reading import report as reports
+
+if TYPE_CHECKING:
+    from wgsim.reading.frames import Frame
+    from wgsim.reading.report import Report, Step
+    from wgsim.reading.script import Script
 
 
 class DoNotMatch(Exception):
@@ -11,7 +20,7 @@ class DoNotMatch(Exception):
 class Beside:
     """A report with the script that it is of, or with none."""
 
-    def __init__(self, report, script=None):
+    def __init__(self, report: Report, script: Script | None = None) -> None:
         self.report = report
         self.script = script
         self.call_of = {}
@@ -67,7 +76,7 @@ class Beside:
         lanes = [lane for (of, _), lane in self.script.lanes.items() if of == phase]
         return [call for lane in lanes for call in lane[after_entry(lane) :] if calls.canvas(call.word) is not None]
 
-    def match_steps(self):
+    def match_steps(self) -> None:
         """Finds the call that each step comes from. Where the counts do not fit, none is named for that operation."""
         by_operation = {}
         for step in self.report.steps():
@@ -80,7 +89,7 @@ class Beside:
             if [calls.step_of(call.word) for call in made] == [step.name for step in steps]:
                 self.command_of.update({step.number: call for step, call in zip(steps, made)})
 
-    def match_host(self, step):
+    def match_host(self, step: Step) -> None:
         """Finds the call of a host access: the unmap at its entry, or the mapAsync whose promise is settled there."""
         entry = self.report.entries[step.at] if step.at < len(self.report.entries) else None
         asked = [self.call_of.get(promise) for promise, how in entry.settled if how == "mapped"] if entry else []
@@ -102,7 +111,7 @@ class Beside:
             made += self.script.recorded_in(finish) if finish is not None else []
         return [each for each in made if calls.step_of(each.word) and not each.is_empty()]
 
-    def named(self, sort, number):
+    def named(self, sort: str, number: int) -> str:
         """An object by its name in the script, or else by its kind and number."""
         return self.names.get(number) or f"{reports.SORTS.get(sort, sort)} {number}"
 
@@ -110,13 +119,13 @@ class Beside:
         """The entry that made the object that a name stands for, or None."""
         return self.entry_of.get(self.script.maker_of(name))
 
-    def frame_of(self, number):
+    def frame_of(self, number: int) -> Frame | None:
         """The frame of a canvas whose texture an object is, or None."""
         entry = self.makers.get(number)
         call = self.call_of.get(entry.number) if entry is not None else None
         return call.frame if call is not None else None
 
-    def part(self, part):
+    def part(self, part: Any) -> Any:
         """A part or some cells in words."""
         name = self.named(part.sort, part.object)
         if part.aspect is not None:
@@ -129,15 +138,15 @@ class Beside:
         return name
 
 
-def after_entry(lane):
+def after_entry(lane: list[Any]) -> int:
     """The place in the calls of a lane behind the last one that makes an entry."""
     return next((number + 1 for number in reversed(range(len(lane))) if lane[number].event is not None), 0)
 
 
-def span(part):
+def span(part: Any) -> Any:
     return f" {part.low}" if part.high - part.low == 1 else f"s {ends(part)}"
 
 
-def ends(part):
+def ends(part: Any) -> Any:
     """The first and the last of a run, as a reader counts them."""
     return f"{part.low}" if part.high - part.low == 1 else f"{part.low} to {part.high - 1}"

@@ -3,7 +3,10 @@
 `agrees` is a line. Of `differs` it is told which step reads, which writes, what may be seen, and which barrier is missing and where
 (clash.py); of `bad trace` which line it is, what of it breaks the rule, and what was expected (notrace.py). """
 
+from __future__ import annotations
+
 import json
+from typing import TYPE_CHECKING, Any
 
 from wgsim.exit_status import BAD_TRACE, DIFFERS, NO_MEMORY, TOO_LARGE, UNREAD, UNWRITTEN, End
 from wgsim.matching import clash, notrace
@@ -11,6 +14,10 @@ from wgsim.matching.beside import Beside, DoNotMatch
 from wgsim.reading import script as scripts
 from wgsim.reading.places import NotJson, escaped
 from wgsim.reading.report import NotReport, Report
+
+if TYPE_CHECKING:
+    from wgsim.matching.clash import Told
+    from wgsim.reading.places import Text
 
 # What the program's own statuses mean where it writes nothing.
 OF_TRACES = {
@@ -27,7 +34,7 @@ class Checked:
 
     `clash` is what differs, with `beside` the report beside the script where the two belong together, and `why` they do not."""
 
-    def __init__(self, data, name, program, text=None):
+    def __init__(self, data: bytes, name: str, program: Any, text: Text | None = None) -> None:
         self.data, self.name, self.program = data, name, program
         self.status, said = program.check(data)
         if self.status in OF_TRACES:
@@ -36,22 +43,22 @@ class Checked:
         self.beside, self.why = beside_of(data, text) if text is not None and self.status != BAD_TRACE else (None, None)
         self.clash = self.found() if self.status == DIFFERS else None
 
-    def found(self):
+    def found(self) -> Any:
         """What differs, as a clash of two steps; None where the trace has no such steps."""
         try:
             return clash.Clash(self.line, self.data.decode("ascii").split("\n"))
         except (ValueError, KeyError, AttributeError, IndexError):
             return None
 
-    def told(self):
+    def told(self) -> Told:
         """The clash as it is told: by the names of the script, where there is one."""
         return clash.Told(self.clash, self.name, clash.ByScript(self.beside) if self.beside else clash.ByNumber())
 
-    def fault(self):
+    def fault(self) -> list[int]:
         """The rule and the line of a text that is no trace."""
         return [int(word) for word in self.line.split(" ")[2:]]
 
-    def lines(self):
+    def lines(self) -> list[str]:
         by = f"(the answer of {self.program.said})"
         if self.status == BAD_TRACE:
             return [f"{self.line}: {self.name} is no trace {by}", *notrace.explained(self.name, self.data, *self.fault())]
@@ -62,10 +69,10 @@ class Checked:
         told = self.told()
         return [f"{self.line}: {told.head()} {by}", *self.unmatched(), *told.lines()]
 
-    def unmatched(self):
+    def unmatched(self) -> list[Any]:
         return [f"(the steps are told without their calls, since this tool cannot match them: {self.why})"] if self.why else []
 
-    def facts(self):
+    def facts(self) -> dict[str, int | str]:
         """All of it as an object, for a machine."""
         found = {
             "kind": self.line.split(" ")[0] if self.status != BAD_TRACE else "bad trace",
@@ -82,7 +89,7 @@ class Checked:
         return found
 
 
-def beside_of(data, text):
+def beside_of(data: bytes, text: Text) -> Any:
     """A report beside its script, and None; or None, and why they do not belong together."""
     try:
         script = scripts.read(text)
@@ -93,13 +100,13 @@ def beside_of(data, text):
         return None, str(error)
 
 
-def check(data, name, program, text=None):
+def check(data: bytes, name: str, program: Any, text: Text | None = None) -> tuple[str, int]:
     """The answer in words, and its status."""
     checked = Checked(data, name, program, text)
     return "".join(escaped(line) + "\n" for line in checked.lines()), checked.status
 
 
-def check_json(data, name, program, text=None):
+def check_json(data: bytes, name: str, program: Any, text: Any = None) -> tuple[str, int]:
     """The answer as one object, and its status."""
     checked = Checked(data, name, program, text)
     return json.dumps(checked.facts(), ensure_ascii=True) + "\n", checked.status

@@ -4,8 +4,16 @@ see, and the barrier that is missing.
 The program tells the three. The rest is found here, in the lines of the trace, and is no part of what is proved.
 """
 
+from __future__ import annotations
+
+from typing import TYPE_CHECKING, Any
+
 from wgsim.reading.report import Part
 from wgsim.reading.trace_lines import READING, WRITING, cell_said, common_part, named, part_of, part_said, touches
+
+if TYPE_CHECKING:
+    from wgsim.matching.beside import Beside
+    from wgsim.reading.trace_lines import Touch
 
 # Which write the writer's is, as the reader sees it in the printed order: the last one before it, an earlier one, or a later one.
 LAST, EARLIER, LATER = "last", "earlier", "later"
@@ -15,7 +23,7 @@ HOW = {EARLIER: "writes it earlier", LATER: "writes it later"}
 class Clash:
     """A reader, or the end where `reader` is None, and a writer, of one cell: each a step of the trace with its lines."""
 
-    def __init__(self, line, lines):
+    def __init__(self, line: str, lines: list[str]) -> None:
         reader, writer, *cell = line.split()[1:]
         self.cell = Part(cell)
         steps, self.end = touches(lines, self.cell)
@@ -27,11 +35,11 @@ class Clash:
         if self.reader is not None and self.reader.kind not in READING or self.writer.kind not in WRITING:
             raise ValueError(line)
 
-    def last_before(self, step):
+    def last_before(self, step: Touch | None) -> Touch | None:
         """The last step before another one, or before the end, that writes the cell; or None."""
         return next((each for each in reversed(self.writes) if step is None or each.number < step.number), None)
 
-    def find(self):
+    def find(self) -> None:
         """Which of the three cases it is, what the reader may see, and between which two steps a barrier is missing, at the latest in front
         of the second."""
         if self.writer is self.seen:
@@ -45,12 +53,12 @@ class Clash:
         """The line of the barrier that is enough, on the cell's part or on a larger one."""
         return f"bar {' '.join((part or part_of(self.cell)).words)} {self.apart[0].usages()} {self.apart[1].usages()}"
 
-    def wider(self):
+    def wider(self) -> Any:
         """The line of that barrier on all layers that both steps access, or None where that is no more than one."""
         part = common_part(self.cell, *self.apart)
         return self.barrier(part) if part is not None else None
 
-    def unused(self):
+    def unused(self) -> list[Any]:
         """Which of the two steps have no `use` line of the part, so that their usages are guessed."""
         return [step for step in self.apart if not step.used]
 
@@ -58,24 +66,24 @@ class Clash:
 class Told:
     """The lines that tell of a clash."""
 
-    def __init__(self, clash, name, named_so):
+    def __init__(self, clash: Any, name: str, named_so: ByNumber | ByScript) -> None:
         self.clash = clash
         self.name = name
         self.named_so = named_so
         self.reader = step_said(clash.reader)
 
-    def lines(self):
+    def lines(self) -> list[str]:
         return ["", *self.steps(), *self.sees(), *self.missing()]
 
-    def head(self):
+    def head(self) -> str:
         return f"{self.reader} may see {cell_said(self.clash.cell, self.named_so.name)} otherwise than as printed"
 
-    def where(self, step):
+    def where(self, step: Any) -> list[str]:
         """A step with its lines, and the call that it is of."""
         lines = [f"{self.name}:{step.at}: {step.line}", f"{self.name}:{step.row_at}: {step.row}", *self.named_so.call(step.number)]
         return [f"    {line}" for line in lines]
 
-    def steps(self):
+    def steps(self) -> list[str]:
         """The reader, the writer, and the write that is seen as printed, each with its lines."""
         clash, last = self.clash, f"writes it, as the last before {self.reader}"
         if clash.reader is None:
@@ -87,7 +95,7 @@ class Told:
             lines += [f"{step_said(clash.seen)} {last}:", *self.where(clash.seen)]
         return lines
 
-    def sees(self):
+    def sees(self) -> list[str]:
         """What the reader sees as printed, and what it may see."""
         clash = self.clash
         writer, otherwise = step_said(clash.writer), what_of(clash.otherwise)
@@ -98,7 +106,7 @@ class Told:
         }
         return [f"as printed, {self.reader} sees {what_of(clash.seen)}", f"the barriers let {may[clash.case]}"]
 
-    def missing(self):
+    def missing(self) -> list[Any]:
         """The barrier that is enough, ready to be pasted, and where."""
         clash = self.clash
         one, other = clash.apart
@@ -114,7 +122,7 @@ class Told:
         lines += [f"(the usage of {unused} is guessed, since no `use` line has it; usages are not judged)"] if unused else []
         return [*lines, "More may differ: put it in and check again."]
 
-    def facts(self):
+    def facts(self) -> dict[Any, Any]:
         """The same as an object, for a machine."""
         clash = self.clash
         return {
@@ -135,7 +143,7 @@ class Told:
             },
         }
 
-    def fact(self, step):
+    def fact(self, step: Any) -> Any:
         """A step as an object; None stands for the end of the trace, or for no write."""
         if step is None:
             return None
@@ -143,11 +151,11 @@ class Told:
         return {**found, **self.named_so.fact(step.number)}
 
 
-def step_said(step):
+def step_said(step: Touch | None) -> str:
     return "the end" if step is None else f"step {step.number}"
 
 
-def what_of(step):
+def what_of(step: Touch | None) -> str:
     return "what no step of the trace wrote" if step is None else f"what {step_said(step)} wrote"
 
 
@@ -156,18 +164,18 @@ class ByNumber:
 
     name = staticmethod(named)
 
-    def call(self, number):
+    def call(self, number: Any) -> list[Any]:
         """The lines that tell the call of a step."""
         return []
 
-    def fact(self, number):
+    def fact(self, number: int) -> dict[Any, Any]:
         return {}
 
 
 class ByScript(ByNumber):
     """Names objects and steps by the script whose report the trace is."""
 
-    def __init__(self, beside):
+    def __init__(self, beside: Beside) -> None:
         self.beside = beside
 
     def name(self, sort, number):

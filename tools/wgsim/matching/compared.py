@@ -9,8 +9,11 @@ The verdict of a call is one of
     follows   they differ, and it names what came of an earlier call on which they did
 """
 
+from __future__ import annotations
+
 import json
 import re
+from typing import Any
 
 from wgsim.matching.beside import Beside, DoNotMatch
 from wgsim.reading import report as reports
@@ -32,19 +35,19 @@ LONGEST = 20
 class Verdict:
     """What is told of one call."""
 
-    def __init__(self, number, call, at, how, core, browser, why=None):
+    def __init__(self, number: Any, call: Any, at: Any, how: Any, core: Any, browser: Any, why: Any = None) -> None:
         self.number, self.call, self.at, self.how, self.core, self.browser, self.why = number, call, at, how, core, browser, why
         self.word = call.word if call is not None else None
 
-    def place(self):
+    def place(self) -> str:
         return f"at call {self.number}"
 
-    def text(self):
+    def text(self) -> str:
         where = self.place() + (f", {self.at}" if self.at else "")
         why = f" ({self.why})" if self.why else ""
         return f"{self.how} {where}: {self.word}: core {self.core}; browser {self.browser}{why}"
 
-    def json(self):
+    def json(self) -> Any:
         return {
             "call": self.number,
             "do": self.word,
@@ -59,12 +62,12 @@ class Verdict:
 class Passed(Verdict):
     """What is told of a call that the script does not have, and that the browser refused."""
 
-    def __init__(self, passed):
+    def __init__(self, passed: Any) -> None:
         why = f"no script has it: {listed([passed['outside']])}" + (f", {passed['detail']}" if passed.get("detail") else "")
         super().__init__(passed["before"], None, passed.get("at"), OUTSIDE, "has it not", browser_of(passed), why)
         self.word = passed["do"]
 
-    def place(self):
+    def place(self) -> str:
         return f"before call {self.number}"
 
 
@@ -89,7 +92,7 @@ class Compared:
         for number, call in enumerate(self.beside.script.calls):
             self.compare(number, call)
 
-    def compare(self, number, call):
+    def compare(self, number: Any, call: Any) -> None:
         """Notes the verdict of a call where there is something to tell."""
         entry, answer = self.beside.entry_of.get(call), self.answers.of.get(number, {})
         fault = entry.fault if entry is not None else None
@@ -116,7 +119,7 @@ class Compared:
         words = f"settles {core}" if core is not None else "does not settle it"
         self.verdicts.append(Verdict(number, call, self.pages.at(call), how, words, f"settles {browser}", why))
 
-    def reason(self, call, fault, answer, settled=None):
+    def reason(self, call: Any, fault: Any, answer: Any, settled: Any = None) -> Any:
         """Why two answers differ, in `settled` how they settle a promise, as far as that is known: the verdict and its words."""
         if self.names(call) & self.tainted:
             return FOLLOWS, "it names what came of an earlier difference"
@@ -146,17 +149,17 @@ class Compared:
         commands = [call, *self.beside.script.recorded_in(call)]
         return {name.what for command in commands for _, name in command.names()}
 
-    def how(self):
+    def how(self) -> Any:
         """The verdict of the whole recording."""
         if self.refused:
             return DIFFERS
         found = {verdict.how for verdict in self.verdicts}
         return next((how for how in (DIFFERS, KNOWN, OUTSIDE) if how in found), AGREES)
 
-    def of(self, how):
+    def of(self, how: str) -> list[Any]:
         return [verdict for verdict in self.verdicts if verdict.how == how]
 
-    def left(self):
+    def left(self) -> list[Any]:
         """What the page asked for and the script does not say, with how often, in words."""
         found = {}
         for word, times in self.answers.left.items():
@@ -165,7 +168,7 @@ class Compared:
                 found[row["said"]] = found.get(row["said"], 0) + times
         return [f"{said}, {count(times, 'time')}" for said, times in found.items()] + self.answers.device
 
-    def lines(self):
+    def lines(self) -> list[Any]:
         """What is told below the first line."""
         if self.refused:
             return [self.refused]
@@ -184,7 +187,7 @@ class Compared:
         lines += [f"at {passed.get('at')}: {passed['do']} is not in the script: {passed['detail']}" for passed in unread]
         return lines + ([f"left out, since no script says it: {'; '.join(self.left())}"] if self.left() else [])
 
-    def json(self):
+    def json(self) -> Any:
         return {
             "refused": self.refused,
             "calls": len(self.pages.calls),
@@ -194,7 +197,7 @@ class Compared:
         }
 
 
-def same_error(fault, answer):
+def same_error(fault: Any, answer: Any) -> Any:
     """Whether the browser's error is that of the program: thrown where the standard throws, and else of its kind and in its scope."""
     kind, number, caught = fault
     if "throws" in answer:
@@ -202,14 +205,14 @@ def same_error(fault, answer):
     return (kind, caught) == (answer["error"], answer["caught"])
 
 
-def core_of(fault):
+def core_of(fault: Any) -> Any:
     if fault is None:
         return "takes it"
     kind, number, caught = fault
     return f"refuses it by rule {number} ({kind}, {caught})"
 
 
-def browser_of(answer):
+def browser_of(answer: Any) -> Any:
     if "throws" in answer:
         return f"throws {answer['throws']}"
     if "error" not in answer:
@@ -218,7 +221,7 @@ def browser_of(answer):
     return f"refuses it ({answer['error']}, {answer['caught']}): {lines[0] if lines else 'it says nothing'}"
 
 
-def is_of(row, call, fault, answer, settled):
+def is_of(row: Any, call: Any, fault: Any, answer: Any, settled: Any) -> Any:
     """Whether a difference is one that is known: by the rule of the program, the words of the browser, and the call, as far as the row has
     them."""
     holds = [
@@ -232,12 +235,12 @@ def is_of(row, call, fault, answer, settled):
     return all(holds)
 
 
-def listed(words):
+def listed(words: Any) -> Any:
     """What was left out, in words."""
     return ", ".join(dict.fromkeys(whole_text.OUTSIDE.get(word, {"said": word})["said"] for word in words))
 
 
-def noted(note):
+def noted(note: Any) -> str:
     """A note of the recorder, in a line."""
     at = f"at {note['at']}: " if "at" in note else ""
     if "shader" in note:

@@ -6,8 +6,16 @@ has the fault of the whole recording ends with the command that brought it. The 
 in the order in which the device took them: so their order is that of the report, whatever another run would bring. Calls that make nothing
 that the recording names are left out, as long as what is named is as valid as it was. """
 
+from __future__ import annotations
+
+from typing import TYPE_CHECKING, Any
+
 from wgsim.reading import calls, rules
 from wgsim.reading.report import NotReport, Report
+
+if TYPE_CHECKING:
+    from wgsim.reading.rules import Rule
+    from wgsim.reading.script import Call
 
 # The rules of a finish itself, in the order of its tests, that are about what is still open: a pass, a debug group.
 PASS, GROUP = 182, 183
@@ -25,7 +33,7 @@ OF_ENCODER = {180}
 class Found:
     """The command with its number among the encoder's, counted from 1, and how it was found."""
 
-    def __init__(self, call, number, total, asked, said):
+    def __init__(self, call: Call, number: Any, total: int, asked: int, said: str) -> None:
         self.call = call
         self.number = number
         self.total = total
@@ -36,7 +44,7 @@ class Found:
 class Cuts:
     """The shorter recordings of one encoder, in one script, up to its finish."""
 
-    def __init__(self, beside, finish, program):
+    def __init__(self, beside: Any, finish: Any, program: Any) -> None:
         self.beside = beside
         self.script = script = beside.script
         self.finish = finish
@@ -48,7 +56,7 @@ class Cuts:
         if not self.is_as_valid():
             self.needed = None
 
-    def makers(self):
+    def makers(self) -> Any:
         """The calls that make what the encoder's commands name, and what those name in turn, of a bundle what is recorded in it, and the
         drops of all that."""
         found, waiting = {self.encoder.call, *self.commands, self.finish}, [self.encoder.call, *self.commands]
@@ -62,7 +70,7 @@ class Cuts:
         named = {call.gives for call in found}
         return found | {call for call in self.script.calls if call.word == "drop" and {name.what for _, name in call.names()} <= named}
 
-    def is_as_valid(self):
+    def is_as_valid(self) -> bool:
         """Whether the script of these calls alone makes objects as valid as the whole script does."""
         status, out = self.program.ask(self.cut(len(self.commands), []).encode("utf-8"))
         if status != 0:
@@ -71,7 +79,7 @@ class Cuts:
         kept = [self.beside.entry_of[call] for call in self.beside.turns if call in self.needed and call in self.beside.entry_of]
         return made == [entry.answer[2] for entry in kept if entry.object() is not None]
 
-    def rule(self, kept, closed):
+    def rule(self, kept: int, closed: tuple[Any, ...]) -> int | None:
         """The rule that the finish has with the first `kept` commands alone; of what they leave open that is closed first which `closed`
         names."""
         closers = self.closers(kept, closed)
@@ -81,14 +89,14 @@ class Cuts:
             self.asked[case] = self.fault(out.decode("utf-8")) if status == 0 else "refused"
         return self.asked[case]
 
-    def fault(self, out):
+    def fault(self, out: str) -> Any:
         try:
             last = Report(out).entries[-1]
         except (NotReport, IndexError):
             return "refused"
         return last.fault[1] if last.fault else None
 
-    def cut(self, kept, closers):
+    def cut(self, kept: Any, closers: Any) -> Any:
         """The calls up to the finish, in the order of the report and as one lane, without late calls and without the later commands of its
         encoder, in place of which the closers stand."""
         gone = set(self.commands[kept:])
@@ -99,11 +107,11 @@ class Cuts:
         joined = ",\n".join(texts)
         return "{" + ",".join([*head, f'"phases":[[[{joined}]]]']) + "}"
 
-    def is_kept(self, call, gone):
+    def is_kept(self, call: Call, gone: set[Any]) -> bool:
         """Whether a call stands in a shorter script. A late call does not: what it is late for may not be there."""
         return call not in gone and not call.is_late and (self.needed is None or call in self.needed)
 
-    def opened(self, kept):
+    def opened(self, kept: int) -> Any:
         """What the first commands leave open: the pass with the number of its begin, or None; by encoder and pass the numbers of the
         commands that opened its debug groups; and whether an occlusion query is active in the pass."""
         open_pass, groups, is_active = None, {}, False
@@ -123,7 +131,7 @@ class Cuts:
                     is_active = calls.query(call.word) == "begins"
         return open_pass, groups, is_active
 
-    def closers(self, kept, closed):
+    def closers(self, kept: int, closed: tuple[Any, ...]) -> list[Any]:
         """Calls that close what the first commands leave open: the pass with its debug groups and its query (`pass`), the debug groups of
         the encoder (`groups`)."""
         open_pass, groups, is_active = self.opened(kept)
@@ -136,11 +144,11 @@ class Cuts:
             closing += [self.closer("popDebugGroup", self.encoder.name)] * len(groups.get(self.encoder.name, []))
         return closing
 
-    def closer(self, word, on):
+    def closer(self, word: str, on: str) -> str:
         return f'{{"do":"{word}","on":"{on}"}}'
 
 
-def find(beside, finish, rule, program):
+def find(beside: Any, finish: Any, rule: Any, program: Any) -> Any:
     """The command that a finish's fault is about, or None where none is to be found."""
     place = beside.script.places.get(finish.value.member("on").what)
     if place is None or place.finish is not finish or not place.commands or rule in OF_ENCODER:
@@ -156,7 +164,7 @@ def find(beside, finish, rule, program):
     return Found(call, found, len(cuts.commands), len(cuts.asked), said_of(rule, beside.script.drawn_on(call)))
 
 
-def told(beside, rule, cause):
+def told(beside: Any, rule: Any, cause: Any) -> Any:
     """The command as the second reading of the rules finds it, where no program is to be asked; or None."""
     if cause.about is None:
         return None
@@ -164,14 +172,14 @@ def told(beside, rule, cause):
     return Found(call, number, total, 0, said_of(rule, beside.script.drawn_on(call)))
 
 
-def broken(rule, word, found):
+def broken(rule: int, word: str, found: Found | None) -> list[Rule]:
     """The rule that a call with a fault breaks, alone in a list, as it is of the command that the fault is about, if there is one. A finish
     has rule 11 twice, of its encoder and then of what its commands name."""
     asked = rules.of(rule, found.call.word if found and rule not in OF_FINISH else word)
     return asked[-1:] if found and rule == DROPPED else asked[:1]
 
 
-def first(cuts, rule, closed):
+def first(cuts: Cuts, rule: int, closed: Any) -> Any:
     """The least number of commands with which the finish has the rule. Once it has it, more commands do not take it away."""
     low, high = 0, len(cuts.commands)
     if cuts.rule(0, closed) == rule:
@@ -185,7 +193,7 @@ def first(cuts, rule, closed):
     return high
 
 
-def opener(cuts, rule, closed):
+def opener(cuts: Cuts, rule: int, closed: tuple[Any, ...]) -> int:
     """The command that opens what is open to the end: with it, and not without it, a recording has the rule."""
     open_pass, groups, _ = cuts.opened(len(cuts.commands))
     opening = [open_pass[1]] if rule == PASS and open_pass else groups.get(cuts.encoder.name, []) if rule == GROUP else []
@@ -193,7 +201,7 @@ def opener(cuts, rule, closed):
     return opening[0] if is_it else None
 
 
-def said_of(rule, drawn_on):
+def said_of(rule: Any, drawn_on: Any) -> str:
     if rule == DROPPED:
         return "names what was dropped before the encoder was made"
     if rule == SCOPE:

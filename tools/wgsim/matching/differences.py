@@ -1,6 +1,9 @@
 """`wgsim diff`: two reports, entry by entry and step by step, the first difference first."""
 
+from __future__ import annotations
+
 import difflib
+from typing import TYPE_CHECKING, Any, Callable
 
 from wgsim import exit_status
 from wgsim.matching.beside import Beside, DoNotMatch
@@ -10,11 +13,15 @@ from wgsim.reading import script as scripts
 from wgsim.reading.places import NotJson
 from wgsim.reading.report import NotReport, Release, Report, count
 
+if TYPE_CHECKING:
+    from wgsim.reading.places import Text
+    from wgsim.reading.report import Entry
+
 
 class Side:
     """One of the two reports, and the words for what is in it."""
 
-    def __init__(self, given, program):
+    def __init__(self, given: tuple[bytes, str], program: Callable[..., Any]) -> None:
         data, self.name = given
         script = places.Text(data, self.name) if data.lstrip()[:1] == b"{" else None
         if script is not None:
@@ -27,7 +34,7 @@ class Side:
         if self.refused is None:
             self.beside = Beside(parsed(data, self.name))
 
-    def name_by(self, text):
+    def name_by(self, text: Text) -> bool:
         """Takes the names of a script, where the report is one of it."""
         if self.beside is None:
             return True
@@ -43,7 +50,7 @@ class Side:
         return f" ({self.beside.script.where(call)})" if call else ""
 
 
-def parsed(data, name):
+def parsed(data: bytes, name: str) -> Report:
     try:
         return Report(data.decode("utf-8"))
     except (NotReport, UnicodeDecodeError) as error:
@@ -53,7 +60,7 @@ def parsed(data, name):
 class Comparison:
     """The differences of two sides, as lines."""
 
-    def __init__(self, one, other):
+    def __init__(self, one: Side, other: Side) -> None:
         self.one, self.other = one, other
         self.found = []
         if one.refused or other.refused:
@@ -62,14 +69,14 @@ class Comparison:
         self.entries()
         self.items()
 
-    def refusals(self):
+    def refusals(self) -> None:
         if self.one.refused != self.other.refused:
             self.add("one of the two is a refusal", *[self.side(each, each.refused or "a report") for each in (self.one, self.other)])
 
-    def add(self, head, *lines):
+    def add(self, head: str, *lines: str) -> None:
         self.found.append([head, *[f"    {line}" for line in lines]])
 
-    def side(self, side, text):
+    def side(self, side: Side, text: str) -> str:
         return f"{'A' if side is self.one else 'B'}: {text}"
 
     def entries(self):
@@ -88,11 +95,11 @@ class Comparison:
             self.alone("entry", self.one, ours, a + together, b)
             self.alone("entry", self.other, theirs, c + together, d)
 
-    def alone(self, what, side, texts, start, end):
+    def alone(self, what: str, side: Side, texts: list[str], start: int, end: int) -> None:
         for n in range(start, end):
             self.add(f"{what} {n} of {'A' if side is self.one else 'B'} alone", *texts[n].split("\n"))
 
-    def items(self):
+    def items(self) -> None:
         ours, theirs = item_texts(self.one.beside), item_texts(self.other.beside)
         for way, a, b, c, d in difflib.SequenceMatcher(None, ours, theirs, False).get_opcodes():
             if way == "equal":
@@ -105,7 +112,7 @@ class Comparison:
             for m in right:
                 self.add(f"{self.item(self.other, m)} of B alone", *theirs[m].split("\n"))
 
-    def changed(self, ours, theirs, n, m):
+    def changed(self, ours: Any, theirs: Any, n: Any, m: Any) -> None:
         """A step that both have, and differ in: only the lines that differ."""
         first, second = ours[n].split("\n"), theirs[m].split("\n")
         lines = [self.side(self.one, line) for line in first if line not in second]
@@ -114,16 +121,16 @@ class Comparison:
             one, other = self.item(self.one, n), self.item(self.other, m)
             self.add(f"{one}, {first_line(ours[n])}" if one == other else f"{one} of A and {other} of B, {first_line(ours[n])}", *lines)
 
-    def item(self, side, n):
+    def item(self, side: Any, n: Any) -> Any:
         item = side.beside.report.items[n]
         return "release" if isinstance(item, Release) else f"step {item.number}"
 
 
-def heading(what, one, other):
+def heading(what: str, one: int, other: int) -> str:
     return f"{what} {one}" if one == other else f"{what} {one} of A and {what} {other} of B"
 
 
-def first_line(text):
+def first_line(text: Any) -> Any:
     """The line of a step's text that says which step it is."""
     return next((line for line in text.split("\n") if not line.startswith("barrier ")), text)
 
@@ -139,7 +146,7 @@ def paired(ours, theirs, some, others):
     return pairs, [n for n in some if n not in met[0]], [n for n in others if n not in met[1]]
 
 
-def entry_text(beside, entry):
+def entry_text(beside: Any, entry: Entry) -> str:
     """An entry without its number, with names in the place of object numbers. Promises go by their number among the promises."""
     words = entry.line.split(" settle ")[0].split(" ")[1:]
     number = entry.object()
@@ -151,7 +158,7 @@ def entry_text(beside, entry):
     return "lane " + " ".join(words) + "".join(settled)
 
 
-def item_texts(beside):
+def item_texts(beside: Any) -> list[Any]:
     """The steps, each with its barriers, and the releases, with names and without the numbers of steps."""
     texts = []
     for item in beside.report.items:
@@ -167,7 +174,7 @@ def item_texts(beside):
     return texts
 
 
-def give_names(one, other, given):
+def give_names(one: Any, other: Any, given: Any) -> Any:
     """Has both sides go by the names of the script that is given, or that one of them is. Returns a note where one is not of it."""
     text = given or one.script or other.script
     if text is None:
@@ -182,7 +189,7 @@ def give_names(one, other, given):
     return []
 
 
-def compare(inputs, script, is_unproved):
+def compare(inputs: Any, script: Any, is_unproved: Any) -> tuple[str, int]:
     """What two reports differ in, and the status."""
     kept = []
 

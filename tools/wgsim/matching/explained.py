@@ -1,6 +1,9 @@
 """`wgsim explain`: what the program says of a script, beside the script, and why each fault was made."""
 
+from __future__ import annotations
+
 import functools
+from typing import TYPE_CHECKING, Any, Callable
 
 from wgsim import causes
 from wgsim.exit_status import REFUSED, SILENT, End
@@ -11,6 +14,11 @@ from wgsim.reading import bits, browser_answers, calls, frames, rules
 from wgsim.reading import script as scripts
 from wgsim.reading.places import NotJson, escaped
 from wgsim.reading.report import NotReport, Release, Report, count, summary
+
+if TYPE_CHECKING:
+    from wgsim.reading.places import Text
+    from wgsim.reading.report import Entry, Step
+    from wgsim.reading.script import Call
 
 ANSWERS = {"plain": "done", "bad": "bad: what is complete already, or was never queued, was said to be complete", "promise": "a promise"}
 # The rules that set a call beside the entries of layouts; and what is a layout or has one.
@@ -34,7 +42,7 @@ ACCESSES = {
 class Explained:
     """The lines that explain one script, and the status with which the program ended."""
 
-    def __init__(self, text, program, data):
+    def __init__(self, text: Text, program: Any, data: bytes) -> None:
         self.text = text
         self.program = program
         self.lines = []
@@ -53,10 +61,10 @@ class Explained:
         self.canvases()
         self.trace()
 
-    def say(self, *lines):
+    def say(self, *lines: str) -> None:
         self.lines += lines
 
-    def head(self):
+    def head(self) -> str:
         """How much of everything the report has. Of the faults those are counted that have a cause of their own, with what follows beside
         them."""
         entries = self.beside.report.entries
@@ -107,11 +115,11 @@ class Explained:
             for promise, how in entry.settled:
                 self.say(f"      {self.scopes.settled(entry, promise, how)}")
 
-    def place(self, call):
+    def place(self, call: Any) -> str:
         """The line and column of a call."""
         return "{}:{}  ".format(*self.text.place(call.value.start)) if call is not None else ""
 
-    def answer(self, entry):
+    def answer(self, entry: Entry) -> str:
         number = entry.object()
         frame = self.beside.call_of[entry.number].frame if entry.number in self.beside.call_of else None
         if number is not None:
@@ -130,7 +138,7 @@ class Explained:
             return "refused" if entry.word != "late" else "late: what it is recorded on has ended"
         return ANSWERS.get(entry.answer[0], " ".join(entry.answer))
 
-    def fault(self, entry, call):
+    def fault(self, entry: Any, call: Any) -> None:
         kind, number, caught = entry.fault
         uncaught = "uncaptured" if caught == "uncaptured" else f"caught by error {caught}"
         self.say(f"    breaks rule {number} ({kind} error, {uncaught})")
@@ -204,7 +212,7 @@ class Explained:
             self.say("    nothing is set there")
         self.layouts(list(dict.fromkeys(names)))
 
-    def reasons(self, entry, call, number):
+    def reasons(self, entry: Entry, call: Call, number: int) -> None:
         """What the report itself tells of why a rule is broken."""
         if entry.word == "late":
             self.ended(call)
@@ -248,7 +256,7 @@ class Explained:
             self.say(f"    {place.name} was finished at {self.beside.script.where(place.finish)}")
 
     @functools.cached_property
-    def first_with(self):
+    def first_with(self) -> dict[tuple[str, str], tuple[int, int, Call]]:
         """Of a word and a name the first call that has both, as the device took them, behind the number of its turn and the name's place in
         it."""
         found = {}
@@ -259,7 +267,7 @@ class Explained:
         return found
 
     @functools.cached_property
-    def turn_of(self):
+    def turn_of(self) -> dict[Call, int]:
         return {call: turn for turn, call in enumerate(self.beside.turns)}
 
     def before(self, call, names, words):
@@ -287,7 +295,7 @@ class Explained:
                 waiting += [each.what for command in script.recorded_in(maker) for _, each in command.names()]
         return names
 
-    def canvases(self):
+    def canvases(self) -> None:
         """Which frame of which canvas each texture is, where the script has canvases."""
         found = frames.listed(self.beside) if self.beside.script is not None else []
         if found:
@@ -295,7 +303,7 @@ class Explained:
         for head, lines in found:
             self.say("", head, *[f"   {line}" for line in lines])
 
-    def trace(self):
+    def trace(self) -> None:
         self.say("", "TRACE: what a driver has to do, in this order")
         if not self.beside.report.items:
             self.say("", "         nothing: no accepted work touches memory")
@@ -315,14 +323,14 @@ class Explained:
             self.say(*[f"         uses {self.beside.part(part)} as {usages}" for part, usages in item.uses])
             self.say(*[f"         {ACCESSES.get(kind, kind)} {self.beside.part(cells)}" for kind, cells in item.accesses])
 
-    def step(self, step):
+    def step(self, step: Step) -> str:
         where = f"on the host, at entry {step.at}" if step.is_host else f"operation {step.at}"
         call = self.beside.command_of.get(step.number)
         what = "clear of fresh memory" if step.name == "clear" else step.name
         return f"step {step.number:<3} {what}, {where}" + (f", of the call at {self.place(call).strip()}" if call else "")
 
 
-def answer(text, data, program):
+def answer(text: Text, data: bytes, program: Any) -> tuple[int, str]:
     """The status of a script, and what the program says of it. The tool ends where that is nothing."""
     status, out = program.ask(data)
     if status in SILENT:
@@ -330,7 +338,7 @@ def answer(text, data, program):
     return status, out.decode("utf-8", "replace")
 
 
-def set_beside(text, said, say):
+def set_beside(text: Text, said: str, say: Callable[..., Any]) -> Beside:
     """The report that the program gave, beside the script; alone where the two cannot be brought together."""
     try:
         report = Report(said)
@@ -347,7 +355,7 @@ def set_beside(text, said, say):
     return Beside(report)
 
 
-def explain(text, data, program):
+def explain(text: Text, data: bytes, program: Any) -> tuple[str, int]:
     """The explanation of a script, and the program's status."""
     explained = Explained(text, program, data)
     return "".join(escaped(line) + "\n" for line in explained.lines), explained.status

@@ -3,7 +3,10 @@
 The form is described in docs/tool.md, and is kept stable.
 """
 
+from __future__ import annotations
+
 import json
+from typing import TYPE_CHECKING, Any
 
 from wgsim import causes
 from wgsim.exit_status import REFUSED
@@ -12,13 +15,19 @@ from wgsim.matching.explained import answer, set_beside
 from wgsim.matching.scopes import Scopes
 from wgsim.reading import browser_answers
 
+if TYPE_CHECKING:
+    from wgsim.matching.beside import Beside
+    from wgsim.reading.places import Text
+    from wgsim.reading.report import Entry
+    from wgsim.reading.script import Call
 
-def place(text, call):
+
+def place(text: Text, call: Call | None) -> str | None:
     """The line and column of a call, or None."""
     return "{}:{}".format(*text.place(call.value.start)) if call is not None else None
 
 
-def of_fault(text, beside, scopes, causes_of, entry):
+def of_fault(text: Any, beside: Any, scopes: Any, causes_of: Any, entry: Any) -> Any:
     """A fault as an object; where the script was recorded with the places of its call and its command in the page."""
     kind, number, _ = entry.fault
     told, call = causes_of.of(entry), beside.call_of.get(entry.number)
@@ -50,13 +59,13 @@ def of_fault(text, beside, scopes, causes_of, entry):
     }
 
 
-def of_scope(scopes, entry):
+def of_scope(scopes: Scopes, entry: Entry) -> Any:
     """The error scope that caught a fault: its place on the stack, the entry that opened it, and whether it keeps this fault; or None."""
     scope = scopes.caught.get(entry.number)
     return {"place": scope.place, "opened": scope.opened.number, "keeps": scope.first is entry} if scope else None
 
 
-def of_promise(text, beside, scopes, entry):
+def of_promise(text: Text, beside: Beside, scopes: Scopes, entry: Entry) -> Any:
     """The promise that an entry made: by which entry it is settled and how, or null where nothing settles it."""
     by = scopes.settler.get(entry.number)
     how = next((how for promise, how in by.settled if promise == entry.number), None) if by else None
@@ -71,7 +80,7 @@ def of_promise(text, beside, scopes, entry):
     }
 
 
-def of_status(text, beside, entry):
+def of_status(text: Text, beside: Beside, entry: Entry) -> dict[str, int | str]:
     """What the device answered at an entry."""
     call, number = beside.call_of.get(entry.number), entry.object()
     words = {"made": entry.answer[-1], "op": "queued", "promise": "promise", "bad": "bad"}
@@ -93,7 +102,7 @@ def of_status(text, beside, entry):
     return found
 
 
-def of_refusal(text, line):
+def of_refusal(text: Any, line: Any) -> Any:
     """A script that is refused, as an object."""
     found = refusal.find(text, line)
     where = dict(zip(refusal.PARTS, found.place))
@@ -113,7 +122,7 @@ def of_refusal(text, line):
     }
 
 
-def listed(text, data, program):
+def listed(text: Any, data: Any, program: Any) -> tuple[Any, ...]:
     """The objects of a script, and the status of its report."""
     status, said = answer(text, data, program)
     if status == REFUSED:
@@ -126,7 +135,7 @@ def listed(text, data, program):
     return found + [of_status(text, beside, entry) for entry in entries], status
 
 
-def explained(text, data, program):
+def explained(text: Text, data: bytes, program: Any) -> tuple[str, int]:
     """The JSON text of a script, an array with an object a line, and the status of its report."""
     found, status = listed(text, data, program)
     return "[" + ",".join("\n" + json.dumps(each, ensure_ascii=True) for each in found) + "\n]\n", status

@@ -1,5 +1,9 @@
 """A report that is there already, in the place of a program that plays the script."""
 
+from __future__ import annotations
+
+from typing import Any
+
 from wgsim.exit_status import REFUSED, SAME, UNREAD, End
 from wgsim.matching import refusal
 from wgsim.reading.report import NotReport, Report
@@ -12,7 +16,7 @@ class Given:
 
     plays = False
 
-    def __init__(self, data, name, text):
+    def __init__(self, data: Any, name: Any, text: Any) -> None:
         self.said = f"the report {name}"
         said = data.decode("utf-8", "replace")
         is_refused = said.startswith("bad script ")
@@ -24,6 +28,6 @@ class Given:
         except (ValueError, KeyError, IndexError, AttributeError, TypeError):
             raise End(UNREAD, f"{name} tells of no place of {text.name}") from None
 
-    def ask(self, data):
+    def ask(self, data: Any) -> Any:
         """The status that belongs to the report, and the report."""
         return self.answer

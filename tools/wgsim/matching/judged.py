@@ -4,6 +4,8 @@ A script is a file NAME.json, and NAME.expected beside it has the report that is
 of turns than the one that is expected; then both reports have to be ones that the script can have, by the second reading. Where
 NAME.answers.json lies beside it, it was recorded in a browser, and what that answered is compared call by call. """
 
+from __future__ import annotations
+
 import collections
 import concurrent.futures
 import contextlib
@@ -13,6 +15,7 @@ import pathlib
 import subprocess
 import sys
 import time
+from typing import Any
 
 from wgsim import exit_status
 from wgsim.matching import compared
@@ -38,7 +41,7 @@ WRITTEN = {
 class Result:
     """What came of one script: the status of the program, and how its report stands to the one that is expected."""
 
-    def __init__(self, name, status, how):
+    def __init__(self, name: Any, status: Any, how: Any) -> None:
         self.name = name
         self.status = status
         self.how = how
@@ -66,7 +69,7 @@ class Result:
 class Judge:
     """Runs the program on the scripts of a folder."""
 
-    def __init__(self, folder, program):
+    def __init__(self, folder: Any, program: Any) -> None:
         self.folder = folder
         self.program = program
 
@@ -95,7 +98,7 @@ class Judge:
             self.compare(result, path, expected.read_bytes(), ran.stdout)
         return result
 
-    def compare(self, result, path, wanted, found):
+    def compare(self, result: Any, path: Any, wanted: Any, found: Any) -> None:
         """Sets what is expected beside what was found, by bytes, and where the turns came in another order by the second reading."""
         result.how = SAME
         if wanted == found:
@@ -107,7 +110,7 @@ class Judge:
         if turns(wanted) != turns(found) and sorted(turns(wanted)) == sorted(turns(found)) and self.are_legal(path, wanted, found):
             result.how, result.line, result.wanted, result.found = OTHER, None, None, None
 
-    def are_legal(self, path, *reports):
+    def are_legal(self, path: Any, *reports: Any) -> Any:
         """Whether reports are ones that a script can have."""
         from wgsim.matching import verified
 
@@ -115,7 +118,7 @@ class Judge:
         return all(verified.verify(script, (report, "the report"))[1] == exit_status.SAME for report in reports)
 
 
-def turns(report):
+def turns(report: Any) -> Any:
     """The callers of the entries of a report."""
     lines = report.split(b"\ntrace\n")[0].split(b"\n")[1:]
     return [line.split(b" ")[1] for line in lines if line.count(b" ") > 1]
@@ -124,7 +127,7 @@ def turns(report):
 class Progress:
     """A line on a terminal that is written over, of how far the scripts are."""
 
-    def __init__(self, total):
+    def __init__(self, total: int) -> None:
         self.total = total
         self.start = time.monotonic()
         self.is_shown = sys.stderr is not None and sys.stderr.isatty()
@@ -136,14 +139,14 @@ class Progress:
             sys.stderr.write(f"\rwgsim: {done} of {self.total} scripts ({building.clock(self.start)})")
             sys.stderr.flush()
 
-    def clear(self):
+    def clear(self) -> None:
         """Takes the line away, so that another text may stand there."""
         if self.is_shown and self.last:
             sys.stderr.write("\r" + " " * 60 + "\r")
             sys.stderr.flush()
 
 
-def scripts_of(name):
+def scripts_of(name: str) -> tuple[Any, list[str]]:
     """The scripts of a folder, in the order of their names."""
     folder = pathlib.Path(name)
     if not folder.is_dir():
@@ -177,7 +180,7 @@ def judge(name, is_json, program, write):
     return exit_status.NO_ANSWER if counts[FAILED] else exit_status.DIFFERENT if counts[DIFFERS] else exit_status.SAME
 
 
-def summary(counts, total, took, is_json):
+def summary(counts: dict[str, int], total: int, took: float, is_json: bool) -> str:
     """The last line: how many scripts have which result."""
     if is_json:
         return (

@@ -1,6 +1,16 @@
 """Mapped buffers: how each stands as the entries of a report go on, and what that says of their calls."""
 
+from __future__ import annotations
+
+from typing import TYPE_CHECKING, Any
+
 from wgsim.reading import script as scripts
+
+if TYPE_CHECKING:
+    from wgsim.matching.beside import Beside
+    from wgsim.reading.places import Value
+    from wgsim.reading.report import Entry
+    from wgsim.reading.script import Call
 
 MODES = {1: "reading", 2: "writing"}
 # The rules that ask that a buffer is not pending, mapped or destroyed.
@@ -10,7 +20,7 @@ BUSY = (192, 203, 225)
 class Standing:
     """How a buffer stands that is not unmapped: the entry that asked for the map, and whether it still waits."""
 
-    def __init__(self, asked, mode, is_pending):
+    def __init__(self, asked: Entry, mode: Any, is_pending: bool) -> None:
         self.asked = asked
         self.mode = mode
         self.is_pending = is_pending
@@ -19,7 +29,7 @@ class Standing:
 class Maps:
     """What the entries of a report say of mapped buffers, where a script lies beside it."""
 
-    def __init__(self, beside):
+    def __init__(self, beside: Beside) -> None:
         self.beside = beside
         self.ended = {}
         self.busy = {}
@@ -30,7 +40,7 @@ class Maps:
         for entry in beside.report.entries:
             self.take(entry, standing)
 
-    def take(self, entry, standing):
+    def take(self, entry: Entry, standing: dict[Any, Any]) -> None:
         """Notes an entry; `standing` has how buffers stand before it by their numbers, and then after it."""
         call = self.beside.call_of.get(entry.number)
         if call is None:
@@ -53,23 +63,23 @@ class Maps:
         if entry.word == "createBuffer" and entry.is_valid() and is_true(call.value.member("mapped")):
             standing[entry.object()] = Standing(entry, "writing", False)
 
-    def settle(self, asked, how, standing, by):
+    def settle(self, asked: Entry, how: str, standing: dict[Any, Any], by: Entry) -> None:
         call = self.asked.get(asked.number)
         if call is not None and how == "mapped":
             standing[self.buffer_of(call)] = Standing(asked, MODES.get(call.number("mode")), False)
         elif call is not None and by.word == "lose":
             standing.pop(self.buffer_of(call), None)
 
-    def buffer_of(self, call):
+    def buffer_of(self, call: Call) -> int | None:
         """The number of the buffer that a call on one names, or None."""
         maker = self.beside.object_of(scripts.string_of(call.value, "buffer") or scripts.string_of(call.value, "object"))
         return maker.object() if maker is not None else None
 
-    def name_of(self, entry):
+    def name_of(self, entry: Entry) -> Any:
         call = self.asked.get(entry.number)
         return scripts.string_of(call.value, "buffer") if call else "the buffer"
 
-    def unmapped(self, entry):
+    def unmapped(self, entry: Entry) -> str | None:
         """What an unmap did, as far as the entries before it tell, or None."""
         if entry.number not in self.ended or entry.fault:
             return None
@@ -84,11 +94,11 @@ class Maps:
             return "ends the mapping for writing: what is in the range is written back"
         return "ends the mapping for reading"
 
-    def waits(self, entry):
+    def waits(self, entry: Entry) -> str:
         """What the promise of a mapAsync waits for."""
         return f"a promise that waits until every operation that uses {self.name_of(entry)} is complete"
 
-    def why(self, asked, how, by):
+    def why(self, asked: Entry, how: str, by: Entry) -> str:
         """Why the promise of a mapAsync is settled so by an entry, its own or a later one; the loss itself is told elsewhere."""
         name = self.name_of(asked)
         if how == "mapped":
@@ -114,5 +124,5 @@ class Maps:
         return lines
 
 
-def is_true(value):
+def is_true(value: Value | None) -> bool:
     return value is not None and value.kind == "true"

@@ -3,7 +3,10 @@
 The program tells the rule and the line. What of that breaks the rule is found here, by the forms of lines in docs/report.md, and is no part
 of what is proved; where nothing is found the line alone is shown. """
 
+from __future__ import annotations
+
 import re
+from typing import Any
 
 from wgsim.matching.refusal import marked, near
 from wgsim.reading.report import Part
@@ -32,12 +35,12 @@ class Found(Exception):
     """What of a text breaks a rule: what is refused, the number of the line, the column, what stands there, what was expected, and a
     hint."""
 
-    def __init__(self, refuses, line, column, found, expected, hint=None):
+    def __init__(self, refuses: str, line: Any, column: int, found: str, expected: str, hint: str | None = None) -> None:
         super().__init__(refuses)
         self.refuses, self.line, self.column, self.found, self.expected, self.hint = refuses, line, column, found, expected, hint
 
 
-def find(data, rule, line):
+def find(data: bytes, rule: int, line: int) -> Any:
     """What the text breaks by a rule at a line, or None where that is not found."""
     if rule == 1:
         return of_text(data)
@@ -96,41 +99,41 @@ def form(lines, line):
 class Fields:
     """The words of a line, which are taken one after another."""
 
-    def __init__(self, text, line):
+    def __init__(self, text: str, line: int) -> None:
         self.words = text.split(" ")
         self.line = line
         self.at = 0
 
-    def fail(self, expected, hint=None):
+    def fail(self, expected: str, hint: str | None = None) -> None:
         """The word that stands there is not what was expected."""
         column = sum(len(word) + 1 for word in self.words[: self.at]) + 1
         raise Found(FORM, self.line, min(column, len(" ".join(self.words)) + 1), self.here(), expected, hint)
 
-    def here(self):
+    def here(self) -> str:
         if self.words == [""]:
             return "an empty line"
         if self.at >= len(self.words):
             return "the end of the line"
         return f"`{self.words[self.at]}`" if self.words[self.at] else "a space too many"
 
-    def word(self):
+    def word(self) -> str:
         """The word that stands there, or nothing behind the end of the line."""
         return self.words[self.at] if self.at < len(self.words) else ""
 
-    def one_of(self, words, hint=None):
+    def one_of(self, words: tuple[Any, ...], hint: Any = None) -> str | None:
         if self.word() not in words:
             self.fail("one of " + ", ".join(words), hint or (near(self.word(), words) if self.word() else None))
         self.at += 1
         return self.words[self.at - 1]
 
-    def number(self, what, most=WHOLE):
+    def number(self, what: str, most: int = WHOLE) -> int:
         word = self.word()
         if not re.fullmatch("0|[1-9][0-9]*", word) or int(word) > most:
             self.fail(f"{what}: a number from 0 to {most}, in decimal digits without zeros in front")
         self.at += 1
         return int(word)
 
-    def run(self, most):
+    def run(self, most: Any) -> None:
         """LO and HI of cells or layers."""
         low = self.number("LO, the first", most)
         high = self.number("HI, one behind the last", most)
@@ -138,14 +141,14 @@ class Fields:
             self.at -= 1
             self.fail(f"HI above LO, which is {low}: it is one behind the last")
 
-    def image(self, aspects=ASPECTS):
+    def image(self, aspects: Any = ASPECTS) -> None:
         """The number of a texture, an aspect of it, a mip level, and layers or slices."""
         self.number("the number of a texture")
         self.one_of(aspects, "slices have the aspect color alone" if len(aspects) == 1 else None)
         self.number("a mip level", WORD32)
         self.run(WORD32)
 
-    def part(self):
+    def part(self) -> Any:
         hint = "a part of slices is the mip level with all of them, as `t 5 color 0 0 1`" if self.word() == "s" else None
         sort = self.one_of(("b", "q", "t"), hint)
         if sort == "t":
@@ -155,14 +158,14 @@ class Fields:
             self.fail("a set of usages", "a buffer or a query set is one part, without a range")
         return None
 
-    def cells(self):
+    def cells(self) -> Any:
         sort = self.one_of(("b", "t", "s", "q"))
         if sort in ("b", "q"):
             self.number("the number of a buffer" if sort == "b" else "the number of a query set")
             return self.run(WHOLE if sort == "b" else WORD32)
         return self.image(ASPECTS if sort == "t" else ASPECTS[:1])
 
-    def set(self):
+    def set(self) -> None:
         """Some usages, each once and in printed order."""
         words = self.word().split("+")
         wrong = next((word for word in words if word not in USAGES), None)
@@ -175,7 +178,7 @@ class Fields:
         self.at += 1
 
 
-def step(fields):
+def step(fields: Any) -> None:
     fields.number("the number of the step")
     what = (
         "the number of an entry, or one of your own"
@@ -186,17 +189,17 @@ def step(fields):
     fields.one_of(NAMES)
 
 
-def use(fields):
+def use(fields: Fields) -> None:
     fields.part()
     fields.set()
 
 
-def access(fields):
+def access(fields: Any) -> None:
     fields.one_of(KINDS)
     fields.cells()
 
 
-def barrier(fields):
+def barrier(fields: Any) -> None:
     fields.part()
     if fields.word() == "none":
         fields.at += 1
@@ -205,12 +208,12 @@ def barrier(fields):
     fields.set()
 
 
-def release(fields):
+def release(fields: Any) -> None:
     sort = fields.one_of(("b", "t", "q"), "slices are memory of their texture, `t`" if fields.word() == "s" else None)
     fields.number(f"the number of a {dict(b='buffer', t='texture', q='query set')[sort]}")
 
 
-def place(lines, line):
+def place(lines: list[Any], line: int) -> None:
     """Rule 3, of the place of a line among the others."""
     first = lines.index("trace") + 1
     text, word, before = lines[line - 1], lines[line - 1].split(" ")[0], lines[line - 2].split(" ")[0] if line > first else None
@@ -241,7 +244,7 @@ def place(lines, line):
         raise Found(LAST, line, 1, f"`{text}` as the last line", "a further line, `end`")
 
 
-def said_of(word):
+def said_of(word: Any) -> str:
     return "the line `trace`" if word == "trace" else f"{'an' if word == 'acc' else 'a'} `{word}` line"
 
 
@@ -262,7 +265,7 @@ def twice(lines, line):
         raise Found(TWICE, line, column, f"{cell_said(cell)}, which line {at} gives too: `{lines[at - 1]}`", how)
 
 
-def explained(name, data, rule, line):
+def explained(name: str, data: bytes, rule: int, line: int) -> list[str]:
     """The lines that explain why a text is no trace, as those of a script that is refused."""
     found = find(data, rule, line)
     if found is None:
@@ -276,7 +279,7 @@ def explained(name, data, rule, line):
     return lines + marked(data.split(b"\n")[found.line - 1].decode("utf-8", "replace"), found.column)
 
 
-def facts(data, rule, line):
+def facts(data: Any, rule: Any, line: Any) -> Any:
     """The same as an object, for a machine."""
     found = find(data, rule, line)
     return {

@@ -3,18 +3,26 @@
 Both answer by the second reading. An order is a list of callers, one for each entry, as docs/report.md has them under "Several lanes".
 """
 
+from __future__ import annotations
+
 import itertools
 import math
+from typing import TYPE_CHECKING, Any, Iterator
 
 from wgsim import exit_status
 from wgsim.matching import second
 from wgsim.reading.report import Report, count, summary
 
+if TYPE_CHECKING:
+    from wgsim.matching.second import Played
+
+    from model.turns import Turns
+
 # So many orders of turns are listed at most.
 MOST = 10_000
 
 
-def forced(data, name, callers):
+def forced(data: bytes, name: str, callers: list[int]) -> Any:
     """The status and the report of a script in an order of turns."""
     script = second.Played(data, name)
     if script.refusal is not None:
@@ -31,7 +39,7 @@ def forced(data, name, callers):
     return exit_status.SAME, second.text_of(playing.history)
 
 
-def may_come(playing):
+def may_come(playing: Turns) -> str:
     """Which callers may have the next turn, in words."""
     found = [f"caller {caller} with its {second.canvases.said_by(call)['do']}" for caller, call in second.next_call(playing).items()]
     if not found:
@@ -39,7 +47,7 @@ def may_come(playing):
     return f"in phase {playing.phase} the turn may be of " + ", ".join(found[:-1]) + (" or of " if found[1:] else "") + found[-1]
 
 
-def orders(phases):
+def orders(phases: list[list[int]]) -> int:
     """How many orders of turns a script has whose phases have lanes of so many entries: those of each phase, multiplied."""
     total = 1
     for lanes in phases:
@@ -50,7 +58,7 @@ def orders(phases):
     return total
 
 
-def outcomes(data, name):
+def outcomes(data: bytes, name: str) -> Iterator[str]:
     """Each order of turns of a script with its report, as texts, one after another; and before them what they are."""
     script = second.Played(data, name)
     if script.refusal is not None:
@@ -71,16 +79,16 @@ def outcomes(data, name):
         yield f"\noutcome {number} of {total}: callers {','.join(map(str, callers)) or 'none'}: {summary(Report(text))}\n{text}"
 
 
-def told(total):
+def told(total: Any) -> Any:
     return f"{total:,}" if total < 10**15 else "more than 1,000,000,000,000,000"
 
 
-def each_order(script):
+def each_order(script: Played) -> Any:
     """The orders of turns, those first in which low callers come early."""
     return map(list, map(itertools.chain.from_iterable, itertools.product(*map(in_phase, script.events()))))
 
 
-def in_phase(lanes):
+def in_phase(lanes: list[int]) -> list[list[int]]:
     """The orders of one phase, whose lanes have so many entries: from the least of the lists of callers to the greatest."""
     order = [caller for caller, entries in enumerate(lanes) for _ in range(entries)]
     found = [list(order)]

@@ -4,12 +4,20 @@ The program tells the rule and the call. What of the call breaks the rule is fou
 part of what is proved; where nothing is found the call alone is shown.
 """
 
+from __future__ import annotations
+
 import difflib
 import re
+from typing import TYPE_CHECKING, Any
 
 from wgsim.reading import calls, lacking, limits, rules
 from wgsim.reading import script as scripts
 from wgsim.reading.places import NotJson, escaped
+
+if TYPE_CHECKING:
+    from wgsim.reading.calls import Key
+    from wgsim.reading.places import Text, Value
+    from wgsim.reading.script import Call, Script
 
 NAME = re.compile(r"[A-Za-z0-9_]{1,64}")
 PARTS = ("phase", "lane", "call")
@@ -22,7 +30,7 @@ class Refusal:
     """A refusal: its rule, the offset of its place in the text, what stands there, what was expected, and what of the rule it is that
     refuses."""
 
-    def __init__(self, rule, place):
+    def __init__(self, rule: int, place: Any) -> None:
         self.rule = rule
         self.place = place
         self.offset = None
@@ -31,17 +39,17 @@ class Refusal:
         self.more = []
         self.refuses = sentence(rule, place)
 
-    def by(self, refuses):
+    def by(self, refuses: str) -> Refusal:
         """Names the part of a rule that refuses several things."""
         self.refuses = refuses
         return self
 
-    def at(self, offset, found, expected, *more):
+    def at(self, offset: Any, found: Any, expected: Any, *more: Any) -> Any:
         self.offset, self.found, self.expected, self.more = offset, found, expected, [each for each in more if each]
         return self
 
 
-def sentence(rule, place):
+def sentence(rule: int, place: Any) -> Any:
     """The sentence of a rule of scripts; of a rule that has several, that of the kind of place."""
     row = next((row for row in rules.script_rows(rule) if len(rules.place_of(row)) == len(place)), None) or next(
         iter(rules.script_rows(rule)), None
@@ -49,7 +57,7 @@ def sentence(rule, place):
     return row["refuses"] if row else None
 
 
-def find(text, line):
+def find(text: Text, line: str) -> Refusal:
     """The refusal that a line of the program tells of, in the script's text."""
     words = line.split()
     refusal = Refusal(int(words[2]), tuple(map(int, words[3:])))
@@ -64,7 +72,7 @@ def find(text, line):
     return refusal
 
 
-def reached(top, place):
+def reached(top: Value, place: tuple[Any, ...]) -> Any:
     """The value at a place of a script: of the phase, the lane or the call."""
     value = top.member("phases")
     for number in place:
@@ -72,7 +80,7 @@ def reached(top, place):
     return value
 
 
-def at_top(refusal, text, top):
+def at_top(refusal: Refusal, text: Text, top: Value) -> Refusal:
     if top.kind != "object":
         return refusal.at(top.start, kind_of(top), f"an object with {TOP_KEYS}")
     if refusal.rule == 14:
@@ -91,7 +99,7 @@ def at_top(refusal, text, top):
     return refusal.at(phases.start, f"{kind_of(phases)} under phases", TOP["phases"])
 
 
-def wrong_limits(refusal, text, asked):
+def wrong_limits(refusal: Refusal, text: Text, asked: Any) -> Refusal:
     """What is wrong with the limits that a script asks for: each name with the number that was asked for, the default and the best."""
     if asked.kind != "object":
         return refusal.by("`limits` that is no object").at(
@@ -118,18 +126,18 @@ def wrong_limits(refusal, text, asked):
     return refusal
 
 
-def at_phase(refusal, text, top):
+def at_phase(refusal: Refusal, text: Text, top: Value) -> Refusal:
     phase = reached(top, refusal.place)
     found = f"{len(phase.what)} lanes" if phase.kind == "list" else kind_of(phase)
     return refusal.at(phase.start, found, "a phase: a list of at most 64 lanes")
 
 
-def at_lane(refusal, text, top):
+def at_lane(refusal: Refusal, text: Text, top: Value) -> Refusal:
     lane = reached(top, refusal.place)
     return refusal.at(lane.start, kind_of(lane), "a lane: a list of calls")
 
 
-def at_call(refusal, text, top):
+def at_call(refusal: Refusal, text: Text, top: Value) -> Refusal:
     call = reached(top, refusal.place)
     refusal.at(call.start, None, None)
     if refusal.rule == 5:
@@ -143,7 +151,7 @@ def at_call(refusal, text, top):
     return finder(refusal, text, call, top) if finder else refusal
 
 
-def unknown_call(refusal, text, call):
+def unknown_call(refusal: Refusal, text: Text, call: Value) -> Refusal:
     do = call.member("do")
     if do is None:
         return refusal.at(call.start, "no key do", "the key do, with the word of a call")
@@ -153,7 +161,7 @@ def unknown_call(refusal, text, call):
     return refusal.at(do.start, f"the word {quoted(do.what)}", "the word of a call", hint)
 
 
-def keys_of_call(refusal, text, call, top):
+def keys_of_call(refusal: Refusal, text: Text, call: Value, top: Value) -> Refusal:
     word = call.member("do").what
     keys = calls.keys_of(word)
     if keys is not None:
@@ -161,7 +169,7 @@ def keys_of_call(refusal, text, call, top):
     return refusal
 
 
-def wrong_keys(refusal, value, word, keys, others=()):
+def wrong_keys(refusal: Refusal, value: Value, word: Any, keys: dict[Any, Any], others: Any = ()) -> Any:
     """Whether a call, or an object in it, has a key that it may not have, or lacks one that it needs."""
     told = [name + (" (may be left out)" if key.may_be_left_out else "") for name, key in keys.items()]
     has = "has the keys " + ", ".join(told) if told else "has the key do alone"
@@ -178,17 +186,17 @@ def wrong_keys(refusal, value, word, keys, others=()):
     return None
 
 
-def of_keys(refusal, of_object, of_call):
+def of_keys(refusal: Refusal, of_object: str, of_call: str) -> str:
     """What is refused of keys: rule 7 is of those of a call, and rule 8 of those of an object in it."""
     return of_call if refusal.rule == 7 else f"An object in a call, with {of_object}"
 
 
-def values_of_call(refusal, text, call, top):
+def values_of_call(refusal: Refusal, text: Text, call: Value, top: Value) -> Refusal:
     wrong_values(refusal, text, call, calls.keys_of(call.member("do").what) or {})
     return refusal
 
 
-def wrong_values(refusal, text, owner, keys):
+def wrong_values(refusal: Refusal, text: Text, owner: Value, keys: dict[Any, Any]) -> Any:
     """Whether a value of a call, or of an object in it, is not what its key's values have to be."""
     for name, key in keys.items():
         value = owner.member(name)
@@ -207,7 +215,7 @@ def wrong_values(refusal, text, owner, keys):
     return None
 
 
-def why_wrong(wrong, key, is_whole_value):
+def why_wrong(wrong: Value, key: Key, is_whole_value: bool) -> str:
     """What rule 8 refuses of a value, or of an item of it, that is not what its key asks for."""
     if is_whole_value and key.sort in ("three", *ITEMS) and wrong.kind == "list":
         return (
@@ -227,14 +235,14 @@ def why_wrong(wrong, key, is_whole_value):
     return "A value of the wrong type"
 
 
-def objects_in(value, key):
+def objects_in(value: Any, key: Key) -> list[Any]:
     """The objects that stand under a key, in a list or alone."""
     if value is None or key.sort not in ("object", "objects"):
         return []
     return [value] if key.sort == "object" else [item for item in value.what if item.kind == "object"]
 
 
-def wrong_object(refusal, text, item, sort):
+def wrong_object(refusal: Refusal, text: Text, item: Value, sort: str) -> Any:
     """Whether an object in a call has wrong keys or values. Its form is looked at first, since its keys hang on that."""
     said, by, forms = calls.OBJECTS[sort]["said"], calls.form_key(sort), calls.forms_of(sort)
     if not forms:
@@ -261,7 +269,7 @@ def wrong_object(refusal, text, item, sort):
     )
 
 
-def near_key(item, wanted, sort):
+def near_key(item: Value, wanted: Any, sort: str) -> Any:
     """Which key of an object is likely one that it needs, written otherwise, or None."""
     known = {*calls.OBJECTS[sort]["keys"], *(key for form in calls.forms_of(sort).values() for key in form)}
     for key, _ in item.what:
@@ -271,7 +279,7 @@ def near_key(item, wanted, sort):
     return None
 
 
-def wrong_in(value, key):
+def wrong_in(value: Value, key: Key) -> Any:
     """The value, or the item of it, that is not what the key's values have to be, or None."""
     if key.sort == "number":
         return None if is_whole(value, int(key.detail)) else value
@@ -302,11 +310,11 @@ ITEMS = {
 }
 
 
-def is_whole(value, bits):
+def is_whole(value: Any, bits: int) -> bool:
     return value.kind == "number" and value.what.isdigit() and int(value.what) < 2**bits
 
 
-def given_name(refusal, text, call, top):
+def given_name(refusal: Refusal, text: Text, call: Value, top: Value) -> Refusal:
     name = call.member("as")
     if not NAME.fullmatch(name.what):
         return refusal.at(name.start, f"the name {quoted(name.what)}", "1 to 64 letters, digits and _, of ASCII")
@@ -349,12 +357,12 @@ def used_names(refusal, text, call, top):
 OWN = {"on": "an encoder, a bundle encoder or a pass", "canvas": "a canvas"}
 
 
-def is_shown(user, maker):
+def is_shown(user: Call, maker: Call) -> bool:
     """Whether a drop names what a currentTexture gave."""
     return user.word == "drop" and calls.canvas(maker.word) is not None and calls.makes(maker.word) == "canvas texture"
 
 
-def why_wrong_kind(user, maker):
+def why_wrong_kind(user: Call, maker: Any) -> str:
     """What rule 11 refuses of a name."""
     return (
         "A `drop` names what a `currentTexture` made"
@@ -363,7 +371,7 @@ def why_wrong_kind(user, maker):
     )
 
 
-def undropped(user, maker):
+def undropped(user: Call, maker: Any) -> Any:
     """What to do in place of a drop of the texture of a canvas, or None."""
     return (
         "the texture of a canvas is not dropped: the next present or configureCanvas destroys it, and so may a destroy"
@@ -372,7 +380,7 @@ def undropped(user, maker):
     )
 
 
-def unset_canvas(refusal, text, call, top):
+def unset_canvas(refusal: Any, text: Any, call: Any, top: Any) -> Any:
     """The canvas of a currentTexture that no earlier configureCanvas has set."""
     script = scripts.Script(text, top)
     value = call.member("canvas")
@@ -392,20 +400,20 @@ def unset_canvas(refusal, text, call, top):
     )
 
 
-def of_pass(script, user, kinds):
+def of_pass(script: Script, user: Call, kinds: list[str]) -> list[str]:
     """Of the kinds of pipelines that a call takes just the one of the kind of pass or encoder that it stands on."""
     maker = script.made.get(scripts.string_of(user.value, "on"))
     wanted = calls.PIPELINES.get(calls.makes(maker.word)) if maker is not None else None
     return [wanted] if wanted in kinds else kinds
 
 
-def sees(user, maker):
+def sees(user: Call, maker: Call) -> bool:
     """Whether a call sees the name that another gives: in its own lane the earlier ones, and all of earlier phases."""
     same = user.place[:2] == maker.place[:2]
     return maker.place[0] < user.place[0] or (same and maker.place[2] < user.place[2])
 
 
-def unseen(script, user, name, maker, words):
+def unseen(script: Script, user: Call, name: str, maker: Call | None, words: list[Any]) -> str | None:
     """Why a name is not visible at a call, where some words may stand as well."""
     if maker is user:
         return f"{name} is the name that this very call gives"
@@ -416,25 +424,25 @@ def unseen(script, user, name, maker, words):
     return near(name, words + [call.gives for call in script.calls if call.gives and sees(user, call)])
 
 
-def near(word, words):
+def near(word: Any, words: Any) -> str | None:
     """The nearest of some words, as a hint, or None."""
     found = difflib.get_close_matches(str(word), list(words), 1, 0.7)
     return f"the nearest is {quoted(found[0])}" if found else None
 
 
-def kind_of(value):
+def kind_of(value: Any) -> str:
     return {"object": "an object", "list": "a list", "string": "a string", "number": "a number"}.get(value.kind, value.kind)
 
 
-def quoted(word):
+def quoted(word: Any) -> str:
     return '"' + scripts.shown(word, 80) + '"'
 
 
-def shown(text):
+def shown(text: str) -> str:
     return scripts.shown(text, 120)
 
 
-def explained(text, line):
+def explained(text: Text, line: str) -> list[str]:
     """The lines that explain a refusal."""
     refusal = find(text, line)
     where = ", ".join(f"{part} {number}" for part, number in zip(PARTS, refusal.place))
@@ -451,13 +459,13 @@ def explained(text, line):
     return lines + pointed(text, refusal.offset)
 
 
-def pointed(text, offset):
+def pointed(text: Text, offset: int) -> list[str]:
     """The line of the text at an offset, with a mark below the place."""
     line, column = text.place(offset)
     return marked(text.text.split("\n")[line - 1], column)
 
 
-def marked(line, column):
+def marked(line: str, column: int) -> list[str]:
     """A line, cut to what can be read, with a mark below a column."""
     whole = line.expandtabs(1).rstrip("\r")
     first = max(0, column - 60)

@@ -1,13 +1,21 @@
 """Error scopes, promises, mapped buffers and the loss of a device: which entries of a report belong together, and what that says."""
 
+from __future__ import annotations
+
+from typing import TYPE_CHECKING, Any
+
 from wgsim.matching.maps import Maps
 from wgsim.reading.report import count
+
+if TYPE_CHECKING:
+    from wgsim.matching.beside import Beside
+    from wgsim.reading.report import Entry
 
 
 class Scope:
     """An error scope: its place on the stack, the entry that opened it, the entries of its first error and of its end."""
 
-    def __init__(self, place, opened):
+    def __init__(self, place: int, opened: Entry) -> None:
         self.place = place
         self.opened = opened
         self.first = None
@@ -17,7 +25,7 @@ class Scope:
 class Scopes:
     """What the entries of a report say of error scopes, promises and loss, and how to say it."""
 
-    def __init__(self, beside):
+    def __init__(self, beside: Beside) -> None:
         self.beside = beside
         self.lost = None
         self.opened = {}
@@ -33,7 +41,7 @@ class Scopes:
             operation = entry.operation() or operation
             self.issued[entry.number] = operation
 
-    def take(self, entry, stack):
+    def take(self, entry: Any, stack: Any) -> None:
         """Notes an entry; `stack` has the scopes that are open before it, and then those after it."""
         if entry.fault:
             words = entry.fault[2].split(" ")
@@ -52,7 +60,7 @@ class Scopes:
         elif entry.word == "lose":
             self.lost = self.lost or entry
 
-    def is_lost_before(self, entry):
+    def is_lost_before(self, entry: Entry) -> bool:
         return self.lost is not None and self.lost.number < entry.number
 
     def at(self, entry):
@@ -65,13 +73,13 @@ class Scopes:
         call = self.beside.call_of.get(entry.number)
         return f"entry {entry.number}" + (" at {}:{}".format(*self.beside.script.text.place(call.value.start)) if call else "")
 
-    def errors_of(self, scope):
+    def errors_of(self, scope: Scope) -> str:
         """Which errors a scope catches, as its call says."""
         call = self.beside.call_of.get(scope.opened.number)
         word = call.value.member("filter") if call else None
         return f"{word.what} errors" if word is not None else "errors of its filter"
 
-    def of_fault(self, entry):
+    def of_fault(self, entry: Any) -> list[Any]:
         """Lines on the scope that caught an entry's fault, or on those that did not."""
         scope = self.caught.get(entry.number)
         if scope is None:
@@ -85,7 +93,7 @@ class Scopes:
             return [*lines, "it keeps this error, and no popErrorScope tells it"]
         return [*lines, f"it keeps this error, and the popErrorScope at {self.at(scope.closed)} tells it"]
 
-    def answer(self, entry):
+    def answer(self, entry: Entry) -> str | None:
         """The answer of an entry that these say more of than its own words do, or None."""
         if entry.word == "pushErrorScope":
             scope = self.opened[entry.number]
@@ -107,24 +115,24 @@ class Scopes:
             )
         return self.on_lost(entry) if self.is_lost_before(entry) else None
 
-    def work(self, entry):
+    def work(self, entry: Entry) -> str:
         """What a promise of workDone waits for."""
         if self.settler.get(entry.number) is entry:
             return "a promise that has nothing to wait for"
         return f"a promise that waits for the operations up to {self.issued[entry.number]}: {self.settled_by(entry)}"
 
-    def map(self, entry):
+    def map(self, entry: Entry) -> str:
         """What a promise of mapAsync waits for."""
         if self.settler.get(entry.number) is entry:
             return "a promise that is refused" if entry.fault else "a promise"
         return f"{self.maps.waits(entry)}: {self.settled_by(entry)}"
 
-    def settled_by(self, entry):
+    def settled_by(self, entry: Entry) -> str:
         """Which later entry settles the promise of an entry."""
         by = self.settler.get(entry.number)
         return f"{self.numbered(by)} settles it" if by else "nothing settles it before the script ends"
 
-    def on_lost(self, entry):
+    def on_lost(self, entry: Entry) -> str | None:
         """The answer of an entry that a lost device gives otherwise than another does, or None."""
         if entry.word in ("submit", "writeBuffer", "writeTexture"):
             return "does nothing: the device is lost"
@@ -132,7 +140,7 @@ class Scopes:
             return "late: what it is recorded on has ended; no fault, since the device is lost"
         return None
 
-    def settled(self, entry, promise, how):
+    def settled(self, entry: Entry, promise: int, how: str) -> str:
         """How an entry settles a promise."""
         if promise != entry.number:
             asked = self.beside.report.entries[promise]
@@ -140,10 +148,10 @@ class Scopes:
             return f"settles the promise of {self.numbered(asked)}: {how}{why}"
         return f"settles its promise at once: {how}{self.why(entry, how)}"
 
-    def why_done(self, entry):
+    def why_done(self, entry: Entry) -> str:
         return ", since the device is lost" if entry is self.lost else ""
 
-    def why(self, entry, how):
+    def why(self, entry: Entry, how: str) -> str:
         """Why a promise is settled so by the entry that made it."""
         if entry.word == "mapAsync":
             return self.maps.why(entry, how, entry)
@@ -159,7 +167,7 @@ class Scopes:
             return ": no error scope is open"
         return f", the first error that it received, of {self.numbered(scope.first)}" if scope.first else ": it received no error"
 
-    def loss(self):
+    def loss(self) -> list[Any]:
         """Lines on the loss of the device, if it was lost."""
         if self.lost is None:
             return []

@@ -3,6 +3,13 @@
 It is written in Python, beside the product and not from it, and nothing of it is proved.
 """
 
+from __future__ import annotations
+
+from typing import TYPE_CHECKING, Any
+
+from wgsim import exit_status
+from wgsim.program import building
+
 from model import (  # noqa: F401
     answers,
     attachments,
@@ -29,20 +36,22 @@ from model import (  # noqa: F401
     traces,
     turns,
 )
-from wgsim import exit_status
-from wgsim.program import building
+
+if TYPE_CHECKING:
+    from model.history import History
+    from model.turns import Turns
 
 SAID = "the second reading of the rules (model/), which is not proved"
 
 
-def say():
+def say() -> None:
     building.say(f"this answer is from {SAID}")
 
 
 class Played:
     """A script for the second reading: its phases with the place of each call, or the line that refuses it."""
 
-    def __init__(self, data, name):
+    def __init__(self, data: bytes, name: str) -> None:
         self.name = name
         self.setup, self.phases, refusal = answers.read(data)
         self.refusal = refusal[1] if refusal else None
@@ -50,23 +59,23 @@ class Played:
             raise exit_status.End(exit_status.TOO_LARGE, f"{name}: {exit_status.SILENT[exit_status.TOO_LARGE]}")
         self.places = {id(call): place for lanes in self.phases or [] for lane in lanes for place, call in lane}
 
-    def begin(self):
+    def begin(self) -> Turns:
         return turns.Turns(self.setup, self.phases)
 
-    def place(self, played):
+    def place(self, played: Any) -> tuple[int, int, int]:
         """The phase, the lane and the number of a call that was played."""
         return self.places[id(played.call)]
 
-    def events(self):
+    def events(self) -> list[list[int]]:
         """Of each phase how many entries each of its lanes makes."""
         return [[len(turns.stretches_of([call for _, call in lane])[0]) for lane in lanes] for lanes in self.phases]
 
 
-def next_call(played):
+def next_call(played: Turns) -> dict[int, dict[str, str]]:
     """The next call of a lane that makes an entry, of those that are being played."""
     return {caller: played.lanes[caller][played.places[caller]][-1] for caller in played.open_lanes()}
 
 
-def text_of(played):
+def text_of(played: History) -> str:
     """The report of a history that was played."""
     return report.report(played)

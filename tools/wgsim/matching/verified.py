@@ -4,7 +4,10 @@ is wrong, what is right there, and why.
 The callers of the entries say in which order the lanes took their turns. The second reading plays the script in that order, entry by entry
 as the report goes on, and each line has to be the one that it has. """
 
+from __future__ import annotations
+
 import re
+from typing import TYPE_CHECKING, Any, Callable, Iterator
 
 from wgsim import exit_status
 from wgsim.matching import orders, second
@@ -14,6 +17,9 @@ from wgsim.reading import rules
 from wgsim.reading import script as scripts
 from wgsim.reading.report import Report, count, summary
 
+if TYPE_CHECKING:
+    from model.history import Played
+
 ENTRY = re.compile(r"\d+ (\d+) \w+ ")
 LONGEST = 300
 
@@ -21,7 +27,7 @@ LONGEST = 300
 class Wrong(Exception):
     """A line of a report is wrong: its number from 0, what is right there, or None where that hangs on the turn, and why in lines."""
 
-    def __init__(self, number, right, why):
+    def __init__(self, number: int, right: Any, why: list[str]) -> None:
         super().__init__(number)
         self.number = number
         self.right = right
@@ -31,7 +37,7 @@ class Wrong(Exception):
 class Verified:
     """A report that is gone through beside its script."""
 
-    def __init__(self, script, data, text):
+    def __init__(self, script: Any, data: bytes, text: bytes) -> None:
         self.script = script
         self.data = data
         self.lines = text.decode("utf-8", "backslashreplace").split("\n")
@@ -39,7 +45,7 @@ class Verified:
         self.history = None
         self.calls = None
 
-    def test(self):
+    def test(self) -> None:
         """Goes through the report up to its first wrong line, if there is one."""
         if self.script.refusal is not None:
             self.want(self.script.refusal.rstrip("\n"), self.why_refused)
@@ -52,11 +58,11 @@ class Verified:
         if self.at < len(self.lines) - 1 or self.lines[-1]:
             raise Wrong(self.at, "the end of the report", ["nothing comes after that"])
 
-    def line(self):
+    def line(self) -> Any:
         """The line that is looked at; past the last end of a line there is none."""
         return self.lines[self.at] if self.at < len(self.lines) - 1 else None
 
-    def want(self, right, why):
+    def want(self, right: str, why: Callable[..., Any]) -> None:
         """The next line has to be this one."""
         theirs = self.line()
         if theirs != right:
@@ -87,12 +93,12 @@ class Verified:
             raise Wrong(self.at, None, [f"entry {entry} stands there: {orders.may_come(playing)}"])
         raise Wrong(self.at, None, [f"entry {entry} cannot be of caller {found[1]}: {orders.may_come(playing)}"])
 
-    def why_refused(self, _):
+    def why_refused(self, _: Any) -> Any:
         """Why a script is refused."""
         number = int(self.script.refusal.split()[2])
         return [f"the script is refused; script rule {number} refuses: {each}" for each in rules.script_rules(number)[:1]]
 
-    def why_entry(self, theirs, played):
+    def why_entry(self, theirs: str, played: Played) -> list[str]:
         """Why an entry is as the second reading has it: its call, and what of the line is not so."""
         ours = reports.Entry(second.report.entry_line(played))
         lines = [f"entry {played.entry} is of the call at {self.where(played)}"]
@@ -118,7 +124,7 @@ class Verified:
             lines += self.of_settled(played)
         return lines
 
-    def of_fault(self, played):
+    def of_fault(self, played: Any) -> Any:
         """The rule that a call leaves unmet, if it has a fault, and where that goes."""
         if played.fault is None:
             return []
@@ -134,7 +140,7 @@ class Verified:
         )
         return [*lines, caught]
 
-    def why_no_fault(self, played):
+    def why_no_fault(self, played: Any) -> Any:
         return "the device is lost, so no call makes a fault" if played.on_lost else "no rule is unmet"
 
     def of_answer(self, played):
@@ -157,7 +163,7 @@ class Verified:
             ", since a rule is unmet" if played.fault else ", since the device is lost" if played.on_lost else ""
         )
 
-    def of_settled(self, played):
+    def of_settled(self, played: Any) -> Any:
         """Which promises an entry settles."""
         if not played.settled:
             return ["it settles no promise"]
@@ -208,7 +214,7 @@ class Verified:
         return f"{self.calls.where(call)}: {self.calls.said(call)}"
 
 
-def verify(script, report):
+def verify(script: tuple[bytes, str], report: tuple[bytes, str]) -> tuple[str, int]:
     """What there is to say of a report beside a script, each given by its bytes and its name, and the status."""
     verified = Verified(second.Played(*script), script[0], report[0])
     try:
@@ -220,7 +226,7 @@ def verify(script, report):
     return f"{report[1]}: a report of the script: {summary(Report(report[0].decode()))}\n", exit_status.SAME
 
 
-def told(verified, wrong, name):
+def told(verified: Verified, wrong: Wrong, name: str) -> Iterator[str]:
     """A wrong line in words: where it is, what it is, what is right, and why."""
     line = verified.line()
     yield f"{name}:{wrong.number + 1}: no report of the script, and this is its first line that is wrong"
@@ -234,5 +240,5 @@ def told(verified, wrong, name):
         yield f"    ({count(len(verified.history.entries()), 'entry')} of the script played so far, by the callers that the report names)"
 
 
-def cut(line):
+def cut(line: str) -> str:
     return line if len(line) <= LONGEST else f"{line[:LONGEST]}.. ({len(line)} letters)"

@@ -1,8 +1,14 @@
 """Numbers whose bits have names in WebGPU, usages, stages and map modes: in words, and back."""
 
+from __future__ import annotations
+
 import difflib
+from typing import TYPE_CHECKING, Any
 
 from wgsim import exit_status
+
+if TYPE_CHECKING:
+    from wgsim.reading.script import Call
 
 BUFFER = {
     1: "MAP_READ",
@@ -33,25 +39,25 @@ VISIBILITY = "visibility"
 MOST = 2**32 - 1
 
 
-def words(number, names):
+def words(number: int, names: dict[int, str]) -> list[str]:
     """The names of a number's bits, least bits first; what no name has comes last, as a number."""
     found = [name for bit, name in names.items() if number & bit]
     left = number & ~sum(names)
     return found + [str(left)] * (left != 0)
 
 
-def said(number, names):
+def said(number: int, names: dict[int, str]) -> str:
     """A number with its names, as `12 = COPY_SRC | COPY_DST`."""
     found = words(number, names)
     return f"{number} = {' | '.join(found)}" if found and found != [str(number)] else str(number)
 
 
-def one(bit, names):
+def one(bit: int, names: dict[int, str]) -> str:
     """A bit by its name, as `COPY_SRC (4)`."""
     return f"{names[bit]} ({bit})"
 
 
-def each(number, names):
+def each(number: int, names: dict[int, str]) -> str:
     """The bits of a number, as `COPY_SRC (4) and STORAGE (128)`; what no name has as a number."""
     found = [one(bit, names) for bit in names if number & bit]
     left = number & ~sum(names)
@@ -59,7 +65,7 @@ def each(number, names):
     return found[0] if len(found) == 1 else f"{', '.join(found[:-1])} and {found[-1]}"
 
 
-def of_call(call):
+def of_call(call: Call) -> list[Any]:
     """The numbers of a script's call that have names, but for 0, in words: `usage 12 = COPY_SRC | COPY_DST`, each once, in the order of the
     text."""
     found = []
@@ -74,12 +80,12 @@ def of_call(call):
     return list(dict.fromkeys(found))
 
 
-def lines_of(given):
+def lines_of(given: str) -> list[str]:
     """What some words or a number stand for, as `wgsim words` tells it: a line for each kind that it can be of."""
     return of_number(int(given)) if given.isascii() and given.isdigit() else of_words(given)
 
 
-def of_number(number):
+def of_number(number: int) -> list[str]:
     """A number as each kind reads it."""
     if number > MOST:
         raise exit_status.End(exit_status.WORDS, f"{number} is above {MOST}, and has no 32 bits")
@@ -87,7 +93,7 @@ def of_number(number):
     return [f"{kind:<{width}}  {read_as(number, names)}" for kind, names in KINDS.items()]
 
 
-def read_as(number, names):
+def read_as(number: int, names: dict[int, str]) -> str:
     """The names of a number in one kind, and what is left of it."""
     if names is MODES:
         return names.get(number, f"{number} is none")
@@ -97,7 +103,7 @@ def read_as(number, names):
     return " and ".join(filter(None, ["|".join(found), f"{left}, which has no word" if left else ""]))
 
 
-def of_words(given):
+def of_words(given: str) -> list[str]:
     """The number of some words, parted by `|`, in each kind that has them all."""
     asked = [word.strip().upper().split(".")[-1] for word in given.split("|")]
     known = sorted({name for names in KINDS.values() for name in names.values()})
@@ -117,11 +123,11 @@ def of_words(given):
     return [f"{number:<4}  {kind}" for number, kind in found]
 
 
-def number_of(asked, names):
+def number_of(asked: list[str], names: dict[int, str]) -> int:
     """The sum of the bits of some names."""
     return sum(bit for bit, name in names.items() if name in asked)
 
 
-def has_all(asked, names):
+def has_all(asked: list[str], names: dict[int, str]) -> bool:
     """Whether a kind has some words, and may have them at once."""
     return set(asked) <= set(names.values()) and not (names is MODES and len(set(asked)) > 1)

@@ -1,7 +1,13 @@
 """The table of a script's calls: which keys each has, what it makes, and whether it records."""
 
+from __future__ import annotations
+
 import json
 import pathlib
+from typing import TYPE_CHECKING, Any
+
+if TYPE_CHECKING:
+    from wgsim.reading.places import Value
 
 TABLE = json.loads((pathlib.Path(__file__).parent / "calls.json").read_text(encoding="utf-8"))
 CALLS = TABLE["calls"]
@@ -20,7 +26,7 @@ class Key:
     """What the value of a key has to be: `sort` with its `detail`, whether the key may be left out, whether an item of its list may be
     null, and whether the word `auto` may stand in place of a name."""
 
-    def __init__(self, text):
+    def __init__(self, text: str) -> None:
         words = text.split()
         self.may_be_left_out = words[-1] == "?"
         words = words[:-1] if self.may_be_left_out else words
@@ -31,16 +37,16 @@ class Key:
         self.sort = words[0]
         self.detail = " ".join(words[1:])
 
-    def is_name(self, value):
+    def is_name(self, value: Value) -> bool:
         """Whether a value under this key is a name that is used, as far as its form tells: an object of the name `auto` is not reached
         where that word may stand."""
         return self.sort == "name" and value.kind == "string" and not (self.may_be_auto and value.what == AUTO)
 
-    def kinds(self):
+    def kinds(self) -> list[str]:
         """The kinds of object that a name under this key may stand for."""
         return self.detail.split("|") if self.sort in ("name", "names") else []
 
-    def expected(self):
+    def expected(self) -> str:
         """What is expected, in words."""
         if self.sort == "number":
             return f"a whole number from 0 to {2 ** int(self.detail) - 1}, in decimal digits alone"
@@ -69,40 +75,40 @@ class Key:
             return "a new name, of 1 to 64 letters, digits and _"
         return "a value"
 
-    def or_null(self):
+    def or_null(self) -> str:
         return ", or null" if self.may_have_null else ""
 
 
-def quoted(words):
+def quoted(words: Any) -> str:
     return ", ".join(f'"{word}"' for word in words)
 
 
-def either(kinds):
+def either(kinds: list[str]) -> str:
     """One of some kinds, in words. Where any texture will do, that of a canvas is not told beside."""
     told = [kind for kind in kinds if kind != "canvas texture" or "texture" not in kinds]
     return " or ".join(KINDS.get(kind, kind) for kind in told)
 
 
-def keys_of(word):
+def keys_of(word: Any) -> Any:
     """The keys of a call in the order of the table, or None of a call that is not in it."""
     if word not in CALLS:
         return None
     return {name: Key(text) for name, text in CALLS[word]["keys"].items()}
 
 
-def form_key(sort):
+def form_key(sort: str) -> str | None:
     """The key of a sort of objects whose word tells the form of one, or None where the form is told by which key is there, or there are no
     forms."""
     found = [name for name, text in OBJECTS[sort]["keys"].items() if text == f"word {OBJECTS[sort].get('forms')}"]
     return found[0] if found else None
 
 
-def forms_of(sort):
+def forms_of(sort: str) -> dict[Any, Any]:
     """The further keys that an object of a sort has by its form; no forms where all of them have the same keys."""
     return FORMS.get(OBJECTS[sort].get("forms"), {})
 
 
-def form_of(sort, item):
+def form_of(sort: str, item: Value) -> Any:
     """The form of an object in a call, a word that tells its further keys, or None where it has none."""
     forms, by = forms_of(sort), form_key(sort)
     if by is None:
@@ -111,57 +117,57 @@ def form_of(sort, item):
     return value.what if value is not None and value.kind == "string" and value.what in forms else None
 
 
-def keys_of_object(sort, item):
+def keys_of_object(sort: str, item: Any) -> dict[str, Key]:
     """The keys of an object in a call: those of its sort, and those of its form if it has one."""
     further = forms_of(sort).get(form_of(sort, item), {})
     return {name: Key(text) for name, text in {**OBJECTS[sort]["keys"], **further}.items()}
 
 
-def may_be_auto(word, key):
+def may_be_auto(word: str, key: str) -> bool:
     """Whether the word `auto` may stand under a key of a call in place of a name."""
     found = (keys_of(word) or {}).get(key)
     return found is not None and found.may_be_auto
 
 
-def makes(word):
+def makes(word: str) -> str | None:
     """The kind of what the call makes: an object, or a pass; None where it makes neither."""
     return CALLS.get(word, {}).get("makes")
 
 
-def records(word):
+def records(word: str) -> bool:
     return CALLS.get(word, {}).get("records", False)
 
 
-def ends_encoder(word):
+def ends_encoder(word: str) -> bool:
     """Whether the call ends an encoder, be it one of a bundle."""
     return CALLS.get(word, {}).get("ends") is not None
 
 
-def makes_encoder(word):
+def makes_encoder(word: str) -> bool:
     """Whether the call makes an encoder, be it one of a bundle."""
     return makes(word) in ENCODERS
 
 
-def groups(word):
+def groups(word: str) -> int:
     """How many debug groups the call opens, less how many it closes."""
     return CALLS.get(word, {}).get("groups", 0)
 
 
-def query(word):
+def query(word: str) -> Any:
     """Whether the call `begins` or `ends` an occlusion query; None where it does neither."""
     return CALLS.get(word, {}).get("query")
 
 
-def canvas(word):
+def canvas(word: str) -> Any:
     """What the call does to a canvas: `makes` or `configures` it, `gives` its texture or `presents` that; None of another call."""
     return CALLS.get(word, {}).get("canvas")
 
 
-def executes(word):
+def executes(word: Any) -> Any:
     """Whether the call executes bundles, which unsets what is set."""
     return CALLS.get(word, {}).get("executes", False)
 
 
-def step_of(word):
+def step_of(word: str) -> str | None:
     """The name of the step that the call makes, if it may make one."""
     return CALLS.get(word, {}).get("step")

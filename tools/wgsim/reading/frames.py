@@ -3,7 +3,14 @@
 A frame begins with a currentTexture that finds no texture, and ends with the next present or configureCanvas of its canvas. It has the
 names that the currentTextures between the two gave. """
 
+from __future__ import annotations
+
+from typing import TYPE_CHECKING, Any
+
 from wgsim.reading import bits, calls
+
+if TYPE_CHECKING:
+    from wgsim.reading.script import Call
 
 MAKES, CONFIGURES, GIVES = "makes", "configures", "gives"
 
@@ -11,7 +18,7 @@ MAKES, CONFIGURES, GIVES = "makes", "configures", "gives"
 class Canvas:
     """A canvas of a script: the call that made it, the one that configured it last, its frames, and the one that is current, or None."""
 
-    def __init__(self, call):
+    def __init__(self, call: Call) -> None:
         self.name = call.gives
         self.call = call
         self.calls = [call]
@@ -24,31 +31,31 @@ class Frame:
     """A frame: its number among those of its canvas, from 1; the call that said the format and usage of its texture; those that named it,
     of which the first made it; and the one that ended it, if one did."""
 
-    def __init__(self, canvas):
+    def __init__(self, canvas: Canvas) -> None:
         self.canvas = canvas
         self.number = len(canvas.frames) + 1
         self.configured = canvas.configured
         self.calls = []
         self.ended = None
 
-    def names(self):
+    def names(self) -> list[str]:
         return [call.gives for call in self.calls]
 
-    def event_of(self, call):
+    def event_of(self, call: Call) -> str | None:
         """The word of the entry that a call of it makes, or None."""
         return "createTexture" if call is self.calls[0] else "destroy" if call is self.ended else None
 
-    def said(self):
+    def said(self) -> str:
         return f"frame {self.number} of {self.canvas.name}"
 
 
 class Canvases:
     """The canvases of a script, by name, as the calls that come one after another leave them."""
 
-    def __init__(self):
+    def __init__(self) -> None:
         self.of_name = {}
 
-    def take(self, call, name):
+    def take(self, call: Call, name: str | None) -> None:
         """Notes a call of a canvas, which has the name under its key `canvas`, or makes it; and gives the call its frame, if it has to do
         with one."""
         does = calls.canvas(call.word)
@@ -68,22 +75,22 @@ class Canvases:
         if does == CONFIGURES:
             canvas.configured = call
 
-    def give(self, canvas, call):
+    def give(self, canvas: Any, call: Any) -> None:
         if canvas.current is None:
             canvas.current = Frame(canvas)
             canvas.frames.append(canvas.current)
         call.frame = canvas.current
         call.frame.calls.append(call)
 
-    def with_frames(self):
+    def with_frames(self) -> list[Any]:
         return [canvas for canvas in self.of_name.values() if canvas.frames]
 
 
-def extent(canvas):
+def extent(canvas: Canvas) -> str:
     return f"{canvas.call.number('width')} by {canvas.call.number('height')}"
 
 
-def texture(script, frame):
+def texture(script: Any, frame: Any) -> Any:
     """Of what the texture of a frame is made: what its canvas and the configure say."""
     format, usage = frame.configured.value.member("format").what, frame.configured.number("usage", 16)
     made, configured = script.at(frame.canvas.call), script.at(frame.configured)
@@ -93,12 +100,12 @@ def texture(script, frame):
     )
 
 
-def of_fault(script, call):
+def of_fault(script: Any, call: Call) -> list[Any]:
     """A line on what a currentTexture makes, which its own text does not say."""
     return [texture(script, call.frame)] if call.frame is not None and call.event == "createTexture" else []
 
 
-def listed(beside):
+def listed(beside: Any) -> Any:
     """Each canvas that has frames, as a line, with a line for each of them."""
     return [
         (f"{canvas.name}, {extent(canvas)}, made at {beside.script.at(canvas.call)}", [line(beside, frame) for frame in canvas.frames])
@@ -106,7 +113,7 @@ def listed(beside):
     ]
 
 
-def line(beside, frame):
+def line(beside: Any, frame: Any) -> Any:
     """A frame in a line: its texture by its names and number, and from where up to where it is current."""
     first, *others = frame.calls
     entry, script = beside.entry_of[first], beside.script

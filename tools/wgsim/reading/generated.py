@@ -3,22 +3,25 @@
 The program makes the calls themselves and no text; each call here has the values of the call that it makes, in the same order.
 """
 
+from __future__ import annotations
+
 import json
+from typing import Any, Iterator
 
 BUDGET, BUFFERS, MOST, MOST_LANES = 1_000_000, 8, 8_000, 64
 
 
-def fits(count, lanes):
+def fits(count: int, lanes: Any) -> bool:
     """Whether the program generates a script of so many iterations in each of so many lanes."""
     return 1 <= count and 1 <= lanes <= MOST_LANES and count * lanes <= MOST
 
 
-def number(word):
+def number(word: str) -> Any:
     """A number in decimal digits without leading zeros, or None."""
     return int(word) if word.isascii() and word.isdigit() and str(int(word)) == word else None
 
 
-def spots(lane):
+def spots(lane: Any) -> Iterator[tuple[str, str, int]]:
     """Where the iterations of a lane write, and from which buffer to which they copy there."""
     state = lane + 1
 
@@ -33,7 +36,7 @@ def spots(lane):
         yield f"b{source}", f"b{target}", 4 * (draw() % 256)
 
 
-def iteration(name, spot):
+def iteration(name: int, spot: tuple[str, str, int]) -> list[Any]:
     """The calls of an iteration, whose encoder and command buffer have names with a number of their own."""
     source, target, offset = spot
     return [
@@ -53,7 +56,7 @@ def iteration(name, spot):
     ]
 
 
-def phases(count, lanes):
+def phases(count: Any, lanes: Any) -> list[Any]:
     """The calls of each lane of each phase."""
     made = []
     for lane in range(lanes):
@@ -65,7 +68,7 @@ def phases(count, lanes):
     return [[first], made, [last]]
 
 
-def text(count, lanes):
+def text(count: int, lanes: int) -> str:
     """The text of the script, with a line for each call."""
     lanes_of = [
         ",\n".join("[\n" + ",\n".join(json.dumps(call, separators=(",", ":")) for call in lane) + "\n]" for lane in phase)

@@ -1,8 +1,11 @@
 """Reads a JSON text so that each value knows where it stands in it."""
 
+from __future__ import annotations
+
 import bisect
 import re
 import unicodedata
+from typing import Any
 
 SPACE = re.compile(r"[ \t\n\r]*")
 NUMBER = re.compile(r"-?(?:0|[1-9][0-9]*)(?:\.[0-9]+)?(?:[eE][+-]?[0-9]+)?")
@@ -15,19 +18,19 @@ DEEPEST = 127
 class NotJson(Exception):
     """The text is no JSON: at the place `offset`, where something was found in place of what is expected."""
 
-    def __init__(self, offset, found, expected):
+    def __init__(self, offset: int, found: str, expected: str) -> None:
         super().__init__(f"{found}; expected is {expected}")
         self.offset = offset
         self.found = found
         self.expected = expected
 
 
-def escaped(text):
+def escaped(text: str) -> str:
     """A text whose control characters, and those that change how others are shown, are written as `\\x1b` or `\\u202e`."""
     return "".join(letter if unicodedata.category(letter) not in ("Cc", "Cf", "Co", "Cs") else escape_of(letter) for letter in text)
 
 
-def escape_of(letter):
+def escape_of(letter: str) -> str:
     code = ord(letter)
     return f"\\x{code:02x}" if code < 256 else f"\\u{code:04x}" if code < 65536 else f"\\U{code:08x}"
 
@@ -38,13 +41,13 @@ class Value:
     The kinds are object (a list of pairs of key and value), list, string, number (its text), true, false and null.
     """
 
-    def __init__(self, kind, what, start, end):
+    def __init__(self, kind: str, what: Any, start: int, end: int) -> None:
         self.kind = kind
         self.what = what
         self.start = start
         self.end = end
 
-    def member(self, name):
+    def member(self, name: Any) -> Any:
         """The value of a key of an object: of several the last, or None."""
         found = None
         for key, value in self.what:
@@ -52,7 +55,7 @@ class Value:
                 found = value
         return found
 
-    def key(self, name):
+    def key(self, name: str) -> Any:
         """The last key of that name of an object, or None."""
         found = None
         for key, _ in self.what:
@@ -64,11 +67,11 @@ class Value:
 class Reader:
     """One reading of one text."""
 
-    def __init__(self, text):
+    def __init__(self, text: str) -> None:
         self.text = text
         self.at = 0
 
-    def fail(self, found, expected, at=None):
+    def fail(self, found: str, expected: str, at: int | None = None) -> None:
         raise NotJson(self.at if at is None else at, found, expected)
 
     def here(self):
@@ -81,10 +84,10 @@ class Reader:
     def space(self):
         self.at = SPACE.match(self.text, self.at).end()
 
-    def next(self):
+    def next(self) -> str:
         return self.text[self.at] if self.at < len(self.text) else ""
 
-    def whole(self):
+    def whole(self) -> Value:
         if self.next() == "\ufeff":
             self.fail(
                 "a byte order mark, the bytes EF BB BF, before the text", "the text alone: save it as UTF-8 without a byte order mark"
@@ -95,7 +98,7 @@ class Reader:
             self.fail(self.here(), "the end of the text, after its one value")
         return value
 
-    def value(self, depth):
+    def value(self, depth: Any) -> Any:
         self.space()
         letter = self.next()
         if letter != "" and letter in "{[":
@@ -145,7 +148,7 @@ class Reader:
                 self.fail(f"the control character {escaped(letter)} in a string", "that it is written as \\n, \\t or \\u and four digits")
             parts.append(self.escape())
 
-    def escape(self):
+    def escape(self) -> str:
         letter = self.text[self.at + 1 : self.at + 2]
         if letter == "u":
             return self.unicode()
@@ -154,7 +157,7 @@ class Reader:
         self.at += 2
         return ESCAPES[letter]
 
-    def unicode(self):
+    def unicode(self) -> str:
         pair = "a pair of surrogates, both as \\u and four digits"
         first = self.four_digits()
         if 0xDC00 <= first <= 0xDFFF:
@@ -168,14 +171,14 @@ class Reader:
             self.fail("half a pair of surrogates, without its second half", pair, self.at - 6)
         return chr(0x10000 + (first - 0xD800) * 0x400 + second - 0xDC00)
 
-    def four_digits(self):
+    def four_digits(self) -> int:
         digits = self.text[self.at + 2 : self.at + 6]
         if not re.fullmatch(r"[0-9a-fA-F]{4}", digits):
             self.fail(f"\\u{escaped(digits)}", "four hexadecimal digits after \\u")
         self.at += 6
         return int(digits, 16)
 
-    def list(self, depth):
+    def list(self, depth: int) -> Value:
         start = self.at
         self.at += 1
         items = []
@@ -188,7 +191,7 @@ class Reader:
         self.at += 1
         return Value("list", items, start, self.at)
 
-    def separator(self, closing, kind, start):
+    def separator(self, closing: str, kind: str, start: int) -> None:
         if self.next() == "":
             self.fail(f"the text ends within the {kind} that begins here", f"a comma or {closing}", start)
         if self.next() != ",":
@@ -198,7 +201,7 @@ class Reader:
         if self.next() == closing:
             self.fail(f"{closing} after a comma", "another item, or no comma")
 
-    def object(self, depth):
+    def object(self, depth: int) -> Value:
         start = self.at
         self.at += 1
         pairs = []
@@ -222,7 +225,7 @@ class Reader:
 class Text:
     """A script's text with its name, and the lines and columns of its places, both counted from 1."""
 
-    def __init__(self, data, name):
+    def __init__(self, data: bytes, name: str) -> None:
         self.name = name
         self.size = len(data)
         self.bad_byte = None
@@ -233,16 +236,16 @@ class Text:
             self.text = data.decode("utf-8", "replace")
         self.lines = [0, *(found.end() for found in re.finditer("\n", self.text))]
 
-    def place(self, offset):
+    def place(self, offset: int) -> tuple[int, int]:
         line = bisect.bisect_right(self.lines, offset)
         return line, offset - self.lines[line - 1] + 1
 
-    def where(self, offset):
+    def where(self, offset: int) -> str:
         """A place as compilers write it."""
         line, column = self.place(offset)
         return f"{self.name}:{line}:{column}"
 
-    def read(self):
+    def read(self) -> Value:
         """The text's one value; NotJson where it has none."""
         if self.bad_byte:
             offset, byte = self.bad_byte
@@ -251,5 +254,5 @@ class Text:
             raise NotJson(offset, f"the byte 0x{byte:02x}{mark}", "a text in UTF-8")
         return Reader(self.text).whole()
 
-    def of(self, value):
+    def of(self, value: Any) -> str:
         return self.text[value.start : value.end]

@@ -1,19 +1,23 @@
 """Reads a report: the entries of the history, and the steps and releases of the trace."""
 
+from __future__ import annotations
+
+from typing import Any
+
 SORTS = {"b": "buffer", "t": "texture", "q": "query set", "s": "texture"}
 
 
 class NotReport(Exception):
     """The text is no report: in the line `number`, counted from 1."""
 
-    def __init__(self, number, line):
+    def __init__(self, number: Any, line: Any) -> None:
         super().__init__(f"line {number} is none of a report: {line[:80]!r}")
 
 
 class Entry:
     """A line of the history."""
 
-    def __init__(self, line):
+    def __init__(self, line: str) -> None:
         words = line.split(" ")
         self.line = line
         self.number, self.lane, self.word = int(words[0]), int(words[1]), words[2]
@@ -33,21 +37,21 @@ class Entry:
             self.settled.append((int(rest[1]), " ".join(rest[2:length])))
             rest = rest[length:]
 
-    def object(self):
+    def object(self) -> int | None:
         """The number of the object that was made, or None."""
         return int(self.answer[1]) if self.answer[0] == "made" else None
 
-    def is_valid(self):
+    def is_valid(self) -> bool:
         return self.answer[0] != "made" or self.answer[2] == "valid"
 
-    def operation(self):
+    def operation(self) -> Any:
         return int(self.answer[1]) if self.answer[0] == "op" else None
 
 
 class Part:
     """A part or some cells: sort, object, and for a texture aspect and mip level, and where they lie from and to."""
 
-    def __init__(self, words):
+    def __init__(self, words: Any) -> None:
         self.words = tuple(words)
         self.sort, self.object = words[0], int(words[1])
         self.aspect, self.mip, self.low, self.high = None, None, None, None
@@ -56,11 +60,11 @@ class Part:
         elif len(words) > 2:
             self.low, self.high = int(words[2]), int(words[3])
 
-    def resource(self):
+    def resource(self) -> tuple[str, int]:
         """The sort and number of the resource that it is of."""
         return ("t" if self.sort == "s" else self.sort, self.object)
 
-    def row(self):
+    def row(self) -> tuple[str, int, str, int]:
         """The resource, and of a texture its aspect and mip level."""
         return (*self.resource(), self.aspect or "", self.mip or 0)
 
@@ -68,27 +72,27 @@ class Part:
 class Step:
     """A step of the trace with the barriers before it."""
 
-    def __init__(self, words, barriers):
+    def __init__(self, words: list[str], barriers: list[Any]) -> None:
         self.number, self.is_host, self.at, self.name = int(words[1]), words[2] == "host", int(words[3]), words[4]
         self.barriers = barriers
         self.uses = []
         self.accesses = []
 
-    def head(self):
+    def head(self) -> Any:
         return ("host" if self.is_host else "op", self.at, self.name)
 
 
 class Release:
     """The memory of a resource is given back."""
 
-    def __init__(self, words):
+    def __init__(self, words: list[str]) -> None:
         self.sort, self.object = words[1], int(words[2])
 
 
 class Report:
     """A whole report; `items` has the steps and releases in order."""
 
-    def __init__(self, text):
+    def __init__(self, text: str) -> None:
         lines = text.split("\n")
         self.entries, self.items = [], []
         self.barriers = []
@@ -101,7 +105,7 @@ class Report:
         if part != "after":
             raise NotReport(len(lines), lines[-1])
 
-    def take(self, part, line):
+    def take(self, part: str, line: str) -> str:
         """Takes one line, and returns in which part of the report the next one stands."""
         if part == "after":
             if line:
@@ -119,7 +123,7 @@ class Report:
             raise ValueError(line)
         return part
 
-    def trace(self, words):
+    def trace(self, words: list[str]) -> None:
         if words[0] == "bar":
             self.barriers.append((Part(words[1:-2]), words[-2], words[-1]))
         elif words[0] == "step":
@@ -134,10 +138,10 @@ class Report:
         else:
             raise ValueError(words)
 
-    def steps(self):
+    def steps(self) -> list[Any]:
         return [item for item in self.items if isinstance(item, Step)]
 
-    def counts(self):
+    def counts(self) -> dict[str, int]:
         """Entries, faults, steps, barriers, clears and releases."""
         steps = self.steps()
         return {
@@ -150,12 +154,12 @@ class Report:
         }
 
 
-def count(number, word):
+def count(number: int, word: str) -> str:
     """A count in words: `1 fault`, `2 faults`, `3 entries`, `4 canvases`."""
     many = word[:-1] + "ies" if word.endswith("y") else word + "es" if word.endswith("s") else word + "s"
     return f"{number} {word if number == 1 else many}"
 
 
-def summary(report):
+def summary(report: Report) -> str:
     words = {"entries": "entry", "faults": "fault", "steps": "step", "barriers": "barrier", "clears": "clear", "releases": "release"}
     return ", ".join(count(number, words[what]) for what, number in report.counts().items())

@@ -1,8 +1,11 @@
 """The table of rules, docs/rules.json: what a rule asks, and the page docs/rules.md, which is made from it by `wgsim rules --page`."""
 
+from __future__ import annotations
+
 import copy
 import json
 import textwrap
+from typing import Any
 
 from wgsim import TOP
 
@@ -14,7 +17,7 @@ ABOVE = "as above"
 class Rule:
     """A rule as one call tests it."""
 
-    def __init__(self, call, row):
+    def __init__(self, call: Any, row: Any) -> None:
         self.call = call["call"]
         self.label = call.get("label", self.call)
         self.numbers = row["rules"]
@@ -28,7 +31,7 @@ class Rule:
 RULES = [Rule(call, row) for part in TABLE["parts"] if "calls" in part for call in part["calls"] for row in call["rules"]]
 
 
-def of(number, call=None):
+def of(number: Any, call: Any = None) -> list[Rule]:
     """The rules of a number, those of a call alone if it has one; each with its whole sentence."""
     found = [rule for rule in RULES if number in rule.numbers]
     whole = next((rule for rule in found if not rule.asks.startswith(ABOVE)), None)
@@ -37,7 +40,7 @@ def of(number, call=None):
     return own or found
 
 
-def completed(rule, whole):
+def completed(rule: Rule, whole: Rule) -> Rule:
     """A rule whose words are `as above`, with those of the rule above in place of them. The table itself stays as it is: a row may have
     several numbers.
 
@@ -48,31 +51,31 @@ def completed(rule, whole):
     return made
 
 
-def section(rule):
+def section(rule: Rule) -> str:
     return "WebGPU, " + ", ".join(f'"{each}"' for each in rule.sections)
 
 
-def notes(titles):
+def notes(titles: set[Any]) -> list[Any]:
     """The paragraphs of those titles."""
     return [part for part in TABLE["parts"] if part.get("title") in titles]
 
 
-def script_rows(number):
+def script_rows(number: int) -> list[dict[str, int | str]]:
     """The rows of a rule of scripts."""
     return [row for row in TABLE["scripts"] if row["rule"] == number]
 
 
-def place_of(row):
+def place_of(row: Any) -> list[Any]:
     """The words of the place that a rule of scripts tells: phase, lane and call, as far as it has them."""
     return [] if row["place"] == "none" else row["place"].split(", ")
 
 
-def script_rules(number):
+def script_rules(number: int) -> list[Any]:
     """What a rule of scripts refuses."""
     return [row["refuses"] for row in script_rows(number)]
 
 
-def page():
+def page() -> str:
     """The text of docs/rules.md."""
     lines = ["# Rule numbers"]
     for part in TABLE["parts"]:
@@ -91,7 +94,7 @@ def page():
     return "\n".join(lines) + "\n"
 
 
-def shown(number):
+def shown(number: int) -> Any:
     """What `wgsim rules N` prints, or None where no rule has that number."""
     found = of(number)
     scripts = script_rules(number)
@@ -108,7 +111,7 @@ def shown(number):
     return "\n".join(lines) + "\n" if lines else None
 
 
-def all_shown():
+def all_shown() -> str:
     """What `wgsim rules` prints: every rule, call by call, in the order in which they are tested."""
     lines, label = [], None
     for rule in RULES:

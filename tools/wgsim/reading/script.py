@@ -1,7 +1,14 @@
 """A script as its writer sees it: each call with its place, its text and its names, and what is recorded on each encoder, be it one of a
 bundle."""
 
+from __future__ import annotations
+
+from typing import TYPE_CHECKING, Any
+
 from wgsim.reading import calls, frames
+
+if TYPE_CHECKING:
+    from wgsim.reading.places import Text, Value
 
 # The calls that set something of a pass, with the key that says where, if several stand side by side.
 SETS = {"setPipeline": None, "setBindGroup": "index", "setVertexBuffer": "slot", "setIndexBuffer": None}
@@ -11,7 +18,7 @@ class Call:
     """A call of a script. `place` is its phase, lane and number in the lane, `locked_by` the pass that is open on the encoder on which it
     records, `frame` the frame of a canvas that it begins, names or ends."""
 
-    def __init__(self, value, place):
+    def __init__(self, value: Value, place: tuple[int, int, int]) -> None:
         self.value = value
         self.place = place
         self.word = string_of(value, "do") or "?"
@@ -27,19 +34,19 @@ class Call:
             return self.frame.event_of(self) if self.frame is not None else None
         return "late" if self.is_late else None if calls.records(self.word) else self.word
 
-    def names(self):
+    def names(self) -> list[Any]:
         """The names that the call uses, in the order of its table's keys: pairs of key and name."""
         return [(key, value) for key, value, _ in self.wanted_names()]
 
-    def wanted_names(self):
+    def wanted_names(self) -> list[Any]:
         """The same, each with the kinds of object that it may stand for."""
         return names_in(self.value, calls.keys_of(self.word) or {})
 
-    def number(self, key, otherwise=None):
+    def number(self, key: str, otherwise: Any = None) -> int:
         value = self.value.member(key)
         return int(value.what) if value is not None and value.kind == "number" and value.what.isdigit() else otherwise
 
-    def is_empty(self):
+    def is_empty(self) -> bool:
         """Whether the call names a size that has nothing in it, or no query, as far as its text tells."""
         size = self.value.member("size") or self.value.member("count")
         if size is None:
@@ -49,7 +56,7 @@ class Call:
         return size.what == "0"
 
 
-def names_in(value, keys):
+def names_in(value: Any, keys: dict[Any, Any]) -> list[Any]:
     """The names that a call or an object in it uses, in the order of its table's keys: each with its key and the kinds that will do."""
     found = []
     for key, wanted in keys.items():
@@ -70,7 +77,7 @@ def names_in(value, keys):
     return found
 
 
-def string_of(value, key):
+def string_of(value: Value, key: str) -> Any:
     if value.kind != "object":
         return None
     member = value.member(key)
@@ -81,7 +88,7 @@ class Place:
     """An encoder, a bundle encoder or a pass, on which calls record, with the calls that ended it. A pass has the encoder that it was begun
     on."""
 
-    def __init__(self, call, encoder=None):
+    def __init__(self, call: Call, encoder: Place | None = None) -> None:
         self.call = call
         self.encoder = encoder
         self.name = call.gives
@@ -95,7 +102,7 @@ class Place:
 class Script:
     """A script's calls, in the order of its text."""
 
-    def __init__(self, text, top):
+    def __init__(self, text: Text, top: Value) -> None:
         self.text = text
         self.top = top
         self.lanes = {}
@@ -113,7 +120,7 @@ class Script:
         for call in self.calls:
             self.record(call)
 
-    def record(self, call):
+    def record(self, call: Call) -> None:
         """Notes what a call does to the encoders, bundle encoders, passes and canvases, as far as the order of the calls alone decides
         it."""
         on = string_of(call.value, "on")
@@ -128,7 +135,7 @@ class Script:
         elif calls.canvas(call.word) is not None:
             self.canvases.take(call, string_of(call.value, "canvas"))
 
-    def command(self, call, place):
+    def command(self, call: Any, place: Any) -> None:
         encoder = place.encoder or place
         call.is_late = place.has_ended or encoder.has_ended
         begun = Place(call, encoder) if call.word in calls.BEGINS else None
@@ -146,7 +153,7 @@ class Script:
             place.end = call
             encoder.open_pass = None
 
-    def set_at(self, call):
+    def set_at(self, call: Any) -> Any:
         """What is set of a pass or a bundle where a call records on it: the last setPipeline, the last setBindGroup of each index and
         setVertexBuffer of each slot, least indexes and slots first, and the last setIndexBuffer. Bundles that are executed unset all of it.
         """
@@ -159,55 +166,55 @@ class Script:
                 found = {}
         return [found[at] for at in sorted(found)]
 
-    def recorded_in(self, call):
+    def recorded_in(self, call: Call) -> list[Any]:
         """The commands of what a call makes, where it is a finish of an encoder, or of a bundle encoder; else none."""
         place = self.places.get(string_of(call.value, "on")) if calls.ends_encoder(call.word) else None
         return place.commands if place is not None else []
 
-    def drawn_on(self, call):
+    def drawn_on(self, call: Call) -> Call | None:
         """The call that made what a call draws on: the begin of a render pass, or the making of a bundle encoder; or None where it is on
         neither."""
         place = self.places.get(string_of(call.value, "on"))
         return place.call if place is not None and calls.makes(place.call.word) in ("render pass", "bundle encoder") else None
 
-    def set_before(self, call):
+    def set_before(self, call: Any) -> Any:
         """What a call's pass or bundle has set or executed before it, overwritten or not, in order."""
         return [command for command in self.before(call) if command.word in SETS or calls.executes(command.word)]
 
-    def before(self, call):
+    def before(self, call: Any) -> Any:
         """The commands of the pass or bundle of a call that come before it."""
         place = self.places[string_of(call.value, "on")]
         commands = (place.encoder or place).commands
         before = commands[: commands.index(call)] if call in commands else commands
         return [command for command in before if string_of(command.value, "on") == place.name]
 
-    def maker_of(self, name):
+    def maker_of(self, name: str | None) -> Call | None:
         """The call that made what a name stands for, or None: of each name of a frame of a canvas the first currentTexture of it."""
         call = self.made.get(name)
         return call.frame.calls[0] if call is not None and call.frame is not None else call
 
-    def where(self, call):
+    def where(self, call: Any) -> str:
         return self.text.where(call.value.start)
 
-    def at(self, call):
+    def at(self, call: Any) -> str:
         """The line and column of a call."""
         return "{}:{}".format(*self.text.place(call.value.start))
 
-    def line(self, call):
+    def line(self, call: Call) -> int:
         return self.text.place(call.value.start)[0]
 
-    def said(self, call, most=160):
+    def said(self, call: Any, most: int = 160) -> str:
         """The text of a call in one line."""
         return shown(self.text.of(call.value), most)
 
 
-def shown(text, most=160):
+def shown(text: str, most: int = 160) -> str:
     """A text in one line, cut off where it is long."""
     line = " ".join(text.split())
     return line if len(line) <= most else line[: most - 2] + ".."
 
 
-def read(text):
+def read(text: Text) -> Any:
     """The script of a text that the program has played, or None where the text has no such form."""
     top = text.read()
     if top.kind != "object" or top.member("phases") is None or top.member("phases").kind != "list":

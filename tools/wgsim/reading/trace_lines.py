@@ -1,5 +1,9 @@
 """A trace by its lines: which steps access one cell, how, and where that stands in the text; and the words for cells and parts."""
 
+from __future__ import annotations
+
+from typing import Any, Callable
+
 from wgsim.reading.report import SORTS, Part
 
 READING = {"read", "both", "readdrop"}
@@ -24,7 +28,7 @@ class Touch:
     """A step that accesses a cell: its number and name, its line and that of the access, both with their numbers, and its usages of the
     cell's part."""
 
-    def __init__(self, number, at, line):
+    def __init__(self, number: int, at: int, line: str) -> None:
         self.number, self.at, self.line = number, at, line
         self.name = line.split(" ")[-1]
         self.row_at, self.row, self.kind, self.cells = None, None, None, None
@@ -40,7 +44,7 @@ class Touch:
         return "+".join(usage for usage in USAGES if usage in self.used) or guessed(self.name, self.cells.sort, self.kind == "read")
 
 
-def guessed(name, sort, only_reads):
+def guessed(name: str, sort: str, only_reads: bool) -> str:
     """The usage that a step has as a rule, by its name, by what it accesses, and by whether it only reads that."""
     if name in OF_NAMES:
         return OF_NAMES[name]
@@ -75,18 +79,18 @@ def touches(lines, cell):
     raise ValueError("the text has no trace")
 
 
-def owner_of(part):
+def owner_of(part: Part) -> str:
     """The words with which each line of the same buffer, query set or mip level begins."""
     return "".join(f"{word} " for word in (part.words if part.low is None else part.words[:-2]))
 
 
-def has(words, inner):
+def has(words: Any, inner: Any) -> Any:
     """Whether a part or some cells have another one in them."""
     outer = Part(words)
     return inner.low is None or outer.low <= inner.low < outer.high
 
 
-def part_of(cell):
+def part_of(cell: Part) -> Part:
     """The part in which a cell lies: a whole buffer or query set, its layer, or of a slice layer 0 of its mip level, which is all
     slices."""
     if cell.sort in ("b", "q"):
@@ -95,7 +99,7 @@ def part_of(cell):
     return Part(("t", *cell.words[1:4], str(low), str(high)))
 
 
-def common_part(cell, one, other):
+def common_part(cell: Any, one: Any, other: Any) -> Any:
     """The part of all layers that two steps access, where the cell is one of several; else None."""
     if cell.sort != "t":
         return None
@@ -103,12 +107,12 @@ def common_part(cell, one, other):
     return Part((*cell.words[:4], str(low), str(high))) if high - low > 1 else None
 
 
-def named(sort, number):
+def named(sort: str, number: int) -> str:
     """An object by its kind and number."""
     return f"{SORTS[sort]} {number}"
 
 
-def cell_said(cell, name_of=named):
+def cell_said(cell: Part, name_of: Callable[..., Any] = named) -> str:
     """A cell in words."""
     name = name_of(cell.sort, cell.object)
     if cell.sort in ("b", "q"):
@@ -116,7 +120,7 @@ def cell_said(cell, name_of=named):
     return f"{cell.aspect} mip {cell.mip} {'slice' if cell.sort == 's' else 'layer'} {cell.low} of {name}"
 
 
-def part_said(cell, name_of=named):
+def part_said(cell: Part, name_of: Callable[..., Any] = named) -> str:
     """The part of a cell in words."""
     if cell.sort == "s":
         return f"{cell.aspect} mip {cell.mip} of {name_of(cell.sort, cell.object)}"
