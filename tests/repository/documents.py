@@ -9,7 +9,7 @@ import re
 import subprocess
 import sys
 
-import cited
+from wgsim.generated import cited
 
 README_LINES = 90
 README_WORDS = 1200

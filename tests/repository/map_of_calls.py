@@ -1,5 +1,5 @@
 """Checks of what docs/map.md tells of a new call: that the proof files which it names are there. How many files name a call is written by
-tools/tables.py, and checked with the other tables of that tool."""
+tools/wgsim/generated/tables.py, and checked with what else is generated."""
 
 import re
 

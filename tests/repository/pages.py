@@ -4,9 +4,10 @@ sources say, that a rule's sentence stands once, and that one version is told.
 Each check takes the top of the repository, the names of its crates and a list, to which it adds its findings. `CHECKS` has them all.
 """
 
-import importlib.util
 import json
 import re
+
+from wgsim.generated import definitions, rule_page, tables
 
 LONGEST = 300
 LEAST_SENTENCE = 60
@@ -21,14 +22,6 @@ def documents(top):
     """The pages: those at the top, those of docs, and those that lie beside what they tell of."""
     beside = [path for path in top.glob("*/**/README.md") if "out" not in path.relative_to(top).parts]
     return sorted({*top.glob("*.md"), *top.glob("docs/*.md"), *beside})
-
-
-def tool(top, name):
-    """A tool of the repository, as a module."""
-    spec = importlib.util.spec_from_file_location(name, top / "tools" / f"{name}.py")
-    module = importlib.util.module_from_spec(spec)
-    spec.loader.exec_module(module)
-    return module
 
 
 def check_lines(top, crates, findings):
@@ -56,14 +49,10 @@ def check_contents(top, crates, findings):
                 findings.append(f"{path.relative_to(top)}: no heading is #{link}")
 
 
-def check_definitions(top, crates, findings):
-    """Each public definition has its sentence, and the page on them is what is written from these."""
-    findings.extend(tool(top, "definitions").findings_of(top))
-
-
-def check_tables(top, crates, findings):
-    """The tables that are written from what stands elsewhere are what that says."""
-    findings.extend(tool(top, "tables").findings_of(top))
+def check_generated(top, crates, findings):
+    """What is generated of the pages is what it is generated from, and each public definition has its sentence."""
+    for each in (rule_page, definitions, tables):
+        findings.extend(each.findings_of(top))
 
 
 def folders_of(tree):
@@ -117,8 +106,7 @@ def check_version(top, crates, findings):
 CHECKS = (
     check_lines,
     check_contents,
-    check_definitions,
-    check_tables,
+    check_generated,
     check_folders,
     check_sentences,
     check_version,

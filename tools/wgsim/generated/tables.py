@@ -1,8 +1,4 @@
-#!/usr/bin/env python3
 """The tables of the pages that are written from what stands elsewhere, between their marks.
-
-    tools/tables.py --write     writes them
-    tools/tables.py --check     says which of them is not what would be written
 
 - docs/map.md, how many files name a call: by a search. A file names a call where the name of its variant, as `CopyTextureToTexture`,
   stands in it as a word. Files are those of `src` and `specs` of all crates but those of tests and the one that measures memory.
@@ -10,14 +6,10 @@
 - docs/map.md, what a crate stands on, where its cell lists that and says no more: by crates.txt.
 """
 
-import argparse
 import collections
 import json
-import pathlib
 import re
-import sys
 
-TOP = pathlib.Path(__file__).resolve().parent.parent
 STANDS_ON = re.compile(r"^(\| `(wg_\w+)` \| .* \| )(?:(?:`\w+`(?:, )?)+|nothing) \|$", re.M)
 CALLS = (
     "copyTextureToTexture",
@@ -96,6 +88,7 @@ def page(top, name, mark, table):
 
 
 def write(top):
+    """Writes the tables whose marks are there."""
     for name, mark, table in TABLES:
         wanted = page(top, name, mark, table)
         if wanted is not None:
@@ -103,27 +96,12 @@ def write(top):
 
 
 def findings_of(top):
+    """The pages whose tables are others, or have no marks."""
     found = []
     for name, mark, table in TABLES:
         wanted = page(top, name, mark, table)
         if wanted is None:
             found.append(f"{name}: the marks of the table `{mark}` are not in it")
         elif wanted != (top / name).read_text(encoding="utf-8"):
-            found.append(f"{name}: its tables are not what `tools/tables.py --write` writes")
+            found.append(f"{name}: its tables are not what is written of them")
     return found
-
-
-def main():
-    parser = argparse.ArgumentParser(description=__doc__.split("\n\n", maxsplit=1)[0])
-    group = parser.add_mutually_exclusive_group(required=True)
-    group.add_argument("--write", action="store_true", help="write the tables")
-    group.add_argument("--check", action="store_true", help="say which is not as it should be")
-    if parser.parse_args().write:
-        write(TOP)
-    findings = findings_of(TOP)
-    print(*findings, sep="\n", end="\n" if findings else "")
-    return 1 if findings else 0
-
-
-if __name__ == "__main__":
-    sys.exit(main())

@@ -1,27 +1,16 @@
-#!/usr/bin/env python3
-"""Writes docs/definitions.md: each public definition of crates/*/specs with the sentence that stands above it as a comment.
-
-    tools/definitions.py --write     writes the part of the page behind its mark
-    tools/definitions.py --check     says which definition has no sentence, and whether the page is what would be written
+"""docs/definitions.md: each public definition of crates/*/specs with the sentence that stands above it as a comment.
 
 What stands before the mark, how to read the page and its glossary, is kept by hand. Crates come in the order of crates.txt, and
 definitions as they stand in their files. One that a clause of a public call names is bold.
 """
 
-import argparse
-import pathlib
 import re
-import sys
 import textwrap
 
-TOP = pathlib.Path(__file__).resolve().parent.parent
-sys.dont_write_bytecode = True
-sys.path.insert(0, str(TOP / "tests/repository"))
-
-import cited  # noqa: E402
+from wgsim.generated import cited
 
 PAGE = "docs/definitions.md"
-MARK = "<!-- What follows is written by `tools/definitions.py --write`. -->"
+MARK = "<!-- What follows is written by `tools/python -m wgsim.generated --write`. -->"
 DEFINITION = re.compile(r"^(?:(?:abbrev|unfoldable) pub|pub (?:record|data)|pub) (?!mod |use )([^\s:({]+)")
 FLOOR = re.compile(r"^# (Floor \d+): (.*)$")
 COMMENT = "--"
@@ -146,6 +135,12 @@ def page(top):
     return text.partition(MARK)[0] + MARK + "\n" + written(top)
 
 
+def write(top):
+    """Writes the part of the page behind its mark."""
+    wanted = page(top)
+    (top / PAGE).write_text(wanted, encoding="utf-8")
+
+
 def findings_of(top):
     """The definitions that have no sentence, and whether the page is another one."""
     found = []
@@ -157,22 +152,5 @@ def findings_of(top):
     if MARK not in text:
         found.append(f"{PAGE}: the mark is not in it: {MARK}")
     elif page(top) != text:
-        found.append(f"{PAGE}: it is not what `tools/definitions.py --write` writes")
+        found.append(f"{PAGE}: it is not what is written of the definitions")
     return found
-
-
-def main():
-    parser = argparse.ArgumentParser(description=__doc__.split("\n\n", maxsplit=1)[0])
-    group = parser.add_mutually_exclusive_group(required=True)
-    group.add_argument("--write", action="store_true", help="write the page")
-    group.add_argument("--check", action="store_true", help="say what is wrong with it")
-    if parser.parse_args().write:
-        (TOP / PAGE).write_text(page(TOP), encoding="utf-8")
-        return 0
-    findings = findings_of(TOP)
-    print(*findings, sep="\n", end="\n" if findings else "")
-    return 1 if findings else 0
-
-
-if __name__ == "__main__":
-    sys.exit(main())
