@@ -70,7 +70,7 @@ def color_rules(number: int, which: str, view: Played, dims: Any) -> Iterator[tu
 
 
 def slice_rules(depth_slice: Any, view: Played) -> Iterator[tuple[int, str, bool]]:
-    """Rule 308: a slice is given of a 3d view and of no other, and the mip level has it."""
+    """Rule 308, on the slice of a color, or None, and its view."""
     is_3d = textures.told(view)["dim"] == "3d"
     yield 308, f"depthSlice, {'3d' if is_3d else '2d or 2d-array'}", (depth_slice is not None) == is_3d
     if is_3d:
@@ -98,7 +98,7 @@ def depth_rules(view: Played) -> Iterator[Any]:
 
 
 def load_rules(depth: dict[str, Any], format: str) -> Iterator[tuple[int, str, bool]]:
-    """Rule 304: load and store are given where the format has the aspect and that is not read-only, and else neither is."""
+    """Rule 304, of each aspect and each of its two keys."""
     for aspect, (load, store, read_only) in ASPECT_KEYS.items():
         has_aspect = aspect in formats.aspects_of(format)
         why = "read-only" if depth[read_only] else "not read-only"
@@ -112,7 +112,7 @@ def width_and_height(view: Played) -> tuple[Any, ...]:
 
 
 def alike_rules(views: list[Played]) -> Iterator[Any]:
-    """Rule 305, on the views of all colors and of `depth`."""
+    """Rule 305. Each view is held against the first."""
     for other in views[1:]:
         for name, one, two in zip(("width", "height"), width_and_height(views[0]), width_and_height(other)):
             yield 305, name, one == two
@@ -120,7 +120,7 @@ def alike_rules(views: list[Played]) -> Iterator[Any]:
 
 
 def apart_rules(colors: Any, depth: Any) -> Iterator[Any]:
-    """Rule 306: no cell is attached twice, be it a subresource or a slice. A resolve view attaches all cells that it has."""
+    """Rule 306, on each two that are attached. A resolve view attaches all cells that it has."""
     attached = [("color" if color["depthSlice"] is None else "slice", cells_of(view, color["depthSlice"])) for color, view, _ in colors]
     attached += [(f"resolve view {textures.told(resolve)['dim']}", cells_of(resolve)) for _, _, resolve in colors if resolve is not None]
     attached += [("depth", cells_of(view)) for view in depth]

@@ -46,7 +46,7 @@ def entries_of(layout: Played) -> Any:
 
 
 def owner_of(layout: Played) -> Played | None:
-    """The pipeline that a bind group layout is exclusive to, or None: it is so where it was got of a pipeline that derived it."""
+    """The pipeline that a bind group layout is exclusive to (rule 143), or None."""
     if layout.do == "createBindGroupLayout":
         return None
     return owner_in_use(layout.uses["pipeline"])
@@ -112,7 +112,7 @@ def got_rules(pipeline: Played, index: int) -> Iterator[tuple[int, str, bool]]:
 
 
 def exclusive_rules(layouts: list[Any]) -> Iterator[tuple[int, str, bool]]:
-    """Rule 143: no layout of a pipeline layout is one that a pipeline derived for itself."""
+    """Rule 143, on each layout of a pipeline layout."""
     for layout in layouts:
         yield 143, "exclusive", layout.owner is None
 

@@ -11,11 +11,7 @@ if TYPE_CHECKING:
 
 
 def spot_rules(number: int, which: str, texture: dict[str, Any], mip: Any, origin: Any, size: Any) -> Iterator[tuple[int, str, bool]]:
-    """Rules 258 and 207: the place of a copy is in the texture.
-
-    The mip level exists; origin and size are in its extent and layers; a depth, stencil or multisampled texture is
-    covered in width and height.
-    """
+    """Rule 258 or 207, on the place of a copy in a texture. `which` says of a copy between two textures which of them it is."""
     yield number, f"{which} mip", mip < texture["mips"]
     level = formats.extent(texture, mip)
     for name, first, length, whole in zip(("width", "height", "depth"), origin, size, level):
@@ -27,7 +23,7 @@ def spot_rules(number: int, which: str, texture: dict[str, Any], mip: Any, origi
 
 
 def layout_rules(number: int, call: dict[str, Any], texel: int, room: int) -> Iterator[tuple[int, str, bool]]:
-    """Rules 262 and 209: the layout of texels is right, and its bytes from the offset on are within the room."""
+    """Rule 262 or 209, on the keys of a layout of texels and the bytes that there are for it, of a buffer or of data."""
     (width, height, depth), row, rows = call["size"], call["bytesPerRow"], call["rowsPerImage"]
     if row is None:
         yield number, "bytesPerRow for height", height <= 1

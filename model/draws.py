@@ -78,14 +78,14 @@ def draw_rules(command: Any, settings: Any) -> Iterator[Any]:
 
 
 def index_rules(command: Any, setting: Any) -> Iterator[Any]:
-    """Rule 353: the indices that are read lie in the range that is set."""
+    """Rule 353, on a drawIndexed and the setIndexBuffer before it."""
     asked = (command.call["firstIndex"] + command.call["indices"]) * INDEX_BYTES[setting.call["format"]]
     _, size = range_set(setting)
     yield at_most(353, f"bytes, {setting.call['format']}", asked, size)
 
 
 def element_rules(call: dict[str, int | str], vertex_buffer: dict[str, Any], setting: Played) -> Iterator[tuple[int, str, bool]]:
-    """Rule 351: what a draw asks of a vertex buffer of its pipeline lies in the range that is set."""
+    """Rule 351, on a draw, a vertex buffer of its pipeline and the setVertexBuffer before it."""
     _, size = range_set(setting)
     asked = bytes_asked(call, vertex_buffer)
     yield at_most(351, f"bytes, step {vertex_buffer['step']}{', none' if asked == 0 else ''}", asked, size)

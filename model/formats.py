@@ -154,7 +154,7 @@ def texel_to(format: str, named: str) -> Any:
 
 
 def are_copy_compatible(one: str, other: str) -> bool:
-    """Two formats are equal, or differ in `-srgb` alone."""
+    """What rule 272 asks of two formats."""
     return one.replace("-srgb", "") == other.replace("-srgb", "")
 
 

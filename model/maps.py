@@ -39,7 +39,7 @@ def map_rules(history: History, call: dict[Any, Any], buffer: Played) -> Iterato
 
 
 def idle_rules(history: History, number: int, buffer: Played) -> Iterator[tuple[int, str, bool]]:
-    """Rules 203 and 225: the buffer is not pending, mapped or destroyed."""
+    """Rule 203 or 225, by the call that asks it."""
     yield number, "pending", not is_pending(history, buffer)
     yield number, "mapped", mapping_of(history, buffer) is None
     yield number, "destroyed", not history.is_destroyed(buffer)

@@ -45,8 +45,8 @@ def wanted(call: dict[Any, Any], key: str, kinds: tuple[Any, ...], given: dict[s
 def ask_used(
     place: tuple[int, int, int], key: str, name: str, kinds: tuple[Any, ...], given: dict[str, tuple[tuple[int, int, int], str]]
 ) -> None:
-    """Rule 10: an earlier call gave the name, and it is visible. Rule 11: what it stands for is of a kind that the key takes. Rule 12: the
-    encoder, bundle encoder or pass under `on`, or the canvas, was made by this lane, in this phase."""
+    """Rules 10, 11 and 12, in this order, on a name that is used under a key which takes these kinds. Of keys `on` and `canvas` alone
+    have rule 12."""
     ask(10, "given", name in given, place)
     maker, kind = given[name]
     ask(10, "visible", is_visible(maker, place), place)

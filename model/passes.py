@@ -154,7 +154,7 @@ def work_rules(command: Played, settings: Settings) -> Iterator[tuple[int, str, 
 
 
 def named_rules(command: Played) -> Iterator[tuple[int, str, bool]]:
-    """Rules 10 and 12 on each object that a command names: it is of this device, which no script can leave unmet, and valid."""
+    """Rules 10 and 12 on each object that a command names. No script can leave 10 unmet."""
     for key, thing in command.named():
         yield 10, key, True
         yield 12, key, thing.is_valid
@@ -199,7 +199,7 @@ def scopes_of(commands: list[Played]) -> Iterator[tuple[Any, ...]]:
 
 
 def scope_rules(commands: list[Played]) -> Iterator[tuple[int, str, bool]]:
-    """Rule 184: the usage scope of each dispatch and of each render pass is compatible. The commands are those of an encoder that no rule
+    """Rule 184, on each usage scope of an encoder, those of dispatches and of render passes. The commands are those of one that no rule
     invalidated."""
     for _, touches in scopes_of(commands):
         yield from scope_rule(touches or [])

@@ -227,7 +227,7 @@ def finish_rules(history: History, encoder: Played) -> Iterator[tuple[int, str, 
 
 
 def submit_rules(history: Any, command_buffers: Any) -> Iterator[tuple[int, str, bool]]:
-    """The rules of each command buffer in turn, then those of all."""
+    """The rules of submit: those of each command buffer, and then those of all together."""
     yield from of_objects(history, [("command buffer", one) for one in command_buffers], [])
     yield 190, "consumed", not any(history.is_consumed(one) for one in command_buffers)
     yield 191, "named twice", len(set(command_buffers)) == len(command_buffers)
@@ -240,7 +240,7 @@ def submit_rules(history: Any, command_buffers: Any) -> Iterator[tuple[int, str,
 
 
 def used_rules(history: History, used: list[Any], how: dict[Played, str]) -> Iterator[tuple[int, str, bool]]:
-    """Rule 192: no buffer that a command names, itself or through a bind group or a bundle, is pending, mapped or destroyed."""
+    """Rule 192, on the buffers that are used, of which `how` says in what ways they are named."""
     for thing in used:
         yield 192, f"pending buffer{how[thing]}", not maps.is_pending(history, thing)
         yield 192, f"mapped buffer{how[thing]}", not maps.mapping_of(history, thing)

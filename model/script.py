@@ -56,7 +56,7 @@ def read(data):
 
 
 def read_limits(asked: Any) -> dict[str, int]:
-    """Rule 14: the limits of the device that a script asks for are no better than the best. The answer is what they are then."""
+    """Rule 14, on each limit that a script asks for, in the order of the text. The answer is the limits that its device has."""
     ask(14, "object", type(asked) is dict)
     for name, value in asked.items():
         ask(14, "name of a limit", name in limits.DEFAULTS)
@@ -110,7 +110,7 @@ def read_values(place: Any, where: Any, value: Any, keys: Any) -> Any:
 
 
 def read_value(place: tuple[Any, ...], where: str, sort: Any, value: Any) -> Any:
-    """Rule 8: the value is of the sort that its key has. Objects get all their keys."""
+    """Rule 8, on a value by the sort that its key has. Objects get all their keys."""
     if sort == WHOLE:
         ask(8, f"whole number{where}", is_whole(value, GREATEST_WHOLE), place)
     elif sort == WORD32:

@@ -33,7 +33,7 @@ def create_rules(call, limits):
 
 
 def limit_rules(dim: str, width: int, height: int, depth: int, limits: dict[str, int]) -> Iterator[tuple[int, str, bool]]:
-    """Rule 112: width, height, and depth or layers are within the limits of the dimension."""
+    """Rule 112, on a size of three numbers, which each dimension takes in another way."""
     if dim == "1d":
         yield at_most(112, "1d width", width, limits["maxTextureDimension1D"])
         yield 112, "1d height", height == 1
@@ -48,7 +48,7 @@ def limit_rules(dim: str, width: int, height: int, depth: int, limits: dict[str,
 
 
 def mip_rules(call: dict[str, Any]) -> Iterator[tuple[int, str, bool]]:
-    """Rule 113: there is a mip level, and at most floor(log2 of the greatest extent) + 1; a 1D texture has one."""
+    """Rule 113. A number has as many bits as it can be halved until it is 0."""
     extents = call["size"] if call["dim"] == "3d" else call["size"][:2]
     yield 113, "no mips", call["mips"] >= 1
     if call["dim"] == "1d":
@@ -58,7 +58,7 @@ def mip_rules(call: dict[str, Any]) -> Iterator[tuple[int, str, bool]]:
 
 
 def four_sample_rules(call: dict[str, Any]) -> Iterator[tuple[int, str, bool]]:
-    """Rule 115: what a texture with 4 samples has to be."""
+    """Rule 115, on a texture with 4 samples."""
     yield 115, "2d", call["dim"] == "2d"
     yield 115, "one mip", call["mips"] == 1
     yield 115, "one layer", call["size"][2] == 1
@@ -119,7 +119,7 @@ def view_rules(view: Any, texture: dict[Any, Any]) -> Iterator[Any]:
 
 
 def layers_of_dim_rules(dim: Any, layers: Any) -> Iterator[tuple[int, str, bool]]:
-    """Rule 124: 1d, 2d and 3d have one layer, a cube six, a cube-array a multiple of six."""
+    """Rule 124. That there is a layer is asked before, by rule 122."""
     if dim in ("1d", "2d", "3d"):
         yield 124, f"{dim} layer", layers == 1
     if dim == "cube":

@@ -74,7 +74,7 @@ def read(data):
 
 
 def lines_of(data: bytes) -> list[bytes] | None:
-    """Rule 1: the lines of a text, which has line ends and printed letters alone, ends with a line end, and has a line `trace`."""
+    """Rule 1, on the text as a whole. The answer is its lines."""
     if not data.endswith(b"\n") or re.search(rb"[^\n -~]", data):
         raise Refused(1, 0)
     lines = data[:-1].split(b"\n")

@@ -14,6 +14,7 @@ from wgsim.pages import picture
 from wgsim.program import program as programs
 from wgsim.reading import places
 from wgsim.reading import report as reports
+from wgsim.reading import rules
 
 
 class Tags(html.parser.HTMLParser):
@@ -66,7 +67,7 @@ def test_picture_words():
     for words in (
         "Fault at line 8: finish breaks rule 254",
         'source and target are both "b" (4:5). Copy to another buffer',
-        "source and target are two buffers",
+        rules.of(254)[0].asks,
         '{"do": "finish", "on": "e", "as": "c"}',
         "is number 1 of 1, at line 7",
         '{"do": "copyBufferToBuffer", "on": "e", "source": "b"',

@@ -13,7 +13,7 @@ def test_rules():
         check(rules.shown(number) is not None, f"rule {number} cannot be asked for")
     ran = wgsim("rules", "258")
     check(
-        b"origin and size are in its extent" in ran.stdout and b'"validating texture copy range"' in ran.stdout,
+        rules.of(258)[0].asks.encode("utf-8") in ran.stdout and b'"validating texture copy range"' in ran.stdout,
         f"wgsim rules 258: {ran.stdout}",
     )
     check(wgsim("rules").stdout.count(b"\n") > 100, "wgsim rules: not all rules")

@@ -5,7 +5,7 @@ import os
 import signal
 import sys
 
-from wgsim import commands, exit_status
+from wgsim import TOP, commands, exit_status
 from wgsim.inputs import STANDARD, write
 from wgsim.program import building
 from wgsim.program.program import NAMED
@@ -69,7 +69,7 @@ def parser_of(found):
     parser = Parser(prog=NAME, description=ABOUT, epilog=STATUSES, add_help=False, **shared())
     parser.set_defaults(is_proved=False, is_unproved=False, command=None)
     parser.add_argument("--help", action="store_true", help="this text")
-    parser.add_argument("--version", action="store_true", help="which sources this is, and which programs there are of them")
+    parser.add_argument("--version", action="store_true", help="which version this is, and which programs there are of its sources")
     several, each = parser.add_subparsers(title="commands", metavar="COMMAND", dest="command", parser_class=Parser), {}
     for name, module in found.items():
         each[name] = several.add_parser(name, help=module.HELP, description=module.__doc__, **shared())
@@ -113,7 +113,7 @@ def test(words, module, wrong):
 
 
 def version():
-    """Which sources this is, and which programs there are of them."""
+    """Which version and sources this is, which programs there are of them, and by which toolchain one would be proved."""
     from wgsim.program import unproved
 
     def of(is_current, program, done):
@@ -121,10 +121,11 @@ def version():
 
     by = "the proved program" if building.is_built() else "the program without proofs; `./wgsim prove` proves and builds it"
     lines = [
-        f"wgsim of Wethlorn, sources {building.sum_of_sources()[:12]}",
+        f"wgsim of Wethlorn {(TOP / 'VERSION').read_text(encoding='utf-8').strip()}, sources {building.sum_of_sources()[:12]}",
         f"the proved program is {of(building.is_built(), building.PROGRAM, 'built')}",
         f"the program without proofs is {of(unproved.is_kept(), unproved.PROGRAM, 'compiled')}",
         f"answers are from {by}",
+        f"the toolchain `rt` is {building.toolchain() or 'not on the PATH'}",
     ]
     return "".join(line + "\n" for line in lines)
 

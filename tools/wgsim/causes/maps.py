@@ -1,4 +1,4 @@
-"""The rules of mapAsync, and that a buffer is not pending, mapped or destroyed."""
+"""The rules of mapAsync, and those of all calls that ask how a buffer is mapped."""
 
 from wgsim.reading import bits
 

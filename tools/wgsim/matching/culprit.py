@@ -113,7 +113,7 @@ class Cuts:
 
     def opened(self, kept: int) -> Any:
         """What the first commands leave open: the pass with the number of its begin, or None; by encoder and pass the numbers of the
-        commands that opened its debug groups; and whether an occlusion query is active in the pass."""
+        commands that opened its debug groups; and whether the pass has a query that is begun and not ended."""
         open_pass, groups, is_active = None, {}, False
         for number, call in enumerate(self.commands[:kept], 1):
             on = call.value.member("on").what

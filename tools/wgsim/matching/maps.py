@@ -13,7 +13,7 @@ if TYPE_CHECKING:
     from wgsim.reading.script import Call
 
 MODES = {1: "reading", 2: "writing"}
-# The rules that ask that a buffer is not pending, mapped or destroyed.
+# The rules that ask how a buffer is mapped.
 BUSY = (192, 203, 225)
 
 

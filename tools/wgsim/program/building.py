@@ -72,6 +72,14 @@ def from_nothing():
     return f"some {proof_costs.told(proof_costs.clock_of(set(below), below, at_once))} with {count(at_once, 'crate')} at a time"
 
 
+def toolchain():
+    """What the toolchain says of itself, or None where it is not there or says nothing."""
+    if shutil.which("rt") is None:
+        return None
+    ran = subprocess.run(["rt", "version"], stdin=subprocess.DEVNULL, stdout=subprocess.PIPE, stderr=subprocess.DEVNULL, text=True)
+    return ran.stdout.strip().partition("\n")[0] or None
+
+
 @contextlib.contextmanager
 def started(words, **how):
     """Runs a command with all that it starts in a group of its own, which is stopped where the tool is."""
