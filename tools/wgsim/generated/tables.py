@@ -7,8 +7,9 @@
 """
 
 import collections
-import json
 import re
+
+from wgsim.reading import rules
 
 STANDS_ON = re.compile(r"^(\| `(wg_\w+)` \| .* \| )(?:(?:`\w+`(?:, )?)+|nothing) \|$", re.M)
 CALLS = (
@@ -52,8 +53,7 @@ def calls_table(top):
 
 def refusals_table(top):
     """What each rule of scripts refuses, and with which place."""
-    rows = json.loads((top / "docs/rules.json").read_text(encoding="utf-8"))["scripts"]
-    lines = [f"| {row['rule']} | {row['refuses']} | {row['place']} |" for row in rows]
+    lines = [f"| {row['rule']} | {rules.refused_by(row)} | {row['place']} |" for row in rules.TABLE["scripts"]]
     return ["| Rule | What is refused | Place |", "|---|---|---|", *lines]
 
 

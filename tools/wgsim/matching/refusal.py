@@ -39,9 +39,9 @@ class Refusal:
         self.more = []
         self.refuses = sentence(rule, place)
 
-    def by(self, refuses: str) -> Refusal:
-        """Names the part of a rule that refuses several things."""
-        self.refuses = refuses
+    def by(self, part: str) -> Refusal:
+        """Tells the part of a rule that refuses several things, by its name in docs/rules.json."""
+        self.refuses = rules.part_of(self.rule, part)
         return self
 
     def at(self, offset: Any, found: Any, expected: Any, *more: Any) -> Any:
@@ -54,7 +54,7 @@ def sentence(rule: int, place: Any) -> Any:
     row = next((row for row in rules.script_rows(rule) if len(rules.place_of(row)) == len(place)), None) or next(
         iter(rules.script_rows(rule)), None
     )
-    return row["refuses"] if row else None
+    return rules.refused_by(row) if row else None
 
 
 def find(text: Text, line: str) -> Refusal:
@@ -102,13 +102,13 @@ def at_top(refusal: Refusal, text: Text, top: Value) -> Refusal:
 def wrong_limits(refusal: Refusal, text: Text, asked: Any) -> Refusal:
     """What is wrong with the limits that a script asks for: each name with the number that was asked for, the default and the best."""
     if asked.kind != "object":
-        return refusal.by("`limits` that is no object").at(
+        return refusal.by("object").at(
             asked.start, f"{kind_of(asked)} under limits", "an object from names of limits to whole numbers"
         )
     for name in dict.fromkeys(key.what for key, _ in asked.what):
         key, value, limit = asked.key(name), asked.member(name), limits.TABLE.get(name)
         if limit is None:
-            refusal.by("A name of `limits` that the table of limits lacks")
+            refusal.by("name")
             return refusal.at(
                 key.start,
                 f"the name {quoted(name)}",
@@ -117,7 +117,7 @@ def wrong_limits(refusal: Refusal, text: Text, asked: Any) -> Refusal:
             )
         found = f"{shown(text.of(value))} for {name}, whose default is {limit.default} and whose best is {limit.best}"
         if not is_whole(value, 53):
-            refusal.by("A limit that is no whole number in range")
+            refusal.by("number")
             return refusal.at(value.start, found, "a whole number from 0 to 9007199254740991, in decimal digits alone")
         wrong = limit.wrong(int(value.what))
         if wrong is not None:
@@ -170,25 +170,21 @@ def keys_of_call(refusal: Refusal, text: Text, call: Value, top: Value) -> Refus
 
 
 def wrong_keys(refusal: Refusal, value: Value, word: Any, keys: dict[Any, Any], others: Any = ()) -> Any:
-    """Whether a call, or an object in it, has a key that it may not have, or lacks one that it needs."""
+    """Whether a call, or an object in it, has a key that it may not have, or lacks one that it needs. Of a call that is rule 7, and of an
+    object rule 8, which have the same parts for it."""
     told = [name + (" (may be left out)" if key.may_be_left_out else "") for name, key in keys.items()]
     has = "has the keys " + ", ".join(told) if told else "has the key do alone"
     for key, _ in value.what:
         if key.what not in keys and key.what not in others:
-            refusal.by(of_keys(refusal, "a key that it does not have", "A key that the call does not have"))
+            refusal.by("unknown key")
             return refusal.at(
                 key.start, f"the key {quoted(key.what)}", f"no such key: {word} {has}", lacking.key(key.what) or near(key.what, keys)
             )
     for name, key in keys.items():
         if value.member(name) is None and not key.may_be_left_out:
-            refusal.by(of_keys(refusal, "no key of some name that it needs", "A needed key that is missing"))
+            refusal.by("missing key")
             return refusal.at(value.start, f"no key {name}", f"the key {name}: {key.expected()}")
     return None
-
-
-def of_keys(refusal: Refusal, of_object: str, of_call: str) -> str:
-    """What is refused of keys: rule 7 is of those of a call, and rule 8 of those of an object in it."""
-    return of_call if refusal.rule == 7 else f"An object in a call, with {of_object}"
 
 
 def values_of_call(refusal: Refusal, text: Text, call: Value, top: Value) -> Refusal:
@@ -216,23 +212,12 @@ def wrong_values(refusal: Refusal, text: Text, owner: Value, keys: dict[Any, Any
 
 
 def why_wrong(wrong: Value, key: Key, is_whole_value: bool) -> str:
-    """What rule 8 refuses of a value, or of an item of it, that is not what its key asks for."""
+    """The part of rule 8 that refuses a value, or an item of it, which is not what its key asks for."""
     if is_whole_value and key.sort in ("three", *ITEMS) and wrong.kind == "list":
-        return (
-            "A list of other than three numbers where three are asked for"
-            if key.sort == "three"
-            else "A list in a call of more than 1,024 items"
-        )
-    is_number = key.sort in ("number", "numbers", "three") and wrong.kind == "number"
-    if is_number:
-        return (
-            "A number out of range"
-            if wrong.what.isdigit() or wrong.what[1:].isdigit()
-            else "A number that is no whole number in decimal digits"
-        )
-    if key.sort in ("word", "words") and wrong.kind == "string":
-        return "A word that the key does not have"
-    return "A value of the wrong type"
+        return "three" if key.sort == "three" else "items"
+    if key.sort in ("number", "numbers", "three") and wrong.kind == "number":
+        return "range" if wrong.what.isdigit() or wrong.what[1:].isdigit() else "digits"
+    return "word" if key.sort in ("word", "words") and wrong.kind == "string" else "type"
 
 
 def objects_in(value: Any, key: Key) -> list[Any]:
@@ -250,7 +235,7 @@ def wrong_object(refusal: Refusal, text: Text, item: Value, sort: str) -> Any:
         return wrong_keys(refusal, item, said, keys) or wrong_values(refusal, text, item, keys)
     form = calls.form_of(sort, item)
     if form is None and by is None:
-        refusal.by("An object in a call, with no key of some name that it needs")
+        refusal.by("missing key")
         return refusal.at(
             item.start, "none of the keys " + ", ".join(forms), f"one of them: {said} has just one", near_key(item, forms, sort)
         )
@@ -258,10 +243,10 @@ def wrong_object(refusal: Refusal, text: Text, item: Value, sort: str) -> Any:
         kind = calls.Key(calls.OBJECTS[sort]["keys"][by])
         value = item.member(by)
         if value is None:
-            refusal.by("An object in a call, with no key of some name that it needs")
+            refusal.by("missing key")
             return refusal.at(item.start, f"no key {by}", f"the key {by}: {kind.expected()}", near_key(item, [by], sort))
         hint = lacking.word(value.what, kind.detail) or near(value.what, forms) if value.kind == "string" else None
-        refusal.by("A word that the key does not have" if value.kind == "string" else "A value of the wrong type")
+        refusal.by("word" if value.kind == "string" else "type")
         return refusal.at(value.start, f"{shown(text.of(value))} under {by}", kind.expected(), hint)
     keys = calls.keys_of_object(sort, item)
     return wrong_keys(refusal, item, f"{said} with {f'a {form}' if by is None else f'the {by} {form}'}", keys) or wrong_values(
@@ -363,12 +348,8 @@ def is_shown(user: Call, maker: Call) -> bool:
 
 
 def why_wrong_kind(user: Call, maker: Any) -> str:
-    """What rule 11 refuses of a name."""
-    return (
-        "A `drop` names what a `currentTexture` made"
-        if is_shown(user, maker)
-        else "The name that is used stands for something of a wrong kind"
-    )
+    """The part of rule 11 that refuses a name."""
+    return "drop" if is_shown(user, maker) else "kind"
 
 
 def undropped(user: Call, maker: Any) -> Any:

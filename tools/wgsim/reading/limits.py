@@ -18,11 +18,11 @@ class Limit:
         self.is_alignment = row.get("better") == "smaller"
 
     def wrong(self, value: int) -> Any:
-        """Why a script may not ask for a value, or None."""
+        """The part of script rule 14 by which a script may not ask for a value, or None."""
         if self.is_alignment and (value >= 2**32 or bin(value).count("1") != 1):
-            return "An alignment that is no power of two below 2^32"
+            return "alignment"
         is_better = value < self.best if self.is_alignment else value > self.best
-        return "A limit that is better than the best" if is_better else None
+        return "best" if is_better else None
 
     def expected(self) -> str:
         if self.is_alignment:

@@ -60,9 +60,25 @@ def notes(titles: set[Any]) -> list[Any]:
     return [part for part in TABLE["parts"] if part.get("title") in titles]
 
 
-def script_rows(number: int) -> list[dict[str, int | str]]:
+def script_rows(number: int) -> list[Any]:
     """The rows of a rule of scripts."""
     return [row for row in TABLE["scripts"] if row["rule"] == number]
+
+
+def refused_by(row: Any) -> str:
+    """What a row of the rules of scripts refuses, with all its parts."""
+    *parts, last = row["parts"].values() if "parts" in row else [row["refuses"]]
+    return sentence(f"{', '.join(parts)}, or {last}" if parts else last)
+
+
+def part_of(number: int, part: str) -> str:
+    """One part of what a rule of scripts refuses."""
+    return next(sentence(row["parts"][part]) for row in script_rows(number) if part in row.get("parts", {}))
+
+
+def sentence(words: str) -> str:
+    """Words that begin as a sentence does."""
+    return words[:1].upper() + words[1:]
 
 
 def place_of(row: Any) -> list[Any]:
@@ -72,7 +88,7 @@ def place_of(row: Any) -> list[Any]:
 
 def script_rules(number: int) -> list[Any]:
     """What a rule of scripts refuses."""
-    return [row["refuses"] for row in script_rows(number)]
+    return [refused_by(row) for row in script_rows(number)]
 
 
 def page() -> str:
@@ -120,5 +136,5 @@ def all_shown() -> str:
             lines += [""] * bool(lines) + [f"{label} ({section(rule)})"]
         lines.append(f"  {', '.join(map(str, rule.numbers)) or '-':>13}  {rule.asks}")
     lines += ["", "Scripts (`bad script N`)"]
-    lines += [f"  {row['rule']:>13}  {row['refuses']}" for row in TABLE["scripts"]]
+    lines += [f"  {row['rule']:>13}  {refused_by(row)}" for row in TABLE["scripts"]]
     return "\n".join(lines) + "\n"
