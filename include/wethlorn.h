@@ -11,7 +11,9 @@
  * Objects. An object goes by its number, which the reply to the call that makes it gives. Numbers of a
  * device count up from 0, and none is given twice. They are no pointers: a number that was never given, or
  * that was let go by wethlorn_drop, is answered by WETHLORN_NO_OBJECT, and one that stands for another kind
- * of object by a fault, as WebGPU does. A caller has nothing to free but the device.
+ * of object by a fault, as WebGPU does. A number says nothing of its device: one that another device gave
+ * is taken for this device's own object of that number, and no fault comes of it. That each number goes to
+ * the device that gave it is the caller's to see to. A caller has nothing to free but the device.
  *
  * Status. Each call returns a status. WETHLORN_OK: it was made, and `out` has the answer. Otherwise nothing
  * was made: the device is as it was before the call, and `out` is not written. After WETHLORN_NO_MEMORY the
@@ -34,6 +36,8 @@
  */
 #ifndef WETHLORN_H
 #define WETHLORN_H
+/* The version, which is that of the file VERSION; CHANGELOG.md says what each has. */
+#define WETHLORN_VERSION "0.4.0"
 #include <stddef.h>
 #include <stdint.h>
 #ifdef __cplusplus

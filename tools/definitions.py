@@ -16,7 +16,7 @@ import textwrap
 
 TOP = pathlib.Path(__file__).resolve().parent.parent
 sys.dont_write_bytecode = True
-sys.path.insert(0, str(TOP / "tests/repository.d"))
+sys.path.insert(0, str(TOP / "tests/repository"))
 
 import cited  # noqa: E402
 
@@ -75,7 +75,8 @@ def files_of(top, crate):
 
 def purpose_of(top, crate):
     """What a crate is, in the words at the head of its code."""
-    lines = (top / "crates" / crate / "src/lib.rt").read_text(encoding="utf-8").splitlines()
+    roots = [top / "crates" / crate / "src" / name for name in ("lib.rt", "main.rt")]
+    lines = [line for root in roots if root.is_file() for line in root.read_text(encoding="utf-8").splitlines()]
     return " ".join(line[3:].strip() for line in lines if line.startswith("//!"))
 
 

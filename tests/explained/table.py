@@ -10,13 +10,14 @@ import re
 HERE = pathlib.Path(__file__).resolve().parent
 TOP = HERE.parent.parent
 BARE = re.compile(r'"[^"]*"|[A-Za-z_][\w.-]*|\d[\w.-]*[A-Za-z][\w-]*|[^"A-Za-z_\d]+|\d+')
-# The rules that no script can leave unmet: each object of a script is of its one device, and an encoder that is finished is valid, since on a
-# lost device no call has a fault.
+# The rules that no script can leave unmet: each object of a script is of its one device, and an encoder that is finished is valid, since on
+# a lost device no call has a fault.
 NEVER_UNMET = {10: "any", 12: "finish"}
 
 
 class Case:
-    """A script with the fault that it is to have: the rule, the call or command that breaks it, the text, and the lines that are to be said."""
+    """A script with the fault that it is to have: the rule, the call or command that breaks it, the text, and the lines that are to be
+    said."""
 
     def __init__(self, file, line, head, text, said):
         self.where = f"tests/explained/{file}:{line}"
@@ -36,7 +37,10 @@ def value(text):
     pieces = BARE.findall(text)
     if "".join(pieces) != text:
         raise ValueError(f"{text!r} is no value")
-    return "".join(f'"{piece}"' if re.match(r"[A-Za-z_]|\d[\w.-]*[A-Za-z]", piece) and piece not in ("true", "false", "null") else piece for piece in pieces)
+    return "".join(
+        f'"{piece}"' if re.match(r"[A-Za-z_]|\d[\w.-]*[A-Za-z]", piece) and piece not in ("true", "false", "null") else piece
+        for piece in pieces
+    )
 
 
 def call(line):
@@ -109,14 +113,17 @@ def can_be_unmet(number, word):
 
 
 def findings(known):
-    """The rules of docs/rules.json that a script can leave unmet and that have no cause among the known numbers, or no case for one of their calls."""
+    """The rules of docs/rules.json that a script can leave unmet and that have no cause among the known numbers, or no case for one of
+    their calls."""
     table = json.loads((TOP / "docs/rules.json").read_text(encoding="utf-8"))
     rows = [(one["call"], row) for part in table["parts"] if "calls" in part for one in part["calls"] for row in one["rules"]]
     pairs = sorted({(number, word) for word, row in rows for number in row["rules"] if can_be_unmet(number, word)})
     have = {(case.rule, case.call) for case in cases() if not case.is_refused}
-    found = [f"tools/causes: rule {number} has no cause" for number in sorted({number for number, _ in pairs} - set(known))]
+    found = [f"tools/wgsim/causes: rule {number} has no cause" for number in sorted({number for number, _ in pairs} - set(known))]
     for number, word in pairs:
         if (number, word) not in have and not (word == "*" and any(rule == number for rule, _ in have)):
             found.append(f"tests/explained: rule {number} of {word} has no case")
     refused = {case.rule for case in cases() if case.is_refused}
-    return found + [f"tests/explained: script rule {number} has no case" for number in sorted({row["rule"] for row in table["scripts"]} - refused)]
+    return found + [
+        f"tests/explained: script rule {number} has no case" for number in sorted({row["rule"] for row in table["scripts"]} - refused)
+    ]

@@ -1,5 +1,5 @@
 -- What the exports do, by the status that they return: 0 OK, 1 NO_MEMORY, 2 NO_OBJECT, 3 CLOSED, 4 BAD_VALUE, 5 NO_PASS, 6 END, 7 IS_OPEN.
-use Rattle.std.specs.Prelude.{◌≡◌, ℕ, ◌+◌, ◌||◌, nat_eq, true, [], slice_get, Option, Some, None, is_none, option_map, option_and_then, MatchBool, MatchOption}
+use Rattle.std.specs.Prelude.{◌≡◌, ℕ, ◌+◌, ◌||◌, nat_eq, true, [], length, slice_get, Option, Some, None, is_none, option_map, option_and_then, MatchBool, MatchOption}
 use Rattle.wg_types.specs.declared.commands.CommandOf.{CommandOf}
 use Rattle.wg_types.specs.declared.commands.On.{On}
 use Rattle.wg_types.specs.declared.limits.Limits.{Limits}

@@ -69,7 +69,8 @@ fn ended<R: Wait>(
     device: &Device,
     pass: &mut DevicePass,
     mut recorder: Recorder,
-    (source, target): (&Handle, &Handle),
+    source: &Handle,
+    target: &Handle,
 ) -> Told
     requires pass { IsPassOf device.now.lock pass.old × (calls_of pass.old < 100) }
     requires opened { is_some recorder.encoder ≡ true }
@@ -91,7 +92,7 @@ fn copied<R: Wait>(
     ensures { IsPassOf device.now.lock pass.new × (calls_of pass.new ≤ calls_of pass.old + 2) }
 {
     let (recorder, _, _) = device.create_encoder(rt, pass).ok()?;
-    ended(rt, device, pass, recorder, (source, target))
+    ended(rt, device, pass, recorder, source, target)
 }
 
 /// What a device, which has a buffer of its own with the same number, answers to a write and a destroy of a

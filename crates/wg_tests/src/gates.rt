@@ -30,7 +30,7 @@ fn run_over<T: Wait + Threads + Sync, G: Gate + Sync>(
     let bytes = Vec::from_slice(alloc, script.as_bytes())?;
     let mut source = MemSource::new(bytes, 4096, Vec::new(alloc));
     let mut sink = MemSink::new(alloc, 2000, 7, Vec::new(alloc))?;
-    let number = run(rt, alloc, &words, &mut source, &mut sink, gate).number();
+    let number = run(rt, alloc, &words, &mut source, &mut sink, gate).into_number();
     Ok((number, sink.taken() == text.as_bytes()))
 }
 

@@ -78,7 +78,7 @@ fn handed_over<R: Threads + Wait + Sync>(
 }
 
 /// A device with its two passes, and the list that had them.
-pub(crate) fn opened(alloc: Global) -> Option<(Device, Vec<DevicePass>, DevicePass, DevicePass)>
+fn opened(alloc: Global) -> Option<(Device, Vec<DevicePass>, DevicePass, DevicePass)>
     ensures device { IfSome result (λ t.
         (callers_of t.0.lock ≡ 2) × (vec_len t.1 ≡ 0) × (2 ≤ vec_capacity t.1)) }
     ensures first { IfSome result (λ t.

@@ -3,7 +3,8 @@
 //! What the C interface asks of its caller and types can keep is kept by types here: a [`Device`] is open as long as it lives and is
 //! closed by its drop, one call at a time is made on it, since each takes `&mut self`, it may move to another thread and may not be
 //! shared by two, no pointer is null, and no two devices have one serial. What is left is that `complete` and `drop_object` are true,
-//! and that a driver does each item that is drained, in order.
+//! that a driver does each item that is drained, in order, and that each number of an object goes to the device that gave it: a number
+//! says nothing of its device, and one of another device is taken for this device's own object of that number.
 //!
 //! ```
 //! use wethlorn::{Answer, BufferDesc, Device};

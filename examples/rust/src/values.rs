@@ -1,5 +1,8 @@
 //! The numbers and the descriptors of the C interface, `include/wethlorn.h`, which says more of each.
 
+/// The version of this crate, which is that of the header, `WETHLORN_VERSION`.
+pub const VERSION: &str = env!("CARGO_PKG_VERSION");
+
 /// What is left out: a number, a size (which is then what remains) or an object.
 pub const NONE: u64 = u64::MAX;
 /// As the pass on which a command stands: none, the command stands on the encoder or bundle encoder itself.

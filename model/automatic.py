@@ -1,0 +1,120 @@
+"""Bind group layouts that a call makes or a pipeline derives: the entries of each, and whose it is alone.
+
+A pipeline whose `layout` is `auto` derives layouts from its interface: of each group from 0 to the greatest that the interface names a
+layout, with an entry for each binding that the interface names in that group. An interface may name one binding several times, each time
+with its stage. """
+
+from .groups import COMPUTE, MOST_LAYOUTS, STAGES, layout_rules, pipeline_layout_rules
+from .pipelines import kind_rules
+from .rules import at_most
+
+AUTO = "auto"
+
+# What an interface tells of a binding beside its kind, or does not tell, since it is a shader's.
+NOT_OF_KIND = ("group", "stage", "dynamic", "minSize")
+
+
+def is_automatic(pipeline):
+    """A pipeline derives its layouts, where it names none."""
+    return pipeline.call["layout"] == AUTO
+
+
+def layouts_of(pipeline):
+    """The entries of each bind group layout of a valid pipeline, by group."""
+    if is_automatic(pipeline):
+        return merged(pipeline.call["iface"])
+    return entries_of_each(pipeline.uses["layout"])
+
+
+def entries_of_each(pipeline_layout):
+    """The entries of each bind group layout of a pipeline layout."""
+    return [layout.entries for layout in pipeline_layout.uses["layouts"]]
+
+
+def entries_of(layout):
+    """The entries of a valid bind group layout: its own, or those that its pipeline has for its group."""
+    if layout.do == "createBindGroupLayout":
+        return layout.call["entries"]
+    return layout.uses["pipeline"].layouts[layout.call["index"]]
+
+
+def owner_of(layout):
+    """The pipeline that a bind group layout is exclusive to, or None: it is so where it was got of a pipeline that derived it."""
+    if layout.do == "createBindGroupLayout":
+        return None
+    return owner_in_use(layout.uses["pipeline"])
+
+
+def owner_in_use(pipeline):
+    """Where a pipeline is in use, the one that the groups which it asks for have to be exclusive to, or None."""
+    return pipeline if is_automatic(pipeline) else None
+
+
+def stage_of(used):
+    """The bit of the stage that names a binding: an entry of the interface of a compute pipeline tells no stage."""
+    return STAGES[used["stage"]] if "stage" in used else COMPUTE
+
+
+def merged(iface):
+    """The layouts of an interface in which no two entries of one binding differ in kind. A layout has its bindings in ascending order, and
+    each is seen by just the stages that name it."""
+    visibility, kinds = {}, {}
+    for used in iface:
+        place = used["group"], used["binding"]
+        visibility[place] = visibility.get(place, 0) | stage_of(used)
+        kinds.setdefault(place, {key: value for key, value in used.items() if key not in NOT_OF_KIND} | never_dynamic(used))
+    layouts = [[] for _ in range(1 + max((group for group, _ in visibility), default=-1))]
+    for group, binding in sorted(visibility):
+        layouts[group].append(kinds[group, binding] | {"visibility": visibility[group, binding]})
+    return layouts
+
+
+def never_dynamic(used):
+    """A buffer is not dynamic and of any size, whatever the interface says of that."""
+    return {"dynamic": False, "minSize": 0} if "minSize" in used else {}
+
+
+def derived_rules(iface, limits):
+    """Rules 167 and 168, on the interface of a pipeline that derives its layouts."""
+    first = {}
+    for used in iface:
+        other = first.setdefault((used["group"], used["binding"]), used)
+        if other is not used:
+            stages = "of one stage" if stage_of(other) == stage_of(used) else "of two stages"
+            yield from kind_rules(167, other, used, f", {stages}")
+    for used in iface:
+        yield at_most(168, "group", used["group"], MOST_LAYOUTS - 1)
+    layouts = merged(iface)
+    for entries in layouts:
+        yield from within(layout_rules(entries, limits))
+    yield from within(pipeline_layout_rules(layouts, limits))
+
+
+def within(rules):
+    """The rules of layouts, all as one rule of the pipeline."""
+    for number, what, is_met in rules:
+        yield 168, f"as {number}: {what}", is_met
+
+
+def got_rules(pipeline, index):
+    """The own rule of getBindGroupLayout, on a valid pipeline."""
+    how = "derived" if is_automatic(pipeline) else "named"
+    last = len(pipeline.layouts) - 1
+    what = "none" if last < 0 else "just the last" if index == last else "just past the last" if index == last + 1 else "index"
+    yield 169, f"{what}, {how}", index <= last
+
+
+def exclusive_rules(layouts):
+    """Rule 143: no layout of a pipeline layout is one that a pipeline derived for itself."""
+    for layout in layouts:
+        yield 143, "exclusive", layout.owner is None
+
+
+def owner_rules(pipeline, group):
+    """Rule 341 on whose the layout of a group is that is set where a pipeline is in use."""
+    owner, wanted = group.uses["layout"].owner, owner_in_use(pipeline)
+    if wanted is None:
+        yield 341, "made for no derived layout", owner is None
+    else:
+        yield 341, "made for a derived layout", owner is not None
+        yield 341, "made for this pipeline's", owner is wanted

@@ -1,0 +1,322 @@
+"""The table of calls: for each its keys, in order, with what their values may be.
+
+A key is a tuple of its name, the sort of its value, and the value that it has where it is left out. The names that a call
+uses stand in the order in which script rules 10, 11 and 12 look at them.
+"""
+
+from .formats import ACCESS_WORDS, ASPECT_WORDS, FORMATS, SAMPLE_WORDS, TEXTURE_DIMS, VERTEX_FORMATS, VIEW_DIMS
+from .scopes import FILTERS
+
+NEEDED = object()
+
+# Sorts of values.
+WHOLE = "whole number"
+WORD32 = "whole number of 32 bits"
+THREE = "three whole numbers of 32 bits"
+WORDS32 = "list of whole numbers of 32 bits"
+FLAG = "false or true"
+NAME = "name that is given"
+
+# Sorts of values that use names: what each may stand for.
+BUFFER = ("name", ("buffer",))
+TEXTURE = ("name", ("texture", "canvas texture"))
+CANVAS = ("name", ("canvas",))
+ENCODER = ("name", ("encoder",))
+COMPUTE_PASS = ("name", ("compute pass",))
+RENDER_PASS = ("name", ("render pass",))
+PASS = ("name", ("compute pass", "render pass"))
+BUNDLE_ENCODER = ("name", ("bundle encoder",))
+BUNDLES = ("names", ("bundle",))
+DRAWN_ON = ("name", ("render pass", "bundle encoder"))
+SET_ON = ("name", ("compute pass", "render pass", "bundle encoder"))
+ANY_PLACE = ("name", ("encoder", "compute pass", "render pass", "bundle encoder"))
+VIEW = ("name", ("view",))
+SAMPLER = ("name", ("sampler",))
+GROUP_LAYOUT = ("name", ("bind group layout",))
+GROUP_LAYOUTS = ("names", ("bind group layout",))
+PIPELINE_LAYOUT_OR_AUTO = ("name or auto", ("pipeline layout",))
+GROUP = ("name", ("bind group",))
+PIPELINE = ("name", ("compute pipeline", "render pipeline"))
+QUERIES = ("name", ("query set",))
+RESOURCE = ("name", ("buffer", "texture", "canvas texture", "query set"))
+OBJECT = (
+    "name",
+    (
+        "buffer", "texture", "view", "sampler", "bind group layout", "pipeline layout", "bind group", "compute pipeline", "render pipeline",
+        "query set", "encoder", "bundle encoder", "command buffer", "bundle",
+    ),
+)
+COMMAND_BUFFERS = ("names", ("command buffer",))
+
+
+def word(words):
+    """The sort of a value that is one of some words."""
+    return ("word", tuple(words))
+
+
+LAYOUT = [("offset", WHOLE, 0), ("bytesPerRow", WORD32, None), ("rowsPerImage", WORD32, None)]
+ORIGIN = (0, 0, 0)
+SPOT = [
+    ("texture", TEXTURE, NEEDED),
+    ("mip", WORD32, 0),
+    ("origin", THREE, ORIGIN),
+    ("aspect", word(ASPECT_WORDS), "all"),
+    ("size", THREE, NEEDED),
+]
+ON = ("on", ENCODER, NEEDED)
+ON_COMPUTE = ("on", COMPUTE_PASS, NEEDED)
+ON_RENDER = ("on", RENDER_PASS, NEEDED)
+ON_PASS = ("on", PASS, NEEDED)
+ON_DRAWN = ("on", DRAWN_ON, NEEDED)
+ON_SET = ("on", SET_ON, NEEDED)
+ON_ANY = ("on", ANY_PLACE, NEEDED)
+AS = ("as", NAME, NEEDED)
+
+SAMPLER_WORDS = ("filtering", "non-filtering", "comparison")
+CANVAS_FORMATS = ("rgba8unorm", "bgra8unorm", "rgba16float")
+LOAD = word(("load", "clear"))
+STORE = word(("store", "discard"))
+BUFFER_KEYS = [("dynamic", FLAG, False), ("minSize", WHOLE, 0)]
+
+# The further keys that an entry of a layout or an interface has, by its kind.
+KIND_KEYS = {
+    "uniform": BUFFER_KEYS,
+    "storage": BUFFER_KEYS,
+    "read-only-storage": BUFFER_KEYS,
+    "sampler": [("type", word(SAMPLER_WORDS), "filtering")],
+    "texture": [("sample", word(SAMPLE_WORDS), "float"), ("dim", word(VIEW_DIMS), "2d"), ("multi", FLAG, False)],
+    "storage-texture": [("access", word(ACCESS_WORDS), "write-only"), ("format", word(FORMATS), NEEDED), ("dim", word(VIEW_DIMS), "2d")],
+}
+KIND = ("kind", word(KIND_KEYS), NEEDED)
+
+# The further keys that an entry of a bind group has, by the one of these keys that it has.
+BOUND_KEYS = {
+    "buffer": [("buffer", BUFFER, NEEDED), ("offset", WHOLE, 0), ("size", WHOLE, None)],
+    "view": [("view", VIEW, NEEDED)],
+    "sampler": [("sampler", SAMPLER, NEEDED)],
+}
+
+
+def layout_entry_keys(item):
+    return [("binding", WORD32, NEEDED), ("visibility", WORD32, NEEDED), KIND, *KIND_KEYS[item["kind"]]]
+
+
+def iface_entry_keys(item):
+    return [("group", WORD32, NEEDED), ("binding", WORD32, NEEDED), KIND, *KIND_KEYS[item["kind"]]]
+
+
+def render_iface_entry_keys(item):
+    return [("stage", word(("vertex", "fragment")), NEEDED), *iface_entry_keys(item)]
+
+
+def group_entry_keys(item):
+    return [("binding", WORD32, NEEDED), *BOUND_KEYS[bound_by(item)]]
+
+
+def bound_by(item):
+    """What an entry of a bind group binds: a buffer, a view or a sampler. One that has none of these keys lacks a buffer."""
+    return next((key for key in BOUND_KEYS if key in item), "buffer")
+
+
+def attribute_keys(item):
+    return [("format", word(VERTEX_FORMATS), NEEDED), ("offset", WORD32, NEEDED), ("location", WORD32, NEEDED)]
+
+
+def vertex_buffer_keys(item):
+    return [
+        ("stride", WORD32, NEEDED),
+        ("step", word(("vertex", "instance")), "vertex"),
+        ("attributes", ("objects", attribute_keys), NEEDED),
+    ]
+
+
+def depth_state_keys(item):
+    return [("format", word(FORMATS), NEEDED), ("depthWrite", FLAG, False), ("stencilWrite", FLAG, False)]
+
+
+def color_keys(item):
+    return [("view", VIEW, NEEDED), ("depthSlice", WORD32, None), ("resolve", VIEW, None), ("load", LOAD, NEEDED), ("store", STORE, NEEDED)]
+
+
+def depth_keys(item):
+    return [
+        ("view", VIEW, NEEDED), ("depthLoad", LOAD, None), ("depthStore", STORE, None), ("depthReadOnly", FLAG, False),
+        ("stencilLoad", LOAD, None), ("stencilStore", STORE, None), ("stencilReadOnly", FLAG, False),
+    ]
+
+
+# Sorts of values that are objects, or lists of them: which keys an object has. What has to be known of it for that, its kind, is
+# tested before, of those that have one.
+LAYOUT_ENTRIES = ("objects", layout_entry_keys)
+IFACE_ENTRIES = ("objects", iface_entry_keys)
+RENDER_IFACE_ENTRIES = ("objects", render_iface_entry_keys)
+GROUP_ENTRIES = ("objects", group_entry_keys)
+VERTEX_BUFFERS = ("objects", vertex_buffer_keys)
+FORMATS_OR_NULLS = ("words or nulls", tuple(FORMATS))
+DEPTH_STATE = ("object", depth_state_keys)
+COLORS = ("objects or nulls", color_keys)
+DEPTH = ("object", depth_keys)
+WITH_KIND = (layout_entry_keys, iface_entry_keys, render_iface_entry_keys)
+WITH_NAMES = ("name", "name or auto", "names", "object", "objects", "objects or nulls")
+ONE_NAME = ("name", "name or auto")
+
+CALLS = {
+    "createBuffer": [("size", WHOLE, NEEDED), ("usage", WORD32, NEEDED), ("mapped", FLAG, False), AS],
+    "createTexture": [
+        ("size", THREE, NEEDED), ("usage", WORD32, NEEDED), ("format", word(FORMATS), NEEDED), ("dim", word(TEXTURE_DIMS), "2d"),
+        ("mips", WORD32, 1), ("samples", WORD32, 1), AS,
+    ],
+    "createView": [
+        ("texture", TEXTURE, NEEDED), ("dim", word(VIEW_DIMS), None), ("aspect", word(ASPECT_WORDS), "all"), ("baseMip", WORD32, 0),
+        ("mips", WORD32, None), ("baseLayer", WORD32, 0), ("layers", WORD32, None), AS,
+    ],
+    "createSampler": [("kind", word(SAMPLER_WORDS), "filtering"), AS],
+    "createBindGroupLayout": [("entries", LAYOUT_ENTRIES, NEEDED), AS],
+    "createPipelineLayout": [("layouts", GROUP_LAYOUTS, NEEDED), AS],
+    "createBindGroup": [("layout", GROUP_LAYOUT, NEEDED), ("entries", GROUP_ENTRIES, NEEDED), AS],
+    "createComputePipeline": [("layout", PIPELINE_LAYOUT_OR_AUTO, NEEDED), ("iface", IFACE_ENTRIES, ()), AS],
+    "createRenderPipeline": [
+        ("layout", PIPELINE_LAYOUT_OR_AUTO, NEEDED), ("iface", RENDER_IFACE_ENTRIES, ()), ("buffers", VERTEX_BUFFERS, ()),
+        ("targets", FORMATS_OR_NULLS, ()), ("depth", DEPTH_STATE, None), ("samples", WORD32, 1), AS,
+    ],
+    "getBindGroupLayout": [("pipeline", PIPELINE, NEEDED), ("index", WORD32, NEEDED), AS],
+    "createQuerySet": [("count", WORD32, NEEDED), AS],
+    "createEncoder": [AS],
+    "createBundleEncoder": [
+        ("colors", FORMATS_OR_NULLS, NEEDED), ("depth", word(FORMATS), None), ("samples", WORD32, 1), ("depthReadOnly", FLAG, False),
+        ("stencilReadOnly", FLAG, False), AS,
+    ],
+    "finish": [ON, AS],
+    "finishBundle": [("on", BUNDLE_ENCODER, NEEDED), AS],
+    "submit": [("buffers", COMMAND_BUFFERS, NEEDED)],
+    "writeBuffer": [("buffer", BUFFER, NEEDED), ("offset", WHOLE, NEEDED), ("size", WHOLE, NEEDED)],
+    "writeTexture": SPOT + LAYOUT + [("dataSize", WHOLE, NEEDED)],
+    "mapAsync": [("buffer", BUFFER, NEEDED), ("mode", WORD32, NEEDED), ("offset", WHOLE, 0), ("size", WHOLE, None)],
+    "unmap": [("buffer", BUFFER, NEEDED)],
+    "destroy": [("object", RESOURCE, NEEDED)],
+    "drop": [("object", OBJECT, NEEDED)],
+    "complete": [("op", WHOLE, NEEDED)],
+    "workDone": [],
+    "pushErrorScope": [("filter", word(FILTERS), NEEDED)],
+    "popErrorScope": [],
+    "lose": [],
+    "copyBufferToBuffer": [
+        ON, ("source", BUFFER, NEEDED), ("sourceOffset", WHOLE, NEEDED), ("target", BUFFER, NEEDED), ("targetOffset", WHOLE, NEEDED),
+        ("size", WHOLE, NEEDED),
+    ],
+    "copyBufferToTexture": [ON, ("buffer", BUFFER, NEEDED)] + LAYOUT + SPOT,
+    "copyTextureToBuffer": [ON, ("buffer", BUFFER, NEEDED)] + LAYOUT + SPOT,
+    "copyTextureToTexture": [
+        ON, ("source", TEXTURE, NEEDED), ("sourceMip", WORD32, 0), ("sourceOrigin", THREE, ORIGIN), ("target", TEXTURE, NEEDED),
+        ("targetMip", WORD32, 0), ("targetOrigin", THREE, ORIGIN), ("size", THREE, NEEDED),
+    ],
+    "clearBuffer": [ON, ("buffer", BUFFER, NEEDED), ("offset", WHOLE, 0), ("size", WHOLE, None)],
+    "resolveQuerySet": [
+        ON, ("queries", QUERIES, NEEDED), ("first", WORD32, NEEDED), ("count", WORD32, NEEDED), ("buffer", BUFFER, NEEDED),
+        ("offset", WHOLE, NEEDED),
+    ],
+    "beginComputePass": [ON, AS],
+    "beginRenderPass": [ON, ("colors", COLORS, NEEDED), ("depth", DEPTH, None), ("queries", QUERIES, None), AS],
+    "setPipeline": [ON_SET, ("pipeline", PIPELINE, NEEDED)],
+    "setBindGroup": [ON_SET, ("index", WORD32, NEEDED), ("group", GROUP, NEEDED), ("offsets", WORDS32, ())],
+    "dispatch": [ON_COMPUTE, ("x", WORD32, NEEDED), ("y", WORD32, 1), ("z", WORD32, 1)],
+    "dispatchIndirect": [ON_COMPUTE, ("buffer", BUFFER, NEEDED), ("offset", WHOLE, NEEDED)],
+    "setVertexBuffer": [ON_DRAWN, ("slot", WORD32, NEEDED), ("buffer", BUFFER, NEEDED), ("offset", WHOLE, 0), ("size", WHOLE, None)],
+    "setIndexBuffer": [
+        ON_DRAWN, ("buffer", BUFFER, NEEDED), ("format", word(("uint16", "uint32")), NEEDED), ("offset", WHOLE, 0), ("size", WHOLE, None),
+    ],
+    "draw": [
+        ON_DRAWN, ("vertices", WORD32, NEEDED), ("instances", WORD32, 1), ("firstVertex", WORD32, 0), ("firstInstance", WORD32, 0),
+    ],
+    "drawIndexed": [
+        ON_DRAWN, ("indices", WORD32, NEEDED), ("instances", WORD32, 1), ("firstIndex", WORD32, 0), ("firstInstance", WORD32, 0),
+    ],
+    "drawIndirect": [ON_DRAWN, ("buffer", BUFFER, NEEDED), ("offset", WHOLE, NEEDED)],
+    "drawIndexedIndirect": [ON_DRAWN, ("buffer", BUFFER, NEEDED), ("offset", WHOLE, NEEDED)],
+    "beginOcclusionQuery": [ON_RENDER, ("index", WORD32, NEEDED)],
+    "endOcclusionQuery": [ON_RENDER],
+    "executeBundles": [ON_RENDER, ("bundles", BUNDLES, NEEDED)],
+    "end": [ON_PASS],
+    "pushDebugGroup": [ON_ANY],
+    "popDebugGroup": [ON_ANY],
+    "createCanvas": [("width", WORD32, NEEDED), ("height", WORD32, NEEDED), AS],
+    "configureCanvas": [("canvas", CANVAS, NEEDED), ("format", word(CANVAS_FORMATS), NEEDED), ("usage", WORD32, 16)],
+    "currentTexture": [("canvas", CANVAS, NEEDED), AS],
+    "present": [("canvas", CANVAS, NEEDED)],
+}
+
+# The calls that record a command on an encoder, on a pass of it, or on a bundle encoder.
+RECORDING = {
+    "copyBufferToBuffer", "copyBufferToTexture", "copyTextureToBuffer", "copyTextureToTexture", "clearBuffer", "resolveQuerySet",
+    "beginComputePass", "beginRenderPass", "setPipeline", "setBindGroup", "dispatch", "dispatchIndirect", "setVertexBuffer",
+    "setIndexBuffer", "draw", "drawIndexed", "drawIndirect", "drawIndexedIndirect", "beginOcclusionQuery", "endOcclusionQuery",
+    "executeBundles", "end", "pushDebugGroup", "popDebugGroup",
+}
+BEGINS = {"beginComputePass", "beginRenderPass"}
+DISPATCHES = {"dispatch", "dispatchIndirect"}
+DRAWS = {"draw", "drawIndexed", "drawIndirect", "drawIndexedIndirect"}
+
+# The calls that make what commands are recorded on, and those that end it and make something of the commands.
+ENCODERS = {"createEncoder", "createBundleEncoder"}
+FINISHES = {"finish", "finishBundle"}
+
+# The calls that queue an operation.
+QUEUED = {"submit", "writeBuffer", "writeTexture"}
+
+# The calls that make a promise, and those of them whose promise may wait.
+PROMISING = {"mapAsync", "workDone", "popErrorScope"}
+WAITING = {"mapAsync", "workDone"}
+
+# What object a call makes.
+MADE = {
+    "createBuffer": "buffer",
+    "createTexture": "texture",
+    "createView": "view",
+    "createSampler": "sampler",
+    "createBindGroupLayout": "bind group layout",
+    "createPipelineLayout": "pipeline layout",
+    "createBindGroup": "bind group",
+    "createComputePipeline": "compute pipeline",
+    "createRenderPipeline": "render pipeline",
+    "getBindGroupLayout": "bind group layout",
+    "createQuerySet": "query set",
+    "createEncoder": "encoder",
+    "createBundleEncoder": "bundle encoder",
+    "finish": "command buffer",
+    "finishBundle": "bundle",
+}
+
+# The calls whose objects take memory: they are destroyed and released.
+RESOURCES = {"createBuffer", "createTexture", "createQuerySet"}
+
+# What the name stands for that a call gives. A pass is no object, nor is a canvas; and what a currentTexture gave may not be dropped.
+GIVEN = {
+    **MADE,
+    "beginComputePass": "compute pass",
+    "beginRenderPass": "render pass",
+    "createCanvas": "canvas",
+    "currentTexture": "canvas texture",
+}
+
+
+def is_auto(sort, value):
+    """A value that may be a name or the word `auto` is that word. An object of that name is not reached so."""
+    return sort[0] == "name or auto" and value == "auto"
+
+
+def name_keys(do):
+    """The keys of a call whose values use names, in order, each with its sort."""
+    return [(key, sort) for key, sort, _ in CALLS[do] if sort[0] in WITH_NAMES]
+
+
+def names_in(sort, value):
+    """The names that a value uses, in order, each with what it may stand for. What is left out, or is null, uses none."""
+    if sort[0] not in WITH_NAMES or value is None:
+        return []
+    if sort[0] in ONE_NAME:
+        return [] if is_auto(sort, value) else [(value, sort[1])]
+    if sort[0] == "names":
+        return [(name, sort[1]) for name in value]
+    if sort[0] == "object":
+        return [found for key, inner, _ in sort[1](value) for found in names_in(inner, value[key])]
+    return [found for item in value for found in names_in(("object", sort[1]), item)]

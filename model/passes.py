@@ -1,0 +1,216 @@
+"""Passes: which one is open, the rules of its commands, and what its dispatches, or the pass as a whole, use."""
+
+import collections
+
+from . import attachments
+from . import bound_groups
+from . import bundles
+from . import draws
+from . import queries
+from .calls import BEGINS, DISPATCHES, DRAWS
+from .cells import part_of
+from .draws import INDIRECT_BYTES
+from .limits import of_all as limits_of_all
+from .rules import at_most, first_unmet
+
+MOST_COUNT = limits_of_all("maxComputeWorkgroupsPerDimension")
+
+# The usages that agree with each other on one part; storage and attachment agree with themselves alone.
+READ_TOGETHER = {"input", "constant", "storage-read", "attachment-read"}
+
+
+class Walk:
+    """How far the commands that were recorded on an encoder have come: the pass that is open, or None, the passes that have ended, and of
+    the encoder and each pass its commands and how many debug groups they have open.
+
+    A pass that is begun while another one is open is dead: it neither opens nor ends.
+    """
+
+    def __init__(self, commands=()):
+        self.open_pass = None
+        self.ended = set()
+        self.on = collections.defaultdict(list)
+        self.groups = collections.Counter()
+        for command in commands:
+            self.take(command)
+
+    def take(self, command):
+        place = command.uses["on"]
+        self.on[place].append(command)
+        self.groups[place] = groups_after(self.groups[place], command)
+        if command.do in BEGINS and self.open_pass is None:
+            self.open_pass = command
+        elif command.do == "end" and place is self.open_pass:
+            self.ended.add(place)
+            self.open_pass = None
+
+
+class Settings:
+    """What is set of a pass or a bundle after some of its commands, each as the command that set it last, how many of its debug groups are
+    open, which queries were begun in it, and whether one is active."""
+
+    def __init__(self):
+        self.unset()
+        self.open_groups = 0
+        self.begun = set()
+        self.is_active = False
+
+    def unset(self):
+        self.pipeline = None
+        self.groups = {}
+        self.vertex_buffers = {}
+        self.index_buffer = None
+
+    def take(self, command):
+        self.open_groups = groups_after(self.open_groups, command)
+        if command.do == "setPipeline":
+            self.pipeline = command.uses["pipeline"]
+        elif command.do == "setBindGroup":
+            self.groups[command.call["index"]] = command
+        elif command.do == "setVertexBuffer":
+            self.vertex_buffers[command.call["slot"]] = command
+        elif command.do == "setIndexBuffer":
+            self.index_buffer = command
+        elif command.do == "beginOcclusionQuery":
+            self.begun.add(command.call["index"])
+            self.is_active = True
+        elif command.do == "endOcclusionQuery":
+            self.is_active = False
+        elif command.do == "executeBundles":
+            self.unset()
+
+
+def groups_after(count, command):
+    """How many debug groups are open after a command on the same encoder or pass: a push opens one, a pop closes one if there is one."""
+    if command.do == "pushDebugGroup":
+        return count + 1
+    return max(count - 1, 0) if command.do == "popDebugGroup" else count
+
+
+def pass_rule(begin, commands):
+    """The first rule that a pass leaves unmet: one of its begin, or else of its commands; or None."""
+    rule = first_unmet(begin.do, begin_rules(begin))
+    return rule_in(commands) if rule is None else rule
+
+
+def rule_in(commands, where=""):
+    """The first rule that the commands of a pass or of a bundle encoder leave unmet, which are counted with a word for where they stand; or
+    None."""
+    settings = Settings()
+    for command in commands:
+        rule = first_unmet(command.do + where, command_rules(command, settings))
+        if rule is not None:
+            return rule
+        settings.take(command)
+    return None
+
+
+def begin_rules(begin):
+    """The rules of the begin of a pass that go to the pass. That of a compute pass has none."""
+    if begin.do == "beginRenderPass":
+        yield from named_rules(begin)
+        yield from attachments.begin_rules(begin)
+
+
+def command_rules(command, settings):
+    """The rules of a command of a pass or of a bundle encoder by what is set where it comes: those on what it names, then its own."""
+    yield from named_rules(command)
+    call, uses = command.call, command.uses
+    if command.do == "setPipeline":
+        yield from bundles.pipeline_rules(uses["pipeline"].call, uses["on"])
+    elif command.do == "setBindGroup":
+        yield from bound_groups.set_rules(call["index"], uses["group"], call["offsets"])
+    elif command.do == "setVertexBuffer":
+        yield from draws.vertex_buffer_rules(command)
+    elif command.do == "setIndexBuffer":
+        yield from draws.index_buffer_rules(command)
+    elif command.do in DISPATCHES | DRAWS:
+        yield from bound_groups.bound_rules(settings)
+        yield from work_rules(command, settings)
+    elif command.do == "popDebugGroup":
+        yield 285, "open group", settings.open_groups > 0
+    elif command.do == "end":
+        yield 310, "groups are closed", settings.open_groups == 0
+        yield 311, "no query is active", not settings.is_active
+    elif command.do == "beginOcclusionQuery":
+        yield from queries.begin_rules(uses["on"].uses.get("queries"), call["index"], settings)
+    elif command.do == "endOcclusionQuery":
+        yield 364, "a query is active", settings.is_active
+    elif command.do == "executeBundles":
+        yield from bundles.execute_rules(uses["bundles"], uses["on"])
+
+
+def work_rules(command, settings):
+    """The rules of a dispatch or a draw after those on what is bound."""
+    if command.do == "dispatch":
+        for key in ("x", "y", "z"):
+            yield at_most(343, key, command.call[key], MOST_COUNT)
+    if command.do in INDIRECT_BYTES:
+        yield from draws.indirect_rules(command)
+    if command.do in DRAWS:
+        yield from draws.draw_rules(command, settings)
+
+
+def named_rules(command):
+    """Rules 10 and 12 on each object that a command names: it is of this device, which no script can leave unmet, and valid."""
+    for key, thing in command.named():
+        yield 10, key, True
+        yield 12, key, thing.is_valid
+
+
+def touches_of_dispatch(dispatch, settings):
+    """What a dispatch touches by what is set where it comes: all that the groups bind which its pipeline asks for, and the counts of one
+    that is indirect."""
+    touches = [touch for _, setting in bound_groups.asked_for(settings) for _, found in bound_groups.touched(setting) for touch in found]
+    return touches + draws.touches_of_indirect(dispatch)
+
+
+def touches_of_pass(begin, commands):
+    """What a render pass touches: what is attached, what its commands set or execute, and the queries that are begun in it. Of a query set
+    of which none is begun nothing is."""
+    begun = [touch for command in commands for touch in queries.touches_of_begun(begin, command)]
+    return attachments.touches(begin) + begun + touches_of_drawing(commands)
+
+
+def touches_of_drawing(commands):
+    """What the commands of a render pass or of a bundle encoder touch: all that they set, whatever comes of it, the numbers of indirect
+    draws, and what the bundles touch that they execute, be it several times."""
+    touches = []
+    for command in commands:
+        if command.do == "setBindGroup":
+            touches += [touch for _, found in bound_groups.touched(command) for touch in found]
+        touches += draws.touches_of_range(command) + draws.touches_of_indirect(command)
+    executed = dict.fromkeys(bundle for command in commands if command.do == "executeBundles" for bundle in command.uses["bundles"])
+    return touches + [touch for bundle in executed for touch in bundle.touches]
+
+
+def scopes_of(commands):
+    """Of each command of an encoder, in order, what its usage scope touches, which is that of a dispatch or of a render pass; of any other
+    command None."""
+    on, settings = Walk(commands).on, collections.defaultdict(Settings)
+    for command in commands:
+        if command.do in DISPATCHES:
+            yield command, touches_of_dispatch(command, settings[command.uses["on"]])
+        else:
+            yield command, touches_of_pass(command, on[command]) if command.do == "beginRenderPass" else None
+        settings[command.uses["on"]].take(command)
+
+
+def scope_rules(commands):
+    """Rule 184: the usage scope of each dispatch and of each render pass is compatible. The commands are those of an encoder that no rule
+    invalidated."""
+    for _, touches in scopes_of(commands):
+        yield from scope_rule(touches or [])
+
+
+def scope_rule(touches):
+    """Rule 184 on what is touched in one usage scope, in which query sets are not looked at."""
+    uses = {}
+    for cell, usage, _ in touches:
+        uses.setdefault(part_of(cell), set()).add(usage)
+    for part, usages in uses.items():
+        if part[0] == "q":
+            continue
+        what = "buffer" if part[0] == "b" else "subresource"
+        are_alike = usages <= READ_TOGETHER or usages in ({"storage"}, {"attachment"})
+        yield 184, f"{what}, {' and '.join(sorted(usages))}", are_alike

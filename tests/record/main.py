@@ -1,0 +1,391 @@
+"""Tests of the recorder of pages, and of what `judge` and `explain` say of recordings. The pages are in tests/record/pages.
+
+usage: tests/record/run [--program PATH]      all tests
+       tests/record/run --slowdown            how much the recorder slows a page of 10,000 calls, in Chromium
+       tests/record/run --keep                records all pages in Chromium, and keeps that in tests/record/recordings
+
+Recordings are kept, so that `judge` is tested without a browser. Where node is installed, all pages are played by it under the recorder,
+with a WebGPU that does nothing; where Chromium is installed, they are recorded and judged anew. What is not installed is skipped, and that
+is said. Without --program the program is compiled without its proofs. Prints a line for each finding, and fails if there is one. """
+
+import contextlib
+import json
+import os
+import pathlib
+import re
+import shutil
+import subprocess
+import sys
+import tempfile
+import time
+
+from wgsim.matching import compared
+from wgsim.program import program as programs
+from wgsim.recorder import browser, visit, whole_text
+
+TOP = pathlib.Path(__file__).resolve().parents[2]
+PARTS = pathlib.Path(__file__).resolve().parent
+PAGES, KEPT = PARTS / "pages", PARTS / "recordings"
+
+
+NODE = shutil.which("node") or shutil.which("nodejs")
+# How long a page may take where the machine is busy, in seconds.
+LONGEST = 120
+# What a call of a script is in a page, where its words are not the same.
+IN_PAGES = {
+    "createEncoder": "createCommandEncoder",
+    "createBundleEncoder": "createRenderBundleEncoder",
+    "dispatch": "dispatchWorkgroups",
+    "dispatchIndirect": "dispatchWorkgroupsIndirect",
+    "finishBundle": "finish",
+    "workDone": "onSubmittedWorkDone",
+    "configureCanvas": "configure",
+    "currentTexture": "getCurrentTexture",
+    "lose": "destroy",
+    "createComputePipeline": "createComputePipeline",
+    "createRenderPipeline": "createRenderPipeline",
+}
+findings = []
+
+
+def check(holds, what):
+    if not holds:
+        findings.append(what)
+
+
+def wgsim(*words, status=0, data=b""):
+    """Runs the tool, which has to end with a status, and returns what it wrote and said."""
+    ran = subprocess.run([TOP / "wgsim", *map(str, words)], input=data, capture_output=True, cwd=TOP, timeout=600)
+    check(
+        ran.returncode == status and b"Traceback" not in ran.stderr,
+        f"wgsim {' '.join(map(str, words))}: status {ran.returncode} and not {status}: {ran.stderr.decode()[-400:]}",
+    )
+    return ran.stdout.decode(), ran.stderr.decode()
+
+
+def verdicts(folder, status):
+    """What judge says of each recording of a folder: the verdict of the whole, and those of calls."""
+    found = [json.loads(line) for line in wgsim("judge", "--json", folder, status=status)[0].splitlines()]
+    return {one["script"]: one for one in found if "script" in one}
+
+
+def brief(one):
+    """The verdict of a recording and those of its calls, in a form that the next recording of the page has too."""
+    told = one["recorded"]["told"] if one["recorded"]["refused"] is None else []
+    rules = [re.search(r"rule (\d+)", each["core"]) for each in told]
+    return [one["result"], *(f"{each['do']}: {each['verdict']}" + (f", rule {rule[1]}" if rule else "") for each, rule in zip(told, rules))]
+
+
+EXPECTED = json.loads((PARTS / "expected.json").read_text(encoding="utf-8")) if (PARTS / "expected.json").exists() else {}
+
+
+def test_tables():
+    """Each thing that is left out has its words, and its row in the coverage; so has each difference that is known."""
+    parts = "".join((whole_text.FOLDER / name).read_text(encoding="utf-8") for name in whole_text.PARTS)
+    coverage = (TOP / "docs/coverage.md").read_text(encoding="utf-8")
+    used = (
+        set(re.findall(r"new Outside\('([^']+)'", parts))
+        | set(re.findall(r"leave\('([^']+)'\)", parts))
+        | set(re.findall(r"unsetting\([^)]*'([^']+)'\)", parts))
+    )
+    used |= set(re.findall(r"'[\w*]+\.\w+': '([^']+)'", parts)) | {"external texture", "canvas format"}
+    for word in sorted(used - set(whole_text.OUTSIDE)):
+        check(False, f"tools/wgsim/recorder/outside.json: {word} is missing, which the recorder notes")
+    for word, row in whole_text.OUTSIDE.items():
+        check(
+            row["row"] is None or row["row"] in coverage,
+            f"tools/wgsim/recorder/outside.json: {word}: docs/coverage.md has no row {row['row']}",
+        )
+    for row in compared.TABLE["known"]:
+        check(row["row"] in coverage, f"tools/wgsim/recorder/known.json: docs/coverage.md has no row {row['row']}")
+    recording = (TOP / "docs/recording.md").read_text(encoding="utf-8")
+    grammar = [
+        line[7:].strip() for line in (whole_text.FOLDER / "wgsl.js").read_text(encoding="utf-8").splitlines() if line.startswith("//     ")
+    ]
+    check(all(line in recording for line in grammar), "docs/recording.md does not show the grammar of tools/wgsim/recorder/wgsl.js")
+
+
+def test_wgsl():
+    """What is read off texts of shaders, and the places of what cannot be read."""
+    cases = json.loads((PARTS / "wgsl.json").read_text(encoding="utf-8"))
+    ran = subprocess.run([NODE, PARTS / "wgsl.js", whole_text.FOLDER / "wgsl.js", PARTS / "wgsl.json"], capture_output=True, timeout=60)
+    lines = ran.stdout.decode().splitlines()
+    check(len(lines) == len(cases), f"tests/record/wgsl.js: {ran.stderr.decode()[-300:]}")
+    for case, line in zip(cases, lines):
+        check(json.loads(line) == case["wanted"], f"wgsl: {case['about']}: {line}, and {json.dumps(case['wanted'])} is wanted")
+
+
+def calls_of(script):
+    """The calls of a recorded script, without those that hang on when the device was done."""
+    return [call for call in script["phases"][0][0] if call["do"] != "complete"]
+
+
+def test_null(folder):
+    """Under node each page gives the calls that are kept."""
+    one_file = folder / whole_text.NAME
+    one_file.write_text(wgsim("record", "--one-file")[0], encoding="utf-8")
+    for page in sorted(PAGES.glob("*.html")):
+        ran = subprocess.run([NODE, PARTS / "null.js", one_file, page], capture_output=True, timeout=LONGEST)
+        check(ran.returncode == 0 and not ran.stderr, f"null: {page.name}: {ran.stderr.decode()[-400:]}")
+        found = json.loads(ran.stdout or b'{"recordings": []}')["recordings"]
+        for number, one in enumerate(found):
+            kept = json.loads((KEPT / f"{page.stem}{f'-{number + 1}' if number else ''}.json").read_text(encoding="utf-8"))
+            ours, theirs = calls_of(one["script"]), calls_of(kept)
+            differ = next(
+                (f"call {n}: {a} and {b}" for n, (a, b) in enumerate(zip(ours, theirs)) if a != b), f"{len(ours)} and {len(theirs)} calls"
+            )
+            check(ours == theirs, f"null: {page.name}: {differ} that are kept")
+            check(len(one["calls"]) == len(one["script"]["phases"][0][0]), f"null: {page.name}: not a place for each call")
+        check(
+            len(found) == len(list(KEPT.glob(f"{page.stem}.json")) + list(KEPT.glob(f"{page.stem}-[0-9].json"))),
+            f"null: {page.name}: {len(found)} devices",
+        )
+
+
+def test_judged():
+    """The recordings that are kept have the verdicts that are expected, as docs/coverage.md says."""
+    found = verdicts(KEPT, 0)
+    check(sorted(found) == sorted(EXPECTED), f"judge: {sorted(found)} are judged")
+    for name, one in found.items():
+        check(brief(one) == EXPECTED.get(name), f"judge: {name}: {brief(one)}, and {EXPECTED.get(name)} is wanted")
+    text = wgsim("judge", KEPT)[0]
+    for words in (
+        "textures.json: agrees (", "late.json: differs as known (", 'docs/coverage.md, "When rule 14 is told"', "outside.json: outside (",
+        "(it used the levels of detail of a sampler)",
+        "createComputePipeline is not in the script: the number A + 1 of a group or a binding, at 2:20 of the text of the shader",
+        "left out, since no script says it: ", "the browser refuses a shader: ", "outside before call ",
+        "no script has it: an object of another device", "agrees at call ",
+    ):
+        check(words in text, f"judge does not say `{words}`")
+
+
+def test_places():
+    """The place of each call is that of its word in the page, and `explain` names those of the faults."""
+    for page in sorted(KEPT.glob("*.calls.json")):
+        name = page.name.replace(".calls.json", "")
+        script = json.loads((KEPT / f"{name}.json").read_text(encoding="utf-8"))["phases"][0][0]
+        for number, (call, place) in enumerate(zip(script, json.loads(page.read_text(encoding="utf-8"))["calls"])):
+            if "at" in place and not place.get("implied"):
+                file, line, column = re.match(r"([\w.-]+):(\d+):(\d+)", place["at"]).groups()
+                found = (PAGES / file).read_text(encoding="utf-8").splitlines()[int(line) - 1][int(column) - 1 :]
+                check(
+                    found.startswith(IN_PAGES.get(call["do"], call["do"])),
+                    f"{name}: call {number}, {call['do']}, is said to be at {place['at']}, where `{found[:40]}` stands",
+                )
+    for name, told in (
+        ("resize", "resize.html:21:32 in frame"),
+        ("resize", "resize.html:15:24 in frame"),
+        ("scopes", 'in the page "b2" comes from scopes.html:14:33'),
+    ):
+        check(told in wgsim("explain", KEPT / f"{name}.json")[0], f"explain of {name}: {told} is not told")
+    faults = [one for one in json.loads(wgsim("explain", "--json", KEPT / "resize.json")[0]) if one["kind"] == "fault"]
+    check(
+        [(one["page"], one["commandPage"]) for one in faults[:1]] == [("resize.html:21:32 in frame", "resize.html:15:24 in frame")],
+        f"explain --json of resize: {faults[:1]}",
+    )
+
+
+# Changes of what a browser answered, each with what judge then says: the recording, what is done to an answer, the words.
+CHANGED = [
+    (
+        "queries",
+        lambda answer: answer.pop("error", None) and answer.pop("message"),
+        "differs at call {call}, {at}: {do}: core refuses it by rule ",
+    ),
+    (
+        "scopes",
+        lambda answer: answer.update(caught="scope 1") if answer.get("caught") == "scope 0" else None,
+        "scope 0); browser refuses it (validation, scope 1)",
+    ),
+    (
+        "loss",
+        lambda answer: answer.update(settle="mapped") if answer.get("settle") == "aborted" else None,
+        "core settles aborted; browser settles mapped",
+    ),
+    (
+        "textures",
+        lambda answer: answer.update(error="internal") if "error" in answer else None,
+        "; browser refuses it (internal, uncaptured)",
+    ),
+]
+
+
+def test_changed(folder):
+    """A recording whose browser answered otherwise differs, at the call and at its place in the page."""
+    for number, (name, change, words) in enumerate(CHANGED):
+        out = folder / str(number)
+        out.mkdir()
+        for kept in KEPT.glob(f"{name}.*"):
+            (out / kept.name).write_bytes(kept.read_bytes())
+        answers = json.loads((out / f"{name}.answers.json").read_text(encoding="utf-8"))
+        before = [dict(answer) for answer in answers["answers"]]
+        for answer in answers["answers"]:
+            change(answer)
+        at = next(n for n, answer in enumerate(answers["answers"]) if answer != before[n])
+        places = json.loads((out / f"{name}.calls.json").read_text(encoding="utf-8"))["calls"]
+        (out / f"{name}.answers.json").write_text(json.dumps(answers), encoding="utf-8")
+        told = wgsim("judge", out, status=1)[0]
+        wanted = words.format(**before[at], at=places[before[at]["call"]].get("at"))
+        check(told.startswith(f"{name}.json: differs (") and wanted in told, f"judge of a changed {name} does not say `{wanted}`:\n{told}")
+    # One that takes what the program refuses, and one that refuses what it takes.
+    out = folder / "0"
+    answers = json.loads((out / "queries.answers.json").read_text(encoding="utf-8"))
+    answers["answers"] = [{"call": 0, "do": "createTexture", "error": "validation", "message": "no", "caught": "uncaptured"}]
+    (out / "queries.answers.json").write_text(json.dumps(answers), encoding="utf-8")
+    told = wgsim("judge", out, status=1)[0]
+    check(
+        "differs at call 0, queries.html:" in told and "core takes it; browser refuses it (validation, uncaptured): no" in told,
+        f"judge of a changed queries:\n{told}",
+    )
+
+
+def test_saved(folder):
+    """What was saved by hand gives the same folder; words that do not go together are refused, and so are pages of other machines."""
+    out = folder / "out"
+    kept = {suffix: json.loads((KEPT / f"canvases{suffix}.json").read_text(encoding="utf-8")) for suffix in ("", ".answers", ".calls")}
+    one = {
+        **{key: value for key, value in kept[".answers"].items() if key not in ("form", "page", "browser", "elsewhere", "said")},
+        "script": kept[""],
+        "calls": kept[".calls"]["calls"],
+    }
+    saved = folder / "canvases.recording.json"
+    saved.write_text(
+        json.dumps({"form": 1, "page": "canvases.html", "browser": kept[".answers"]["browser"], "recordings": [one]}), encoding="utf-8"
+    )
+    wgsim("record", "--saved", "--out", out, saved)
+    for suffix in kept:
+        check(
+            (out / f"canvases{suffix}.json").read_bytes() == (KEPT / f"canvases{suffix}.json").read_bytes(),
+            f"record --saved: canvases{suffix}.json is another",
+        )
+    for status, *words in (
+        (2, "record"),
+        (2, "record", "a.html", "b.html"),
+        (2, "record", "--one-file", "a.html"),
+        (2, "record", "--saved", "--frames", "3", saved),
+        (2, "record", "--frames", "0", "a.html"),
+        (2, "record", "http://192.0.2.1/a.html"),
+        (4, "record", folder / "none.html"),
+        (4, "record", "--saved", KEPT / "canvases.json"),
+        (4, "record", "--browser", "no-such-browser", PAGES / "late.html"),
+    ):
+        wgsim(*words, status=status)
+    text = wgsim("record", "--one-file")[0]
+    check(
+        'src="wgsim-record.js"' in text and "wgsimRecord" in text and not re.search(r"https?://", text),
+        "record --one-file is not what it should be, or names an address",
+    )
+
+
+def test_browser(folder):
+    """Each page, recorded in Chromium, has the verdicts that are expected; so has one by its address; and nothing goes elsewhere."""
+    out = folder / "out"
+    for page in sorted(PAGES.glob("*.html")):
+        wgsim("record", "--seconds", LONGEST, "--out", out, page)
+    found = verdicts(out, 0)
+    check(sorted(found) == sorted(EXPECTED), f"recorded: {sorted(found)}")
+    for name, one in found.items():
+        check(brief(one) == EXPECTED.get(name), f"recorded: {name}: {brief(one)}, and {EXPECTED.get(name)} is wanted")
+    with visit.served(str(PAGES / "late.html")) as address:
+        told = wgsim("record", "--out", folder / "address", address)[0]
+    check("late.json: " in told and (folder / "address/late.json").exists(), f"record of an address: {told}")
+    page = folder / "elsewhere.html"
+    page.write_text(
+        (
+            "<script src='http://192.0.2.1/three.js'></script><script>fetch('http://example.org/x'); navigator.gpu.requestAdapter().then(a"
+            " => a.requestDevice()).then(d => d.createSampler());</script>"
+        ),
+        encoding="utf-8",
+    )
+    told = wgsim("record", "--out", folder, page)[0]
+    for address in ("http://192.0.2.1/three.js", "http://example.org/x"):
+        check(
+            f"the page asked for {address}, which is not of this machine, and did not get it" in told,
+            f"record of a page that asks for {address}: {told}",
+        )
+    page.write_text("<p>nothing", encoding="utf-8")
+    told = wgsim("record", "--seconds", 1, "--out", folder, page, status=1)[0]
+    check("nothing was recorded" in told, f"record of a page without WebGPU: {told}")
+
+
+def took(path, text):
+    """The milliseconds that the page of 10,000 calls takes in a browser, with a text before its scripts."""
+    with tempfile.TemporaryDirectory(prefix="slowdown-", ignore_cleanup_errors=True) as folder, visit.served(
+        str(PARTS / "slowdown.html")
+    ) as address, browser.opened(path, f"{folder}/profile") as browsing:
+        target = browsing.ask("Target.createTarget", url="about:blank")["targetId"]
+        session = browsing.ask("Target.attachToTarget", targetId=target, flatten=True)["sessionId"]
+        browsing.ask("Page.enable", session)
+        browsing.ask("Performance.enable", session, timeDomain="threadTicks")
+        browsing.ask("Page.addScriptToEvaluateOnNewDocument", session, source=text)
+        browsing.ask("Page.navigate", session, url=address)
+        for _ in range(LONGEST):
+            value = browsing.ask("Runtime.evaluate", session, expression="globalThis.took", returnByValue=True)["result"].get("value")
+            if value:
+                metrics = {one["name"]: one["value"] for one in browsing.ask("Performance.getMetrics", session)["metrics"]}
+                return {**value, "processor": metrics["TaskDuration"] * 1000}
+            time.sleep(1)
+    raise browser.Gone("the page told nothing")
+
+
+def slowdown(path):
+    """Prints the least of some runs, with the recorder and without: of the calls, and the processor time of the whole page's thread."""
+    runs = {
+        name: [took(path, text) for _ in range(5)]
+        for name, text in (("without the recorder", ""), ("with it", whole_text.text({"frames": 10**9})))
+    }
+    for name, found in runs.items():
+        calls, whole, processor = (min(one[key] for one in found) for key in ("calls", "all", "processor"))
+        print(
+            f"10,000 calls {name}: {calls:.0f} ms, {whole:.0f} ms up to when the device had done them; the page's thread took"
+            f" {processor:.0f} ms of a processor in all"
+        )
+    print(f"processors: {os.cpu_count()}, load: {os.getloadavg()[0]:.1f}")
+
+
+def keep(path):
+    """Records all pages, and keeps the recordings."""
+    shutil.rmtree(KEPT, ignore_errors=True)
+    for page in sorted(PAGES.glob("*.html")):
+        print(wgsim("record", "--seconds", LONGEST, "--browser", path, "--out", KEPT, page)[0], end="")
+
+
+def main():
+    words, path = sys.argv[1:], browser.found(None)
+    if words[:1] in (["--slowdown"], ["--keep"]):
+        {"--slowdown": slowdown, "--keep": keep}[words[0]](path)
+        return 1 if findings else 0
+    if words[:1] == ["--program"]:
+        os.environ[programs.NAMED] = str(pathlib.Path(words[1]).resolve())
+    elif programs.NAMED not in os.environ:
+        programs.Program(True).ready()
+        os.environ[programs.NAMED] = str(TOP / "tools/out/unproved/wgsim")
+    with tempfile.TemporaryDirectory(prefix="record-") as room, contextlib.ExitStack():
+        folder = pathlib.Path(room)
+        tests = [
+            (test_tables, ()),
+            (test_judged, ()),
+            (test_places, ()),
+            (test_changed, (folder / "changed",)),
+            (test_saved, (folder / "saved",)),
+        ]
+        tests += [(test_wgsl, ()), (test_null, (folder / "null",))] if NODE else []
+        tests += [(test_browser, (folder / "browser",))] if path else []
+        for test, given in tests:
+            for each in given:
+                each.mkdir()
+            test(*given)
+    for finding in findings:
+        print(finding)
+    if not NODE:
+        print("tests of the recorder: the pages were not played by node, SKIPPED, since node is not installed")
+    if not path:
+        print(
+            f"tests of the recorder: the pages were not recorded in a browser, SKIPPED, since none of {', '.join(browser.NAMES)} is"
+            " installed"
+        )
+    print(f"tests of the recorder: {len(findings)} findings")
+    return 1 if findings else 0
+
+
+sys.exit(main())

@@ -1,0 +1,112 @@
+"""The rules of what is opened and closed: encoders, passes and debug groups; and of calls that come too late."""
+
+from .making import Cause, plural, rule
+
+
+def ended_by(case, place):
+    """The call that ended a pass or its encoder: the end of a pass while it is open, or the first finish of the encoder."""
+    encoder = case.second.history.encoder_of(place)
+    walk = case.history.walks[encoder]
+    if place in walk.ended:
+        return place, walk.on[place][-1]
+    return encoder, case.history.finishes(encoder)[0]
+
+
+@rule(14)
+def late(case):
+    place = case.uses["on"]
+    what, by = ended_by(case, place)
+    through = "" if what is place else f", on which {case.named(place)} was begun,"
+    did = "ended" if by.do == "end" else "finished"
+    values = {"object": what.call["as"], "by": case.place(by), "call": case.do}
+    return Cause(
+        f"{case.named(what)}{through} was {did} at {case.place(by)}, and this {case.do} comes after it",
+        values,
+        "Leave it out." if case.do == by.do else f"Make it before the {by.do}.",
+    )
+
+
+@rule(180)
+def finished(case):
+    encoder = case.uses["on"]
+    by = case.history.finishes(encoder)[0]
+    return Cause(
+        f"{case.named(encoder)} was finished before, at {case.place(by)}",
+        {"object": encoder.call["as"], "by": case.place(by)},
+        "Finish it once.",
+    )
+
+
+@rule(182)
+def open_pass(case):
+    found = case.second.passes.Walk(case.commands).open_pass
+    if found is None:
+        return None
+    return Cause(
+        f"{case.named(found)} is still open",
+        {"object": found.call["as"], "begun": case.place(found)},
+        "End it before the finish.",
+        about=found,
+    )
+
+
+def open_groups(commands):
+    """The pushes of some commands that no pop has closed."""
+    opened = []
+    for command in commands:
+        if command.do == "pushDebugGroup":
+            opened.append(command)
+        elif command.do == "popDebugGroup":
+            del opened[-1:]
+    return opened
+
+
+def left_open(case, place, opened):
+    if not opened:
+        return None
+    many = (
+        f"a debug group of {case.named(place)} is open, pushed"
+        if len(opened) == 1
+        else f"{len(opened)} debug groups of {case.named(place)} are open, the first pushed"
+    )
+    values = {"object": place.call["as"], "open": len(opened), "pushed": case.place(opened[0])}
+    return Cause(f"{many} at {case.place(opened[0])}", values, f"Pop {'it' if len(opened) == 1 else 'them'} before.", about=opened[0])
+
+
+@rule(183)
+def groups_of_encoder(case):
+    encoder = case.entry.uses["on"]
+    return left_open(case, encoder, open_groups(case.second.passes.Walk(case.commands).on[encoder]))
+
+
+@rule(310)
+def groups_of_pass(case):
+    return left_open(case, case.uses["on"], open_groups(case.earlier))
+
+
+@rule(285)
+def no_group(case):
+    place = case.uses["on"]
+    pushed = sum(command.do == "pushDebugGroup" for command in case.earlier)
+    told = (
+        "none was pushed on it"
+        if pushed == 0
+        else f"{plural(pushed, 'group')} pushed on it {'was' if pushed == 1 else 'were'} popped before"
+    )
+    return Cause(
+        f"no debug group of {case.named(place)} is open: {told}",
+        {"object": place.call["as"], "pushed": pushed},
+        "Leave it out, or push a group on the same encoder or pass before.",
+    )
+
+
+@rule(240)
+def locked(case):
+    found = case.open_pass
+    if found is None:
+        return None
+    return Cause(
+        f"{case.named(found)} is open, and locks {case.named(case.uses['on'])}",
+        {"object": found.call["as"], "begun": case.place(found), "encoder": case.uses["on"].call["as"]},
+        "End it before.",
+    )

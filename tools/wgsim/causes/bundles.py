@@ -1,0 +1,133 @@
+"""The rules of bundle encoders, and those that ask that a pipeline, a pass and bundles draw to the same."""
+
+from .making import Cause, first, plural, rule
+from .pipelines import nothing, wrong_colors, wrong_samples
+
+READ_ONLY = {"depth": "depthReadOnly", "stencil": "stencilReadOnly"}
+WRITES = {"depth": "depthWrite", "stencil": "stencilWrite"}
+
+
+class Drawn:
+    """To what a pipeline, a pass or a bundle draws, with its name, and what it is called in the values of a cause."""
+
+    def __init__(self, case, thing, word, targets):
+        self.name = case.named(thing)
+        self.thing = thing
+        self.word = word
+        self.color = "target" if word == "pipeline" else "color"
+        self.color_key = "bundleColor" if word == "bundle" else self.color
+        self.colors, self.depth, self.samples = targets.colors, targets.depth, targets.samples
+        self.read_only = targets.read_only
+
+
+def place_drawn(case):
+    """To what the place of a command draws, a render pass or a bundle encoder; None of a compute pass."""
+    place = case.uses["on"]
+    targets = case.second.bundles.targets_of(place)
+    word = "pass" if place.do == "beginRenderPass" else "bundleEncoder"
+    return Drawn(case, place, word, targets) if targets is not None else None
+
+
+def pipeline_drawn(case, pipeline):
+    call = pipeline.call
+    return Drawn(
+        case,
+        pipeline,
+        "pipeline",
+        case.second.bundles.Targets(call["targets"], call["depth"] and call["depth"]["format"], call["samples"], set()),
+    )
+
+
+def bundle_drawn(case, bundle):
+    return Drawn(case, bundle, "bundle", case.second.bundles.targets_of(bundle.uses["on"]))
+
+
+def difference(one, other, remedy):
+    """In what two things do not draw to the same, as a cause, or None."""
+    values = {one.word: one.thing.call["as"], other.word: other.thing.call["as"]}
+    for place, (mine, theirs) in enumerate(zip(one.colors, other.colors)):
+        if mine != theirs:
+            said = f"{one.color} {place} of {one.name} is {mine or 'null'}, and {other.color} {place} of {other.name} is {theirs or 'null'}"
+            return Cause(said, {**values, "at": place, one.color_key: mine, other.color_key: theirs})
+    if len(one.colors) != len(other.colors):
+        said = (
+            f"{one.name} has {plural(len(one.colors), one.color)}, and {other.name} has {plural(len(other.colors), other.color)}, without"
+            " nulls at the end"
+        )
+        return Cause(said, {**values, f"{one.color_key}s": len(one.colors), f"{other.color_key}s": len(other.colors)})
+    if one.depth != other.depth:
+        told = [f"the depth {format}" if format else "no depth" for format in (one.depth, other.depth)]
+        return Cause(
+            f"{one.name} has {told[0]}, and {other.name} has {told[1]}",
+            {**values, f"{one.word}Depth": one.depth, f"{other.word}Depth": other.depth},
+        )
+    if one.samples != other.samples:
+        said = f"{one.name} has {plural(one.samples, 'sample')}, and {other.name} has {other.samples}"
+        return Cause(
+            said, {**values, f"{one.word}Samples": one.samples, f"{other.word}Samples": other.samples}, remedy.format(other.samples)
+        )
+    return None
+
+
+@rule(175)
+def colors(case):
+    depth = case.call["depth"]
+    wrong = wrong_colors(case, "color", case.call["colors"])
+    if wrong is None and depth is not None and case.second.formats.is_color(depth):
+        return Cause(f"depth is {depth}, which has color, and neither depth nor stencil", {"format": depth})
+    return wrong
+
+
+@rule(176)
+def something(case):
+    return nothing(case, "color", case.call["colors"])
+
+
+@rule(177)
+def samples(case):
+    return wrong_samples(case, "color", case.call["colors"], case.call["depth"])
+
+
+@rule(320)
+def pipeline_fits(case):
+    """A pipeline draws to what the pass has attached, or to what the bundle encoder was made with."""
+    place = place_drawn(case)
+    return difference(pipeline_drawn(case, case.uses["pipeline"]), place, "Make the pipeline with samples {}.") if place else None
+
+
+@rule(321)
+def pipeline_spares(case):
+    pipeline, place = case.uses["pipeline"], place_drawn(case)
+    state = pipeline.call["depth"]
+    for aspect, write in WRITES.items() if place and state else ():
+        key = READ_ONLY[aspect]
+        if state[write] and aspect in place.read_only:
+            return Cause(
+                f"{write} of {case.named(pipeline)} is true, and so is {key} of {place.name}",
+                {"pipeline": pipeline.call["as"], place.word: place.thing.call["as"], write: True, key: True},
+                f"Leave {write} out, or {key}.",
+            )
+    return None
+
+
+@rule(370)
+def bundles_fit(case):
+    remedy = "Make the bundle encoder with samples {}."
+    return first(difference(bundle_drawn(case, bundle), place_drawn(case), remedy) for bundle in case.uses["bundles"])
+
+
+@rule(371)
+def bundles_spare(case):
+    """What a pass only reads a bundle only reads, by the keys as they are given."""
+    place = place_drawn(case)
+    for bundle in case.uses["bundles"]:
+        encoder, own = bundle.uses["on"], bundle_drawn(case, bundle)
+        for aspect, key in READ_ONLY.items():
+            if aspect in place.read_only and aspect not in own.read_only:
+                lacks = "" if aspect in case.second.formats.aspects_of(place.depth) else f", though {place.depth} has no {aspect}"
+                return Cause(
+                    f"{key} of {place.name} is true, and that of {case.named(encoder)}, of which {own.name} was made, is false{lacks}",
+                    {"pass": place.thing.call["as"], "bundle": bundle.call["as"], "bundleEncoder": encoder.call["as"], "key": key},
+                    f"Give the bundle encoder {key} true.",
+                )
+    return None

@@ -1,0 +1,90 @@
+"""The rules of mapAsync, and that a buffer is not pending, mapped or destroyed."""
+
+from wgsim.reading import bits
+
+from .making import Cause, fits, multiple, rule, to_add
+
+MAP_READ, MAP_WRITE = 1, 2
+MODES = {1: "reading", 2: "writing"}
+
+
+def asked(case):
+    """The mode, the offset and the size of a mapAsync."""
+    return case.second.maps.asked_by(case.call, case.uses["buffer"])
+
+
+@rule(220)
+def offset(case):
+    return multiple("offset", case.call["offset"], 8)
+
+
+@rule(221)
+def size(case):
+    is_left_out = case.call["size"] is None
+    cause = multiple("size", asked(case)[2], 4, why=" (left out: what remains)" if is_left_out else "")
+    if cause is not None and is_left_out:
+        cause.remedy = "Give a size, or make the buffer with one that is a multiple of 4."
+    return cause
+
+
+@rule(222)
+def map_range(case):
+    _, start, length = asked(case)
+    return fits(case, case.uses["buffer"], start, length, is_left_out=case.call["size"] is None)
+
+
+@rule(223)
+def mode(case):
+    number = case.call["mode"]
+    if number in (1, 2):
+        return None
+    return Cause(f"mode is {bits.said(number, bits.MODES)}, and READ (1) or WRITE (2) is asked for", {"mode": number, "allowed": [1, 2]})
+
+
+@rule(224)
+def map_usage(case):
+    buffer, number = case.uses["buffer"], case.call["mode"]
+    usage = buffer.call["usage"]
+    if usage & number:
+        return None
+    said = (
+        f"mode is {bits.said(number, bits.MODES)}, and {case.named(buffer)} has usage {bits.said(usage, bits.BUFFER)};"
+        f" {bits.one(number, bits.BUFFER)} is missing"
+    )
+    values = {
+        "mode": number,
+        "object": buffer.call["as"],
+        "usage": usage,
+        "usageWords": bits.words(usage, bits.BUFFER),
+        "missing": number,
+        "missingWord": bits.BUFFER[number],
+    }
+    return Cause(said, values, to_add(case, buffer, number, bits.BUFFER))
+
+
+@rule(203, 225)
+def idle(case):
+    return busy(case, case.uses["buffer"])
+
+
+def busy(case, buffer, where=""):
+    """A buffer is pending, mapped or destroyed: by which call, and what to do."""
+    history, name, maps = case.history, f"{case.named(buffer)}{where}", case.second.maps
+    values = {"object": buffer.call["as"]}
+    pending = history.pending_map(buffer)
+    if pending is not None:
+        by = case.place(pending)
+        return Cause(
+            f"{name} is pending: the map that the mapAsync at {by} asks for waits",
+            {**values, "state": "pending", "by": by},
+            "Complete the work that uses it and unmap it before, or unmap it at once.",
+        )
+    mapping = maps.mapping_of(history, buffer)
+    if mapping is not None:
+        by = case.play.mapped_by.get(buffer, buffer)
+        said = f"{name} is mapped for {MODES[mapping[0]]}, by the {by.do} at {case.place(by)}"
+        return Cause(said, {**values, "state": "mapped", "mode": mapping[0], "by": case.place(by)}, "Unmap it before.")
+    if history.is_destroyed(buffer):
+        by = case.place(case.play.destroyed_by[buffer])
+        return Cause(f"{name} was destroyed at {by}", {**values, "state": "destroyed", "by": by}, "Destroy it after its last use.")
+    return None

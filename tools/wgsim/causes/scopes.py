@@ -1,0 +1,134 @@
+"""The rule of usage scopes: which two uses of a part clash, each with the command that brought it."""
+
+import collections
+
+from .making import Cause, rule
+
+# What has one scope as a whole, in words, by the call that begins or makes it.
+WHOLE = {"beginRenderPass": "the render pass", "finishBundle": "the bundle that is finished"}
+
+
+class Use:
+    """A use of a part in a scope: the usage, the words that tell of what it comes, and the command with its place."""
+
+    def __init__(self, case, usage, words, command):
+        self.usage = usage
+        self.words = words
+        self.command = command
+        self.at = case.place(command)
+
+
+def of_setting(case, setting):
+    """What a setBindGroup brings: pairs of a cell and its use."""
+    group, found = setting.uses["group"], []
+    for asked, entry, thing, move in case.second.bound_groups.bindings(group, setting.call["offsets"]):
+        words = f"binding {entry['binding']} of {case.named(group)}, set at {case.place(setting)}"
+        touches = case.second.bound_groups.touches_of(asked, entry, thing, move)
+        found += [(cell, Use(case, usage, words, setting)) for cell, usage, _ in touches]
+    return found
+
+
+def of_command(case, command):
+    """What a setVertexBuffer, a setIndexBuffer or an indirect command brings."""
+    touches = case.second.draws.touches_of_range(command) + case.second.draws.touches_of_indirect(command)
+    return [(cell, Use(case, usage, f"the {command.do} at {case.place(command)}", command)) for cell, usage, _ in touches]
+
+
+def of_executed(case, command):
+    """What an executeBundles brings: what the bundles use, each bundle once, with the command that brought it there."""
+    found = []
+    for bundle in dict.fromkeys(command.uses["bundles"]):
+        for cell, use in of_drawing(case, case.history.commands_of(bundle)):
+            found.append((cell, Use(case, use.usage, f"{use.words} in {case.named(bundle)}, executed at {case.place(command)}", command)))
+    return found
+
+
+def of_drawing(case, commands):
+    """What the commands of a render pass or of a bundle bring, in their order."""
+    of = {"setBindGroup": of_setting, "executeBundles": of_executed}
+    return [use for command in commands for use in of.get(command.do, of_command)(case, command)]
+
+
+def of_attachments(case, begin):
+    """What is attached to a render pass."""
+    found, at = [], case.place(begin)
+    attachments = case.second.attachments
+    for place, (color, view, resolve) in enumerate(attachments.colors_of(begin)):
+        for touch_view, words in ((view, "a color"), (resolve, "a resolve view")):
+            if touch_view is not None:
+                touches = attachments.touches_of_view(touch_view, "attachment", None)
+                found += [
+                    (cell, Use(case, usage, f"{case.named(touch_view)}, attached as {words} at {at}", begin)) for cell, usage, _ in touches
+                ]
+    for view in attachments.depth_of(begin):
+        touches = attachments.touches_of_depth(begin.call["depth"], view)
+        found += [(cell, Use(case, usage, f"{case.named(view)}, attached as depth at {at}", begin)) for cell, usage, _ in touches]
+    return found
+
+
+def scopes_of(case):
+    """Each dispatch and each render pass of an encoder, with all uses of its scope; of a bundle encoder the one scope, with its finish."""
+    if case.entry.do == "finishBundle":
+        yield case.entry, of_drawing(case, case.commands)
+        return
+    bound_groups, passes = case.second.bound_groups, case.second.passes
+    on, settings = passes.Walk(case.commands).on, collections.defaultdict(passes.Settings)
+    for command in case.commands:
+        place = command.uses["on"]
+        if command.do in case.second.calls.DISPATCHES:
+            found = [use for _, setting in bound_groups.asked_for(settings[place]) for use in of_setting(case, setting)]
+            yield command, found + of_command(case, command)
+        elif command.do == "beginRenderPass":
+            yield command, of_attachments(case, command) + of_drawing(case, on[command])
+        settings[place].take(command)
+
+
+def clash(case, uses):
+    """The first of some uses of one part, and the first that does not go with it, or None. What goes with it goes with each other."""
+    one, together = uses[0], case.second.passes.READ_TOGETHER
+    return next(((one, other) for other in uses if other.usage != one.usage and not {one.usage, other.usage} <= together), None)
+
+
+def brought_by(case, command, uses):
+    """The command with which a scope is no longer compatible: of a render pass or a bundle that of the first use that clashes with one
+    before it."""
+    first = {}
+    for cell, use in uses if command.do in WHOLE else []:
+        if clash(case, [first.setdefault(case.second.cells.part_of(cell), use), use]):
+            return use.command
+    return command
+
+
+@rule(184)
+def scope(case):
+    for command, uses in scopes_of(case):
+        parts = {}
+        for cell, use in uses:
+            parts.setdefault(case.second.cells.part_of(cell), []).append(use)
+        for part in sorted(parts):
+            pair = clash(case, parts[part])
+            if pair:
+                return clashing(case, command, part, *pair, brought_by(case, command, uses))
+    return None
+
+
+def clashing(case, command, part, one, other, about):
+    what = WHOLE.get(command.do, f"the {command.do}")
+    said = (
+        f"{case.part(part)} is used as {one.usage} by {one.words}, and as {other.usage} by {other.words}, in the one scope of {what} at"
+        f" {case.place(command)}"
+    )
+    values = {
+        **case.part_values(part),
+        "first": one.usage,
+        "firstBy": one.at,
+        "other": other.usage,
+        "otherBy": other.at,
+        "scope": case.place(command),
+    }
+    remedies = {
+        "beginRenderPass": "Use them in two render passes.",
+        "finishBundle": "Use them in two bundles, and execute these in two render passes.",
+    }
+    remedy = remedies.get(command.do, "Use them in two dispatches, or bind both for reading alone.")
+    return Cause(said, values, remedy, about=about)

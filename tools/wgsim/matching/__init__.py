@@ -1,0 +1,1 @@
+"""What the program says, set beside the script, the trace or the other report that it is about."""

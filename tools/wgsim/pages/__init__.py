@@ -1,0 +1,1 @@
+"""Pages: traces as HTML."""

@@ -1,0 +1,1 @@
+"""The program: which one answers, how it is proved, built or compiled without proofs, and what proofs cost."""

@@ -1,0 +1,64 @@
+"""What proofs take: of each crate the processor seconds of the table proof_costs.json, and from these and the pace of a run what is left of
+it."""
+
+import json
+import pathlib
+
+TABLE = json.loads((pathlib.Path(__file__).resolve().parent / "proof_costs.json").read_text(encoding="utf-8"))
+# So many seconds count as passed at the pace of the table, so that the first crates, which are small and end beside large ones that
+# go on, do not say too much.
+TRUST = 900
+
+
+def seconds_of(crate):
+    return TABLE["seconds"].get(crate, TABLE["otherwise"])
+
+
+def clock_of(crates, below, at_once):
+    """The seconds of the clock that some crates take: their sum by so many at once, or the longest chain of those that stand on each
+    other."""
+    chains = {}
+    for crate in in_order(crates, below):
+        chains[crate] = seconds_of(crate) + max([chains[other] for other in below.get(crate, []) if other in chains], default=0)
+    return max([sum(map(seconds_of, crates)) / at_once, *chains.values()], default=0) if crates else 0
+
+
+def in_order(crates, below):
+    """Crates with each behind those that it stands on."""
+    found, waiting = {}, sorted(crates)
+    while waiting:
+        ready = [crate for crate in waiting if not any(other in waiting for other in below.get(crate, []))] or waiting
+        found.update(dict.fromkeys(ready))
+        waiting = [crate for crate in waiting if crate not in found]
+    return list(found)
+
+
+class Estimate:
+    """What is left of a run: the clock that the crates to come take by the table, at the pace at which those that were proved have come."""
+
+    def __init__(self, below, at_once):
+        self.below = below
+        self.at_once = at_once
+        self.all = set(below)
+        self.left = set(below)
+
+    def take(self, crate, is_proved_now):
+        """A crate is done. What was proved before tells nothing of the pace."""
+        self.left.discard(crate)
+        if not is_proved_now:
+            self.all.discard(crate)
+
+    def pace(self, passed):
+        """How many seconds of this run go with one of the table."""
+        expected = clock_of(self.all, self.below, self.at_once) - clock_of(self.left, self.below, self.at_once)
+        return (passed + TRUST) / (expected + TRUST)
+
+    def seconds(self, passed):
+        return self.pace(passed) * clock_of(self.left, self.below, self.at_once)
+
+
+def told(seconds):
+    """Some seconds in words."""
+    if seconds < 90:
+        return "a minute" if seconds > 30 else "half a minute"
+    return f"{round(seconds / 60)} minutes"

@@ -1,0 +1,1 @@
+"""What is read: scripts, reports, traces, places in a text, the tables of calls, rules and limits."""

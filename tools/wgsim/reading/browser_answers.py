@@ -1,0 +1,69 @@
+"""What lies beside a script that was recorded: NAME.answers.json, what the browser answered, and NAME.calls.json, where in the page each
+call is."""
+
+import json
+import pathlib
+import re
+
+from wgsim import exit_status
+
+ANSWERS, CALLS = ".answers.json", ".calls.json"
+
+
+def is_beside(name):
+    """Whether a file belongs to a recording, and is no script."""
+    return name.endswith((ANSWERS, CALLS))
+
+
+def read(path):
+    """A file of a recording, of the form that is known here."""
+    try:
+        found = json.loads(path.read_text(encoding="utf-8"))
+    except OSError as error:
+        raise exit_status.End(exit_status.UNREAD, f"{path}: {error.strerror}") from None
+    except ValueError:
+        found = None
+    if not isinstance(found, dict) or found.get("form") != 1:
+        raise exit_status.End(exit_status.UNREAD, f"{path} is no part of a recording")
+    return found
+
+
+class Pages:
+    """The places in the page of the calls of a script; none where the script was not recorded."""
+
+    def __init__(self, name):
+        path = pathlib.Path(name)
+        beside = path.with_name(path.stem + CALLS)
+        self.calls = read(beside).get("calls", []) if path.suffix == ".json" and not is_beside(path.name) and beside.is_file() else []
+
+    def of(self, call):
+        """The place of a call and those from which that was called, or none."""
+        phase, lane, number = call.place
+        told = self.calls[number] if (phase, lane) == (0, 0) and number < len(self.calls) else {}
+        return [told["at"], *told.get("by", [])] if isinstance(told, dict) and "at" in told else []
+
+    def at(self, call):
+        """The place of a call, or None."""
+        found = self.of(call)
+        return found[0] if found else None
+
+    def said(self, call):
+        """The same in words, in a line or none."""
+        found = self.of(call)
+        by = f", called from {', '.join(found[1:])}" if len(found) > 1 else ""
+        return [f"in the page: {found[0]}{by}"] if found else []
+
+    def made(self, words, script):
+        """Where in the page the objects come from that some words name with their places in the script, in lines."""
+        makers = [(name, script.maker_of(name)) for name in dict.fromkeys(re.findall(r'"(\w+)" \(\d+:\d+\)', words))]
+        return [f'in the page "{name}" comes from {self.at(call)}' for name, call in makers if call is not None and self.at(call)]
+
+
+class Answers:
+    """What a browser answered to the calls of a script."""
+
+    def __init__(self, path):
+        self.told = read(path.with_name(path.stem + ANSWERS))
+        self.of = {answer["call"]: answer for answer in self.told["answers"]}
+        self.passed, self.notes, self.device = (self.told.get(key, []) for key in ("passed", "notes", "device"))
+        self.left, self.ended = self.told.get("left", {}), self.told.get("ended")

@@ -1,0 +1,167 @@
+"""The table of a script's calls: which keys each has, what it makes, and whether it records."""
+
+import json
+import pathlib
+
+TABLE = json.loads((pathlib.Path(__file__).parent / "calls.json").read_text(encoding="utf-8"))
+CALLS = TABLE["calls"]
+KINDS = TABLE["kinds"]
+WORDS = TABLE["words"]
+BEGINS = set(TABLE["passes"]["begin"])
+END = TABLE["passes"]["end"]
+PIPELINES = TABLE["passes"]["pipelines"]
+ENCODERS = {call["ends"] for call in CALLS.values() if "ends" in call}
+OBJECTS = TABLE["objects"]
+FORMS = TABLE["forms"]
+AUTO = "auto"
+
+
+class Key:
+    """What the value of a key has to be: `sort` with its `detail`, whether the key may be left out, whether an item of its list may be
+    null, and whether the word `auto` may stand in place of a name."""
+
+    def __init__(self, text):
+        words = text.split()
+        self.may_be_left_out = words[-1] == "?"
+        words = words[:-1] if self.may_be_left_out else words
+        self.may_have_null = words[-2:] == ["or", "null"]
+        words = words[:-2] if self.may_have_null else words
+        self.may_be_auto = words[-2:] == ["or", "auto"]
+        words = words[:-2] if self.may_be_auto else words
+        self.sort = words[0]
+        self.detail = " ".join(words[1:])
+
+    def is_name(self, value):
+        """Whether a value under this key is a name that is used, as far as its form tells: an object of the name `auto` is not reached
+        where that word may stand."""
+        return self.sort == "name" and value.kind == "string" and not (self.may_be_auto and value.what == AUTO)
+
+    def kinds(self):
+        """The kinds of object that a name under this key may stand for."""
+        return self.detail.split("|") if self.sort in ("name", "names") else []
+
+    def expected(self):
+        """What is expected, in words."""
+        if self.sort == "number":
+            return f"a whole number from 0 to {2 ** int(self.detail) - 1}, in decimal digits alone"
+        if self.sort == "three":
+            return f"a list of exactly three whole numbers from 0 to {2 ** 32 - 1}"
+        if self.sort == "boolean":
+            return "true or false"
+        if self.sort == "word":
+            return "one of " + quoted(WORDS[self.detail])
+        if self.sort == "name":
+            return f"the name of {either(self.kinds())}" + (f', or the word "{AUTO}"' if self.may_be_auto else "")
+        if self.sort == "names":
+            return f"a list of at most 1024 names, each of {either(self.kinds())}"
+        if self.sort == "numbers":
+            return f"a list of at most 1024 whole numbers from 0 to {2 ** int(self.detail) - 1}"
+        if self.sort == "words":
+            return f"a list of at most 1024 items, each one of {quoted(WORDS[self.detail])}{self.or_null()}"
+        if self.sort == "object":
+            return f"an object, {OBJECTS[self.detail]['said']}"
+        if self.sort == "objects":
+            return (
+                f"a list of at most 1024 {'items' if self.may_have_null else 'objects'}, each"
+                f" {OBJECTS[self.detail]['said']}{self.or_null()}"
+            )
+        if self.sort == "new":
+            return "a new name, of 1 to 64 letters, digits and _"
+        return "a value"
+
+    def or_null(self):
+        return ", or null" if self.may_have_null else ""
+
+
+def quoted(words):
+    return ", ".join(f'"{word}"' for word in words)
+
+
+def either(kinds):
+    """One of some kinds, in words. Where any texture will do, that of a canvas is not told beside."""
+    told = [kind for kind in kinds if kind != "canvas texture" or "texture" not in kinds]
+    return " or ".join(KINDS.get(kind, kind) for kind in told)
+
+
+def keys_of(word):
+    """The keys of a call in the order of the table, or None of a call that is not in it."""
+    if word not in CALLS:
+        return None
+    return {name: Key(text) for name, text in CALLS[word]["keys"].items()}
+
+
+def form_key(sort):
+    """The key of a sort of objects whose word tells the form of one, or None where the form is told by which key is there, or there are no
+    forms."""
+    found = [name for name, text in OBJECTS[sort]["keys"].items() if text == f"word {OBJECTS[sort].get('forms')}"]
+    return found[0] if found else None
+
+
+def forms_of(sort):
+    """The further keys that an object of a sort has by its form; no forms where all of them have the same keys."""
+    return FORMS.get(OBJECTS[sort].get("forms"), {})
+
+
+def form_of(sort, item):
+    """The form of an object in a call, a word that tells its further keys, or None where it has none."""
+    forms, by = forms_of(sort), form_key(sort)
+    if by is None:
+        return next((form for form in forms if item.member(form) is not None), None)
+    value = item.member(by)
+    return value.what if value is not None and value.kind == "string" and value.what in forms else None
+
+
+def keys_of_object(sort, item):
+    """The keys of an object in a call: those of its sort, and those of its form if it has one."""
+    further = forms_of(sort).get(form_of(sort, item), {})
+    return {name: Key(text) for name, text in {**OBJECTS[sort]["keys"], **further}.items()}
+
+
+def may_be_auto(word, key):
+    """Whether the word `auto` may stand under a key of a call in place of a name."""
+    found = (keys_of(word) or {}).get(key)
+    return found is not None and found.may_be_auto
+
+
+def makes(word):
+    """The kind of what the call makes: an object, or a pass; None where it makes neither."""
+    return CALLS.get(word, {}).get("makes")
+
+
+def records(word):
+    return CALLS.get(word, {}).get("records", False)
+
+
+def ends_encoder(word):
+    """Whether the call ends an encoder, be it one of a bundle."""
+    return CALLS.get(word, {}).get("ends") is not None
+
+
+def makes_encoder(word):
+    """Whether the call makes an encoder, be it one of a bundle."""
+    return makes(word) in ENCODERS
+
+
+def groups(word):
+    """How many debug groups the call opens, less how many it closes."""
+    return CALLS.get(word, {}).get("groups", 0)
+
+
+def query(word):
+    """Whether the call `begins` or `ends` an occlusion query; None where it does neither."""
+    return CALLS.get(word, {}).get("query")
+
+
+def canvas(word):
+    """What the call does to a canvas: `makes` or `configures` it, `gives` its texture or `presents` that; None of another call."""
+    return CALLS.get(word, {}).get("canvas")
+
+
+def executes(word):
+    """Whether the call executes bundles, which unsets what is set."""
+    return CALLS.get(word, {}).get("executes", False)
+
+
+def step_of(word):
+    """The name of the step that the call makes, if it may make one."""
+    return CALLS.get(word, {}).get("step")

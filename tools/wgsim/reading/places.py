@@ -1,0 +1,255 @@
+"""Reads a JSON text so that each value knows where it stands in it."""
+
+import bisect
+import re
+import unicodedata
+
+SPACE = re.compile(r"[ \t\n\r]*")
+NUMBER = re.compile(r"-?(?:0|[1-9][0-9]*)(?:\.[0-9]+)?(?:[eE][+-]?[0-9]+)?")
+PLAIN = re.compile(r'[^"\\\x00-\x1f]*')
+ESCAPES = {'"': '"', "\\": "\\", "/": "/", "b": "\b", "f": "\f", "n": "\n", "r": "\r", "t": "\t"}
+WORDS = {"true": True, "false": False, "null": None}
+DEEPEST = 127
+
+
+class NotJson(Exception):
+    """The text is no JSON: at the place `offset`, where something was found in place of what is expected."""
+
+    def __init__(self, offset, found, expected):
+        super().__init__(f"{found}; expected is {expected}")
+        self.offset = offset
+        self.found = found
+        self.expected = expected
+
+
+def escaped(text):
+    """A text whose control characters, and those that change how others are shown, are written as `\\x1b` or `\\u202e`."""
+    return "".join(letter if unicodedata.category(letter) not in ("Cc", "Cf", "Co", "Cs") else escape_of(letter) for letter in text)
+
+
+def escape_of(letter):
+    code = ord(letter)
+    return f"\\x{code:02x}" if code < 256 else f"\\u{code:04x}" if code < 65536 else f"\\U{code:08x}"
+
+
+class Value:
+    """A value of a JSON text: its kind, what it is, and the places in the text where it begins and ends.
+
+    The kinds are object (a list of pairs of key and value), list, string, number (its text), true, false and null.
+    """
+
+    def __init__(self, kind, what, start, end):
+        self.kind = kind
+        self.what = what
+        self.start = start
+        self.end = end
+
+    def member(self, name):
+        """The value of a key of an object: of several the last, or None."""
+        found = None
+        for key, value in self.what:
+            if key.what == name:
+                found = value
+        return found
+
+    def key(self, name):
+        """The last key of that name of an object, or None."""
+        found = None
+        for key, _ in self.what:
+            if key.what == name:
+                found = key
+        return found
+
+
+class Reader:
+    """One reading of one text."""
+
+    def __init__(self, text):
+        self.text = text
+        self.at = 0
+
+    def fail(self, found, expected, at=None):
+        raise NotJson(self.at if at is None else at, found, expected)
+
+    def here(self):
+        """What stands at the place, as a reader sees it."""
+        if self.next() == "":
+            return "the end of the text"
+        piece = re.match(r"[\w.+-]+|.", self.text[self.at : self.at + 40], re.S)[0]
+        return "the line's end" if piece in "\r\n" else escaped(piece)
+
+    def space(self):
+        self.at = SPACE.match(self.text, self.at).end()
+
+    def next(self):
+        return self.text[self.at] if self.at < len(self.text) else ""
+
+    def whole(self):
+        if self.next() == "\ufeff":
+            self.fail(
+                "a byte order mark, the bytes EF BB BF, before the text", "the text alone: save it as UTF-8 without a byte order mark"
+            )
+        value = self.value(0)
+        self.space()
+        if self.at < len(self.text):
+            self.fail(self.here(), "the end of the text, after its one value")
+        return value
+
+    def value(self, depth):
+        self.space()
+        letter = self.next()
+        if letter != "" and letter in "{[":
+            if depth == DEEPEST:
+                self.fail(
+                    f"a list or an object that is nested {DEEPEST + 1} deep", f"lists and objects that are nested at most {DEEPEST} deep"
+                )
+            return self.object(depth + 1) if letter == "{" else self.list(depth + 1)
+        if letter == '"':
+            return self.string()
+        if letter == "-" or "0" <= letter <= "9":
+            return self.number()
+        for word, what in WORDS.items():
+            if self.text.startswith(word, self.at):
+                start, self.at = self.at, self.at + len(word)
+                return Value(word, what, start, self.at)
+        self.fail(self.here(), "a value: an object, a list, a string, a number, true, false or null")
+
+    def number(self):
+        start = self.at
+        found = NUMBER.match(self.text, start)
+        if not found:
+            self.fail(self.here(), "a digit after the sign")
+        self.at = found.end()
+        if re.match(r"[0-9.eE+-]", self.next()):
+            whole = re.match(r"[0-9.eE+-]+", self.text[start : start + 60])[0]
+            self.fail(f"the number {whole}", "a number as JSON has it, with no leading zeros, and with digits on both sides of a point")
+        if abs(float(found[0])) == float("inf"):
+            self.fail(f"the number {found[0][:60]}, which is too large", "a number that a float of 64 bits holds", start)
+        return Value("number", found[0], start, self.at)
+
+    def string(self):
+        start = self.at
+        self.at += 1
+        parts = []
+        while True:
+            plain = PLAIN.match(self.text, self.at)
+            parts.append(plain[0])
+            self.at = plain.end()
+            letter = self.next()
+            if letter == '"':
+                self.at += 1
+                return Value("string", "".join(parts), start, self.at)
+            if letter == "":
+                self.fail("the end of the text within the string that begins here", 'the " that ends the string', start)
+            if letter != "\\":
+                self.fail(f"the control character {escaped(letter)} in a string", "that it is written as \\n, \\t or \\u and four digits")
+            parts.append(self.escape())
+
+    def escape(self):
+        letter = self.text[self.at + 1 : self.at + 2]
+        if letter == "u":
+            return self.unicode()
+        if letter not in ESCAPES or not letter:
+            self.fail(f"a backslash with {escaped(letter) or 'nothing'} after it", "one of \" \\ / b f n r t u after a backslash")
+        self.at += 2
+        return ESCAPES[letter]
+
+    def unicode(self):
+        pair = "a pair of surrogates, both as \\u and four digits"
+        first = self.four_digits()
+        if 0xDC00 <= first <= 0xDFFF:
+            self.fail("half a pair of surrogates, without its first half", pair, self.at - 6)
+        if not 0xD800 <= first <= 0xDBFF:
+            return chr(first)
+        if self.text[self.at : self.at + 2] != "\\u":
+            self.fail("half a pair of surrogates, without its second half", pair)
+        second = self.four_digits()
+        if not 0xDC00 <= second <= 0xDFFF:
+            self.fail("half a pair of surrogates, without its second half", pair, self.at - 6)
+        return chr(0x10000 + (first - 0xD800) * 0x400 + second - 0xDC00)
+
+    def four_digits(self):
+        digits = self.text[self.at + 2 : self.at + 6]
+        if not re.fullmatch(r"[0-9a-fA-F]{4}", digits):
+            self.fail(f"\\u{escaped(digits)}", "four hexadecimal digits after \\u")
+        self.at += 6
+        return int(digits, 16)
+
+    def list(self, depth):
+        start = self.at
+        self.at += 1
+        items = []
+        self.space()
+        while self.next() != "]":
+            if items:
+                self.separator("]", "list", start)
+            items.append(self.value(depth))
+            self.space()
+        self.at += 1
+        return Value("list", items, start, self.at)
+
+    def separator(self, closing, kind, start):
+        if self.next() == "":
+            self.fail(f"the text ends within the {kind} that begins here", f"a comma or {closing}", start)
+        if self.next() != ",":
+            self.fail(self.here(), f"a comma or {closing}")
+        self.at += 1
+        self.space()
+        if self.next() == closing:
+            self.fail(f"{closing} after a comma", "another item, or no comma")
+
+    def object(self, depth):
+        start = self.at
+        self.at += 1
+        pairs = []
+        self.space()
+        while self.next() != "}":
+            if pairs:
+                self.separator("}", "object", start)
+            if self.next() != '"':
+                self.fail(self.here(), "a key in double quotes")
+            key = self.string()
+            self.space()
+            if self.next() != ":":
+                self.fail(self.here(), "a colon after the key")
+            self.at += 1
+            pairs.append((key, self.value(depth)))
+            self.space()
+        self.at += 1
+        return Value("object", pairs, start, self.at)
+
+
+class Text:
+    """A script's text with its name, and the lines and columns of its places, both counted from 1."""
+
+    def __init__(self, data, name):
+        self.name = name
+        self.size = len(data)
+        self.bad_byte = None
+        try:
+            self.text = data.decode("utf-8")
+        except UnicodeDecodeError as error:
+            self.bad_byte = (len(data[: error.start].decode("utf-8")), data[error.start])
+            self.text = data.decode("utf-8", "replace")
+        self.lines = [0, *(found.end() for found in re.finditer("\n", self.text))]
+
+    def place(self, offset):
+        line = bisect.bisect_right(self.lines, offset)
+        return line, offset - self.lines[line - 1] + 1
+
+    def where(self, offset):
+        """A place as compilers write it."""
+        line, column = self.place(offset)
+        return f"{self.name}:{line}:{column}"
+
+    def read(self):
+        """The text's one value; NotJson where it has none."""
+        if self.bad_byte:
+            offset, byte = self.bad_byte
+            is_wide = offset == 0 and byte in (0xFE, 0xFF)
+            mark = ", which begins a byte order mark of UTF-16" if is_wide else ""
+            raise NotJson(offset, f"the byte 0x{byte:02x}{mark}", "a text in UTF-8")
+        return Reader(self.text).whole()
+
+    def of(self, value):
+        return self.text[value.start : value.end]

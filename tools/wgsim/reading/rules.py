@@ -1,0 +1,121 @@
+"""The table of rules, docs/rules.json: what a rule asks, and the page docs/rules.md, which is made from it by `wgsim rules --page`."""
+
+import copy
+import json
+import textwrap
+
+from wgsim import TOP
+
+DOCS = TOP / "docs"
+TABLE = json.loads((DOCS / "rules.json").read_text(encoding="utf-8"))
+ABOVE = "as above"
+
+
+class Rule:
+    """A rule as one call tests it."""
+
+    def __init__(self, call, row):
+        self.call = call["call"]
+        self.label = call.get("label", self.call)
+        self.numbers = row["rules"]
+        self.asks = row["asks"]
+        self.own_sections = row.get("section")
+        self.sections = self.own_sections or call["section"]
+        self.see = row.get("see", [])
+        self.is_thrown = "throws" in row
+
+
+RULES = [Rule(call, row) for part in TABLE["parts"] if "calls" in part for call in part["calls"] for row in call["rules"]]
+
+
+def of(number, call=None):
+    """The rules of a number, those of a call alone if it has one; each with its whole sentence."""
+    found = [rule for rule in RULES if number in rule.numbers]
+    whole = next((rule for rule in found if not rule.asks.startswith(ABOVE)), None)
+    found = [completed(rule, whole) if rule.asks.startswith(ABOVE) and whole is not None else rule for rule in found]
+    own = [rule for rule in found if rule.call == call] or [rule for rule in found if rule.call == "*" and call]
+    return own or found
+
+
+def completed(rule, whole):
+    """A rule whose words are `as above`, with those of the rule above in place of them. The table itself stays as it is: a row may have
+    several numbers.
+
+    The section is that of the rule's own call, but where the row above has one of its own."""
+    made = copy.copy(rule)
+    made.asks = whole.asks + rule.asks[len(ABOVE) :]
+    made.sections, made.see = whole.own_sections or rule.sections, whole.see
+    return made
+
+
+def section(rule):
+    return "WebGPU, " + ", ".join(f'"{each}"' for each in rule.sections)
+
+
+def notes(titles):
+    """The paragraphs of those titles."""
+    return [part for part in TABLE["parts"] if part.get("title") in titles]
+
+
+def script_rows(number):
+    """The rows of a rule of scripts."""
+    return [row for row in TABLE["scripts"] if row["rule"] == number]
+
+
+def place_of(row):
+    """The words of the place that a rule of scripts tells: phase, lane and call, as far as it has them."""
+    return [] if row["place"] == "none" else row["place"].split(", ")
+
+
+def script_rules(number):
+    """What a rule of scripts refuses."""
+    return [row["refuses"] for row in script_rows(number)]
+
+
+def page():
+    """The text of docs/rules.md."""
+    lines = ["# Rule numbers"]
+    for part in TABLE["parts"]:
+        lines.append("")
+        if "text" in part:
+            title = f"**{part['title']}.** " if "title" in part else ""
+            lines.append(title + part["text"])
+            continue
+        lines += ["| " + " | ".join(part["head"]) + " |", "|---" * len(part["head"]) + "|"]
+        for call in part["calls"]:
+            label = call.get("label", call["call"])
+            for row in call["rules"]:
+                cells = [label, ", ".join(map(str, row["rules"])), row["asks"]]
+                lines.append("|" + "|".join(f" {cell} " if cell else " " for cell in cells) + "|")
+                label = ""
+    return "\n".join(lines) + "\n"
+
+
+def shown(number):
+    """What `wgsim rules N` prints, or None where no rule has that number."""
+    found = of(number)
+    scripts = script_rules(number)
+    lines, told = [], set()
+    for rule in found:
+        lines.append(f"Rule {number}, {rule.label}: {rule.asks}")
+        lines.append(f"  {section(rule)}")
+        told.update(rule.see)
+    for note in notes(told):
+        lines += ["", f"{note['title']}.", *textwrap.wrap(note["text"], 100, initial_indent="  ", subsequent_indent="  ")]
+    if scripts:
+        lines += [""] * bool(lines) + [f"Script rule {number}, which `bad script {number}` tells of, refuses:"]
+        lines += [f"  {each}" for each in scripts]
+    return "\n".join(lines) + "\n" if lines else None
+
+
+def all_shown():
+    """What `wgsim rules` prints: every rule, call by call, in the order in which they are tested."""
+    lines, label = [], None
+    for rule in RULES:
+        if rule.label != label:
+            label = rule.label
+            lines += [""] * bool(lines) + [f"{label} ({section(rule)})"]
+        lines.append(f"  {', '.join(map(str, rule.numbers)) or '-':>13}  {rule.asks}")
+    lines += ["", "Scripts (`bad script N`)"]
+    lines += [f"  {row['rule']:>13}  {row['refuses']}" for row in TABLE["scripts"]]
+    return "\n".join(lines) + "\n"

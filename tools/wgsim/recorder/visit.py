@@ -1,0 +1,218 @@
+"""`wgsim record`: what a page asks of WebGPU in a browser is written down as a script, with what the browser answered and from where it was
+called."""
+
+import contextlib
+import functools
+import http.server
+import ipaddress
+import json
+import os
+import pathlib
+import re
+import tempfile
+import threading
+import time
+import urllib.parse
+
+from wgsim import exit_status
+from wgsim.recorder import browser, whole_text
+
+FRAMES, SECONDS, IDLE = 3, 30, 1000
+# What a browser takes to start and to hand over what was recorded, in seconds.
+BESIDE = 45
+HAND = "wgsimRecordHand"
+
+
+def is_here(address):
+    """Whether an address is of this machine."""
+    host = urllib.parse.urlsplit(address).hostname or ""
+    with contextlib.suppress(ValueError):
+        return ipaddress.ip_address(host).is_loopback
+    return host == "localhost"
+
+
+class Files(http.server.SimpleHTTPRequestHandler):
+    """Serves the folder of a page to the browser alone, and says nothing of it."""
+
+    extensions_map = {
+        **http.server.SimpleHTTPRequestHandler.extensions_map,
+        ".js": "text/javascript",
+        ".mjs": "text/javascript",
+        ".wasm": "application/wasm",
+        ".wgsl": "text/plain",
+    }
+
+    def log_message(self, *words):
+        pass
+
+    def end_headers(self):
+        self.send_header("Cache-Control", "no-store")
+        super().end_headers()
+
+
+@contextlib.contextmanager
+def served(page):
+    """The address at which a browser finds a page: its own, or that of its folder, which is served on this machine meanwhile."""
+    if re.match(r"https?://", page):
+        if not is_here(page):
+            raise exit_status.End(
+                exit_status.WORDS,
+                f"{page} is not of this machine; a page of another one is recorded by hand, with `wgsim record --one-file`",
+            )
+        yield page
+        return
+    path = pathlib.Path(page)
+    if not path.is_file():
+        raise exit_status.End(exit_status.UNREAD, f"{page}: there is no such file")
+    server = http.server.ThreadingHTTPServer(("127.0.0.1", 0), functools.partial(Files, directory=str(path.resolve().parent)))
+    server.daemon_threads = True
+    threading.Thread(target=server.serve_forever, daemon=True).start()
+    try:
+        yield f"http://127.0.0.1:{server.server_address[1]}/{urllib.parse.quote(path.name)}"
+    finally:
+        server.shutdown()
+        server.server_close()
+
+
+class Visit:
+    """One visit of a page, with the recorder put before its scripts."""
+
+    def __init__(self, browsing, address, asked):
+        self.browsing, self.address, self.elsewhere, self.said = browsing, address, [], []
+        target = browsing.ask("Target.createTarget", url="about:blank")["targetId"]
+        self.session = browsing.ask("Target.attachToTarget", targetId=target, flatten=True)["sessionId"]
+        for method, words in (
+            ("Page.enable", {}), ("Runtime.enable", {}), ("Network.enable", {}), ("Runtime.addBinding", {"name": HAND}),
+            ("Page.addScriptToEvaluateOnNewDocument", {"source": whole_text.text(asked)}),
+        ):
+            browsing.ask(method, self.session, **words)
+        self.failed = browsing.ask("Page.navigate", self.session, url=address).get("errorText")
+
+    def handed(self, seconds):
+        """What the recorder handed over, or None where it did not within some seconds."""
+        until = time.monotonic() + seconds
+        while True:
+            told = self.browsing.next(until)
+            if told is None:
+                return None
+            method, words = told.get("method"), told.get("params", {})
+            if method == "Runtime.bindingCalled" and words["name"] == HAND:
+                found = json.loads(words["payload"])
+                if found["recordings"] or found["page"].split("#")[0] == self.address.split("#")[0]:
+                    return found
+            elif method == "Network.requestWillBeSent":
+                address = words["request"]["url"]
+                if re.match(r"(?:https?|wss?)://", address) and not is_here(address):
+                    self.elsewhere.append(address)
+            elif method == "Runtime.exceptionThrown":
+                details = words["exceptionDetails"]
+                self.said.append(details.get("exception", {}).get("description") or details["text"])
+
+
+def recorded(page, named, frames=FRAMES, seconds=SECONDS):
+    """What a browser recorded of a page. A page that cannot be had is told before a browser is looked for."""
+    asked = {"frames": frames, "seconds": seconds, "idle": IDLE, "hand": HAND}
+    with tempfile.TemporaryDirectory(prefix="wgsim-record-", ignore_cleanup_errors=True) as folder, served(page) as address:
+        path = browser.found(named)
+        if path is None:
+            raise exit_status.End(
+                exit_status.UNREAD,
+                (
+                    f"none of {', '.join(browser.NAMES)} is installed; another one is named by --browser, and `wgsim record --one-file` is"
+                    " for browsers of any kind"
+                ),
+            )
+        try:
+            with browser.opened(path, os.path.join(folder, "profile")) as browsing:
+                visit = Visit(browsing, address, asked)
+                found = None if visit.failed else visit.handed(seconds + BESIDE)
+        except browser.Gone as gone:
+            raise exit_status.End(exit_status.NO_ANSWER, f"{path}: {gone}") from None
+    if visit.failed:
+        raise exit_status.End(exit_status.UNREAD, f"{page}: the browser cannot open it: {visit.failed}")
+    if found is None:
+        raise exit_status.End(
+            exit_status.NO_ANSWER,
+            f"{page}: the browser told nothing within {seconds + BESIDE} seconds" + "".join(f"\n    {line}" for line in visit.said[:3]),
+        )
+    if address != page:
+        found["page"] = os.path.basename(page)
+    found["elsewhere"], found["said"] = list(dict.fromkeys(visit.elsewhere)), visit.said[:10]
+    return found
+
+
+def saved(data, name):
+    """What was saved by hand, of the bytes of a file."""
+    try:
+        found = json.loads(data)
+        if found["form"] == 1 and isinstance(found["recordings"], list):
+            return {"elsewhere": [], "said": [], **found}
+    except (ValueError, KeyError, TypeError):
+        pass
+    raise exit_status.End(exit_status.UNREAD, f"{name} is no recording that `wgsimRecord.save()` saved")
+
+
+def listed(items):
+    """A list with an item in each line."""
+    return "[\n" + ",\n".join(json.dumps(item, ensure_ascii=False) for item in items) + "\n]" if items else "[]"
+
+
+def script_of(script):
+    """A script with a call in each line."""
+    limits = f'"limits":{json.dumps(script["limits"])},' if "limits" in script else ""
+    return f'{{"budget":{script["budget"]},{limits}"phases":[[{listed(script["phases"][0][0])}]]}}\n'
+
+
+def object_of(told):
+    """An object with a key in each line, and an item of its lists too."""
+    return (
+        "{\n"
+        + ",\n".join(
+            f"{json.dumps(key)}: {listed(value) if isinstance(value, list) else json.dumps(value, ensure_ascii=False)}"
+            for key, value in told.items()
+        )
+        + "\n}\n"
+    )
+
+
+def write(found, name, folder):
+    """Writes the files of each device of a page, and returns the names and what is in them."""
+    out, written = pathlib.Path(folder), []
+    try:
+        out.mkdir(parents=True, exist_ok=True)
+        for number, one in enumerate(found["recordings"]):
+            own = name if number == 0 else f"{name}-{number + 1}"
+            head = {"form": 1, "page": found["page"], "browser": found["browser"]}
+            rest = {key: value for key, value in one.items() if key not in ("script", "calls")}
+            (out / f"{own}.json").write_text(script_of(one["script"]), encoding="utf-8")
+            (out / f"{own}.answers.json").write_text(
+                object_of({**head, **rest, "elsewhere": found["elsewhere"], "said": found["said"]}), encoding="utf-8"
+            )
+            (out / f"{own}.calls.json").write_text(object_of({"form": 1, "page": found["page"], "calls": one["calls"]}), encoding="utf-8")
+            written.append((out / f"{own}.json", one))
+    except OSError as error:
+        raise exit_status.End(exit_status.UNWRITTEN, f"{error.filename}: {error.strerror}") from None
+    return written
+
+
+def told(found, written):
+    """What was recorded, in lines."""
+    lines = []
+    for path, one in written:
+        errors = sum("error" in answer or "throws" in answer for answer in one["answers"])
+        passed = f", and {len(one['passed'])} that a script cannot say" if one["passed"] else ""
+        lines.append(
+            f"{path}: {len(one['calls'])} calls{passed}; {errors} of them made an error in the browser; it ended because:"
+            f" {one['ended']['why']}"
+        )
+    if not written:
+        lines.append("nothing was recorded: the page opened no device of WebGPU")
+    lines += [f"the page asked for {address}, which is not of this machine, and did not get it" for address in found["elsewhere"]]
+    lines += [f"the page failed: {line}" for text in found["said"] for line in text.splitlines()[:2]]
+    return "".join(line + "\n" for line in lines)
+
+
+def name_of(page):
+    """The name of a recording, by the last part of its page's address."""
+    last = urllib.parse.unquote(urllib.parse.urlsplit(page).path if re.match(r"https?://", page) else page).rstrip("/").split("/")[-1]
+    return re.sub(r"[^\w.-]", "_", re.sub(r"\.(?:recording\.json|\w+)$", "", last)) or "page"

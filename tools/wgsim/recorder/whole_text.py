@@ -1,0 +1,39 @@
+"""The recorder as one text: its parts, in the order in which they are read, and the tables that they go by."""
+
+import json
+import pathlib
+
+from wgsim.reading import calls, limits
+
+FOLDER = pathlib.Path(__file__).resolve().parent
+PARTS = ("wgsl.js", "device.js", "descriptors.js", "calls.js", "wrap.js", "canvas.js", "save.js")
+NAME = "wgsim-record.js"
+HEAD = """\
+// Records what a page asks of WebGPU, as a script of wgsim. It is put into the page before the page's own scripts:
+//
+//     <script src="wgsim-record.js"></script>
+//
+// `wgsimRecord.save()` ends the recording and saves it as a file. `./wgsim record --one-file` wrote this; docs/recording.md has all of it.
+"""
+OUTSIDE = json.loads((FOLDER / "outside.json").read_text(encoding="utf-8"))["words"]
+
+
+def tables():
+    """What a script can say, for the parts: formats, limits, and what is left out without harm."""
+    return {
+        "formats": calls.WORDS["format"],
+        "attributes": calls.WORDS["attribute format"],
+        "canvasFormats": calls.WORDS["canvas format"],
+        "limits": {
+            limit.name: {"default": limit.default, "best": limit.best, "isAlignment": limit.is_alignment} for limit in limits.TABLE.values()
+        },
+        "harmless": [word for word, row in OUTSIDE.items() if row.get("harmless")],
+    }
+
+
+def text(asked=None):
+    """The recorder. `asked` is what the tool asks of it where it opens the page itself."""
+    parts = [(FOLDER / name).read_text(encoding="utf-8") for name in PARTS]
+    first = f"globalThis.wgsimRecordAsked = {json.dumps(asked)};\n" if asked is not None else ""
+    inside = "\n".join(["'use strict';", f"const TABLES = {json.dumps(tables())};", *parts])
+    return f"{HEAD}{first}if (!globalThis.wgsimRecord) (() => {{\n{inside}}})();\n//# sourceURL={NAME}\n"
