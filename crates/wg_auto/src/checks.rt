@@ -9,6 +9,7 @@ ghost use Rattle.wg_auto.specs.Merged.{IsMerged};
 
 use crate::merging::Merged;
 use wg_layouts::{check_group_layout, check_together};
+use wg_rules::{AUTO_INTERFACE_AGREES, DERIVED_LAYOUTS_ARE_ALLOWED};
 use wg_types::bindings::LayoutEntry;
 use wg_types::groups::GroupLayoutInfo;
 use wg_types::limits::Limits;
@@ -57,11 +58,11 @@ pub fn check_automatic(merged: &Merged, limits: &Limits) -> Option<u16>
     ensures { (iface : List IfaceEntry) → IsMerged iface merged.now → result ≡ first_unmet (automatic_rules limits.now iface) }
 {
     match merged {
-        Merged::Clash { .. } => Some(167),
-        Merged::TooMany => Some(168),
+        Merged::Clash { .. } => Some(AUTO_INTERFACE_AGREES),
+        Merged::TooMany => Some(DERIVED_LAYOUTS_ARE_ALLOWED),
         Merged::Layouts(layouts) => {
             if !layouts_meet(layouts.as_slice(), limits) {
-                return Some(168);
+                return Some(DERIVED_LAYOUTS_ARE_ALLOWED);
             }
             None
         }

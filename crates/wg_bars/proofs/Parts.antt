@@ -1,11 +1,8 @@
 -- Spots of parts.
-use Rattle.std.proofs.Common.{◌≡◌, ℕ, ◌<◌, ◌≤◌, List, [], ◌∷◌, Bool, true, false, Option, Some, None, refl, ap, ap₂, sym, ◌∙◌, arith, if◌then◌else◌, nat_le, nat_lt, ◌==◌}
-use Rattle.std.proofs.lemmas.Bool.{and_parts, leb-true, ltb-true}
-use Rattle.wg_rows.specs.Runs.{aspect_number, PartRun, BufferPart, LayerParts, QueryPart, Part, Buffer, Subresource, QuerySet, part_sort, part_line, part_spot, is_texture, run_object, object_of}
-use Rattle.wg_rows.specs.Rows.{line_object, in_range, list_eq, Sort, Spot, covers_spot}
-use Rattle.wg_rows.specs.Cut.{value_at}
+use Rattle.std.proofs.Common.{◌≡◌, ℕ, List, [], ◌∷◌, Bool, false, refl, ◌==◌}
+use Rattle.wg_rows.specs.Runs.{PartRun, BufferPart, LayerParts, QueryPart, Part, Buffer, Subresource, QuerySet, part_line, part_spot, is_texture, run_object, object_of}
+use Rattle.wg_rows.specs.Rows.{line_object}
 use Rattle.wg_bars.specs.Changes.{is_texture_run}
-use Rattle.wg_rows.proofs.Put.{list_eq_true}
 pub use Rattle.wg_rows.proofs.Sets.{part_clips, covered, part_at, some_part, same_at_parts}
 
 abbrev pub second_is : ℕ → List ℕ → Bool

@@ -7,6 +7,7 @@ ghost use Rattle.wg_model.specs.Rules.{first_unmet};
 
 use wg_formats::is_color;
 use wg_pipes::{are_color, has_target, is_multisampled, samples_fit};
+use wg_rules::{BUNDLE_FORMATS_FIT, BUNDLE_HAS_TARGET, BUNDLE_SAMPLES_ARE_ALLOWED};
 use wg_types::limits::Limits;
 use wg_types::render::TargetInfo;
 
@@ -20,14 +21,14 @@ pub fn check_targets(targets: &TargetInfo, limits: &Limits) -> Option<u16>
         || !are_color(colors)
         || targets.depth.is_some_and(|format| is_color(format))
     {
-        return Some(175);
+        return Some(BUNDLE_FORMATS_FIT);
     }
     if !has_target(colors) && targets.depth.is_none() {
-        return Some(176);
+        return Some(BUNDLE_HAS_TARGET);
     }
     let depth_allows = targets.depth.is_none_or(|format| is_multisampled(format));
     if !samples_fit(targets.samples, colors, depth_allows) {
-        return Some(177);
+        return Some(BUNDLE_SAMPLES_ARE_ALLOWED);
     }
     None
 }

@@ -1,7 +1,6 @@
 -- What the desk has done, as what lies behind a device shows it.
-use Rattle.std.proofs.Common.{◌≡◌, ℕ, ◌+◌, ◌<◌, ◌≤◌, List, [], ◌∷◌, ◌++◌, Bool, true, false, Some, None, inl, inr, length, ap, sym, ◌∙◌, subst, append-nil, length-append, arith}
-use Rattle.std.specs.Prelude.{MatchBool, slice_get}
-use Rattle.std.proofs.lemmas.Option.{slice_get_within, slice_get_cases}
+use Rattle.std.proofs.Common.{◌≡◌, ℕ, ◌+◌, List, [], ◌∷◌, ◌++◌, Bool, true, false, length, ap, sym, ◌∙◌, subst, append-nil, length-append, arith}
+use Rattle.std.specs.Prelude.{MatchBool}
 use Rattle.wg_types.specs.declared.commands.CommandOf.{CommandOf}
 use Rattle.wg_types.specs.declared.commands.On.{On}
 use Rattle.wg_trace.specs.declared.replies.Reply.{Reply}
@@ -103,33 +102,10 @@ waits_after old new who event reply items more told setup sent grown waits =
     = sym (length-append waits.first items) ∙ ap (λ (xs : List Item). length xs) waits.is_end in
     record { first = waits.first; is_end = is; within = omega (arith, long, short, waits.within) }
 
--- and where nothing has come to the trace
-pub still_waits : (old new : DeskValue) (items more : List Item) (told : ℕ) → new.setup ≡ old.setup → new.history ≡ old.history → more ≡ items
-    → AreWaiting old.setup old.history items told → AreWaiting new.setup new.history more told
-still_waits old new items more told setup history same waits = record {
-  first = waits.first;
-  is_end = ap (λ (xs : List Item). waits.first ++ xs) same
-      ∙ (waits.is_end ∙ sym (ap (λ (s : Setup). Trace s new.history) setup ∙ ap (Trace old.setup) history));
-  within = subst (λ (xs : List Item). told ≤ length xs) (sym same) waits.within;
-}
-
--- one more was told
-pub next_waits : (setup : Setup) (history : List Entry) (items : List Item) (told : ℕ) (item : Item) → slice_get items told ≡ Some item
-    → AreWaiting setup history items told → AreWaiting setup history items (told + 1)
-next_waits setup history items told item is waits =
-    let less : told < length items = slice_get_within items told item is in
-    record { first = waits.first; is_end = waits.is_end; within = omega (arith, less) }
-
--- and all were
-pub all_told : (setup : Setup) (history : List Entry) (items : List Item) (told : ℕ) → slice_get items told ≡ None → AreWaiting setup history items told → told ≡ length items
-all_told setup history items told none waits = elim (slice_get_cases items told).1 [
-  | inl found ↦ let there : Some found.0 ≡ None = sym found.2 ∙ none in absurd (cc (there))
-  | inr past ↦ let most : length items ≤ told = past.0 in let least : told ≤ length items = waits.within in omega (arith, most, least)
-]
-
-pub none_left : (setup : Setup) (history : List Entry) (items : List Item) (told : ℕ) → AreWaiting setup history items told → AreWaiting setup history [] 0
-none_left setup history items told waits = record {
+-- and where all were told
+pub none_left : (setup : Setup) (history : List Entry) (items left : List Item) (told : ℕ) → left ≡ [] → AreWaiting setup history items told → AreWaiting setup history left 0
+none_left setup history items left told none waits = record {
   first = waits.first ++ items;
-  is_end = append-nil (waits.first ++ items) ∙ waits.is_end;
+  is_end = ap (λ (xs : List Item). (waits.first ++ items) ++ xs) none ∙ (append-nil (waits.first ++ items) ∙ waits.is_end);
   within = omega arith;
 }

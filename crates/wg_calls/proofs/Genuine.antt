@@ -32,7 +32,7 @@ use Rattle.wg_model.specs.Equality.{same_bool}
 use Rattle.wg_model.specs.Layouts.{pipeline_layout_rules}
 use Rattle.wg_model.specs.Automatic.{derived_rules, get_layout_rules}
 use Rattle.wg_model.specs.Groups.{group_rules}
-use Rattle.wg_model.specs.Pipelines.{compute_rules}
+use Rattle.wg_model.specs.Pipelines.{compute_pipeline_rules}
 use Rattle.wg_model.specs.RenderPipelines.{render_pipeline_rules}
 use Rattle.wg_model.specs.Making.{pipeline_layout_made, group_made, compute_made, render_made}
 use Rattle.wg_model.proofs.Unmet.{all_met}
@@ -238,7 +238,7 @@ known_same setup entry past (CreateComputePipeline layout iface) if_own ruled =
     let made : ComputeInfo = compute_made (λ r. r) (known_in past) (option_map reference_of layout) iface in
     info_is_made (known_in past) (CreateComputePipeline layout iface)
     (all_told setup entry past useds if_own (first_stand setup past (maybe_wanted wanted.PipelineLayout (option_map reference_of layout)) useds
-    (derived_rules setup.limits (option_map reference_of layout) iface.entries ++ compute_rules made.layout_info.layouts_info iface.entries)
+    (derived_rules setup.limits (option_map reference_of layout) iface.entries ++ compute_pipeline_rules made.layout_info.layouts_info iface.entries)
     (maybe_refers wanted.PipelineLayout layout) ruled))
 known_same setup entry past (CreateRenderPipeline layout desc) if_own ruled =
     let useds : List (HandleValue × Wanted) = maybe_wanted wanted.PipelineLayout layout in

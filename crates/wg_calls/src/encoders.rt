@@ -33,11 +33,7 @@ pub fn recorder_for(alloc: Global, encoder: ObjRef) -> Recorder
 }
 
 /// A recorder that is open for a bundle encoder, which draws to these targets. It takes no memory.
-pub fn bundle_recorder_for(
-    alloc: Global,
-    encoder: ObjRef,
-    targets: Shared<TargetInfo>,
-) -> Recorder
+pub fn bundle_recorder_for(alloc: Global, encoder: ObjRef, targets: Shared<TargetInfo>) -> Recorder
     ensures { result ≡ opened_with targets encoder }
 {
     let mut recorder = Recorder::bundle(alloc, encoder.device, targets);
@@ -46,11 +42,7 @@ pub fn bundle_recorder_for(
 }
 
 /// The recorder of a new object of which this is known, if it is an encoder.
-pub fn recorder_of(
-    alloc: Global,
-    object: ObjRef,
-    info: &Info,
-) -> Result<Option<Recorder>, NoMemory>
+pub fn recorder_of(alloc: Global, object: ObjRef, info: &Info) -> Result<Option<Recorder>, NoMemory>
     ensures { IfOk result (λ recorder. recorder ≡ recorder_of object info.now) }
 {
     match info {

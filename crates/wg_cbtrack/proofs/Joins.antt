@@ -20,8 +20,7 @@ use Rattle.wg_bars.proofs.Parts.{second_is, part_object_is, part_texture_is}
 use Rattle.wg_rows.proofs.Sets.{part_clips, same_at_parts, alone, sets_are}
 use Rattle.wg_orders.proofs.Sound.{steps_added}
 use Rattle.wg_orders.proofs.Steps.{last_set_more}
-use Rattle.wg_bars.proofs.Noted.{noted_are}
-use Rattle.wg_cbtrack.proofs.Rowed.{each_noted}
+use Rattle.wg_bars.proofs.Noted.{noted_are, each_noted}
 use Rattle.wg_bars.proofs.Changes.{change_at, AllAre, all_are, wanted, each_of, all_fit, wanted_all}
 
 abbrev PiecesAre : {W : Type 0} → (UseRow → List (PartRun × W)) → (Spot → Usages → Option W) → Type 0

@@ -4,7 +4,6 @@ pub mod Owning
 pub mod Local
 pub mod Nearby
 pub mod OfRuns
-pub mod Rowed
 pub mod Split
 pub mod Joins
 pub mod Items

@@ -29,7 +29,7 @@ use Rattle.wg_cbtrack.specs.Seen.{AreSeen}
 use Rattle.wg_cbtrack.specs.Next.{clear_deed, IsKept, AreMore, AreCells, IsStep, IsSeen, HoldsAfter, FollowsNear}
 use Rattle.wg_cbtrack.proofs.Owning.{each_filter, ordered_map, exchanged_map}
 use Rattle.wg_cbtrack.proofs.Local.{Keeps, value_among, none_at, apart_ordered, apart_filter, exchanged_value, exchanged_apart, exchanged_each, inside_among, gaps_among, same_values, exchanged_is, each_shown}
-use Rattle.wg_cbtrack.proofs.Rowed.{each_put}
+use Rattle.wg_rows.proofs.Overwritten.{each_put}
 use Rattle.wg_cbtrack.proofs.Joins.{opens_are, used_are, step_used}
 use Rattle.wg_cbtrack.proofs.Leaving.{any_loose, writes_loose, unsets_loose}
 use Rattle.wg_cbtrack.proofs.Nexts.{track_next, noted_more}

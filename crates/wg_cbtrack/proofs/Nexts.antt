@@ -6,11 +6,11 @@ use Rattle.wg_trace.specs.declared.steps.StepName.TheVariants.{Clear}
 use Rattle.wg_rows.specs.Runs.{Cells, Cell, PartRun, covers}
 use Rattle.wg_rows.specs.Uses.{AccessKind, Write, Usages, same_kind, row_reads, row_writes, row_unsets}
 use Rattle.wg_rows.specs.Sets.{UseRow, sets}
-use Rattle.wg_orders.specs.Steps.{Step, StepPlace, reads, writes, unsets}
+use Rattle.wg_orders.specs.Steps.{Step, StepPlace, reads, writes, unsets, placed}
 use Rattle.wg_orders.specs.Trace.{clear_of, cells_of, needs}
 use Rattle.wg_cbtrack.specs.Cleared.{uses_of, written}
 use Rattle.wg_cbtrack.specs.declared.kept.Kept.{Kept}
-use Rattle.wg_cbtrack.specs.Group.{placed, placed_all, left, left_cells, clear_steps}
+use Rattle.wg_cbtrack.specs.Group.{placed_all, left, left_cells, clear_steps}
 use Rattle.wg_cbtrack.specs.Join.{inner_changes, opens, used_after}
 use Rattle.wg_cbtrack.specs.Items.{inner_steps, AreKept, noted}
 use Rattle.wg_cbtrack.specs.Track.{inside_at, IsTrack}

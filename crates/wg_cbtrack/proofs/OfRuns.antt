@@ -6,13 +6,14 @@ use Rattle.std.proofs.lemmas.Bool.{eq-eqb, or_left}
 use Rattle.wg_rows.specs.Rows.{line_object, Sort, Spot, Apart}
 use Rattle.wg_rows.specs.Order.{are_apart}
 use Rattle.wg_rows.specs.Cut.{value_at, cut, cut_row, inside, gaps, put_all}
-use Rattle.wg_rows.specs.Runs.{PartRun, Cells, Bytes, Layers, Slices, Queries, part_sort, cell_sort, part_line, cell_line}
+use Rattle.wg_rows.specs.Runs.{PartRun, Cells, Bytes, Layers, Slices, Queries, part_sort, cell_sort, cell_line, run_object}
 use Rattle.wg_rows.specs.Uses.{AccessKind, Usages, same_set, same_kind}
 use Rattle.wg_rows.specs.Sets.{UseRow}
 use Rattle.wg_rows.proofs.Told.{uses_tell, accesses_tell}
 use Rattle.wg_rows.proofs.Order.{apart_told}
 use Rattle.wg_rows.proofs.Sets.{part_clips}
 use Rattle.wg_rows.proofs.Values.{apart_loose, all_put, GapsAre, gaps_are, AreFree}
+use Rattle.wg_bars.proofs.Parts.{object_is}
 use Rattle.wg_cbtrack.specs.Owners.{among, rows_of, rows_among, Ordered}
 use Rattle.wg_cbtrack.specs.Near.{use_object, access_object}
 use Rattle.wg_cbtrack.specs.Join.{used_after}
@@ -57,11 +58,11 @@ inside_about sort r rows = ap (inside sort r) (sym (one_among (of_row sort) (lin
 gaps_about : {R V W : Type 0} (sort : Sort R) → Keeps sort → (u : R × W) (rows : List (R × V)) → gaps sort (u ∷ []) (rows_of (of_row sort) (line_object (sort.line u.0)) rows) ≡ gaps sort (u ∷ []) rows
 gaps_about sort keeps u rows = ap (gaps sort (u ∷ [])) (sym (one_among (of_row sort) (line_object (sort.line u.0)) rows)) ∙ gaps_among sort keeps (line_object (sort.line u.0) ∷ []) (u ∷ []) rows (itself (line_object (sort.line u.0)), tt)
 
-pub inside_parts : (run : PartRun) (o : ℕ) (mine rows : List UseRow) → o ≡ line_object (part_line run) → mine ≡ rows_of use_object o rows → inside part_sort run mine ≡ inside part_sort run rows
-inside_parts run o mine rows at is = ap (inside part_sort run) (is ∙ ap (λ (n : ℕ). rows_of use_object n rows) at) ∙ inside_about part_sort run rows
+pub inside_parts : (run : PartRun) (o : ℕ) (mine rows : List UseRow) → o ≡ run_object run → mine ≡ rows_of use_object o rows → inside part_sort run mine ≡ inside part_sort run rows
+inside_parts run o mine rows at is = ap (inside part_sort run) (is ∙ ap (λ (n : ℕ). rows_of use_object n rows) (at ∙ sym (object_is run))) ∙ inside_about part_sort run rows
 
-pub gaps_parts : (run : PartRun) (v : Usages) (o : ℕ) (mine rows : List UseRow) → o ≡ line_object (part_line run) → mine ≡ rows_of use_object o rows → gaps part_sort ((run, v) ∷ []) mine ≡ gaps part_sort ((run, v) ∷ []) rows
-gaps_parts run v o mine rows at is = ap (gaps part_sort ((run, v) ∷ [])) (is ∙ ap (λ (n : ℕ). rows_of use_object n rows) at) ∙ gaps_about part_sort part_keeps (run, v) rows
+pub gaps_parts : (run : PartRun) (v : Usages) (o : ℕ) (mine rows : List UseRow) → o ≡ run_object run → mine ≡ rows_of use_object o rows → gaps part_sort ((run, v) ∷ []) mine ≡ gaps part_sort ((run, v) ∷ []) rows
+gaps_parts run v o mine rows at is = ap (gaps part_sort ((run, v) ∷ [])) (is ∙ ap (λ (n : ℕ). rows_of use_object n rows) (at ∙ sym (object_is run))) ∙ gaps_about part_sort part_keeps (run, v) rows
 
 pub inside_cells : (run : Cells) (o : ℕ) (mine rows : List (Cells × AccessKind)) → o ≡ line_object (cell_line run) → mine ≡ rows_of access_object o rows → inside cell_sort run mine ≡ inside cell_sort run rows
 inside_cells run o mine rows at is = ap (inside cell_sort run) (is ∙ ap (λ (n : ℕ). rows_of access_object n rows) at) ∙ inside_about cell_sort run rows

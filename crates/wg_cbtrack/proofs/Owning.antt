@@ -341,9 +341,6 @@ exchanged_one {T} object os p mine rows now next a h is = record { ordered = sub
         ap₂ (λ xs ys. xs ++ ys) (filter_apart (λ x. object x == o) (λ x. nat_lt (object x) p) (λ x k. let is : object x < p = ltb-true (object x) p k in same_no (object x) o (omega (arith, l))) now) (ap₂ (λ xs ys. xs ++ ys) (filter_apart (λ x. object x == o) (λ x. object x == p) (λ x k. let is : object x ≡ p = eqb-true (object x) p k in same_no (object x) o (omega (arith, l))) mine) (filter_within (λ x. object x == o) (λ x. nat_lt p (object x)) (λ x k. let is : object x ≡ o = eqb-true (object x) o k in lt-ltb p (object x) (omega (arith, l))) now))
         ∙ as_before o (same_not o p l)
 
-pub none_exchanged : {T : Type 0} (object : T → ℕ) (mine rows : List T) → Ordered object rows → AreExchanged object [] mine rows rows
-none_exchanged object mine rows a = record { ordered = a; each = λ o. refl }
-
 -- The room that the next object takes.
 pub next_fits : {T : Type 0} (object : T → ℕ) (os : List ℕ) (p : ℕ) (mine rows now : List T) → Ordered object mine → Ordered object rows → AreExchanged object os mine rows now → length (rows_below object p now) + length (rows_of object p mine) + length (rows_above object p now) ≤ length rows + length mine
 next_fits {T} object os p mine rows now a b h =

@@ -7,9 +7,9 @@ use Rattle.wg_rows.specs.Cut.{value_at, put_all}
 use Rattle.wg_rows.specs.Runs.{Part, part_sort, part_spot}
 use Rattle.wg_rows.specs.Uses.{Usages, same_set}
 use Rattle.wg_rows.specs.Sets.{UseRow, sets}
-use Rattle.wg_orders.specs.Steps.{Step, set_of}
+use Rattle.wg_orders.specs.Steps.{Step, set_of, placed}
 use Rattle.wg_orders.specs.Trace.{last_set}
-use Rattle.wg_cbtrack.specs.Group.{placed, placed_all}
+use Rattle.wg_cbtrack.specs.Group.{placed_all}
 use Rattle.wg_cbtrack.specs.Join.{opens, used_after}
 use Rattle.wg_cbtrack.specs.Seen.{first_set, AreStarts, AreEnds, AreSeen}
 use Rattle.wg_rows.proofs.Told.{uses_tell}

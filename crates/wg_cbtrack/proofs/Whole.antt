@@ -1,23 +1,21 @@
 -- A tracker that keeps nothing adds nothing, and another adds its steps.
-use Rattle.std.proofs.Common.{◌≡◌, List, [], ◌∷◌, ◌++◌, map, refl, ap, sym, ◌∙◌, subst, append-nil, inl, inr}
+use Rattle.std.proofs.Common.{◌≡◌, List, [], ◌∷◌, ◌++◌, map, refl, ap, sym, ◌∙◌, subst}
 use Rattle.wg_trace.specs.declared.steps.Deed.{Deed}
 use Rattle.wg_rows.specs.Runs.{Cells, Cell}
 use Rattle.wg_rows.specs.Uses.{AccessKind}
 use Rattle.wg_rows.specs.Sets.{UseRow}
-use Rattle.wg_orders.specs.Steps.{Step, StepPlace}
-use Rattle.wg_orders.specs.Trace.{Item, steps_of, add_group}
-use Rattle.wg_bars.specs.Kept.{HasRoom}
-use Rattle.wg_cbtrack.specs.Stands.{TrackerValue, Stands}
+use Rattle.wg_orders.specs.Steps.{Step, StepPlace, placed}
+use Rattle.wg_orders.specs.Trace.{Item, add_group}
+use Rattle.wg_cbtrack.specs.Stands.{TrackerValue}
 use Rattle.wg_cbtrack.specs.declared.draft.Draft.{Draft}
 use Rattle.wg_cbtrack.specs.declared.kept.Kept.{Kept}
-use Rattle.wg_cbtrack.specs.Group.{placed, placed_all, left_cells, clear_steps}
+use Rattle.wg_cbtrack.specs.Group.{placed_all, left_cells, clear_steps}
 use Rattle.wg_cbtrack.specs.Items.{inner_steps, AreKept}
 use Rattle.wg_cbtrack.specs.Track.{IsTrack, Holds}
 use Rattle.wg_cbtrack.specs.Leaves.{as_reads}
 use Rattle.wg_cbtrack.specs.Seen.{AreSeen}
 use Rattle.wg_cbtrack.specs.declared.kept.Rows.{Rows}
 use Rattle.wg_cbtrack.specs.Adds.{HasAdded}
-use Rattle.wg_cbtrack.specs.Plans.{PlanValue, Reaches}
 use Rattle.wg_cbtrack.proofs.Leaving.{reads_again}
 use Rattle.wg_cbtrack.proofs.Seeing.{none_seen}
 
@@ -33,15 +31,6 @@ pub some_added : (t : TrackerValue) (d : Draft) (place : StepPlace) (deeds : Lis
 some_added t d place [] [] ends wants leaves f some track h = absurd (some refl)
 some_added t d place [] (k ∷ held) ends wants leaves f some track h = absurd (track.kept place)
 some_added t d place (x ∷ deeds) held ends wants leaves f some track h = h x deeds track
-
--- A draft without items has added nothing.
-pub nothing_added : (t : TrackerValue) (d : Draft) (f : List Item → List Item) (trace : List Item) → d.items.items ≡ [] → HasAdded t d f → Stands t (steps_of trace) → Stands t (steps_of (f trace))
-nothing_added t d f trace none h stands = subst (λ items. Stands t (steps_of items)) (sym (append-nil trace) ∙ (sym (ap (λ more. trace ++ more) none) ∙ h.added trace stands)) stands
-
--- A plan with items has room for their notes.
-pub room_of : (p : PlanValue) (t : TrackerValue) → (p.draft.items.items ≡ [] → ⊥) → Reaches p t → HasRoom t.last p.draft.last p.last_room × HasRoom t.cells p.draft.cells p.cells_room
-room_of p t some (inl none) = absurd (some none)
-room_of p t some (inr room) = room
 
 -- What is lent is the same under another name.
 pub tracks_with : (deeds : List Deed) (held : List Kept) (ends : List UseRow) (wants leaves : List (Cells × AccessKind)) (ends2 : List UseRow) (wants2 leaves2 : List (Cells × AccessKind)) → ends ≡ ends2 → wants ≡ wants2 → leaves ≡ leaves2 → IsTrack deeds held ends wants leaves → IsTrack deeds held ends2 wants2 leaves2

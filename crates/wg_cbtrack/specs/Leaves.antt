@@ -5,6 +5,8 @@ use Rattle.wg_rows.specs.Cut.{value_at, inside, gaps, choose, put_all, overwrite
 use Rattle.wg_rows.specs.Runs.{Cells, Cell, cell_sort, cell_spot}
 use Rattle.wg_rows.specs.Uses.{AccessKind, Read, Write, Drop, kind_reads, kind_writes, kind_unsets, same_kind}
 use Rattle.wg_init.specs.Effects.{is_full}
+use Rattle.wg_cbtrack.specs.declared.cells.Pieces.{Pieces}
+use Rattle.wg_cbtrack.specs.declared.cells.Pieces.TheVariants.{Unset, Unwritten}
 
 -- what an access leaves of a cell that it writes: a write, or a cell that is unset
 abbrev pub left_kind : AccessKind → AccessKind
@@ -31,6 +33,11 @@ unset_pieces leaves run = choose cleared_kind (inside cell_sort run leaves)
 -- what of a run is not written
 abbrev pub unwritten_pieces : List (Cells × AccessKind) → Cells → List (Cells × AccessKind)
 unwritten_pieces leaves run = gaps cell_sort ((run, Read) ∷ []) leaves
+
+-- the pieces that count
+abbrev pub pieces_of : Pieces → List (Cells × AccessKind) → Cells → List (Cells × AccessKind)
+pieces_of Unset leaves run = unset_pieces leaves run
+pieces_of Unwritten leaves run = unwritten_pieces leaves run
 
 -- cells as reads
 abbrev pub as_reads : List Cells → List (Cells × AccessKind)

@@ -6,10 +6,11 @@ ghost use Rattle.std.specs.List.{flat_map};
 ghost use Rattle.wg_rows.specs.Runs.{PartRun, part_sort, cell_sort};
 ghost use Rattle.wg_rows.specs.Uses.{AccessKind, Usages, same_set};
 
-use crate::near::{cells_object, part_object};
+use crate::near::cells_object;
 use crate::owners::rows_of;
 use std::alloc::Global;
 use wg_entry::NoMemory;
+use wg_rows::part_runs::run_object;
 use wg_rows::rows::{gaps, put_all};
 use wg_trace::parts::{AccessKind, Cells, PartRun};
 use wg_trace::usages::Usages;
@@ -26,7 +27,7 @@ pub fn about_parts(
     ensures gaps { (v : Usages) → gaps part_sort ((run, v) ∷ []) result.now ≡ gaps part_sort ((run, v) ∷ []) rows.now }
 {
     if are_printed {
-        return rows_of(rows, part_object(run));
+        return rows_of(rows, run_object(run));
     }
     rows
 }

@@ -1,5 +1,5 @@
 //! The cells of one more noted step.
-ghost use Rattle.std.specs.Prelude.{◌≡◌, List, [], IfOk, OnOk, IsTrue, map};
+ghost use Rattle.std.specs.Prelude.{◌≡◌, List, IfOk, OnOk, IsTrue};
 ghost use Rattle.wg_rows.specs.Cut.{choose, put_all};
 ghost use Rattle.wg_rows.specs.Rows.{Apart};
 ghost use Rattle.wg_rows.specs.Runs.{cell_sort};
@@ -11,6 +11,7 @@ ghost use Rattle.wg_cbtrack.specs.Leaves.{
   cleared_kind,
   unset_pieces,
   unwritten_pieces,
+  pieces_of,
   AreTidy,
 };
 ghost use Rattle.wg_cbtrack.specs.Next.{AreCells};
@@ -30,6 +31,14 @@ pub struct CellsAfter {
     pub clear: Vec<(Cells, AccessKind)>,
     pub wants: Vec<(Cells, AccessKind)>,
     pub leaves: Vec<(Cells, AccessKind)>,
+}
+
+/// Which pieces of a run that is read count: those that are left unset, as they are cleared, or those that
+/// no step before wrote, as they are read.
+#[derive(Clone, Copy)]
+pub enum Pieces {
+    Unset,
+    Unwritten,
 }
 
 /// What is left of a cell that an access writes.
@@ -107,28 +116,6 @@ fn push_unset(
     Ok(())
 }
 
-/// What accesses read of the cells that are left unset: the accesses of the clear inside before them.
-#[tactic(auto, using(crate::proofs::OfRuns::cells_printed))]
-fn clear_of(
-    alloc: Global,
-    leaves: &[(Cells, AccessKind)],
-    accesses: &[(Cells, AccessKind)],
-) -> Result<Vec<(Cells, AccessKind)>, NoMemory>
-    ensures { IfOk result (λ v. v.items ≡ with_pieces (unset_pieces leaves.now) accesses.now []) }
-{
-    let are_printed = are_apart(leaves);
-    let mut found = Vec::new(alloc);
-    let mut i = accesses.len();
-    while i > 0 {
-        i -= 1;
-        let access = accesses[i];
-        if reads(access.1) && cell_lo(access.0) < cell_hi(access.0) {
-            push_unset(&mut found, leaves, are_printed, access.0)?;
-        }
-    }
-    put_all(alloc, Vec::new(alloc), found.as_slice())
-}
-
 /// Adds what of a run is not written, as it is read, at the end of others that are yet to be put in printed
 /// form.
 #[tactic(auto, using(wg_rows::proofs::Chained::put_all_more))]
@@ -148,15 +135,34 @@ fn push_unwritten(
     Ok(())
 }
 
-/// What is wanted from before all steps, with what accesses read and no step before them writes.
+/// Adds pieces of a run at the end of others that are yet to be put in printed form.
+fn push_pieces(
+    found: &mut Vec<(Cells, AccessKind)>,
+    pieces: Pieces,
+    leaves: &[(Cells, AccessKind)],
+    are_printed: bool,
+    run: Cells,
+) -> Result<(), NoMemory>
+    requires { IsTrue are_printed → Apart cell_sort leaves.now }
+    ensures { OnOk result ((rows : List (Cells × AccessKind)) → put_all cell_sort same_kind found.new.items rows
+        ≡ put_all cell_sort same_kind (pieces_of pieces leaves.now run) (put_all cell_sort same_kind found.old.items rows)) }
+{
+    match pieces {
+        Pieces::Unset => push_unset(found, leaves, are_printed, run),
+        Pieces::Unwritten => push_unwritten(found, leaves, are_printed, run),
+    }
+}
+
+/// Rows with pieces of the runs that accesses read, the last access first.
 #[tactic(auto, using(crate::proofs::OfRuns::cells_printed))]
-fn wanted_after(
+fn with_pieces(
     alloc: Global,
-    wants: Vec<(Cells, AccessKind)>,
+    pieces: Pieces,
+    rows: Vec<(Cells, AccessKind)>,
     leaves: &[(Cells, AccessKind)],
     accesses: &[(Cells, AccessKind)],
 ) -> Result<Vec<(Cells, AccessKind)>, NoMemory>
-    ensures { IfOk result (λ v. v.items ≡ with_pieces (unwritten_pieces leaves.now) accesses.now wants.items) }
+    ensures { IfOk result (λ v. v.items ≡ with_pieces (pieces_of pieces leaves.now) accesses.now rows.items) }
 {
     let are_printed = are_apart(leaves);
     let mut found = Vec::new(alloc);
@@ -165,10 +171,10 @@ fn wanted_after(
         i -= 1;
         let access = accesses[i];
         if reads(access.1) && cell_lo(access.0) < cell_hi(access.0) {
-            push_unwritten(&mut found, leaves, are_printed, access.0)?;
+            push_pieces(&mut found, pieces, leaves, are_printed, access.0)?;
         }
     }
-    put_all(alloc, wants, found.as_slice())
+    put_all(alloc, rows, found.as_slice())
 }
 
 /// The cells of one more step that accesses these.
@@ -181,9 +187,10 @@ pub fn cells_after(
     ensures { IfOk result (λ r. AreTidy wants.now leaves.now →
         AreCells wants.now leaves.now accesses.now r.clear.items r.wants.items r.leaves.items) }
 {
-    let clear = clear_of(alloc, leaves, accesses)?;
+    let none = Vec::new(alloc);
+    let clear = with_pieces(alloc, Pieces::Unset, none, leaves, accesses)?;
     let before = Vec::from_slice(alloc, wants)?;
-    let wanted = wanted_after(alloc, before, leaves, accesses)?;
+    let wanted = with_pieces(alloc, Pieces::Unwritten, before, leaves, accesses)?;
     let held = Vec::from_slice(alloc, leaves)?;
     let set = left_after(alloc, held, clear.as_slice())?;
     let left = left_after(alloc, set, accesses)?;

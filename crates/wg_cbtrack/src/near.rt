@@ -1,7 +1,7 @@
 //! The rows of a tracker that a note touches: those of the objects that its step uses or accesses. They
 //! are found by halving, and others are put in place of them, so that few rows of other objects are looked at.
 ghost use Rattle.std.specs.Prelude.{◌≡◌, IfOk, OnOk};
-ghost use Rattle.wg_rows.specs.Runs.{part_line, cell_line};
+ghost use Rattle.wg_rows.specs.Runs.{cell_line};
 ghost use Rattle.wg_rows.specs.Rows.{line_object};
 ghost use Rattle.wg_cbtrack.specs.Owners.{Rising};
 ghost use Rattle.wg_cbtrack.specs.Near.{use_object, access_object, cells_object, AreOrdered, AreNear, FitsBeside, AreSameRows, AreAllExchanged};
@@ -10,19 +10,9 @@ use crate::kept::Rows;
 use crate::owners::{Owned, exchange, rows_among};
 use std::alloc::Global;
 use wg_entry::NoMemory;
+use wg_rows::part_runs::run_object;
 use wg_trace::parts::{AccessKind, Cells, PartRun};
 use wg_trace::usages::Usages;
-
-/// The object of a run of parts.
-pub fn part_object(run: PartRun) -> u64
-    ensures { result ≡ line_object (part_line run) }
-{
-    match run {
-        PartRun::Buffer { object } => object,
-        PartRun::Queries { object } => object,
-        PartRun::Texture { object, .. } => object,
-    }
-}
 
 /// The object of a run of cells.
 pub fn cells_object(run: Cells) -> u64
@@ -39,8 +29,9 @@ pub fn cells_object(run: Cells) -> u64
 impl Owned for (PartRun, Usages) {
     ghost object = { use_object };
 
+    #[tactic(auto, using(wg_bars::proofs::Parts::object_is))]
     fn object(&self) -> u64 {
-        part_object(self.0)
+        run_object(self.0)
     }
 }
 

@@ -1,5 +1,5 @@
 -- The least reader over digests, with the writer that it meets, is the least clash.
-use Rattle.std.proofs.Common.{◌≡◌, ◌≢◌, ℕ, zero, suc, ◌+◌, ◌-◌, ◌<◌, ◌≤◌, List, [], ◌∷◌, map, Bool, true, false, ◌==◌, Option, Some, None, refl, ap, ap₂, sym, ◌∙◌, arith, if◌then◌else◌, subst}
+use Rattle.std.proofs.Common.{◌≡◌, ℕ, zero, suc, ◌-◌, ◌≤◌, List, [], ◌∷◌, map, Bool, true, false, Option, Some, None, refl, ap, ap₂, sym, ◌∙◌, arith, if◌then◌else◌, subst}
 use Rattle.std.specs.Option.{option_map}
 use Rattle.std.proofs.lemmas.Bool.{eq-eqb, ne_eqb}
 use Rattle.wg_check.specs.declared.stories.Access.{Access}
@@ -8,7 +8,7 @@ use Rattle.wg_check.specs.declared.ends.Event.{Event}
 use Rattle.wg_check.specs.declared.segments.Spotted.{Spotted}
 use Rattle.wg_check.specs.Stories.{Meeting, next_writer, after, writer_for, at_end, or_on, clash_from, is_step, writer_met}
 use Rattle.wg_check.specs.Segments.{story_at, Rises, earlier, at_segment, better, clash_at, clash_among}
-use Rattle.wg_check.specs.Digests.{Digest, Entry, Run, Found, told, least_reader, found_here, found_at, first_found, found_among, with_writer}
+use Rattle.wg_check.specs.Digests.{Digest, Entry, Run, Found, told, least_reader, found_here, first_found, found_among, with_writer}
 use Rattle.wg_check.proofs.Halves.{digest_is}
 use Rattle.wg_check.proofs.Reading.{reader_right}
 use Rattle.wg_check.proofs.Laws.{AmongIs, among_is}

@@ -1,5 +1,5 @@
 -- Digests of lists of deeds are told together in any grouping.
-use Rattle.std.proofs.Common.{◌≡◌, ℕ, Bool, true, false, ◌||◌, ◌&&◌, Option, Some, None, refl, ap, ap₂, sym, ◌∙◌, if◌then◌else◌}
+use Rattle.std.proofs.Common.{◌≡◌, ℕ, Bool, true, false, ◌||◌, ◌&&◌, Option, Some, None, refl, ap, sym, ◌∙◌, if◌then◌else◌}
 use Rattle.std.specs.Option.{option_or}
 use Rattle.wg_check.specs.Digests.{Stretch, Course, Digest, Open, Parted, no_access, stretched, no_stretch, one_stretch, met_in, left_by, followed, nothing, joined}
 

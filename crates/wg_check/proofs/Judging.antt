@@ -1,8 +1,8 @@
 -- The verdict is the least clash of the trace, and tells what orders show.
-use Rattle.std.proofs.Common.{◌≡◌, ℕ, zero, suc, ◌+◌, ◌<◌, ◌≤◌, List, [], ◌∷◌, length, map, Bool, true, false, Option, Some, None, refl, ap, ap₂, sym, subst, ◌∙◌, ◌⊎◌, inl, inr, arith, slice_get, true≢false}
+use Rattle.std.proofs.Common.{◌≡◌, ℕ, zero, suc, ◌+◌, ◌≤◌, List, [], ◌∷◌, length, map, true, false, Option, Some, None, refl, ap, ap₂, sym, subst, ◌∙◌, ◌⊎◌, inl, inr, arith, slice_get}
 use Rattle.std.specs.Option.{option_and_then}
 use Rattle.std.proofs.lemmas.Bool.{cases_Bool}
-use Rattle.wg_rows.specs.Runs.{Cell, Byte, Texels, Slice, Query, Cells, cell_run}
+use Rattle.wg_rows.specs.Runs.{Cell, Byte, Texels, Slice, Query, cell_run}
 use Rattle.wg_rows.specs.Once.{AreOnce}
 use Rattle.wg_rows.proofs.Printed.{Compared, Less_than, Same_line, More_than, compare_lines}
 use Rattle.wg_orders.specs.Trace.{Item, steps_of}
@@ -13,13 +13,13 @@ use Rattle.wg_check.specs.declared.stories.Access.{Access}
 use Rattle.wg_check.specs.declared.ends.Event.{Event}
 use Rattle.wg_check.specs.declared.segments.Spotted.{Spotted}
 use Rattle.wg_check.specs.Stories.{clash_from}
-use Rattle.wg_check.specs.Segments.{Key, numbers, before, rank, ranked, KeyEvent, story_at, at_segment, clash_at, clash_among, earlier, Among, EndsIn}
+use Rattle.wg_check.specs.Segments.{Key, numbers, before, rank, ranked, story_at, at_segment, clash_among, Among, EndsIn}
 use Rattle.wg_check.specs.Keys.{cell_key, key_events}
 use Rattle.wg_check.specs.Cells.{cell_from, end_at, with_cell, clash_of}
 use Rattle.wg_check.specs.Ends.{Ascending}
-use Rattle.wg_check.specs.Verdict.{Clash, StandsBefore, IsAtMost, IsLeastClash, IsVerdict, IsDisturbed, TellsOrders, IsFirst, IsLeastSpotted, SegmentsTell}
+use Rattle.wg_check.specs.Verdict.{Clash, StandsBefore, IsAtMost, IsVerdict, TellsOrders, IsFirst, SegmentsTell}
 use Rattle.wg_check.proofs.Ranks.{rank_most, rank_less}
-use Rattle.wg_check.proofs.Laws.{AmongIs, LeastOf, among_is, verdict_is}
+use Rattle.wg_check.proofs.Laws.{AmongIs, among_is, verdict_is}
 use Rattle.wg_check.proofs.Bridge.{stories}
 use Rattle.wg_check.proofs.Sorting.{same_key}
 use Rattle.wg_check.proofs.Placing.{SegmentCell, segment_cell, same_aspect, cell_found}

@@ -1,13 +1,13 @@
 -- Each segment with an access has a cell, which stands at the end that begins it.
-use Rattle.std.proofs.Common.{◌≡◌, ◌≢◌, ℕ, zero, suc, ◌+◌, ◌-◌, ◌<◌, ◌≤◌, List, [], ◌∷◌, ◌++◌, length, map, Bool, true, false, not, ◌&&◌, ◌||◌, ◌==◌, nat_lt, nat_le, Option, Some, None, refl, ap, ap₂, sym, subst, ◌∙◌, ◌⊎◌, inl, inr, arith, slice_get, if◌then◌else◌, true≢false}
+use Rattle.std.proofs.Common.{◌≡◌, ◌≢◌, ℕ, zero, suc, ◌+◌, ◌-◌, ◌<◌, ◌≤◌, List, [], ◌∷◌, ◌++◌, length, map, Bool, true, false, ◌&&◌, ◌||◌, ◌==◌, nat_lt, nat_le, Option, Some, None, refl, ap, sym, subst, ◌∙◌, ◌⊎◌, inl, inr, arith, slice_get, if◌then◌else◌, true≢false}
 use Rattle.std.specs.Option.{option_or, option_map}
-use Rattle.std.proofs.lemmas.Bool.{and_parts, and_from, or_cases, cases_Bool, cases_lt, eqb-true, eq-eqb, ne_eqb, ltb-true, leb-true}
-use Rattle.wg_rows.specs.Rows.{in_range, any_row}
+use Rattle.std.proofs.lemmas.Bool.{and_parts, cases_lt, eqb-true, eq-eqb, ne_eqb, ltb-true, leb-true}
+use Rattle.wg_rows.specs.Rows.{in_range}
 use Rattle.wg_rows.specs.Runs.{Aspect, Color, Depth, Stencil, PartRun, BufferPart, QueryPart, LayerParts, Cell, Byte, Texels, Slice, Query, Cells, Bytes, Layers, Slices, Queries, covers, cell_run, aspect_number}
 use Rattle.wg_rows.specs.Uses.{AccessKind, kind_reads, kind_writes, row_writes}
 use Rattle.wg_rows.specs.Once.{AreOnce}
-use Rattle.wg_orders.specs.Steps.{Step, writes}
-use Rattle.wg_orders.specs.Trace.{Item, Bar, StepItem, Free, steps_of, writes_at, at_place}
+use Rattle.wg_orders.specs.Steps.{writes}
+use Rattle.wg_orders.specs.Trace.{Item, Bar, StepItem, Free, steps_of, writes_at}
 use Rattle.wg_check.specs.declared.stories.Access.{Access}
 use Rattle.wg_check.specs.declared.events.Deed.{Deed}
 use Rattle.wg_check.specs.declared.events.Deed.TheVariants.{Fence, Act}
@@ -19,7 +19,7 @@ use Rattle.wg_check.specs.Cells.{place_in, cell_in, row_cell, cell_from}
 use Rattle.wg_check.specs.Ends.{Ascending}
 use Rattle.wg_check.proofs.Between.{key_between, run_covers}
 use Rattle.wg_check.proofs.Bridge.{on_row, stories}
-use Rattle.wg_check.proofs.Ranks.{story_ranked, rank_within, rank_less}
+use Rattle.wg_check.proofs.Ranks.{story_ranked, rank_within}
 use Rattle.wg_check.proofs.Sorting.{rank_at, itself}
 use Rattle.wg_check.proofs.Telling.{cell_story}
 

@@ -1,5 +1,5 @@
 -- What the deeds on a segment tell is the least reader of its story that clashes.
-use Rattle.std.proofs.Common.{◌≡◌, ◌≢◌, ℕ, zero, suc, ◌<◌, ◌≤◌, List, [], ◌∷◌, map, Bool, true, false, not, ◌||◌, ◌&&◌, ◌==◌, Option, Some, None, is_some, refl, ap, ap₂, sym, ◌∙◌, arith, if◌then◌else◌, true≢false, subst}
+use Rattle.std.proofs.Common.{◌≡◌, ◌≢◌, ℕ, suc, ◌<◌, ◌≤◌, List, [], ◌∷◌, map, Bool, true, false, not, ◌||◌, ◌&&◌, ◌==◌, Option, Some, None, is_some, refl, ap, ap₂, sym, ◌∙◌, arith, if◌then◌else◌, true≢false, subst}
 use Rattle.std.specs.Option.{option_or, option_map}
 use Rattle.std.proofs.lemmas.Bool.{eq-eqb, ne_eqb}
 use Rattle.wg_rows.specs.Rows.{in_range}
@@ -10,8 +10,8 @@ use Rattle.wg_check.specs.declared.events.Deed.TheVariants.{Fence, Act}
 use Rattle.wg_check.specs.declared.ends.Event.{Event}
 use Rattle.wg_check.specs.Stories.{Meeting, next_writer, first_of, after, later, writer_for, at_end, or_on, clash_from}
 use Rattle.wg_check.specs.Segments.{then_on, story_at, Rises}
-use Rattle.wg_check.specs.Digests.{Stretch, Course, Digest, Open, Parted, Entry, Run, no_access, one_access, stretched, no_stretch, one_stretch, met_in, left_by, followed, nothing, deed_digest, joined, end_met, or_else, reader_of, least_reader, digest_at}
-use Rattle.wg_check.proofs.Joining.{or_assoc, any_false, stretched_assoc, stretched_left, stretched_right, left_followed, met_followed, followed_left}
+use Rattle.wg_check.specs.Digests.{Stretch, Course, Digest, Open, Parted, Run, no_access, one_access, stretched, no_stretch, one_stretch, met_in, left_by, followed, nothing, deed_digest, joined, end_met, or_else, least_reader, digest_at}
+use Rattle.wg_check.proofs.Joining.{any_false, stretched_assoc, stretched_left, stretched_right, left_followed, met_followed, followed_left}
 
 -- the deeds on a segment
 

@@ -1,5 +1,5 @@
 -- Keys in order, each one once; and the search in them.
-use Rattle.std.proofs.Common.{◌≡◌, ◌≢◌, ℕ, zero, suc, ◌+◌, ◌<◌, ◌≤◌, List, [], ◌∷◌, length, Bool, true, false, nat_lt, Option, Some, None, refl, ap, sym, subst, ◌∙◌, ◌⊎◌, inl, inr, arith, slice_get, slice_index_or, if◌then◌else◌, true≢false}
+use Rattle.std.proofs.Common.{◌≡◌, ◌≢◌, ℕ, zero, suc, ◌+◌, ◌<◌, ◌≤◌, List, [], ◌∷◌, length, Bool, true, false, Some, None, refl, ap, sym, subst, ◌∙◌, ◌⊎◌, inl, inr, arith, slice_get, slice_index_or, if◌then◌else◌, true≢false}
 use Rattle.std.specs.List.Sorted.{IsSortedBy, IsPermutation}
 use Rattle.std.specs.List.{Contains}
 use Rattle.std.specs.Cmp.{IsStrictWeakOrder}
@@ -10,7 +10,7 @@ use Rattle.wg_rows.proofs.Printed.{before_not_self, before_trans, Compared, Less
 use Rattle.wg_check.specs.Segments.{Key, numbers, before, rank, Among, KeyEvent, EndsIn}
 use Rattle.wg_check.specs.Keys.{key}
 use Rattle.wg_check.specs.Ends.{ends_of, apart_from, Ascending}
-use Rattle.wg_check.proofs.Ranks.{less_not, most_less}
+use Rattle.wg_check.proofs.Ranks.{less_not}
 
 -- The order of keys is one.
 

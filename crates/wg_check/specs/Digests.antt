@@ -1,5 +1,5 @@
 -- What a list of deeds on a cell tells of its least reader that clashes, so that lists of deeds can be told together.
-use Rattle.std.specs.Prelude.{ℕ, zero, suc, Bool, true, false, ◌||◌, ◌&&◌, not, nat_lt, nat_le, List, [], ◌∷◌, Option, Some, None, if◌then◌else◌}
+use Rattle.std.specs.Prelude.{ℕ, zero, suc, Bool, true, false, ◌||◌, ◌&&◌, nat_le, List, [], ◌∷◌, Option, Some, None, if◌then◌else◌}
 use Rattle.std.specs.Option.{option_or}
 use Rattle.wg_rows.specs.Rows.{in_range}
 use Rattle.wg_check.specs.declared.events.Deed.{Deed}

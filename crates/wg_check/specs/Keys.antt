@@ -42,12 +42,6 @@ run_event (Slices object mip lo hi) deed = event (key object 3 0 mip lo) (key ob
 abbrev pub row_events : ℕ → List (Cells × AccessKind) → List KeyEvent
 row_events n rows = map (λ row. run_event row.0 (Act n (kind_reads row.1) (kind_writes row.1))) rows
 
--- what an item does, behind n steps
-abbrev pub item_events : ℕ → Item → List KeyEvent
-item_events n (Bar parts from to) = bar_events parts
-item_events n (StepItem s) = row_events n s.accesses
-item_events n (Free object sort) = []
-
 -- what a trace does to keys, in its order, behind n steps: a barrier is a fence on all cells of its parts, that on layer 0 of
 -- a mip level on the slices of that too, and a row is an act of its step
 abbrev pub key_events : ℕ → List Item → List KeyEvent

@@ -1,15 +1,14 @@
 -- The verdict on a trace: whether some reader sees another write than the printed one in some order that keeps the
 -- barriers, and the least such reader.
-use Rattle.std.specs.Prelude.{ℕ, ◌<◌, ◌≤◌, suc, true, List, length, map, Option, Some, None, ◌≡◌, ◌⊎◌, slice_get}
+use Rattle.std.specs.Prelude.{ℕ, ◌<◌, ◌≤◌, true, List, Option, Some, None, ◌≡◌, ◌⊎◌}
 use Rattle.wg_rows.specs.Runs.{Cell, cell_run}
-use Rattle.wg_rows.specs.Once.{AreOnce}
 use Rattle.wg_orders.specs.Trace.{Item, steps_of}
 use Rattle.wg_orders.specs.Orders.{IsOrder, Keeps, Same, SameAt, Reads, Differs}
 use Rattle.wg_check.specs.declared.segments.Spotted.{Spotted}
 pub use Rattle.wg_check.specs.declared.clashes.Clash.{Clash}
 use Rattle.wg_check.specs.Clashes.{story}
-use Rattle.wg_check.specs.Keys.{cell_key, key_events}
-use Rattle.wg_check.specs.Segments.{before, earlier, clash_among, Key, rank, ranked, KeyEvent, key_story, EndsIn}
+use Rattle.wg_check.specs.Keys.{cell_key}
+use Rattle.wg_check.specs.Segments.{before, earlier, Key, rank, KeyEvent, key_story, EndsIn}
 
 -- The cell stands before another in printed order.
 abbrev pub StandsBefore : Cell → Cell → Type 0

@@ -19,7 +19,7 @@ use wg_trace::steps::Item;
 /// A reader of a cell, the end of the trace as `None`, that sees another write than the printed one in
 /// some order that keeps the barriers; and a writer that may come between it and that write, or is
 /// that write and may come behind it. Steps go by their numbers; the cell is a run of length one.
-#[derive(Clone, Copy, PartialEq, Eq, Debug)]
+#[derive(Clone, Copy, PartialEq, Eq)]
 pub struct Clash {
     pub reader: Option<u64>,
     pub writer: u64,

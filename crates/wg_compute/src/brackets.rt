@@ -4,6 +4,7 @@ ghost use Rattle.wg_model.specs.Rules.{first_unmet};
 ghost use Rattle.wg_model.specs.Commands.{debug_rules};
 ghost use Rattle.wg_model.specs.Settings.{depth_after, end_rules};
 
+use wg_rules::{DEBUG_GROUP_IS_OPEN, EVERY_DEBUG_GROUP_OF_PASS_IS_CLOSED};
 use wg_types::NoMemory;
 use wg_types::commands::{Bracket, Command};
 
@@ -34,7 +35,7 @@ pub fn check_group(depth: u64, command: &Command) -> Option<u16>
     match command.bracket() {
         Bracket::PopGroup => {
             if depth == 0 {
-                return Some(285);
+                return Some(DEBUG_GROUP_IS_OPEN);
             }
             return None;
         }
@@ -53,7 +54,7 @@ pub fn check_end(depth: u64, command: &Command) -> Option<u16>
     match command.bracket() {
         Bracket::EndPass => {
             if depth != 0 {
-                return Some(310);
+                return Some(EVERY_DEBUG_GROUP_OF_PASS_IS_CLOSED);
             }
             return None;
         }

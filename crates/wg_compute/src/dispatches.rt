@@ -3,6 +3,8 @@ ghost use Rattle.std.specs.Prelude.{◌≡◌};
 ghost use Rattle.wg_model.specs.Rules.{first_unmet};
 ghost use Rattle.wg_model.specs.Compute.{count_rules};
 
+use wg_rules::WORKGROUPS_ARE_WITHIN_LIMIT;
+
 /// How many workgroups a dispatch may have in each dimension.
 const MOST_WORKGROUPS: u32 = 65535;
 
@@ -13,5 +15,5 @@ pub fn check_counts(x: u32, y: u32, z: u32) -> Option<u16>
     if x <= MOST_WORKGROUPS && y <= MOST_WORKGROUPS && z <= MOST_WORKGROUPS {
         return None;
     }
-    Some(343)
+    Some(WORKGROUPS_ARE_WITHIN_LIMIT)
 }

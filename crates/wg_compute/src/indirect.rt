@@ -4,6 +4,9 @@ ghost use Rattle.wg_model.specs.Rules.{first_unmet};
 ghost use Rattle.wg_model.specs.Settings.{indirect_rules, indirect_touch};
 
 use wg_formats::buffer_of;
+use wg_rules::{
+    INDIRECT_ARGUMENTS_FIT_BUFFER, INDIRECT_BUFFER_HAS_INDIRECT, INDIRECT_OFFSET_IS_ALIGNED,
+};
 use wg_types::NoMemory;
 use wg_types::handles::Handle;
 use wg_types::parts::{AccessKind, Cells};
@@ -20,13 +23,13 @@ pub fn check_indirect(buffer: &Handle, offset: u64, bytes: u64) -> Option<u16>
 {
     let info = buffer_of(buffer);
     if info.usage & INDIRECT == 0 {
-        return Some(344);
+        return Some(INDIRECT_BUFFER_HAS_INDIRECT);
     }
     if offset % 4 != 0 {
-        return Some(345);
+        return Some(INDIRECT_OFFSET_IS_ALIGNED);
     }
     if u128::from(offset) + u128::from(bytes) > u128::from(info.size) {
-        return Some(346);
+        return Some(INDIRECT_ARGUMENTS_FIT_BUFFER);
     }
     None
 }

@@ -9,6 +9,7 @@ use crate::brackets::depth_after;
 use crate::given::{GroupGiven, group_given, pipeline_given, unsets};
 use std::marker::Model;
 use wg_layouts::{check_bound, layouts_in, owner_of};
+use wg_rules::PIPELINE_IS_SET;
 use wg_types::NoMemory;
 use wg_types::commands::{BoundGroup, Command};
 use wg_types::groups::GroupLayoutInfo;
@@ -97,7 +98,7 @@ impl Settings {
         ensures { result ≡ first_unmet (ready_rules self.now) }
     {
         if self.pipeline.is_none() {
-            return Some(340);
+            return Some(PIPELINE_IS_SET);
         }
         check_bound(self.layouts(), &self.groups, self.owner())
     }

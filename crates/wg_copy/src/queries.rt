@@ -5,6 +5,10 @@ ghost use Rattle.wg_model.specs.Commands.{queries_of, resolve_set_rules};
 
 use crate::buffers::fits;
 use wg_formats::{buffer_of, queries_of};
+use wg_rules::{
+    RESOLVED_BUFFER_HAS_QUERY_RESOLVE, RESOLVED_OFFSET_IS_ALIGNED, RESOLVED_QUERIES_ARE_IN_SET,
+    RESOLVED_RANGE_FITS_BUFFER,
+};
 use wg_types::handles::Handle;
 
 /// Whether these queries are queries of a set: the first of them is one, and so are all.
@@ -27,16 +31,16 @@ pub fn check_resolve(
 {
     let info = buffer_of(buffer);
     if info.usage & 512 == 0 {
-        return Some(280);
+        return Some(RESOLVED_BUFFER_HAS_QUERY_RESOLVE);
     }
     if !are_queries(queries, first, count) {
-        return Some(281);
+        return Some(RESOLVED_QUERIES_ARE_IN_SET);
     }
     if offset % 256 != 0 {
-        return Some(282);
+        return Some(RESOLVED_OFFSET_IS_ALIGNED);
     }
     if !fits(offset, 8 * u64::from(count), info.size) {
-        return Some(283);
+        return Some(RESOLVED_RANGE_FITS_BUFFER);
     }
     None
 }

@@ -2,6 +2,7 @@
 use Rattle.std.proofs.Common.{◌≡◌, ℕ, Bool, true, false, not, ◌||◌, List, [], ◌∷◌, Option, None, Some, refl, sym, ap, ap₂, ◌∙◌, if◌then◌else◌}
 use Rattle.std.specs.List.{list_any}
 use Rattle.std.specs.Option.{option_or}
+use Rattle.wg_rules.specs.declared.TheConstants.{OBJECT_IS_OF_DEVICE, OBJECT_IS_NOT_DROPPED, OBJECT_IS_VALID, COMMAND_BUFFERS_ARE_NOT_CONSUMED, COMMAND_BUFFERS_ARE_DISTINCT, SUBMITTED_BUFFERS_ARE_NOT_BUSY, SUBMITTED_OBJECTS_ARE_NOT_DESTROYED}
 use Rattle.wg_types.specs.declared.handles.ObjRef.{ObjRef}
 use Rattle.wg_model.specs.Rules.{first_unmet}
 use Rattle.wg_model.specs.Recorded.{buffers_of, textures_of, query_sets_of}
@@ -20,9 +21,9 @@ use Rattle.wg_core.specs.Plans.{use_rules}
 abbrev any_gone : Setup → Past → List ObjRef → Bool
 any_gone setup past buffers = any_used textures_of (is_destroyed setup past) past buffers || any_used query_sets_of (is_destroyed setup past) past buffers
 
-uses_rules : (setup : Setup) (past : Past) (buffers : List ObjRef) → first_unmet (use_rules setup past (uses_of past buffers)) ≡ first_unmet ((192, not (any_used buffers_of (is_busy setup past) past buffers)) ∷ ((193, not (any_gone setup past buffers)) ∷ []))
+uses_rules : (setup : Setup) (past : Past) (buffers : List ObjRef) → first_unmet (use_rules setup past (uses_of past buffers)) ≡ first_unmet ((SUBMITTED_BUFFERS_ARE_NOT_BUSY, not (any_used buffers_of (is_busy setup past) past buffers)) ∷ ((SUBMITTED_OBJECTS_ARE_NOT_DESTROYED, not (any_gone setup past buffers)) ∷ []))
 uses_rules setup past buffers =
-    ap₂ (λ a b. first_unmet ((192, not a) ∷ ((193, not b) ∷ []))) (used_buffers (is_busy setup past) past buffers)
+    ap₂ (λ a b. first_unmet ((SUBMITTED_BUFFERS_ARE_NOT_BUSY, not a) ∷ ((SUBMITTED_OBJECTS_ARE_NOT_DESTROYED, not b) ∷ []))) (used_buffers (is_busy setup past) past buffers)
     (ap₂ ◌||◌ (used_textures (is_destroyed setup past) past buffers) (used_query_sets (is_destroyed setup past) past buffers))
 
 pub submit_found : (setup : Setup) (past : Past) (buffers : List ObjRef) (uses : List Used) (rule : Option ℕ) → None ≡ first_unmet (listed_rules setup past buffers) → list_any (λ buffer. is_consumed setup past buffer.number) buffers ≡ false → are_distinct buffers ≡ true → uses ≡ uses_of past buffers → rule ≡ first_unmet (use_rules setup past uses) → rule ≡ submit_rule setup past buffers
@@ -31,10 +32,10 @@ submit_found setup past buffers uses rule listed consumed distinct uses_is rule_
     rule_is ∙ (ap (λ us. first_unmet (use_rules setup past us)) uses_is ∙ (uses_rules setup past buffers ∙ sym (
     first_unmet_joined (listed_rules setup past buffers) (together_rules setup past buffers)
     ∙ (ap (λ o. option_or o (first_unmet (together_rules setup past buffers))) (sym listed)
-    ∙ ap₂ (λ a b. first_unmet ((190, not a) ∷ ((191, b) ∷ ((192, not (any_used buffers_of (is_busy setup past) past buffers)) ∷ ((193, not (any_gone setup past buffers)) ∷ []))))) consumed distinct))))
+    ∙ ap₂ (λ a b. first_unmet ((COMMAND_BUFFERS_ARE_NOT_CONSUMED, not a) ∷ ((COMMAND_BUFFERS_ARE_DISTINCT, b) ∷ ((SUBMITTED_BUFFERS_ARE_NOT_BUSY, not (any_used buffers_of (is_busy setup past) past buffers)) ∷ ((SUBMITTED_OBJECTS_ARE_NOT_DESTROYED, not (any_gone setup past buffers)) ∷ []))))) consumed distinct))))
 
 -- where the rules on each command buffer are met and none was consumed, none is spent
-listed_parts : (own dropped valid : Bool) (rest : Option ℕ) → None ≡ (if own then (if not dropped then (if valid then rest else Some 12) else Some 11) else Some 10) → (dropped ≡ false) × (None ≡ rest)
+listed_parts : (own dropped valid : Bool) (rest : Option ℕ) → None ≡ (if own then (if not dropped then (if valid then rest else Some OBJECT_IS_VALID) else Some OBJECT_IS_NOT_DROPPED) else Some OBJECT_IS_OF_DEVICE) → (dropped ≡ false) × (None ≡ rest)
 listed_parts true false true rest e = (refl, e)
 listed_parts true false false rest e = absurd (cc)
 listed_parts true true valid rest e = absurd (cc)

@@ -7,6 +7,7 @@ ghost use Rattle.wg_history.specs.Answers.{fault_kind, fault_by, is_taken, answe
 use std::alloc::Global;
 use wg_history::NoMemory;
 use wg_history::events::{Effects, Event, Form, Promise};
+use wg_rules::BYTES_ARE_WITHIN_BUDGET;
 use wg_state::State;
 use wg_types::handles::ObjRef;
 use wg_types::items::Items;
@@ -16,7 +17,7 @@ use wg_types::replies::{Answer, Fault, FaultKind, How, Reply, Settlement, Settle
 fn kind_of(rule: u16) -> FaultKind
     ensures { result ≡ fault_kind rule }
 {
-    if rule == 13 {
+    if rule == BYTES_ARE_WITHIN_BUDGET {
         FaultKind::OutOfMemory
     } else {
         FaultKind::Validation

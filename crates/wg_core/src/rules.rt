@@ -26,6 +26,14 @@ use wg_formats::texture_bytes;
 use wg_history::NoMemory;
 use wg_history::events::Event;
 use wg_queries::check_create as check_queries;
+use wg_rules::{
+    BYTES_ARE_WITHIN_BUDGET, CALL_IS_NOT_LATE, COMMAND_BUFFERS_ARE_DISTINCT,
+    COMMAND_BUFFERS_ARE_NOT_CONSUMED, ENCODER_HAS_NOT_ENDED,
+    EVERY_DEBUG_GROUP_OF_ENCODER_IS_CLOSED, EVERY_PASS_HAS_ENDED, MAPPED_BUFFER_IS_NOT_BUSY,
+    OBJECT_IS_NOT_DROPPED, OBJECT_IS_OF_DEVICE, OBJECT_IS_VALID, SUBMITTED_BUFFERS_ARE_NOT_BUSY,
+    SUBMITTED_OBJECTS_ARE_NOT_DESTROYED, USAGE_SCOPES_ARE_COMPATIBLE, WRITTEN_BUFFER_IS_NOT_BUSY,
+    WRITTEN_TEXTURE_IS_NOT_DESTROYED,
+};
 use wg_state::State;
 use wg_textures::{check_create as check_texture, check_view};
 use wg_types::handles::{BufferInfo, Info, ObjRef, QueriesInfo};
@@ -44,7 +52,7 @@ fn create_buffer(state: &State, info: &BufferInfo) -> Option<u16>
         return Some(rule);
     }
     if !state.fits(info.size) {
-        return Some(13);
+        return Some(BYTES_ARE_WITHIN_BUDGET);
     }
     None
 }
@@ -60,10 +68,10 @@ fn create_texture(state: &State, info: &TextureInfo) -> Option<u16>
         return Some(rule);
     }
     let Some(bytes) = texture_bytes(info) else {
-        return Some(13);
+        return Some(BYTES_ARE_WITHIN_BUDGET);
     };
     if !state.fits(bytes) {
-        return Some(13);
+        return Some(BYTES_ARE_WITHIN_BUDGET);
     }
     None
 }
@@ -79,7 +87,7 @@ fn create_query_set(state: &State, info: &QueriesInfo) -> Option<u16>
         return Some(rule);
     }
     if !state.fits(8 * u64::from(info.count)) {
-        return Some(13);
+        return Some(BYTES_ARE_WITHIN_BUDGET);
     }
     None
 }
@@ -90,13 +98,13 @@ fn create_view(state: &State, texture: ObjRef, desc: &ViewDesc) -> Option<u16>
     ensures { result ≡ create_view_rule state.now.setup (reverse state.now.history) texture desc.now }
 {
     let Some(info) = wg_state::own_texture(state.setup(), state.book(), texture) else {
-        return Some(10);
+        return Some(OBJECT_IS_OF_DEVICE);
     };
     if state.is_dropped(texture.number) {
-        return Some(11);
+        return Some(OBJECT_IS_NOT_DROPPED);
     }
     if !state.book().is_valid(texture.number) {
-        return Some(12);
+        return Some(OBJECT_IS_VALID);
     }
     check_view(&info, desc)
 }
@@ -108,10 +116,10 @@ fn destroy(state: &State, object: ObjRef) -> Option<u16>
     ensures { result ≡ destroy_rule state.now.setup (reverse state.now.history) object }
 {
     if !wg_state::is_own_resource(state.setup(), state.book(), object) {
-        return Some(10);
+        return Some(OBJECT_IS_OF_DEVICE);
     }
     if state.is_dropped(object.number) {
-        return Some(11);
+        return Some(OBJECT_IS_NOT_DROPPED);
     }
     None
 }
@@ -122,10 +130,10 @@ fn drop_object(state: &State, object: ObjRef) -> Option<u16>
     ensures { result ≡ drop_rule state.now.setup (reverse state.now.history) object }
 {
     if !wg_state::is_own_object(state.setup(), state.book(), object) {
-        return Some(10);
+        return Some(OBJECT_IS_OF_DEVICE);
     }
     if state.is_dropped(object.number) {
-        return Some(11);
+        return Some(OBJECT_IS_NOT_DROPPED);
     }
     None
 }
@@ -137,19 +145,19 @@ fn write_buffer(state: &State, buffer: ObjRef, offset: u64, size: u64) -> Option
     ensures fits { IsNone result → offset + size < 2 ^ 64 }
 {
     let Some(info) = wg_state::own_buffer(state.setup(), state.book(), buffer) else {
-        return Some(10);
+        return Some(OBJECT_IS_OF_DEVICE);
     };
     if state.is_dropped(buffer.number) {
-        return Some(11);
+        return Some(OBJECT_IS_NOT_DROPPED);
     }
     if !state.book().is_valid(buffer.number) {
-        return Some(12);
+        return Some(OBJECT_IS_VALID);
     }
     if let Some(rule) = check_write_buffer(&info, offset, size) {
         return Some(rule);
     }
     if state.is_busy(buffer.number) {
-        return Some(203);
+        return Some(WRITTEN_BUFFER_IS_NOT_BUSY);
     }
     None
 }
@@ -161,19 +169,19 @@ fn map_async(state: &State, buffer: ObjRef, mode: u32, offset: u64, size: u64) -
     ensures fits { IsNone result → offset + size < 2 ^ 64 }
 {
     let Some(info) = wg_state::own_buffer(state.setup(), state.book(), buffer) else {
-        return Some(10);
+        return Some(OBJECT_IS_OF_DEVICE);
     };
     if state.is_dropped(buffer.number) {
-        return Some(11);
+        return Some(OBJECT_IS_NOT_DROPPED);
     }
     if !state.book().is_valid(buffer.number) {
-        return Some(12);
+        return Some(OBJECT_IS_VALID);
     }
     if let Some(rule) = check_map(&info, mode, offset, size) {
         return Some(rule);
     }
     if state.is_busy(buffer.number) {
-        return Some(225);
+        return Some(MAPPED_BUFFER_IS_NOT_BUSY);
     }
     None
 }
@@ -184,10 +192,10 @@ fn unmap(state: &State, buffer: ObjRef) -> Option<u16>
     ensures { result ≡ unmap_rule state.now.setup (reverse state.now.history) buffer }
 {
     if wg_state::own_buffer(state.setup(), state.book(), buffer).is_none() {
-        return Some(10);
+        return Some(OBJECT_IS_OF_DEVICE);
     }
     if state.is_dropped(buffer.number) {
-        return Some(11);
+        return Some(OBJECT_IS_NOT_DROPPED);
     }
     None
 }
@@ -205,19 +213,19 @@ fn write_texture(
     ensures { result ≡ write_texture_rule state.now.setup (reverse state.now.history) texture spot.now layout.now size data_size }
 {
     let Some(info) = wg_state::own_texture(state.setup(), state.book(), texture) else {
-        return Some(10);
+        return Some(OBJECT_IS_OF_DEVICE);
     };
     if state.is_dropped(texture.number) {
-        return Some(11);
+        return Some(OBJECT_IS_NOT_DROPPED);
     }
     if !state.book().is_valid(texture.number) {
-        return Some(12);
+        return Some(OBJECT_IS_VALID);
     }
     if let Some(rule) = check_write_texture(&info, spot, layout, size, data_size) {
         return Some(rule);
     }
     if state.is_destroyed(texture.number) {
-        return Some(210);
+        return Some(WRITTEN_TEXTURE_IS_NOT_DESTROYED);
     }
     None
 }
@@ -235,13 +243,13 @@ fn check_ending(state: &State, encoder: u64) -> Option<u16>
     ensures { result ≡ first_unmet (ending_rules state.now.setup (reverse state.now.history) encoder) }
 {
     if state.is_dropped(encoder) {
-        return Some(11);
+        return Some(OBJECT_IS_NOT_DROPPED);
     }
     if !state.book().is_valid(encoder) {
-        return Some(12);
+        return Some(OBJECT_IS_VALID);
     }
     if state.has_finished(encoder) {
-        return Some(180);
+        return Some(ENCODER_HAS_NOT_ENDED);
     }
     None
 }
@@ -256,13 +264,13 @@ fn check_kept(
     ensures { IfOk result (λ rule. rule ≡ first_unmet (kept_rules state.now.setup (reverse state.now.history) encoder recording.now)) }
 {
     if recording.open_group() {
-        return Ok(Some(183));
+        return Ok(Some(EVERY_DEBUG_GROUP_OF_ENCODER_IS_CLOSED));
     }
     if uses::any_barred(state, encoder, recording.commands()) {
-        return Ok(Some(11));
+        return Ok(Some(OBJECT_IS_NOT_DROPPED));
     }
     if recording.scopes(alloc)?.is_some() {
-        return Ok(Some(184));
+        return Ok(Some(USAGE_SCOPES_ARE_COMPATIBLE));
     }
     Ok(None)
 }
@@ -278,7 +286,7 @@ fn finish(
     ensures { IfOk result (λ rule. rule ≡ finish_rule state.now.setup (reverse state.now.history) encoder recording.now) }
 {
     if !wg_state::is_own_encoder(state.setup(), state.book(), encoder) {
-        return Ok(Some(10));
+        return Ok(Some(OBJECT_IS_OF_DEVICE));
     }
     if let Some(rule) = check_ending(state, encoder.number) {
         return Ok(Some(rule));
@@ -287,7 +295,7 @@ fn finish(
         return Ok(Some(rule));
     }
     if recording.open_pass() {
-        return Ok(Some(182));
+        return Ok(Some(EVERY_PASS_HAS_ENDED));
     }
     check_kept(alloc, state, encoder.number, recording)
 }
@@ -303,7 +311,7 @@ fn finish_bundle(
     ensures { IfOk result (λ rule. rule ≡ finish_bundle_rule state.now.setup (reverse state.now.history) encoder recording.now) }
 {
     if !wg_state::is_own_bundle_encoder(state.setup(), state.book(), encoder) {
-        return Ok(Some(10));
+        return Ok(Some(OBJECT_IS_OF_DEVICE));
     }
     if let Some(rule) = check_ending(state, encoder.number) {
         return Ok(Some(rule));
@@ -381,13 +389,13 @@ fn check_listed(state: &State, buffers: &[ObjRef]) -> Option<u16>
 {
     for buffer in buffers {
         if !wg_state::is_own_command_buffer(state.setup(), state.book(), *buffer) {
-            return Some(10);
+            return Some(OBJECT_IS_OF_DEVICE);
         }
         if state.is_dropped(buffer.number) {
-            return Some(11);
+            return Some(OBJECT_IS_NOT_DROPPED);
         }
         if !state.book().is_valid(buffer.number) {
-            return Some(12);
+            return Some(OBJECT_IS_VALID);
         }
     }
     None
@@ -416,10 +424,10 @@ fn check_uses(state: &State, uses: &[Used]) -> Option<u16>
     ensures { result ≡ first_unmet (use_rules state.now.setup (reverse state.now.history) uses.now) }
 {
     if any_busy(state, uses) {
-        return Some(192);
+        return Some(SUBMITTED_BUFFERS_ARE_NOT_BUSY);
     }
     if any_destroyed(state, Sort::Texture, uses) || any_destroyed(state, Sort::Queries, uses) {
-        return Some(193);
+        return Some(SUBMITTED_OBJECTS_ARE_NOT_DESTROYED);
     }
     None
 }
@@ -435,10 +443,10 @@ fn submit(alloc: Global, state: &State, buffers: &[ObjRef]) -> Result<Ruled, NoM
         return Ok(without_uses(alloc, Some(rule)));
     }
     if any_consumed(state, buffers) {
-        return Ok(without_uses(alloc, Some(190)));
+        return Ok(without_uses(alloc, Some(COMMAND_BUFFERS_ARE_NOT_CONSUMED)));
     }
     if !are_distinct(alloc, buffers)? {
-        return Ok(without_uses(alloc, Some(191)));
+        return Ok(without_uses(alloc, Some(COMMAND_BUFFERS_ARE_DISTINCT)));
     }
     let uses = state.uses_of(alloc, buffers)?;
     let rule = check_uses(state, uses.as_slice());
@@ -489,7 +497,7 @@ pub fn first_rule(
         Event::FinishBundle { encoder, recording } => {
             finish_bundle(alloc, state, *encoder, recording)?
         }
-        Event::Late { .. } => Some(14),
+        Event::Late { .. } => Some(CALL_IS_NOT_LATE),
         Event::Submit { buffers } => return submit(alloc, state, buffers.as_slice()),
         Event::WriteBuffer {
             buffer,

@@ -15,7 +15,6 @@ use Rattle.wg_types.specs.declared.requests.RequestOf.TheVariants.{CreateBuffer,
 use Rattle.wg_encoder.specs.Recorders.{RecordingValue}
 use Rattle.wg_history.specs.declared.events.Setup.{Setup}
 use Rattle.wg_history.specs.declared.events.Event.{Event}
-use Rattle.wg_history.specs.declared.events.Event.TheVariants.{Late}
 use Rattle.wg_history.specs.declared.events.Form.{Form}
 use Rattle.wg_history.specs.declared.events.Form.TheVariants.{Making, Queue, Promise as Promising, Completion, Plain as Plainly}
 use Rattle.wg_history.specs.Entries.{effects_of, Entry, Past}

@@ -10,9 +10,7 @@ ghost use Rattle.wg_desk.specs.Seats.{handle_at, found_at, passes_at, any_missin
 ghost use Rattle.wg_desk.specs.Sent.{ending_at, event_sent, seats_ended, seats_left, seats_after};
 ghost use Rattle.wg_desk.specs.Desks.{MakesGenuine, HasSent, HasGrown, IsUnchanged, IsDue, IsNumber};
 
-use crate::asked::{
-    command_over, dropped_by, is_missing_in, is_missing_on, request_over,
-};
+use crate::asked::{command_over, dropped_by, is_missing_in, is_missing_on, request_over};
 use crate::endings::{ending_asked, recording_in};
 use crate::making::{prepare, seat_from};
 use crate::seats::{

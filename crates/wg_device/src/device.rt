@@ -116,12 +116,7 @@ impl Device {
     }
 
     /// Sends an event, once the pass's turn has come.
-    fn send(
-        &self,
-        rt: &impl Wait,
-        pass: &mut DevicePass,
-        event: Event,
-    ) -> Result<Reply, NoMemory>
+    fn send(&self, rt: &impl Wait, pass: &mut DevicePass, event: Event) -> Result<Reply, NoMemory>
         requires { CanCall self.now.lock pass.old }
         ensures called { HasCalled self.now.lock pass.old pass.new }
         ensures done { IfOk result (λ reply. IsAct self.now.lock pass.old pass.new event reply) }

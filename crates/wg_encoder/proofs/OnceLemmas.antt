@@ -15,7 +15,7 @@ use Rattle.wg_types.specs.declared.wanted.Wanted.{Wanted}
 use Rattle.wg_trace.specs.declared.steps.Used.{Used}
 use Rattle.wg_trace.specs.declared.steps.Sort.{Sort}
 use Rattle.wg_trace.specs.declared.steps.Sort.TheVariants.{Buffer, Texture, Queries}
-use Rattle.wg_types.specs.contracts.steps.UsedPartialEq.TheImpl.{eq-value}
+use Rattle.wg_trace.specs.contracts.steps.UsedPartialEq.TheImpl.{eq-value}
 use Rattle.wg_model.specs.Recorded.{names_within}
 use Rattle.wg_encoder.specs.Once.{with_one, each_once}
 use Rattle.wg_encoder.specs.Uses.{uses_in, uses_within, is_sort, same_used}

@@ -16,6 +16,7 @@ use Rattle.wg_model.specs.Rules.{first_unmet}
 use Rattle.wg_model.specs.Commands.{command_rules}
 use Rattle.wg_model.specs.Settings.{depth_after}
 use Rattle.std.specs.Option.{option_to_list, option_or}
+use Rattle.wg_rules.specs.declared.TheConstants.{NO_PASS_IS_OPEN}
 use Rattle.wg_model.specs.Touches.{scope_in, deed_of, encoder_does}
 use Rattle.wg_model.specs.Scopes.{first_clash}
 use Rattle.wg_model.specs.Walk.{Kept, PassSoFar, pass_rule, pass_does, begins, open_pass, is_open, has_ended, encoder_depth, verdict, doings, deeds, usage_scopes}
@@ -62,17 +63,17 @@ none_is None h = refl
 none_is (Some q) h = absurd (cc)
 
 -- a dead pass: one that is begun on a locked encoder
-dead_begun : (device : ℕ) (kept : Kept) (opened : PassSoFar) (command : Command) (walk : Walk) → IsWalkOf device kept walk → open_pass kept ≡ Some opened → is_begin command ≡ true → IsWalkOf device ((Encoder, command) ∷ kept) (record walk { verdict = option_or walk.verdict (Some 240); ended = walk.ended ++ false ∷ [] })
+dead_begun : (device : ℕ) (kept : Kept) (opened : PassSoFar) (command : Command) (walk : Walk) → IsWalkOf device kept walk → open_pass kept ≡ Some opened → is_begin command ≡ true → IsWalkOf device ((Encoder, command) ∷ kept) (record walk { verdict = option_or walk.verdict (Some NO_PASS_IS_OPEN); ended = walk.ended ++ false ∷ [] })
 dead_begun device kept opened command walk m e b = record {
   count = rw b (length-append walk.ended (false ∷ []) ∙ omega (arith, m.count));
   ended_is = λ n lt. at_push walk.ended (begins kept) n (has_ended kept) m.count m.ended_is (ended_new kept) (rw b at lt);
-  verdict_is = rw e (ap (λ v. option_or v (Some 240)) m.verdict_is);
+  verdict_is = rw e (ap (λ v. option_or v (Some NO_PASS_IS_OPEN)) m.verdict_is);
   depth_is = rw e m.depth_is;
   open_is = let o = m.open_is in rw e (rw e at o);
   done_is = λ v r. let w = or_second (verdict device kept) _ v in absurd (let x = rw e at w in cc);
 }
 
-pub walk_dead_begun : (device : ℕ) (kept : Kept) (command : Command) (walk : Walk) → IsWalkOf device kept walk → is_some (open_pass kept) ≡ true → is_begin command ≡ true → IsWalkOf device ((Encoder, command) ∷ kept) (record walk { verdict = option_or walk.verdict (Some 240); ended = walk.ended ++ false ∷ [] })
+pub walk_dead_begun : (device : ℕ) (kept : Kept) (command : Command) (walk : Walk) → IsWalkOf device kept walk → is_some (open_pass kept) ≡ true → is_begin command ≡ true → IsWalkOf device ((Encoder, command) ∷ kept) (record walk { verdict = option_or walk.verdict (Some NO_PASS_IS_OPEN); ended = walk.ended ++ false ∷ [] })
 walk_dead_begun device kept command walk m l b = let q = some_is (open_pass kept) l in dead_begun device kept q.0 command walk m q.1 b
 
 -- a begin has no rule of the encoder, and leaves its debug groups

@@ -4,7 +4,7 @@ ghost use Rattle.wg_types.specs.Commands.{Command};
 ghost use Rattle.wg_types.specs.declared.render.TargetInfo.{TargetInfo};
 ghost use Rattle.wg_model.specs.Scopes.{first_clash};
 ghost use Rattle.wg_model.specs.Settings.{debug_depth};
-ghost use Rattle.wg_model.specs.Walk.{bundle_verdict, bundle_scopes, touched_within};
+ghost use Rattle.wg_model.specs.Walk.{bundle_verdict, bundle_scopes, recorded_touches};
 ghost use Rattle.wg_encoder.specs.Walked.{drawn_rule, IsBundleOf};
 
 use crate::named::check_named_on;
@@ -102,7 +102,7 @@ impl BundleState {
 
     /// What is touched, where no rule was unmet.
     pub fn touched(&self, alloc: Global) -> Result<Items<BundleTouch>, NoMemory>
-        ensures { (device : ℕ) (targets : TargetInfo) (earlier : List Command) → IsBundleOf device targets earlier self.now → IfOk result (λ touches. touches ≡ touched_within device targets earlier) }
+        ensures { (device : ℕ) (targets : TargetInfo) (earlier : List Command) → IsBundleOf device targets earlier self.now → IfOk result (λ touches. touches ≡ recorded_touches device targets earlier) }
     {
         match self {
             BundleState::Refused { .. } => return Ok(Items::new(alloc)),

@@ -4,7 +4,7 @@ ghost use Rattle.wg_types.specs.Commands.{Command};
 ghost use Rattle.wg_types.specs.declared.commands.On.{On};
 ghost use Rattle.wg_types.specs.declared.render.TargetInfo.{TargetInfo};
 ghost use Rattle.wg_model.specs.Scopes.{first_clash};
-ghost use Rattle.wg_model.specs.Walk.{Kept, Verdict, ScopesOf, DeedsOf, open_depth, encoder_scopes, encoder_deeds, touched_within, bundled};
+ghost use Rattle.wg_model.specs.Walk.{Kept, Verdict, ScopesOf, DeedsOf, open_depth, encoder_scopes, encoder_deeds, recorded_touches, bundled};
 ghost use Rattle.wg_encoder.specs.Recorders.{has_open_pass};
 ghost use Rattle.wg_encoder.specs.Walked.{IsWalkOf, IsKnownOf};
 
@@ -140,7 +140,7 @@ impl Known {
 
     /// What is touched by the commands of a bundle encoder that draws to these targets.
     pub fn touched(&self, alloc: Global) -> Result<Items<BundleTouch>, NoMemory>
-        ensures { (device : ℕ) (targets : TargetInfo) (commands : List (On × Command)) → IsKnownOf device (Some targets) (reverse commands) self.now → IfOk result (λ touches. touches ≡ touched_within device targets (bundled commands)) }
+        ensures { (device : ℕ) (targets : TargetInfo) (commands : List (On × Command)) → IsKnownOf device (Some targets) (reverse commands) self.now → IfOk result (λ touches. touches ≡ recorded_touches device targets (bundled commands)) }
     {
         match self {
             Known::Encoder(_) => return Ok(Items::new(alloc)),

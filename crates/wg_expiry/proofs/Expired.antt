@@ -2,6 +2,7 @@
 use Rattle.std.proofs.Common.{◌≡◌, ℕ, ◌<◌, List, [], ◌∷◌, ◌++◌, reverse, Bool, true, false, not, ◌&&◌, ◌||◌, ◌==◌, nat_le, ◌+◌, ◌⊎◌, inl, inr, eq-eqb, Option, Some, None, is_some, is_none, option_map, refl, ap, sym, ◌∙◌, if◌then◌else◌, true≢false}
 use Rattle.std.specs.List.{list_any}
 use Rattle.std.proofs.lemmas.Bool.{and_from, or_left, or_right, or_cases}
+use Rattle.wg_rules.specs.declared.TheConstants.{OBJECT_IS_OF_DEVICE, OBJECT_IS_NOT_DROPPED, SUBMITTED_OBJECTS_ARE_NOT_DESTROYED, WRITTEN_TEXTURE_IS_NOT_DESTROYED}
 use Rattle.wg_types.specs.declared.commands.On.{On}
 use Rattle.wg_types.specs.Commands.{Command}
 use Rattle.wg_types.specs.declared.textures.TextureSpot.{TextureSpot}
@@ -30,7 +31,7 @@ use Rattle.wg_expiry.specs.Expiry.{DestroyExpires, StaysExpired, submit_before, 
 
 -- ---- destroyed
 
-both_met : (own dropped : Bool) → own ≡ true → dropped ≡ false → is_none (first_unmet ((10, own) ∷ ((11, not dropped) ∷ []))) ≡ true
+both_met : (own dropped : Bool) → own ≡ true → dropped ≡ false → is_none (first_unmet ((OBJECT_IS_OF_DEVICE, own) ∷ ((OBJECT_IS_NOT_DROPPED, not dropped) ∷ []))) ≡ true
 both_met true false own undropped = refl
 both_met true true own undropped = absurd (true≢false undropped)
 both_met false dropped own undropped = absurd (true≢false (sym own))
@@ -77,19 +78,19 @@ fault_is past false rule n e is = ap (option_map (fault_of past)) is
 
 -- ---- writes
 
-write_is : (setup : Setup) (past : Past) (texture : ObjRef) (spot : TextureSpot) (layout : DataLayout) (size : List ℕ) (data_size : ℕ) → is_destroyed setup past texture.number ≡ true → write_texture_rule setup past texture spot layout size data_size ≡ first_unmet (write_before setup past texture spot layout size data_size ++ (210, false) ∷ [])
+write_is : (setup : Setup) (past : Past) (texture : ObjRef) (spot : TextureSpot) (layout : DataLayout) (size : List ℕ) (data_size : ℕ) → is_destroyed setup past texture.number ≡ true → write_texture_rule setup past texture spot layout size data_size ≡ first_unmet (write_before setup past texture spot layout size data_size ++ (WRITTEN_TEXTURE_IS_NOT_DESTROYED, false) ∷ [])
 unfolding write_texture_rule
-write_is setup past texture spot layout size data_size destroyed = ap (λ (b : Bool). first_unmet (write_before setup past texture spot layout size data_size ++ (210, not b) ∷ [])) destroyed
+write_is setup past texture spot layout size data_size destroyed = ap (λ (b : Bool). first_unmet (write_before setup past texture spot layout size data_size ++ (WRITTEN_TEXTURE_IS_NOT_DESTROYED, not b) ∷ [])) destroyed
 
 pub write_is_plain : WriteIsPlain
 write_is_plain setup past texture spot layout size data_size destroyed =
     plain_if (is_lost past) (is_none (write_texture_rule setup past texture spot layout size data_size)) (issued past + 1)
-    (ap is_none (write_is setup past texture spot layout size data_size destroyed) ∙ some_unmet (write_before setup past texture spot layout size data_size) 210)
+    (ap is_none (write_is setup past texture spot layout size data_size destroyed) ∙ some_unmet (write_before setup past texture spot layout size data_size) WRITTEN_TEXTURE_IS_NOT_DESTROYED)
 
 pub write_is_refused : WriteIsRefused
 write_is_refused setup past texture spot layout size data_size destroyed met live =
-    fault_is past (is_lost past) (write_texture_rule setup past texture spot layout size data_size) 210 live
-    (write_is setup past texture spot layout size data_size destroyed ∙ last_unmet (write_before setup past texture spot layout size data_size) 210 met)
+    fault_is past (is_lost past) (write_texture_rule setup past texture spot layout size data_size) WRITTEN_TEXTURE_IS_NOT_DESTROYED live
+    (write_is setup past texture spot layout size data_size destroyed ∙ last_unmet (write_before setup past texture spot layout size data_size) WRITTEN_TEXTURE_IS_NOT_DESTROYED met)
 
 -- ---- submits
 
@@ -110,7 +111,7 @@ listed_then : (rules : List Rule) (a b c d : Rule) → rules ++ a ∷ (b ∷ (c 
 listed_then [] a b c d = refl
 listed_then (rule ∷ rules) a b c d = ap (λ rest. rule ∷ rest) (listed_then rules a b c d)
 
-submit_is : (setup : Setup) (past : Past) (buffers : List ObjRef) → submit_rule setup past buffers ≡ first_unmet (submit_before setup past buffers ++ (193, not (more_destroyed setup past buffers)) ∷ [])
+submit_is : (setup : Setup) (past : Past) (buffers : List ObjRef) → submit_rule setup past buffers ≡ first_unmet (submit_before setup past buffers ++ (SUBMITTED_OBJECTS_ARE_NOT_DESTROYED, not (more_destroyed setup past buffers)) ∷ [])
 unfolding submit_rule
 submit_is setup past buffers = ap first_unmet (listed_then (listed_rules setup past buffers) _ _ _ _)
 
@@ -125,13 +126,13 @@ submit_more setup past buffers n destroyed used idle = by_cases (or_cases (any_u
 is_none_of : (o : Option ℕ) → o ≡ None → is_none o ≡ true
 is_none_of o e = ap is_none e
 
-submit_is_refused_by : (setup : Setup) (past : Past) (buffers : List ObjRef) (n : ℕ) → is_destroyed setup past n ≡ true → submit_uses past buffers n ≡ true → first_unmet (submit_before setup past buffers) ≡ None → submit_rule setup past buffers ≡ Some 193
+submit_is_refused_by : (setup : Setup) (past : Past) (buffers : List ObjRef) (n : ℕ) → is_destroyed setup past n ≡ true → submit_uses past buffers n ≡ true → first_unmet (submit_before setup past buffers) ≡ None → submit_rule setup past buffers ≡ Some SUBMITTED_OBJECTS_ARE_NOT_DESTROYED
 submit_is_refused_by setup past buffers n destroyed used met =
     let idle : any_used buffers_of (is_busy setup past) past buffers ≡ false = not_true (any_used buffers_of (is_busy setup past) past buffers) (met_after (listed_rules setup past buffers) _ (all_met (submit_before setup past buffers) (is_none_of (first_unmet (submit_before setup past buffers)) met))).1.1.0 in
-    submit_is setup past buffers ∙ (ap (λ (b : Bool). first_unmet (submit_before setup past buffers ++ (193, not b) ∷ [])) (submit_more setup past buffers n destroyed used idle) ∙ last_unmet (submit_before setup past buffers) 193 met)
+    submit_is setup past buffers ∙ (ap (λ (b : Bool). first_unmet (submit_before setup past buffers ++ (SUBMITTED_OBJECTS_ARE_NOT_DESTROYED, not b) ∷ [])) (submit_more setup past buffers n destroyed used idle) ∙ last_unmet (submit_before setup past buffers) SUBMITTED_OBJECTS_ARE_NOT_DESTROYED met)
 
 pub submit_is_refused : SubmitIsRefused
-submit_is_refused setup past buffers n destroyed used met live = fault_is past (is_lost past) (submit_rule setup past buffers) 193 live (submit_is_refused_by setup past buffers n destroyed used met)
+submit_is_refused setup past buffers n destroyed used met live = fault_is past (is_lost past) (submit_rule setup past buffers) SUBMITTED_OBJECTS_ARE_NOT_DESTROYED live (submit_is_refused_by setup past buffers n destroyed used met)
 
 -- Where an earlier rule is unmet, it is refused too.
 front_unmet : (rules more : List Rule) (k : ℕ) → first_unmet rules ≡ Some k → first_unmet (rules ++ more) ≡ Some k

@@ -1,6 +1,7 @@
 -- The laws of buffers, textures and query sets that are destroyed.
 use Rattle.std.specs.Prelude.{◌≡◌, ℕ, Bool, true, false, not, ◌&&◌, nat_le, List, [], ◌∷◌, ◌++◌, reverse, Some, None, is_some, count_by, if◌then◌else◌}
 use Rattle.std.specs.List.{list_any}
+use Rattle.wg_rules.specs.declared.TheConstants.{OBJECT_IS_OF_DEVICE, OBJECT_IS_NOT_DROPPED, OBJECT_IS_VALID, COMMAND_BUFFERS_ARE_NOT_CONSUMED, COMMAND_BUFFERS_ARE_DISTINCT, SUBMITTED_BUFFERS_ARE_NOT_BUSY, SUBMITTED_OBJECTS_ARE_NOT_DESTROYED, WRITTEN_TEXTURE_IS_NOT_DESTROYED}
 use Rattle.wg_types.specs.declared.textures.TextureSpot.{TextureSpot}
 use Rattle.wg_types.specs.declared.textures.DataLayout.{DataLayout}
 use Rattle.wg_model.specs.Rules.{Rule, first_unmet}
@@ -29,17 +30,17 @@ StaysExpired = (setup : Setup) (newer past : Past) (n : ℕ) → is_destroyed se
 -- the rules of a submit that come before 193
 abbrev pub submit_before : Setup → Past → List ObjRef → List Rule
 submit_before setup past buffers = listed_rules setup past buffers
-    ++ ((190, not (list_any (λ (buffer : ObjRef). is_consumed setup past buffer.number) buffers))
-    ∷ ((191, are_distinct buffers)
-    ∷ ((192, not (any_used buffers_of (is_busy setup past) past buffers))
+    ++ ((COMMAND_BUFFERS_ARE_NOT_CONSUMED, not (list_any (λ (buffer : ObjRef). is_consumed setup past buffer.number) buffers))
+    ∷ ((COMMAND_BUFFERS_ARE_DISTINCT, are_distinct buffers)
+    ∷ ((SUBMITTED_BUFFERS_ARE_NOT_BUSY, not (any_used buffers_of (is_busy setup past) past buffers))
     ∷ [])))
 
 -- the rules of a writeTexture that come before that of a destroyed texture
 abbrev pub write_before : Setup → Past → ObjRef → TextureSpot → DataLayout → List ℕ → ℕ → List Rule
 write_before setup past texture spot layout size data_size =
-    (10, is_own setup past is_texture_info texture)
-    ∷ ((11, not (is_dropped setup past texture.number))
-    ∷ ((12, is_valid past texture.number)
+    (OBJECT_IS_OF_DEVICE, is_own setup past is_texture_info texture)
+    ∷ ((OBJECT_IS_NOT_DROPPED, not (is_dropped setup past texture.number))
+    ∷ ((OBJECT_IS_VALID, is_valid past texture.number)
     ∷ write_texture_rules (texture_or_none_at past texture.number) spot layout size data_size))
 
 -- Once an object is destroyed, a submit of command buffers that use it answers Plain.
@@ -52,7 +53,8 @@ SubmitIsPlain = (setup : Setup) (past : Past) (buffers : List ObjRef) (n : ℕ)
 abbrev pub SubmitIsRefused : Type 0
 SubmitIsRefused = (setup : Setup) (past : Past) (buffers : List ObjRef) (n : ℕ)
     → is_destroyed setup past n ≡ true → submit_uses past buffers n ≡ true
-    → first_unmet (submit_before setup past buffers) ≡ None → is_lost past ≡ false → (reply_to setup past (Submit buffers)).fault ≡ Some (fault_of past 193)
+    → first_unmet (submit_before setup past buffers) ≡ None → is_lost past ≡ false
+    → (reply_to setup past (Submit buffers)).fault ≡ Some (fault_of past SUBMITTED_OBJECTS_ARE_NOT_DESTROYED)
 
 -- A writeTexture of a destroyed texture answers Plain.
 abbrev pub WriteIsPlain : Type 0
@@ -66,7 +68,7 @@ abbrev pub WriteIsRefused : Type 0
 WriteIsRefused = (setup : Setup) (past : Past) (texture : ObjRef) (spot : TextureSpot) (layout : DataLayout) (size : List ℕ) (data_size : ℕ)
     → is_destroyed setup past texture.number ≡ true
     → first_unmet (write_before setup past texture spot layout size data_size) ≡ None → is_lost past ≡ false
-    → (reply_to setup past (WriteTexture texture spot layout size data_size)).fault ≡ Some (fault_of past 210)
+    → (reply_to setup past (WriteTexture texture spot layout size data_size)).fault ≡ Some (fault_of past WRITTEN_TEXTURE_IS_NOT_DESTROYED)
 
 -- an object that has memory and is valid is destroyed, and every operation so far that uses it is complete
 abbrev pub is_over : Setup → Past → ℕ → Bool

@@ -4,6 +4,7 @@ use Rattle.std.specs.Option.{option_map_or, option_map, option_to_list}
 use Rattle.std.proofs.lemmas.Bool.{and_from, and_left, and_right, or_from, or_left, or_right, cases_order}
 use Rattle.std.proofs.lemmas.Bool.Decides.{nat_tests}
 use Rattle.std.proofs.lemmas.List.Sums.{sum_by-cons}
+use Rattle.wg_rules.specs.declared.TheConstants.{OBJECT_IS_OF_DEVICE, OBJECT_IS_NOT_DROPPED}
 use Rattle.wg_types.specs.declared.handles.Info.{Info}
 use Rattle.wg_trace.specs.declared.replies.Reply.{Reply}
 use Rattle.wg_trace.specs.declared.steps.Sort.{Sort}
@@ -112,7 +113,7 @@ destroy_met : (k : ℕ) (past : Past) → dropped_at device past k ≡ None → 
 unfolding destroy_rule
 destroy_met k past undropped its = by_rules (option_map_or has_memory (info_at past k) false) (is_dropped device past k) (ap (λ (o : Option Info). option_map_or has_memory o false) its.info) (ap (λ (o : Option ℕ). is_some o) undropped)
   where
-    by_rules : (own dropped : Bool) → own ≡ true → dropped ≡ false → first_unmet ((10, own) ∷ ((11, not dropped) ∷ [])) ≡ None
+    by_rules : (own dropped : Bool) → own ≡ true → dropped ≡ false → first_unmet ((OBJECT_IS_OF_DEVICE, own) ∷ ((OBJECT_IS_NOT_DROPPED, not dropped) ∷ [])) ≡ None
     by_rules true false e f = refl
     by_rules true true e f = absurd (true≢false f)
     by_rules false dropped e f = absurd (true≢false (sym e))

@@ -9,6 +9,11 @@ ghost use Rattle.wg_model.specs.Rules.{first_unmet};
 ghost use Rattle.wg_groups.specs.Tests.{passes, aligned_from};
 
 use crate::fits::{Test, passes};
+use wg_rules::{
+    BOUND_BUFFER_USAGE_FITS, BOUND_RANGES_FIT_BUFFERS, BOUND_SAMPLERS_FIT,
+    BOUND_SIZES_ARE_WITHIN_LIMITS, BOUND_STORAGE_VIEWS_FIT, BOUND_TEXTURE_VIEWS_FIT,
+    ENTRIES_MATCH_LAYOUT, ENTRY_RESOURCES_FIT_LAYOUT,
+};
 use wg_types::bindings::{BoundEntry, LayoutEntry, entry_of};
 use wg_types::groups::GroupLayoutInfo;
 use wg_types::limits::Limits;
@@ -111,28 +116,28 @@ fn check_entries(layout: &[LayoutEntry], entries: &[BoundEntry], limits: &Limits
 {
     let aligned = are_aligned(layout, entries);
     if !are_matched(layout, entries, aligned) {
-        return Some(150);
+        return Some(ENTRIES_MATCH_LAYOUT);
     }
     if !all_pass(Test::Sort, limits, layout, entries, aligned) {
-        return Some(151);
+        return Some(ENTRY_RESOURCES_FIT_LAYOUT);
     }
     if !all_pass(Test::Usage, limits, layout, entries, aligned) {
-        return Some(152);
+        return Some(BOUND_BUFFER_USAGE_FITS);
     }
     if !all_pass(Test::Range, limits, layout, entries, aligned) {
-        return Some(153);
+        return Some(BOUND_RANGES_FIT_BUFFERS);
     }
     if !all_pass(Test::Size, limits, layout, entries, aligned) {
-        return Some(154);
+        return Some(BOUND_SIZES_ARE_WITHIN_LIMITS);
     }
     if !all_pass(Test::View, limits, layout, entries, aligned) {
-        return Some(155);
+        return Some(BOUND_TEXTURE_VIEWS_FIT);
     }
     if !all_pass(Test::StorageView, limits, layout, entries, aligned) {
-        return Some(156);
+        return Some(BOUND_STORAGE_VIEWS_FIT);
     }
     if !all_pass(Test::Sampler, limits, layout, entries, aligned) {
-        return Some(157);
+        return Some(BOUND_SAMPLERS_FIT);
     }
     None
 }

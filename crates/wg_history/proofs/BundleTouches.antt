@@ -42,7 +42,7 @@ use Rattle.wg_model.specs.Subresources.{level_runs, aspect_runs, view_runs, text
 use Rattle.wg_model.specs.Commands.{size_or_rest}
 use Rattle.wg_model.specs.Touches.{Touch, use_of, access_of, has_cells, deed_of}
 use Rattle.wg_model.specs.Bound.{Place, known_group, place_of, entry_places, places_in, set_places, kind_touch, resource_cells, place_touches}
-use Rattle.wg_model.specs.Bundles.{known_bundle, bundle_touch, touches_within, executed_touches, is_used_so, no_cells, part_touched, cells_touched, touched_so, bundle_touches, buffer_in, texture_in, query_set_in, in_bundle}
+use Rattle.wg_model.specs.Bundles.{known_bundle, bundle_touch, known_touches, executed_touches, is_used_so, no_cells, part_touched, cells_touched, touched_so, bundle_touches, buffer_in, texture_in, query_set_in, in_bundle}
 use Rattle.wg_model.specs.Render.{bundle_set, command_touches, bound_group_touches, touches_over}
 use Rattle.wg_model.specs.Walk.{bundled, bundle_verdict, bundle_of}
 use Rattle.wg_model.specs.Recorded.{bound_buffer, bound_texture, in_group, buffers_as, textures_as, query_sets_as, numbers_by, buffers_of, textures_of, query_sets_of, resources, any_named, any_resource}
@@ -338,7 +338,7 @@ touches_spared word n (touch ∷ touches) e =
     let both = lacks_parts n (numbers_in word touch.cells) (flat_map (λ (touch : BundleTouch). numbers_in word touch.cells) touches) e in
     (both.0, touches_spared word n touches both.1)
 
-within_spared : (word : Word) (n : ℕ) (known : Option BundleInfo) → Lacks n (in_bundle (numbers_in word) known) → AreSpared word n (touches_within known)
+within_spared : (word : Word) (n : ℕ) (known : Option BundleInfo) → Lacks n (in_bundle (numbers_in word) known) → AreSpared word n (known_touches known)
 within_spared word n None e = tt
 within_spared word n (Some bundle) e = touches_spared word n bundle.touches e
 
@@ -346,7 +346,7 @@ executed_spared : (word : Word) (n : ℕ) (bundles : List HandleValue) → Lacks
 executed_spared word n [] e = tt
 executed_spared word n (bundle ∷ bundles) e =
     let both = lacks_parts n (reached_by word wanted.Bundle bundle) (numbers_by (reached_by word) (all_wanted wanted.Bundle bundles)) e in
-    each_append (λ (touch : Touch). Spares word n touch.0) (touches_within (known_bundle bundle)) (executed_touches bundles)
+    each_append (λ (touch : Touch). Spares word n touch.0) (known_touches (known_bundle bundle)) (executed_touches bundles)
     (within_spared word n (known_bundle bundle) (bundle_lacks word n bundle both.0)) (executed_spared word n bundles both.1)
 
 -- and all commands of a bundle, which has no query set

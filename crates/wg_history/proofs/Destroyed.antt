@@ -4,6 +4,7 @@ use Rattle.std.proofs.Common.{◌≡◌, ℕ, ◌<◌, List, [], ◌∷◌, ◌+
 use Rattle.std.specs.List.{list_any, flat_map}
 use Rattle.std.proofs.lemmas.Bool.{and_parts, eq-eqb, eqb-true, or_cases, or_left, or_right}
 use Rattle.std.specs.Option.{option_or}
+use Rattle.wg_rules.specs.declared.TheConstants.{OBJECT_IS_OF_DEVICE, OBJECT_IS_NOT_DROPPED}
 use Rattle.wg_types.specs.declared.handles.ObjRef.{ObjRef}
 use Rattle.wg_types.specs.declared.mappings.Mapping.{Mapping}
 use Rattle.wg_types.specs.declared.mappings.MapMode.{MapMode}
@@ -248,7 +249,7 @@ read_spare WriteMode place buffer n m other = unused_none n
 dropped_refused : (setup : Setup) (past : Past) (buffer : ObjRef) → is_none (unmap_rule setup past buffer) ≡ true → is_held setup past buffer.number ≡ true
 unfolding unmap_rule
 dropped_refused setup past buffer e =
-    let met = all_met ((10, is_own setup past is_buffer buffer) ∷ ((11, not (is_dropped setup past buffer.number)) ∷ [])) e in
+    let met = all_met ((OBJECT_IS_OF_DEVICE, is_own setup past is_buffer buffer) ∷ ((OBJECT_IS_NOT_DROPPED, not (is_dropped setup past buffer.number)) ∷ [])) e in
     undropped_held setup past buffer.number (own_below setup past _ buffer met.0) (not_true (is_dropped setup past buffer.number) met.1.0)
 
 unmap_spare : (setup : Setup) (past : Past) (o : Option ObjRef) (n : ℕ) → IsRun setup past → is_gone setup past n ≡ true → Unused n (steps_in (unmap_groups setup past o))

@@ -1,9 +1,10 @@
 -- Bind group layouts that were got of pipelines, and the bind groups that were made for them.
-use Rattle.std.proofs.Common.{◌≡◌, ℕ, zero, suc, ◌+◌, ◌<◌, ◌≤◌, List, [], ◌∷◌, ◌++◌, length, reverse, Bool, true, false, not, ◌&&◌, ◌||◌, ◌==◌, nat_lt, Option, Some, None, is_some, is_none, option_map, option_and_then, slice_get, get_or, slice_index_or, refl, ap, ap₂, sym, ◌∙◌, subst, arith, add-one, if◌then◌else◌, true≢false}
+use Rattle.std.proofs.Common.{◌≡◌, ℕ, zero, suc, ◌+◌, ◌<◌, ◌≤◌, List, [], ◌∷◌, ◌++◌, length, reverse, Bool, true, false, not, ◌&&◌, ◌||◌, ◌==◌, nat_lt, Option, Some, None, is_some, is_none, option_map, option_and_then, slice_get, get_or, slice_index_or, refl, ap, ap₂, sym, ◌∙◌, subst, arith, if◌then◌else◌, true≢false}
 use Rattle.std.specs.Option.{option_map_or}
 use Rattle.std.proofs.lemmas.Bool.{and_parts, and_left, and_right, eqb-true}
 use Rattle.std.proofs.lemmas.Bool.Decides.{nat_tests}
 use Rattle.std.proofs.lemmas.Option.{slice_get-get_or}
+use Rattle.wg_rules.specs.declared.TheConstants.{PIPELINE_IS_SET, GROUPS_FIT_PIPELINE, WRITTEN_BINDINGS_ARE_APART}
 use Rattle.wg_types.specs.Handles.{HandleValue}
 use Rattle.wg_types.specs.Kinds.{kind_of}
 use Rattle.wg_types.specs.Wanted.{admits}
@@ -21,13 +22,11 @@ use Rattle.wg_model.specs.Making.{known_group_layout, group_made, group_layout_m
 use Rattle.wg_model.specs.Bound.{has_entries, info_set, known_group, group_in, is_automatic, owner_of, layouts_in, layout_fits, layouts_fit, are_clear, layouts_places, bound_rules}
 use Rattle.wg_model.specs.Equality.{equivalent_for}
 use Rattle.wg_model.specs.Automatic.{entries_at, known_layouts, get_layout_rules}
-use Rattle.wg_model.specs.Settings.{Settings, pipeline_layouts, ready_rules}
-use Rattle.wg_model.specs.Owned.{IsOfOther}
+use Rattle.wg_model.specs.Settings.{pipeline_layouts, ready_rules}
 use Rattle.wg_model.proofs.Unmet.{all_met}
 use Rattle.wg_model.proofs.Owned.{others_do_not_run}
 use Rattle.wg_history.specs.Entries.{Setup, Event, CreateBindGroupLayout, CreateBindGroup, GetBindGroupLayout, effects_of, Entry, Past}
-use Rattle.wg_history.specs.Objects.{ObjRef, is_making, count, maker, made_info, known_in, info_at, is_own, is_valid, is_made_valid}
-use Rattle.wg_history.specs.Rules.{is_genuine}
+use Rattle.wg_history.specs.Objects.{ObjRef, is_making, count, maker, made_info, known_in, info_at, is_valid, is_made_valid}
 use Rattle.wg_history.specs.GroupRules.{named_rules, group_named, create_bind_group_rule, get_bind_group_layout_rule}
 use Rattle.wg_history.specs.Loss.{is_lost}
 use Rattle.wg_history.specs.FirstRules.{first_rule}
@@ -252,11 +251,11 @@ unset_from owner (x ∷ xs) groups from (suc index) layout at asked set =
     and_right (layout_fits owner x (slice_index_or groups from None)) (layouts_fit owner xs groups (from + 1))
     (unset_from owner xs groups (from + 1) index layout at asked (ap (λ (n : ℕ). info_set (slice_index_or groups n None)) (omega arith) ∙ set))
 
-not_ready : (groups : List (Option BoundGroup)) (pipeline : HandleValue) (found : Option HandleValue) → found ≡ Some pipeline → layouts_fit (owner_of pipeline) (layouts_in pipeline.info) groups 0 ≡ false → first_unmet ((340, is_some found) ∷ bound_rules (option_and_then owner_of found) (pipeline_layouts found) groups) ≡ Some 341
+not_ready : (groups : List (Option BoundGroup)) (pipeline : HandleValue) (found : Option HandleValue) → found ≡ Some pipeline → layouts_fit (owner_of pipeline) (layouts_in pipeline.info) groups 0 ≡ false → first_unmet ((PIPELINE_IS_SET, is_some found) ∷ bound_rules (option_and_then owner_of found) (pipeline_layouts found) groups) ≡ Some GROUPS_FIT_PIPELINE
 unfolding bound_rules
 not_ready groups pipeline found at unmet =
-    ap (λ (o : Option HandleValue). first_unmet ((340, is_some o) ∷ bound_rules (option_and_then owner_of o) (pipeline_layouts o) groups)) at
-    ∙ ap (λ (b : Bool). first_unmet ((341, b) ∷ ((342, are_clear (layouts_places (layouts_in pipeline.info) groups 0)) ∷ []))) unmet
+    ap (λ (o : Option HandleValue). first_unmet ((PIPELINE_IS_SET, is_some o) ∷ bound_rules (option_and_then owner_of o) (pipeline_layouts o) groups)) at
+    ∙ ap (λ (b : Bool). first_unmet ((GROUPS_FIT_PIPELINE, b) ∷ ((WRITTEN_BINDINGS_ARE_APART, are_clear (layouts_places (layouts_in pipeline.info) groups 0)) ∷ []))) unmet
 
 -- The object of a handle whose event made a bind group is one.
 made_group : (setup : Setup) (past : Past) (n : ℕ) (info : Info) (layout : ObjRef) (entries : List (GroupEntryOf ObjRef)) → IsRun setup past → info_at past n ≡ Some info → event_at past n ≡ Some (CreateBindGroup layout entries) → (group : GroupInfo) × (info ≡ Group group)
@@ -270,7 +269,7 @@ made_group setup past n info layout entries run e made =
 pub groups_serve_one : GroupsServeOne
 groups_serve_one setup history set pipeline bound layout other index run piped there asked set_at genuine of_one apart = by_valid bound.group.valid refl
   where
-    by_valid : (b : Bool) → bound.group.valid ≡ b → first_unmet (ready_rules set) ≡ Some 341
+    by_valid : (b : Bool) → bound.group.valid ≡ b → first_unmet (ready_rules set) ≡ Some GROUPS_FIT_PIPELINE
     by_valid true valid =
         let knows = genuine_knows setup (reverse history) bound.group genuine valid in
         let one = made_group setup (reverse history) bound.group.reference.number bound.group.info of_one.layout of_one.entries run knows.known of_one.made in

@@ -5,6 +5,7 @@ use Rattle.std.specs.Option.{option_map_or}
 use Rattle.std.proofs.lemmas.Bool.{and_parts, and_from, or_cases, or_left, or_right, eqb-true, ltb-true, cases_lt}
 use Rattle.std.proofs.lemmas.List.{map-append}
 use Rattle.std.proofs.lemmas.List.Folds.{list_any-append}
+use Rattle.wg_rules.specs.declared.TheConstants.{OBJECT_IS_OF_DEVICE, OBJECT_IS_NOT_DROPPED}
 use Rattle.wg_types.specs.Handles.{HandleValue}
 use Rattle.wg_types.specs.declared.commands.On.{On}
 use Rattle.wg_types.specs.Commands.{Command, named}
@@ -97,7 +98,7 @@ named_from setup past b n lt submittable names =
 pub drops_undropped : (dropped : Bool) (setup : Setup) (past : Past) (event : Event) (n : ℕ) → drops dropped setup past event n ≡ true → dropped ≡ false
 drops_undropped dropped setup past (Drop object) n e = by_rules (is_own setup past is_any object) dropped (and_parts (object.number == n) (is_none (first_unmet (drop_list dropped setup past object))) e).1
   where
-    by_rules : (own d : Bool) → is_none (first_unmet ((10, own) ∷ ((11, not d) ∷ []))) ≡ true → d ≡ false
+    by_rules : (own d : Bool) → is_none (first_unmet ((OBJECT_IS_OF_DEVICE, own) ∷ ((OBJECT_IS_NOT_DROPPED, not d) ∷ []))) ≡ true → d ≡ false
     by_rules true true h = absurd (true≢false (sym h))
     by_rules true false h = refl
     by_rules false d h = absurd (true≢false (sym h))

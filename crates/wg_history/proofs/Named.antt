@@ -17,7 +17,7 @@ use Rattle.wg_model.specs.Holding.{is_among}
 use Rattle.wg_model.specs.Layouts.{pipeline_layout_rules}
 use Rattle.wg_model.specs.Automatic.{derived_rules, get_layout_rules}
 use Rattle.wg_model.specs.Groups.{group_rules}
-use Rattle.wg_model.specs.Pipelines.{compute_rules}
+use Rattle.wg_model.specs.Pipelines.{compute_pipeline_rules}
 use Rattle.wg_model.specs.RenderPipelines.{render_pipeline_rules}
 use Rattle.wg_model.specs.Making.{bound_resource, bound_entry, pipeline_layout_made, group_made, compute_made, render_made}
 use Rattle.wg_model.proofs.Unmet.{all_met}
@@ -97,7 +97,7 @@ object_refers setup older (CreateBindGroup layout entries) n other made refers =
     named_met setup older (group_named layout entries) n (met_before rules more met) (ap (λ b. layout.number == n || b) (sym (entries_among entries n)) ∙ refers)
 object_refers setup older (CreateComputePipeline layout iface) n other made refers =
     let rules : List Rule = named_rules setup older (maybe_wanted wanted.PipelineLayout layout) in
-    let more : List Rule = derived_rules setup.limits layout iface.entries ++ compute_rules (compute_made (λ r. r) (known_in older) layout iface).layout_info.layouts_info iface.entries in
+    let more : List Rule = derived_rules setup.limits layout iface.entries ++ compute_pipeline_rules (compute_made (λ r. r) (known_in older) layout iface).layout_info.layouts_info iface.entries in
     let met = all_met (rules ++ more) (and_parts (not (is_lost older)) (is_none (create_compute_pipeline_rule setup older layout iface)) made).1 in
     named_met setup older (maybe_wanted wanted.PipelineLayout layout) n (met_before rules more met) (sym (maybe_among layout n) ∙ refers)
 object_refers setup older (CreateRenderPipeline layout desc) n other made refers =

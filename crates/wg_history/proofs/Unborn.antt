@@ -3,6 +3,7 @@ use Rattle.std.proofs.Common.{◌≡◌, ℕ, ◌+◌, ◌<◌, ◌≤◌, List,
 use Rattle.std.specs.Option.{option_map_or}
 use Rattle.std.specs.List.{list_any}
 use Rattle.std.proofs.lemmas.Bool.{and_parts, eqb-true}
+use Rattle.wg_rules.specs.declared.TheConstants.{OBJECT_IS_OF_DEVICE, OBJECT_IS_NOT_DROPPED}
 use Rattle.wg_types.specs.declared.handles.Info.{Info}
 use Rattle.wg_types.specs.declared.handles.ObjRef.{ObjRef}
 use Rattle.wg_trace.specs.declared.replies.Reply.{Reply}
@@ -27,7 +28,7 @@ pub destroys_below : (setup : Setup) (past : Past) (event : Event) (n : ℕ) →
 unfolding destroy_rule
 destroys_below setup past (Destroy object) n h =
     let both : ((object.number == n) ≡ true) × (is_none (destroy_rule setup past object) ≡ true) = and_parts (object.number == n) (is_none (destroy_rule setup past object)) h in
-    let lt : object.number < count past = own_below setup past _ object (all_met ((10, is_own setup past has_memory object) ∷ ((11, not (is_dropped setup past object.number)) ∷ [])) both.1).0 in
+    let lt : object.number < count past = own_below setup past _ object (all_met ((OBJECT_IS_OF_DEVICE, is_own setup past has_memory object) ∷ ((OBJECT_IS_NOT_DROPPED, not (is_dropped setup past object.number)) ∷ [])) both.1).0 in
     let same : object.number ≡ n = eqb-true object.number n both.0 in
     omega (arith, lt, same)
 destroys_below setup past _ n h = absurd (true≢false (sym h))

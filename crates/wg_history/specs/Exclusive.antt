@@ -2,6 +2,7 @@
 -- pipeline they are exclusive, and so which pipelines the bind groups serve that were made for them.
 use Rattle.std.specs.Prelude.{◌≡◌, ◌↔◌, ℕ, ◌==◌, true, false, List, reverse, Option, Some, None, option_map, slice_get, slice_index_or}
 use Rattle.std.specs.Option.{option_map_or}
+use Rattle.wg_rules.specs.declared.TheConstants.{GROUPS_FIT_PIPELINE}
 use Rattle.wg_types.specs.Handles.{HandleValue}
 use Rattle.wg_types.specs.declared.handles.Info.TheVariants.{GroupLayout, Group}
 use Rattle.wg_types.specs.declared.bindings.GroupEntryOf.{GroupEntryOf}
@@ -70,4 +71,4 @@ GroupsServeOne = (setup : Setup) (history : List Entry) (set : Settings) (pipeli
     → slice_index_or set.groups index None ≡ Some bound → is_genuine setup (reverse history) bound.group ≡ true
     → IsGroupOf setup (reverse history) bound.group.reference.number other
     → (pipeline.reference.number == other) ≡ false
-    → first_unmet (ready_rules set) ≡ Some 341
+    → first_unmet (ready_rules set) ≡ Some GROUPS_FIT_PIPELINE

@@ -1,6 +1,7 @@
 -- The first unmet rule of each event. Those of buffers, textures and query sets that are made end by the budget. WebGPU:
 -- "Buffer Creation", "Texture Creation", "QuerySet Creation".
 use Rattle.std.specs.Prelude.{ℕ, ◌+◌, nat_le, List, [], ◌∷◌, ◌++◌, Option, Some, None}
+use Rattle.wg_rules.specs.declared.TheConstants.{BYTES_ARE_WITHIN_BUDGET, CALL_IS_NOT_LATE}
 use Rattle.wg_types.specs.declared.handles.BufferInfo.{BufferInfo}
 use Rattle.wg_types.specs.declared.handles.QueriesInfo.{QueriesInfo}
 use Rattle.wg_types.specs.declared.handles.Info.TheVariants.{Queries}
@@ -19,7 +20,7 @@ use Rattle.wg_history.specs.Budget.{live_bytes}
 
 -- 13 what is live before the event and the new bytes are within the budget
 abbrev pub budget_rules : Setup → Past → ℕ → List Rule
-budget_rules setup past bytes = (13, nat_le (live_bytes setup past + bytes) setup.budget) ∷ []
+budget_rules setup past bytes = (BYTES_ARE_WITHIN_BUDGET, nat_le (live_bytes setup past + bytes) setup.budget) ∷ []
 
 -- createBuffer
 unfoldable pub create_buffer_rule : Setup → Past → BufferInfo → Option ℕ
@@ -55,7 +56,7 @@ first_rule setup past CreateEncoder = None
 first_rule setup past (CreateBundleEncoder targets) = create_bundle_encoder_rule setup targets
 first_rule setup past (Finish encoder recording) = finish_rule setup past encoder recording
 first_rule setup past (FinishBundle encoder recording) = finish_bundle_rule setup past encoder recording
-first_rule setup past (Late encoder) = Some 14
+first_rule setup past (Late encoder) = Some CALL_IS_NOT_LATE
 first_rule setup past (Submit buffers) = submit_rule setup past buffers
 first_rule setup past (WriteBuffer buffer offset size) = write_buffer_rule setup past buffer offset size
 first_rule setup past (WriteTexture texture spot layout size data_size) = write_texture_rule setup past texture spot layout size data_size

@@ -1,6 +1,7 @@
 -- The first unmet rule of an event that makes a bind group, a layout or a pipeline (WebGPU, "Bind Group Creation", "Pipeline
 -- Layout Creation", "Compute Pipeline Creation" and "Render Pipeline Creation").
 use Rattle.std.specs.Prelude.{ℕ, not, List, [], ◌∷◌, ◌++◌, Option}
+use Rattle.wg_rules.specs.declared.TheConstants.{OBJECT_IS_OF_DEVICE, OBJECT_IS_NOT_DROPPED, OBJECT_IS_VALID}
 use Rattle.wg_types.specs.Wanted.{admits}
 use Rattle.wg_types.specs.Kinds.{kind_of}
 use Rattle.wg_types.specs.Refs.{all_wanted, maybe_wanted}
@@ -14,7 +15,7 @@ use Rattle.wg_model.specs.Rules.{Rule, first_unmet}
 use Rattle.wg_model.specs.Layouts.{group_layout_rules, pipeline_layout_rules}
 use Rattle.wg_model.specs.Automatic.{derived_rules, get_layout_rules}
 use Rattle.wg_model.specs.Groups.{group_rules}
-use Rattle.wg_model.specs.Pipelines.{compute_rules}
+use Rattle.wg_model.specs.Pipelines.{compute_pipeline_rules}
 use Rattle.wg_model.specs.RenderPipelines.{render_pipeline_rules}
 use Rattle.wg_types.specs.declared.render.RenderDesc.{RenderDesc}
 use Rattle.wg_model.specs.Making.{pipeline_layout_made, group_made, compute_made, render_made}
@@ -27,9 +28,9 @@ use Rattle.wg_history.specs.Rules.{is_dropped}
 abbrev pub named_rules : Setup → Past → List (ObjRef × Wanted) → List Rule
 named_rules setup past [] = []
 named_rules setup past (object ∷ objects) =
-    (10, is_own setup past (λ known. admits object.1 (kind_of known)) object.0)
-    ∷ ((11, not (is_dropped setup past object.0.number))
-    ∷ ((12, is_valid past object.0.number)
+    (OBJECT_IS_OF_DEVICE, is_own setup past (λ known. admits object.1 (kind_of known)) object.0)
+    ∷ ((OBJECT_IS_NOT_DROPPED, not (is_dropped setup past object.0.number))
+    ∷ ((OBJECT_IS_VALID, is_valid past object.0.number)
     ∷ named_rules setup past objects))
 
 -- createBindGroupLayout names no object.
@@ -58,7 +59,7 @@ unfoldable pub create_compute_pipeline_rule : Setup → Past → Option ObjRef �
 create_compute_pipeline_rule setup past layout iface =
     first_unmet (named_rules setup past (maybe_wanted wanted.PipelineLayout layout)
     ++ (derived_rules setup.limits layout iface.entries
-    ++ compute_rules (compute_made (λ r. r) (known_in past) layout iface).layout_info.layouts_info iface.entries))
+    ++ compute_pipeline_rules (compute_made (λ r. r) (known_in past) layout iface).layout_info.layouts_info iface.entries))
 
 -- createRenderPipeline: likewise
 unfoldable pub create_render_pipeline_rule : Setup → Past → Option ObjRef → RenderDesc → Option ℕ

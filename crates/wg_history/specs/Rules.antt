@@ -3,6 +3,7 @@
 use Rattle.std.specs.Prelude.{ℕ, Bool, true, false, not, ◌&&◌, ◌||◌, ◌==◌, nat_lt, List, [], ◌∷◌, ◌++◌, Option, Some, None, is_none, is_some, option_and_then, unwrap_or, if◌then◌else◌}
 use Rattle.std.specs.List.{list_any}
 use Rattle.std.specs.Option.{option_map_or, option_or}
+use Rattle.wg_rules.specs.declared.TheConstants.{OBJECT_IS_OF_DEVICE, OBJECT_IS_NOT_DROPPED, OBJECT_IS_VALID, ENCODER_HAS_NOT_ENDED, EVERY_PASS_HAS_ENDED, EVERY_DEBUG_GROUP_OF_ENCODER_IS_CLOSED, USAGE_SCOPES_ARE_COMPATIBLE, COMMAND_BUFFERS_ARE_NOT_CONSUMED, COMMAND_BUFFERS_ARE_DISTINCT, SUBMITTED_BUFFERS_ARE_NOT_BUSY, SUBMITTED_OBJECTS_ARE_NOT_DESTROYED, WRITTEN_BUFFER_IS_NOT_BUSY, WRITTEN_TEXTURE_IS_NOT_DESTROYED, MAPPED_BUFFER_IS_NOT_BUSY}
 use Rattle.wg_types.specs.Handles.{HandleValue}
 use Rattle.wg_types.specs.declared.textures.ViewDesc.{ViewDesc}
 use Rattle.wg_types.specs.declared.textures.TextureSpot.{TextureSpot}
@@ -34,7 +35,7 @@ use Rattle.wg_history.specs.Infos.{same_kind, same_info}
 
 -- drop: 10 the object is one of this device, of any kind, valid or not; 11 it was not dropped before
 abbrev pub drop_list : Bool → Setup → Past → ObjRef → List Rule
-drop_list dropped setup past object = (10, is_own setup past is_any object) ∷ ((11, not dropped) ∷ [])
+drop_list dropped setup past object = (OBJECT_IS_OF_DEVICE, is_own setup past is_any object) ∷ ((OBJECT_IS_NOT_DROPPED, not dropped) ∷ [])
 
 -- whether an event that comes after a past drops object n, where that was dropped before or was not
 abbrev pub drops : Bool → Setup → Past → Event → ℕ → Bool
@@ -61,9 +62,9 @@ drop_rule setup past object = first_unmet (drop_list (is_dropped setup past obje
 -- the texture is
 abbrev pub create_view_list : Setup → Past → ObjRef → ViewDesc → List Rule
 create_view_list setup past texture desc =
-    (10, is_own setup past is_texture_info texture)
-    ∷ ((11, not (is_dropped setup past texture.number))
-    ∷ ((12, is_valid past texture.number)
+    (OBJECT_IS_OF_DEVICE, is_own setup past is_texture_info texture)
+    ∷ ((OBJECT_IS_NOT_DROPPED, not (is_dropped setup past texture.number))
+    ∷ ((OBJECT_IS_VALID, is_valid past texture.number)
     ∷ create_view_rules (texture_or_none_at past texture.number) desc))
 
 -- the first unmet rule of a createView
@@ -73,7 +74,10 @@ create_view_rule setup past texture desc = first_unmet (create_view_list setup p
 -- destroy (WebGPU, "Buffer Destruction", "Texture Destruction" and "Query Set Destruction"): 10 the object is a resource of this
 -- device, valid or not; 11 it is not dropped
 unfoldable pub destroy_rule : Setup → Past → ObjRef → Option ℕ
-destroy_rule setup past object = first_unmet ((10, is_own setup past has_memory object) ∷ ((11, not (is_dropped setup past object.number)) ∷ []))
+destroy_rule setup past object =
+    first_unmet ((OBJECT_IS_OF_DEVICE, is_own setup past has_memory object)
+    ∷ ((OBJECT_IS_NOT_DROPPED, not (is_dropped setup past object.number))
+    ∷ []))
 
 -- whether an event that comes after a past destroys object n
 abbrev pub destroys : Setup → Past → Event → ℕ → Bool
@@ -86,7 +90,10 @@ is_destroyed setup (entry ∷ older) n = destroys setup older entry.event n || i
 
 -- unmap (WebGPU, "unmap"): 10 the buffer is one of this device, valid or not; 11 it is not dropped
 unfoldable pub unmap_rule : Setup → Past → ObjRef → Option ℕ
-unmap_rule setup past buffer = first_unmet ((10, is_own setup past is_buffer buffer) ∷ ((11, not (is_dropped setup past buffer.number)) ∷ []))
+unmap_rule setup past buffer =
+    first_unmet ((OBJECT_IS_OF_DEVICE, is_own setup past is_buffer buffer)
+    ∷ ((OBJECT_IS_NOT_DROPPED, not (is_dropped setup past buffer.number))
+    ∷ []))
 
 -- whether an event that comes after a past unmaps buffer n, as its unmap does that meets its rules, and its destroy
 abbrev pub unmaps : Setup → Past → Event → ℕ → Bool
@@ -149,11 +156,11 @@ is_busy setup past n = is_destroyed setup past n || (is_some (mapped_at setup pa
 -- is and what is asked, and 225 it is not mapped, pending or destroyed
 abbrev pub map_async_list : Setup → Past → ObjRef → ℕ → ℕ → ℕ → List Rule
 map_async_list setup past buffer mode offset size =
-    (10, is_own setup past is_buffer buffer)
-    ∷ ((11, not (is_dropped setup past buffer.number))
-    ∷ ((12, is_valid past buffer.number)
+    (OBJECT_IS_OF_DEVICE, is_own setup past is_buffer buffer)
+    ∷ ((OBJECT_IS_NOT_DROPPED, not (is_dropped setup past buffer.number))
+    ∷ ((OBJECT_IS_VALID, is_valid past buffer.number)
     ∷ (map_rules (unwrap_or (buffer_at past buffer.number) no_buffer) mode offset size
-    ++ (225, not (is_busy setup past buffer.number)) ∷ [])))
+    ++ (MAPPED_BUFFER_IS_NOT_BUSY, not (is_busy setup past buffer.number)) ∷ [])))
 
 -- the first unmet rule of a mapAsync
 unfoldable pub map_async_rule : Setup → Past → ObjRef → ℕ → ℕ → ℕ → Option ℕ
@@ -163,11 +170,11 @@ map_async_rule setup past buffer mode offset size = first_unmet (map_async_list 
 -- its size and usage, and 203 it is not mapped, pending or destroyed
 abbrev pub write_buffer_list : Setup → Past → ObjRef → ℕ → ℕ → List Rule
 write_buffer_list setup past buffer offset size =
-    (10, is_own setup past is_buffer buffer)
-    ∷ ((11, not (is_dropped setup past buffer.number))
-    ∷ ((12, is_valid past buffer.number)
+    (OBJECT_IS_OF_DEVICE, is_own setup past is_buffer buffer)
+    ∷ ((OBJECT_IS_NOT_DROPPED, not (is_dropped setup past buffer.number))
+    ∷ ((OBJECT_IS_VALID, is_valid past buffer.number)
     ∷ (write_buffer_rules (unwrap_or (buffer_at past buffer.number) no_buffer) offset size
-    ++ (203, not (is_busy setup past buffer.number)) ∷ [])))
+    ++ (WRITTEN_BUFFER_IS_NOT_BUSY, not (is_busy setup past buffer.number)) ∷ [])))
 
 -- the first unmet rule of a writeBuffer
 unfoldable pub write_buffer_rule : Setup → Past → ObjRef → ℕ → ℕ → Option ℕ
@@ -177,11 +184,11 @@ write_buffer_rule setup past buffer offset size = first_unmet (write_buffer_list
 -- by what it is, and 210 it is not destroyed
 abbrev pub write_texture_list : Setup → Past → ObjRef → TextureSpot → DataLayout → List ℕ → ℕ → List Rule
 write_texture_list setup past texture spot layout size data_size =
-    (10, is_own setup past is_texture_info texture)
-    ∷ ((11, not (is_dropped setup past texture.number))
-    ∷ ((12, is_valid past texture.number)
+    (OBJECT_IS_OF_DEVICE, is_own setup past is_texture_info texture)
+    ∷ ((OBJECT_IS_NOT_DROPPED, not (is_dropped setup past texture.number))
+    ∷ ((OBJECT_IS_VALID, is_valid past texture.number)
     ∷ (write_texture_rules (texture_or_none_at past texture.number) spot layout size data_size
-    ++ (210, not (is_destroyed setup past texture.number)) ∷ [])))
+    ++ (WRITTEN_TEXTURE_IS_NOT_DESTROYED, not (is_destroyed setup past texture.number)) ∷ [])))
 
 -- the first unmet rule of a writeTexture
 unfoldable pub write_texture_rule : Setup → Past → ObjRef → TextureSpot → DataLayout → List ℕ → ℕ → Option ℕ
@@ -223,24 +230,25 @@ has_finished setup (entry ∷ older) n = ends_encoder setup older entry.event n 
 -- the kind that the call ends; 11 it is not dropped; 12 it is valid; 180 it has not ended.
 abbrev pub encoder_rules : Setup → Past → (Info → Bool) → ObjRef → List Rule
 encoder_rules setup past kind encoder =
-    (10, is_own setup past kind encoder)
-    ∷ ((11, not (is_dropped setup past encoder.number))
-    ∷ ((12, is_valid past encoder.number)
-    ∷ ((180, not (has_finished setup past encoder.number))
+    (OBJECT_IS_OF_DEVICE, is_own setup past kind encoder)
+    ∷ ((OBJECT_IS_NOT_DROPPED, not (is_dropped setup past encoder.number))
+    ∷ ((OBJECT_IS_VALID, is_valid past encoder.number)
+    ∷ ((ENCODER_HAS_NOT_ENDED, not (has_finished setup past encoder.number))
     ∷ [])))
 
 -- the rules of a recording that is ended: 183 no debug group of the encoder is open; 11 each handle that a command names is
 -- genuine, and its object was not dropped before the encoder was made; 184 every usage scope is compatible
 abbrev pub kept_rules : Setup → Past → ℕ → RecordingValue → List Rule
 kept_rules setup past encoder recording =
-    (183, open_depth recording.targets recording.commands == 0)
-    ∷ ((11, not (any_barred setup past encoder recording.commands))
-    ∷ ((184, is_none (first_clash (ScopesOf recording.device recording.targets recording.commands)))
+    (EVERY_DEBUG_GROUP_OF_ENCODER_IS_CLOSED, open_depth recording.targets recording.commands == 0)
+    ∷ ((OBJECT_IS_NOT_DROPPED, not (any_barred setup past encoder recording.commands))
+    ∷ ((USAGE_SCOPES_ARE_COMPATIBLE, is_none (first_clash (ScopesOf recording.device recording.targets recording.commands)))
     ∷ []))
 
 -- the rules of the recording of a finish: 182 no pass is open, and then those of any recording that is ended
 abbrev pub recording_rules : Setup → Past → ℕ → RecordingValue → List Rule
-recording_rules setup past encoder recording = (182, not (has_open_pass recording.targets recording.commands)) ∷ kept_rules setup past encoder recording
+recording_rules setup past encoder recording =
+    (EVERY_PASS_HAS_ENDED, not (has_open_pass recording.targets recording.commands)) ∷ kept_rules setup past encoder recording
 
 -- the first unmet rule of a finish (WebGPU, "Finalization"): those of the encoder, 10, 11, 12 and 180 that it has not ended,
 -- then the rule that invalidated it first, then those of the recording
@@ -278,9 +286,9 @@ are_distinct (buffer ∷ buffers) = not (list_any (λ other. other.number == buf
 abbrev pub listed_rules : Setup → Past → List ObjRef → List Rule
 listed_rules setup past [] = []
 listed_rules setup past (buffer ∷ buffers) =
-    (10, is_own setup past is_command_buffer buffer)
-    ∷ ((11, not (is_dropped setup past buffer.number))
-    ∷ ((12, is_valid past buffer.number)
+    (OBJECT_IS_OF_DEVICE, is_own setup past is_command_buffer buffer)
+    ∷ ((OBJECT_IS_NOT_DROPPED, not (is_dropped setup past buffer.number))
+    ∷ ((OBJECT_IS_VALID, is_valid past buffer.number)
     ∷ listed_rules setup past buffers))
 
 -- whether one of the objects that the commands of these command buffers name passes the test
@@ -291,10 +299,14 @@ any_used names test past buffers = list_any (λ buffer. any_named names test (co
 -- use is mapped, pending or destroyed; 193 no texture or query set that they use is destroyed
 abbrev pub together_rules : Setup → Past → List ObjRef → List Rule
 together_rules setup past buffers =
-    (190, not (list_any (λ buffer. is_consumed setup past buffer.number) buffers))
-    ∷ ((191, are_distinct buffers)
-    ∷ ((192, not (any_used buffers_of (is_busy setup past) past buffers))
-    ∷ ((193, not (any_used textures_of (is_destroyed setup past) past buffers || any_used query_sets_of (is_destroyed setup past) past buffers))
+    (COMMAND_BUFFERS_ARE_NOT_CONSUMED, not (list_any (λ buffer. is_consumed setup past buffer.number) buffers))
+    ∷ ((COMMAND_BUFFERS_ARE_DISTINCT, are_distinct buffers)
+    ∷ ((SUBMITTED_BUFFERS_ARE_NOT_BUSY, not (any_used buffers_of (is_busy setup past) past buffers))
+    ∷ ((
+      SUBMITTED_OBJECTS_ARE_NOT_DESTROYED,
+      not (any_used textures_of (is_destroyed setup past) past buffers
+          || any_used query_sets_of (is_destroyed setup past) past buffers),
+    )
     ∷ [])))
 
 -- submit

@@ -6,6 +6,7 @@ ghost use Rattle.wg_model.specs.Bound.{layout_fits, layouts_fit, bound_rules};
 use crate::equivalence::equivalent_for;
 use crate::overlaps::are_clear;
 use crate::places::{group_at, has_entries, info_set};
+use wg_rules::{GROUPS_FIT_PIPELINE, WRITTEN_BINDINGS_ARE_APART};
 use wg_types::commands::BoundGroup;
 use wg_types::groups::GroupLayoutInfo;
 use wg_types::shared::Shared;
@@ -55,10 +56,10 @@ pub fn check_bound(
     ensures { result ≡ first_unmet (bound_rules owner layouts.now groups.now) }
 {
     if !layouts_fit(owner, layouts, groups) {
-        return Some(341);
+        return Some(GROUPS_FIT_PIPELINE);
     }
     if !are_clear(layouts, groups) {
-        return Some(342);
+        return Some(WRITTEN_BINDINGS_ARE_APART);
     }
     None
 }

@@ -11,6 +11,14 @@ use crate::entries::{
     all_multi_fit, all_storage_fit, are_below, are_of_stages, are_read_by_vertices,
 };
 use crate::setting::known_layouts;
+use wg_rules::{
+    GROUP_INDEX_IS_IN_PIPELINE, LAYOUT_BINDINGS_ARE_DISTINCT, LAYOUT_BINDINGS_ARE_WITHIN_LIMIT,
+    LAYOUT_DYNAMIC_BUFFERS_ARE_WITHIN_LIMITS, LAYOUT_STAGES_ARE_WITHIN_LIMITS,
+    LAYOUT_VISIBILITY_IS_KNOWN, LAYOUTS_ARE_EXCLUSIVE_TO_NO_PIPELINE,
+    MULTISAMPLED_BINDING_IS_2D_AND_NOT_FLOAT, PIPELINE_LAYOUT_COUNT_IS_WITHIN_LIMIT,
+    PIPELINE_LAYOUT_DYNAMIC_BUFFERS_ARE_WITHIN_LIMITS, PIPELINE_LAYOUT_STAGES_ARE_WITHIN_LIMITS,
+    STORAGE_TEXTURE_FORMAT_HAS_ACCESS, VERTEX_STAGE_WRITES_NOTHING,
+};
 use wg_types::bindings::LayoutEntry;
 use wg_types::groups::GroupLayoutInfo;
 use wg_types::handles::Info;
@@ -23,28 +31,28 @@ pub fn check_group_layout(entries: &[LayoutEntry], limits: &Limits) -> Option<u1
     ensures { result ≡ first_unmet (group_layout_rules limits.now entries.now) }
 {
     if !are_distinct(entries) {
-        return Some(130);
+        return Some(LAYOUT_BINDINGS_ARE_DISTINCT);
     }
     if !are_below(entries, limits.max_bindings_per_bind_group) {
-        return Some(131);
+        return Some(LAYOUT_BINDINGS_ARE_WITHIN_LIMIT);
     }
     if !are_of_stages(entries) {
-        return Some(132);
+        return Some(LAYOUT_VISIBILITY_IS_KNOWN);
     }
     if !are_read_by_vertices(entries) {
-        return Some(133);
+        return Some(VERTEX_STAGE_WRITES_NOTHING);
     }
     if !all_multi_fit(entries) {
-        return Some(134);
+        return Some(MULTISAMPLED_BINDING_IS_2D_AND_NOT_FLOAT);
     }
     if !all_storage_fit(entries) {
-        return Some(135);
+        return Some(STORAGE_TEXTURE_FORMAT_HAS_ACCESS);
     }
     if !stages_fit(limits, LayoutEntries::One(entries)) {
-        return Some(136);
+        return Some(LAYOUT_STAGES_ARE_WITHIN_LIMITS);
     }
     if !dynamic_fits(limits, LayoutEntries::One(entries)) {
-        return Some(137);
+        return Some(LAYOUT_DYNAMIC_BUFFERS_ARE_WITHIN_LIMITS);
     }
     None
 }
@@ -57,13 +65,13 @@ pub fn check_together(layouts: &[Shared<GroupLayoutInfo>], limits: &Limits) -> O
     ensures { result ≡ first_unmet (together_rules limits.now layouts.now) }
 {
     if layouts.len() as u64 > u64::from(limits.max_bind_groups) {
-        return Some(140);
+        return Some(PIPELINE_LAYOUT_COUNT_IS_WITHIN_LIMIT);
     }
     if !stages_fit(limits, LayoutEntries::All(layouts)) {
-        return Some(141);
+        return Some(PIPELINE_LAYOUT_STAGES_ARE_WITHIN_LIMITS);
     }
     if !dynamic_fits(limits, LayoutEntries::All(layouts)) {
-        return Some(142);
+        return Some(PIPELINE_LAYOUT_DYNAMIC_BUFFERS_ARE_WITHIN_LIMITS);
     }
     None
 }
@@ -88,7 +96,7 @@ pub fn check_pipeline_layout(layouts: &[Shared<GroupLayoutInfo>], limits: &Limit
         return Some(rule);
     }
     if !are_for_all(layouts) {
-        return Some(143);
+        return Some(LAYOUTS_ARE_EXCLUSIVE_TO_NO_PIPELINE);
     }
     None
 }
@@ -102,5 +110,5 @@ pub fn check_get_layout(pipeline: Option<&Info>, index: u32) -> Option<u16>
     if (index as usize) < known_layouts(pipeline).len() {
         return None;
     }
-    Some(169)
+    Some(GROUP_INDEX_IS_IN_PIPELINE)
 }

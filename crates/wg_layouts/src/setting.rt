@@ -10,6 +10,10 @@ ghost use Rattle.wg_layouts.specs.Places.{entries_places};
 use crate::bindings::Bindings;
 use crate::counts::is_dynamic;
 use crate::places::place_of;
+use wg_rules::{
+    DYNAMIC_OFFSETS_ARE_ALIGNED, DYNAMIC_RANGES_FIT_BUFFERS, GROUP_INDEX_IS_WITHIN_LIMIT,
+    OFFSET_COUNT_FITS_LAYOUT,
+};
 use wg_types::bindings::{BoundEntry, BoundResource, LayoutEntry};
 use wg_types::groups::{GroupInfo, GroupLayoutInfo};
 use wg_types::handles::{Handle, Info};
@@ -165,13 +169,13 @@ fn check_offsets(group: &GroupInfo, offsets: &[u32]) -> Option<u16>
 {
     let layout = group.layout_info.get().entries.get().as_slice();
     if offsets.len() != dynamics(layout) {
-        return Some(326);
+        return Some(OFFSET_COUNT_FITS_LAYOUT);
     }
     if !are_aligned(offsets) {
-        return Some(327);
+        return Some(DYNAMIC_OFFSETS_ARE_ALIGNED);
     }
     if !entries_fit(&Bindings::new(layout), offsets, group.entries.as_slice()) {
-        return Some(328);
+        return Some(DYNAMIC_RANGES_FIT_BUFFERS);
     }
     None
 }
@@ -183,7 +187,7 @@ pub fn check_set(index: u32, group: Option<&GroupInfo>, offsets: &[u32]) -> Opti
     ensures { result ≡ first_unmet (set_rules index (option_copied group.entry) offsets.now) }
 {
     if index >= 4 {
-        return Some(325);
+        return Some(GROUP_INDEX_IS_WITHIN_LIMIT);
     }
     match group {
         Some(group) => check_offsets(group, offsets),

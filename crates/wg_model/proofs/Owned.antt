@@ -1,7 +1,8 @@
 -- Bind groups of the layouts of one pipeline do not serve another.
-use Rattle.std.proofs.Common.{◌≡◌, ℕ, zero, suc, ◌+◌, ◌==◌, Bool, true, false, not, ◌&&◌, ◌||◌, List, [], ◌∷◌, Option, Some, None, slice_get, slice_index_or, is_some, option_and_then, if◌then◌else◌, refl, ap, ap₂, sym, ◌∙◌, true≢false, arith, add-one}
+use Rattle.std.proofs.Common.{◌≡◌, ℕ, zero, suc, ◌+◌, ◌==◌, Bool, true, false, not, ◌||◌, List, [], ◌∷◌, Option, Some, None, slice_get, slice_index_or, is_some, option_and_then, if◌then◌else◌, refl, ap, ap₂, sym, ◌∙◌, true≢false, arith}
 use Rattle.std.proofs.lemmas.Bool.{and_left, and_right}
 use Rattle.std.specs.Option.{option_map_or}
+use Rattle.wg_rules.specs.declared.TheConstants.{PIPELINE_IS_SET, GROUPS_FIT_PIPELINE, WRITTEN_BINDINGS_ARE_APART}
 use Rattle.wg_types.specs.Handles.{HandleValue}
 use Rattle.wg_types.specs.declared.groups.GroupInfo.{GroupInfo}
 use Rattle.wg_types.specs.declared.groups.GroupLayoutInfo.{GroupLayoutInfo}
@@ -9,8 +10,8 @@ use Rattle.wg_types.specs.declared.commands.BoundGroup.{BoundGroup}
 use Rattle.wg_model.specs.Rules.{first_unmet}
 use Rattle.wg_model.specs.Equality.{equivalent, same_owner, equivalent_for}
 use Rattle.wg_model.specs.Bound.{has_entries, info_set, is_automatic, owner_of, layouts_in, layout_fits, layouts_fit, are_clear, layouts_places, bound_rules}
-use Rattle.wg_model.specs.Settings.{Settings, pipeline_layouts, owner_set, layouts_set, ready_rules}
-use Rattle.wg_model.specs.Owned.{IsOfOther, OthersAreRefused, OthersDoNotRun}
+use Rattle.wg_model.specs.Settings.{pipeline_layouts}
+use Rattle.wg_model.specs.Owned.{OthersAreRefused, OthersDoNotRun}
 
 layout_refused : (owner : Option ℕ) (other : ℕ) (layout : GroupLayoutInfo) (group : Option BoundGroup) (known : GroupInfo) → has_entries layout ≡ true → info_set group ≡ Some known → known.layout_info.exclusive ≡ Some other → same_owner owner (Some other) ≡ false → layout_fits owner layout group ≡ false
 layout_refused owner other layout group known asked set exclusive apart =
@@ -31,7 +32,7 @@ refused_from owner other (x ∷ xs) groups from (suc index) layout known at aske
 pub others_are_refused : OthersAreRefused
 unfolding bound_rules
 others_are_refused owner other layouts groups index of_other apart =
-    ap (λ (b : Bool). first_unmet ((341, b) ∷ ((342, are_clear (layouts_places layouts groups 0)) ∷ [])))
+    ap (λ (b : Bool). first_unmet ((GROUPS_FIT_PIPELINE, b) ∷ ((WRITTEN_BINDINGS_ARE_APART, are_clear (layouts_places layouts groups 0)) ∷ [])))
     (refused_from owner other layouts groups 0 index of_other.layout of_other.known of_other.there of_other.asked (ap (λ (n : ℕ). info_set (slice_index_or groups n None)) (omega arith) ∙ of_other.set) of_other.exclusive apart)
 
 -- A pipeline owns its own layouts or none.
@@ -39,9 +40,9 @@ owns_none_else : (automatic : Bool) (n other : ℕ) → (n == other) ≡ false �
 owns_none_else true n other apart = apart
 owns_none_else false n other apart = refl
 
-by_pipeline : (groups : List (Option BoundGroup)) (pipeline : HandleValue) (found : Option HandleValue) → found ≡ Some pipeline → first_unmet (bound_rules (owner_of pipeline) (layouts_in pipeline.info) groups) ≡ Some 341 → first_unmet ((340, is_some found) ∷ bound_rules (option_and_then owner_of found) (pipeline_layouts found) groups) ≡ Some 341
+by_pipeline : (groups : List (Option BoundGroup)) (pipeline : HandleValue) (found : Option HandleValue) → found ≡ Some pipeline → first_unmet (bound_rules (owner_of pipeline) (layouts_in pipeline.info) groups) ≡ Some GROUPS_FIT_PIPELINE → first_unmet ((PIPELINE_IS_SET, is_some found) ∷ bound_rules (option_and_then owner_of found) (pipeline_layouts found) groups) ≡ Some GROUPS_FIT_PIPELINE
 by_pipeline groups pipeline found at refused =
-    ap (λ (o : Option HandleValue). first_unmet ((340, is_some o) ∷ bound_rules (option_and_then owner_of o) (pipeline_layouts o) groups)) at ∙ refused
+    ap (λ (o : Option HandleValue). first_unmet ((PIPELINE_IS_SET, is_some o) ∷ bound_rules (option_and_then owner_of o) (pipeline_layouts o) groups)) at ∙ refused
 
 pub others_do_not_run : OthersDoNotRun
 others_do_not_run set pipeline other index at of_other apart =

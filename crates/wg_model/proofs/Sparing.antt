@@ -30,7 +30,7 @@ use Rattle.wg_model.specs.Attachments.{RenderBegin, ColorTarget, DepthTarget, at
 use Rattle.wg_model.specs.Render.{RenderSet, render_set, touches_over, command_touches, bound_group_touches, render_does, render_does_by}
 use Rattle.wg_types.specs.declared.bundles.BundleInfo.{BundleInfo}
 use Rattle.wg_types.specs.declared.bundles.BundleTouch.{BundleTouch}
-use Rattle.wg_model.specs.Bundles.{known_bundle, bundle_touch, touches_within, executed_touches, buffer_in, texture_in, query_set_in, in_bundle}
+use Rattle.wg_model.specs.Bundles.{known_bundle, bundle_touch, known_touches, executed_touches, buffer_in, texture_in, query_set_in, in_bundle}
 use Rattle.wg_model.specs.Queries.{set_of_pass, query_begun_touches}
 use Rattle.wg_types.specs.Render.{color_named, depth_named, targets_named}
 use Rattle.wg_types.specs.Refs.{maybe_wanted, all_wanted}
@@ -379,7 +379,7 @@ bundle_away n (touch ∷ touches) a b c =
     let sets = both_none n (query_set_in touch.cells) (of_touches query_set_in touches) c in
     (cells_away n touch.cells buffers.0 textures.0 sets.0, bundle_away n touches buffers.1 textures.1 sets.1)
 
-bundled_away : (n : ℕ) (known : Option BundleInfo) → AllOthers n (in_bundle buffer_in known) → AllOthers n (in_bundle texture_in known) → AllOthers n (in_bundle query_set_in known) → AreAway n (touches_within known)
+bundled_away : (n : ℕ) (known : Option BundleInfo) → AllOthers n (in_bundle buffer_in known) → AllOthers n (in_bundle texture_in known) → AllOthers n (in_bundle query_set_in known) → AreAway n (known_touches known)
 bundled_away n None a b c = tt
 bundled_away n (Some bundle) a b c = bundle_away n bundle.touches a b c
 
@@ -389,7 +389,7 @@ all_away n (bundle ∷ bundles) a b c =
     let buffers = both_none n (buffers_as wanted.Bundle bundle) (numbers_by buffers_as (all_wanted wanted.Bundle bundles)) a in
     let textures = both_none n (textures_as wanted.Bundle bundle) (numbers_by textures_as (all_wanted wanted.Bundle bundles)) b in
     let sets = both_none n (query_sets_as wanted.Bundle bundle) (numbers_by query_sets_as (all_wanted wanted.Bundle bundles)) c in
-    joined_away n (touches_within (known_bundle bundle)) (executed_touches bundles) (bundled_away n (known_bundle bundle) buffers.0 textures.0 sets.0) (all_away n bundles buffers.1 textures.1 sets.1)
+    joined_away n (known_touches (known_bundle bundle)) (executed_touches bundles) (bundled_away n (known_bundle bundle) buffers.0 textures.0 sets.0) (all_away n bundles buffers.1 textures.1 sets.1)
 
 executed_away : (n : ℕ) (bundles : List HandleValue) → SparesCommand n (ExecuteBundles bundles) → AreAway n (executed_touches bundles)
 executed_away n bundles e =

@@ -42,7 +42,7 @@ use Rattle.wg_types.specs.declared.bundles.BundleInfo.{BundleInfo}
 use Rattle.wg_types.specs.declared.bundles.BundleTouch.{BundleTouch}
 use Rattle.wg_types.specs.declared.bundles.BundleUse.{BundleUse}
 use Rattle.wg_types.specs.declared.bundles.BundleUse.TheVariants.{Input, Constant, StorageRead, Storage as StorageUse}
-use Rattle.wg_model.specs.Bundles.{known_bundle, bundle_how, bundle_touch, touches_within, executed_touches}
+use Rattle.wg_model.specs.Bundles.{known_bundle, bundle_how, bundle_touch, known_touches, executed_touches}
 use Rattle.wg_model.specs.Queries.{set_of_pass, query_begun_touches}
 use Rattle.wg_types.specs.Handles.{HandleValue}
 use Rattle.wg_trace.specs.declared.parts.Aspect.{Aspect}
@@ -228,13 +228,13 @@ bundle_own : (touches : List BundleTouch) → AreProper (map bundle_touch touche
 bundle_own [] = tt
 bundle_own (touch ∷ touches) = (bundle_fair touch.used, bundle_own touches)
 
-within_bundle_own : (known : Option BundleInfo) → AreProper (touches_within known)
+within_bundle_own : (known : Option BundleInfo) → AreProper (known_touches known)
 within_bundle_own None = tt
 within_bundle_own (Some bundle) = bundle_own bundle.touches
 
 executed_own : (bundles : List HandleValue) → AreProper (executed_touches bundles)
 executed_own [] = tt
-executed_own (bundle ∷ bundles) = joined_proper (touches_within (known_bundle bundle)) (executed_touches bundles) (within_bundle_own (known_bundle bundle)) (executed_own bundles)
+executed_own (bundle ∷ bundles) = joined_proper (known_touches (known_bundle bundle)) (executed_touches bundles) (within_bundle_own (known_bundle bundle)) (executed_own bundles)
 
 query_own : (queries : Option (ℕ × ℕ)) (index : ℕ) → AreProper (query_begun_touches queries index)
 query_own None index = tt

@@ -75,9 +75,6 @@ is_one a = record { first = apart_within 43 4 16 a refl; second = apart_within 4
 abbrev kinds_agree : Kinds → Kinds → Bool
 kinds_agree a b = (a.reading && b.reading) || (a.storing && b.storing) || (a.attached && b.attached)
 
-abbrev kinds_stand : Kinds → Bool
-kinds_stand a = a.reading || a.storing || a.attached
-
 -- A use that agrees with each of two that agree agrees with their union.
 join_agree : (r a b : Kinds) → IsOne r → IsOne a → IsOne b → kinds_agree r a ≡ true → kinds_agree r b ≡ true → kinds_agree a b ≡ true → (r.reading && (a.reading && b.reading)) || (r.storing && (a.storing && b.storing)) || (r.attached && (a.attached && b.attached)) ≡ true
 join_agree r a b or oa ob e f g = go r.reading r.storing r.attached a.reading a.storing a.attached b.reading b.storing b.attached or.first or.second or.third oa.first oa.second oa.third ob.first ob.second ob.third e f g

@@ -4,6 +4,7 @@
 use Rattle.std.specs.Prelude.{ℕ, ◌+◌, ◌==◌, nat_le, nat_lt, Bool, true, false, not, ◌&&◌, ◌||◌, List, [], ◌∷◌, ◌++◌, map, Option, Some, None, is_some, unwrap_or, option_map, length, if◌then◌else◌}
 use Rattle.std.specs.List.{list_all, list_any, flat_map}
 use Rattle.std.specs.Option.{option_map_or, option_to_list}
+use Rattle.wg_rules.specs.declared.TheConstants.{PASS_COLORS_ARE_WITHIN_LIMIT, PASS_HAS_ATTACHMENT, COLOR_VIEWS_ARE_RENDERABLE, DEPTH_VIEW_IS_RENDERABLE, DEPTH_OPERATIONS_FIT_FORMAT, ATTACHMENTS_AGREE_IN_EXTENT_AND_SAMPLES, NOTHING_IS_ATTACHED_TWICE, RESOLVE_VIEWS_FIT_COLORS, DEPTH_SLICES_FIT_VIEWS}
 use Rattle.wg_types.specs.Handles.{HandleValue}
 use Rattle.wg_types.specs.Commands.{Command, render_begun}
 use Rattle.wg_types.specs.Formats.{row, same_format}
@@ -226,15 +227,15 @@ most_colors = 8
 -- what is resolved goes to a view that will do.
 unfoldable pub begin_rules : RenderBegin → List Rule
 begin_rules begin =
-    (300, nat_le (length begin.colors) most_colors)
-    ∷ ((301, list_any (λ (color : Option ColorTarget). is_some color) begin.colors || is_some begin.depth)
-    ∷ ((302, list_all (λ (target : ColorTarget). color_fits (color_view target)) (colors_given begin))
-    ∷ ((308, list_all (λ (target : ColorTarget). slice_fits (color_attached target)) (colors_given begin))
-    ∷ ((303, option_map_or (λ (target : DepthTarget). depth_attachment_fits (depth_view target)) begin.depth true)
-    ∷ ((304, option_map_or depth_ops_fit begin.depth true)
-    ∷ ((305, all_alike (drawn_views begin))
-    ∷ ((306, attached_are_apart (attached_views begin))
-    ∷ ((307, list_all resolve_fits (colors_given begin))
+    (PASS_COLORS_ARE_WITHIN_LIMIT, nat_le (length begin.colors) most_colors)
+    ∷ ((PASS_HAS_ATTACHMENT, list_any (λ (color : Option ColorTarget). is_some color) begin.colors || is_some begin.depth)
+    ∷ ((COLOR_VIEWS_ARE_RENDERABLE, list_all (λ (target : ColorTarget). color_fits (color_view target)) (colors_given begin))
+    ∷ ((DEPTH_SLICES_FIT_VIEWS, list_all (λ (target : ColorTarget). slice_fits (color_attached target)) (colors_given begin))
+    ∷ ((DEPTH_VIEW_IS_RENDERABLE, option_map_or (λ (target : DepthTarget). depth_attachment_fits (depth_view target)) begin.depth true)
+    ∷ ((DEPTH_OPERATIONS_FIT_FORMAT, option_map_or depth_ops_fit begin.depth true)
+    ∷ ((ATTACHMENTS_AGREE_IN_EXTENT_AND_SAMPLES, all_alike (drawn_views begin))
+    ∷ ((NOTHING_IS_ATTACHED_TWICE, attached_are_apart (attached_views begin))
+    ∷ ((RESOLVE_VIEWS_FIT_COLORS, list_all resolve_fits (colors_given begin))
     ∷ []))))))))
 
 -- the begin of a pass with no attachments

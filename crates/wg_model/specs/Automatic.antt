@@ -2,6 +2,7 @@
 use Rattle.std.specs.Prelude.{ℕ, zero, suc, ◌+◌, ◌==◌, nat_lt, max, bit_or, Bool, false, not, ◌&&◌, List, [], ◌∷◌, ◌++◌, length, slice_get, Option, Some, None, is_none, if◌then◌else◌, filter}
 use Rattle.std.specs.List.{list_all, list_any, fold}
 use Rattle.std.specs.Option.{option_map_or}
+use Rattle.wg_rules.specs.declared.TheConstants.{AUTO_INTERFACE_AGREES, DERIVED_LAYOUTS_ARE_ALLOWED, GROUP_INDEX_IS_IN_PIPELINE}
 use Rattle.wg_types.specs.declared.handles.Info.{Info}
 use Rattle.wg_types.specs.declared.limits.Limits.{Limits}
 use Rattle.wg_types.specs.declared.bindings.BindingKind.{BindingKind}
@@ -104,7 +105,10 @@ layouts_meet limits layouts = list_all (λ (layout : GroupLayoutInfo). entries_m
 -- sizes they ask for; 168 they name groups that may be set, and the layouts that are derived meet the rules of layouts that are
 -- made, and of those of a pipeline.
 unfoldable pub automatic_rules : Limits → List IfaceEntry → List Rule
-automatic_rules limits iface = (167, kinds_agree iface) ∷ ((168, groups_fit iface && layouts_meet limits (automatic_layouts iface)) ∷ [])
+automatic_rules limits iface =
+    (AUTO_INTERFACE_AGREES, kinds_agree iface)
+    ∷ ((DERIVED_LAYOUTS_ARE_ALLOWED, groups_fit iface && layouts_meet limits (automatic_layouts iface))
+    ∷ [])
 
 -- the rules of the layouts that a pipeline derives where it is made with no layout, and none where it is made with one
 abbrev pub derived_rules : {R : Type 0} → Limits → Option R → List IfaceEntry → List Rule
@@ -118,4 +122,4 @@ known_layouts known = option_map_or layouts_in known []
 
 -- getBindGroupLayout: 169 the index is one of a group of the pipeline's layout
 abbrev pub get_layout_rules : Option Info → ℕ → List Rule
-get_layout_rules known index = (169, nat_lt index (length (known_layouts known))) ∷ []
+get_layout_rules known index = (GROUP_INDEX_IS_IN_PIPELINE, nat_lt index (length (known_layouts known))) ∷ []

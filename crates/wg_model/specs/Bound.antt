@@ -3,6 +3,7 @@
 use Rattle.std.specs.Prelude.{ℕ, ◌+◌, ◌%◌, ◌==◌, nat_le, nat_lt, bit_and, not, ◌&&◌, ◌||◌, Bool, true, false, List, [], ◌∷◌, ◌++◌, map, Option, Some, None, length, count_by, if◌then◌else◌, slice_index_or}
 use Rattle.std.specs.List.{list_all, list_any, flat_map}
 use Rattle.std.specs.Option.{option_map_or}
+use Rattle.wg_rules.specs.declared.TheConstants.{GROUP_INDEX_IS_WITHIN_LIMIT, OFFSET_COUNT_FITS_LAYOUT, DYNAMIC_OFFSETS_ARE_ALIGNED, DYNAMIC_RANGES_FIT_BUFFERS, GROUPS_FIT_PIPELINE, WRITTEN_BINDINGS_ARE_APART}
 use Rattle.wg_types.specs.Handles.{HandleValue}
 use Rattle.wg_types.specs.Bindings.{entry_of}
 use Rattle.wg_types.specs.declared.handles.Info.{Info}
@@ -138,15 +139,15 @@ most_groups = 4
 abbrev pub offset_rules : Option GroupInfo → List ℕ → List Rule
 offset_rules None offsets = []
 offset_rules (Some group) offsets =
-    (326, length offsets == dynamics group.layout_info.entries)
-    ∷ ((327, list_all (λ offset. offset % 256 == 0) offsets)
-    ∷ ((328, list_all place_fits (places_in group offsets))
+    (OFFSET_COUNT_FITS_LAYOUT, length offsets == dynamics group.layout_info.entries)
+    ∷ ((DYNAMIC_OFFSETS_ARE_ALIGNED, list_all (λ offset. offset % 256 == 0) offsets)
+    ∷ ((DYNAMIC_RANGES_FIT_BUFFERS, list_all place_fits (places_in group offsets))
     ∷ []))
 
 -- setBindGroup (WebGPU, "setBindGroup"): 325 the index is one that a device has; 326 there are as many offsets as dynamic
 -- bindings; 327 each is a multiple of 256; 328 each bound range, moved by its offset, fits its buffer.
 unfoldable pub set_rules : ℕ → Option GroupInfo → List ℕ → List Rule
-set_rules index group offsets = (325, nat_lt index most_groups) ∷ offset_rules group offsets
+set_rules index group offsets = (GROUP_INDEX_IS_WITHIN_LIMIT, nat_lt index most_groups) ∷ offset_rules group offsets
 
 -- Dispatches and draws: the groups of a pipeline's layout that have an entry.
 abbrev pub has_entries : GroupLayoutInfo → Bool
@@ -207,7 +208,10 @@ are_clear (place ∷ places) = not (list_any (overlap place) places) && are_clea
 -- the pipeline where that derived its layouts itself, else to none; 342 no two bindings of these groups that one stage sees
 -- overlap where shaders may write one of them
 unfoldable pub bound_rules : Option ℕ → List GroupLayoutInfo → List (Option BoundGroup) → List Rule
-bound_rules owner layouts groups = (341, layouts_fit owner layouts groups 0) ∷ ((342, are_clear (layouts_places layouts groups 0)) ∷ [])
+bound_rules owner layouts groups =
+    (GROUPS_FIT_PIPELINE, layouts_fit owner layouts groups 0)
+    ∷ ((WRITTEN_BINDINGS_ARE_APART, are_clear (layouts_places layouts groups 0))
+    ∷ [])
 
 -- What is bound is used and accessed as the kind of its binding says, whatever stages see it: each cell of a bound range and
 -- each cell of a view's subresources.

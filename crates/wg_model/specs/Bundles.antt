@@ -3,6 +3,7 @@
 use Rattle.std.specs.Prelude.{ℕ, ◌==◌, nat_le, Bool, true, not, ◌&&◌, ◌||◌, List, [], ◌∷◌, ◌++◌, map, Option, Some, None, is_some, length, if◌then◌else◌}
 use Rattle.std.specs.List.{list_all, list_any, flat_map, filter}
 use Rattle.std.specs.Option.{option_map_or}
+use Rattle.wg_rules.specs.declared.TheConstants.{BUNDLE_FORMATS_FIT, BUNDLE_HAS_TARGET, BUNDLE_SAMPLES_ARE_ALLOWED}
 use Rattle.wg_types.specs.Handles.{HandleValue}
 use Rattle.wg_types.specs.Commands.{Command, named}
 use Rattle.wg_types.specs.declared.commands.On.{On}
@@ -32,12 +33,12 @@ use Rattle.wg_model.specs.Touches.{Touch, deed_of, input_usage, constant_usage, 
 -- and with 4 all formats allow that.
 abbrev pub bundle_target_rules : Limits → TargetInfo → List Rule
 bundle_target_rules limits targets = (
-  175,
+  BUNDLE_FORMATS_FIT,
   nat_le (length targets.colors) limits.max_color_attachments
       && (list_all (passes is_color) targets.colors && option_map_or (λ (format : Format). not (is_color format)) targets.depth true),
 )
-    ∷ ((176, list_any (λ (color : Option Format). is_some color) targets.colors || is_some targets.depth)
-    ∷ ((177, samples_fit targets.samples targets.colors (option_map_or is_multisampled targets.depth true))
+    ∷ ((BUNDLE_HAS_TARGET, list_any (λ (color : Option Format). is_some color) targets.colors || is_some targets.depth)
+    ∷ ((BUNDLE_SAMPLES_ARE_ALLOWED, samples_fit targets.samples targets.colors (option_map_or is_multisampled targets.depth true))
     ∷ []))
 
 -- what is known of a bundle, if it is one
@@ -73,13 +74,13 @@ abbrev pub bundle_touch : BundleTouch → Touch
 bundle_touch touch = (touch.cells, bundle_how touch.used)
 
 -- all that a pass touches by executing a bundle, if it is one
-abbrev pub touches_within : Option BundleInfo → List Touch
-touches_within None = []
-touches_within (Some bundle) = map bundle_touch bundle.touches
+abbrev pub known_touches : Option BundleInfo → List Touch
+known_touches None = []
+known_touches (Some bundle) = map bundle_touch bundle.touches
 
 -- what bundles touch that are executed
 abbrev pub executed_touches : List HandleValue → List Touch
-executed_touches bundles = flat_map (λ bundle. touches_within (known_bundle bundle)) bundles
+executed_touches bundles = flat_map (λ bundle. known_touches (known_bundle bundle)) bundles
 
 -- What is known of the touches of a bundle: for each way of use those of that way, in printed form. A buffer that is used has a
 -- run without bytes, so that it counts as used also where none of them is accessed; of a texture a layer or slice that is used

@@ -1,6 +1,7 @@
 -- The objects that commands name, and the rules of each command (WebGPU, "Command Encoding"). Also WebGPU, "Buffer Copy
 -- Commands", "resolveQuerySet", "Debug Markers".
 use Rattle.std.specs.Prelude.{ℕ, ◌+◌, ◌*◌, ◌%◌, Bool, true, false, not, ◌&&◌, ◌==◌, nat_lt, nat_le, List, [], ◌∷◌, ◌++◌, ◌-◌, Option, unwrap_or, if◌then◌else◌}
+use Rattle.wg_rules.specs.declared.TheConstants.{OBJECT_IS_OF_DEVICE, OBJECT_IS_VALID, BUFFER_COPY_SOURCE_HAS_COPY_SRC, BUFFER_COPY_TARGET_HAS_COPY_DST, BUFFER_COPY_RANGES_ARE_ALIGNED, BUFFER_COPY_RANGES_FIT_BUFFERS, BUFFER_COPY_HAS_TWO_BUFFERS, CLEARED_BUFFER_HAS_COPY_DST, CLEARED_RANGE_IS_ALIGNED, CLEARED_RANGE_FITS_BUFFER, RESOLVED_BUFFER_HAS_QUERY_RESOLVE, RESOLVED_QUERIES_ARE_IN_SET, RESOLVED_OFFSET_IS_ALIGNED, RESOLVED_RANGE_FITS_BUFFER, DEBUG_GROUP_IS_OPEN}
 use Rattle.wg_types.specs.Handles.{HandleValue}
 use Rattle.wg_types.specs.declared.handles.BufferInfo.{BufferInfo}
 use Rattle.wg_types.specs.declared.handles.Info.{Info}
@@ -89,8 +90,8 @@ queries_of handle = queries_or_none handle.info
 -- valid.
 abbrev pub object_rules : ℕ → HandleValue × Wanted → List Rule
 object_rules device object =
-    (10, object.0.reference.device == device && admits object.1 (kind_of object.0.info))
-    ∷ ((12, object.0.valid)
+    (OBJECT_IS_OF_DEVICE, object.0.reference.device == device && admits object.1 (kind_of object.0.info))
+    ∷ ((OBJECT_IS_VALID, object.0.valid)
     ∷ [])
 
 -- the rules on each object that a command names, one object after another: 10 it is of the recorder's device and of the kind
@@ -103,20 +104,20 @@ common_rules device (object ∷ objects) = object_rules device object ++ common_
 -- offsets and the size are multiples of 4; 253 both ranges fit their buffers; 254 source and target differ.
 abbrev pub copy_buffer_rules : HandleValue → ℕ → HandleValue → ℕ → ℕ → List Rule
 copy_buffer_rules source source_offset target target_offset size =
-    (250, has_usage (buffer_of source).usage copy_src)
-    ∷ ((251, has_usage (buffer_of target).usage copy_dst)
-    ∷ ((252, source_offset % 4 == 0 && target_offset % 4 == 0 && size % 4 == 0)
-    ∷ ((253, nat_le (source_offset + size) (buffer_of source).size && nat_le (target_offset + size) (buffer_of target).size)
-    ∷ ((254, not (same_reference source.reference target.reference))
+    (BUFFER_COPY_SOURCE_HAS_COPY_SRC, has_usage (buffer_of source).usage copy_src)
+    ∷ ((BUFFER_COPY_TARGET_HAS_COPY_DST, has_usage (buffer_of target).usage copy_dst)
+    ∷ ((BUFFER_COPY_RANGES_ARE_ALIGNED, source_offset % 4 == 0 && target_offset % 4 == 0 && size % 4 == 0)
+    ∷ ((BUFFER_COPY_RANGES_FIT_BUFFERS, nat_le (source_offset + size) (buffer_of source).size && nat_le (target_offset + size) (buffer_of target).size)
+    ∷ ((BUFFER_COPY_HAS_TWO_BUFFERS, not (same_reference source.reference target.reference))
     ∷ []))))
 
 -- clearBuffer (WebGPU, "clearBuffer"): 275 the buffer has COPY_DST; 276 offset and size are multiples of 4; 277 they fit
 -- the buffer.
 abbrev pub clear_buffer_rules : HandleValue → ℕ → ℕ → List Rule
 clear_buffer_rules buffer offset size =
-    (275, has_usage (buffer_of buffer).usage copy_dst)
-    ∷ ((276, offset % 4 == 0 && size % 4 == 0)
-    ∷ ((277, nat_le (offset + size) (buffer_of buffer).size)
+    (CLEARED_BUFFER_HAS_COPY_DST, has_usage (buffer_of buffer).usage copy_dst)
+    ∷ ((CLEARED_RANGE_IS_ALIGNED, offset % 4 == 0 && size % 4 == 0)
+    ∷ ((CLEARED_RANGE_FITS_BUFFER, nat_le (offset + size) (buffer_of buffer).size)
     ∷ []))
 
 -- the bytes that a query takes where it is resolved
@@ -127,10 +128,10 @@ query_bytes = 8
 -- so are all; 282 the offset is a multiple of 256; 283 the results fit the buffer.
 abbrev pub resolve_set_rules : HandleValue → ℕ → ℕ → HandleValue → ℕ → List Rule
 resolve_set_rules queries first count buffer offset =
-    (280, has_usage (buffer_of buffer).usage query_resolve)
-    ∷ ((281, nat_lt first (queries_of queries).count && nat_le (first + count) (queries_of queries).count)
-    ∷ ((282, offset % 256 == 0)
-    ∷ ((283, nat_le (offset + query_bytes * count) (buffer_of buffer).size)
+    (RESOLVED_BUFFER_HAS_QUERY_RESOLVE, has_usage (buffer_of buffer).usage query_resolve)
+    ∷ ((RESOLVED_QUERIES_ARE_IN_SET, nat_lt first (queries_of queries).count && nat_le (first + count) (queries_of queries).count)
+    ∷ ((RESOLVED_OFFSET_IS_ALIGNED, offset % 256 == 0)
+    ∷ ((RESOLVED_RANGE_FITS_BUFFER, nat_le (offset + query_bytes * count) (buffer_of buffer).size)
     ∷ [])))
 
 -- the rules of a command that look at it alone, and not at the commands before it
@@ -166,7 +167,7 @@ debug_rules_by depth brackets.BeginComputePass = []
 debug_rules_by depth brackets.BeginRenderPass = []
 debug_rules_by depth brackets.EndPass = []
 debug_rules_by depth brackets.PushGroup = []
-debug_rules_by depth brackets.PopGroup = (285, nat_lt 0 depth) ∷ []
+debug_rules_by depth brackets.PopGroup = (DEBUG_GROUP_IS_OPEN, nat_lt 0 depth) ∷ []
 debug_rules_by depth brackets.Neither = []
 
 -- the rules of a debug group that a command closes, where so many are open: 285 there is one

@@ -1,5 +1,6 @@
 -- Compute passes (WebGPU, "Compute Passes"): the rules of the commands, and what they do.
 use Rattle.std.specs.Prelude.{ℕ, nat_le, ◌&&◌, List, [], ◌∷◌, ◌++◌, Option, Some, None}
+use Rattle.wg_rules.specs.declared.TheConstants.{WORKGROUPS_ARE_WITHIN_LIMIT}
 use Rattle.wg_types.specs.Commands.{Command, Act, begins, sets, runs, occludes, executes, neither, act}
 use Rattle.wg_types.specs.Commands.{Running, dispatch, dispatch_indirect, draw, draw_indexed, draw_indirect, draw_indexed_indirect}
 use Rattle.wg_types.specs.Handles.{HandleValue}
@@ -16,7 +17,7 @@ most_workgroups = 65535
 
 -- dispatchWorkgroups: 343 the counts are within the limit
 abbrev pub count_rules : ℕ → ℕ → ℕ → List Rule
-count_rules x y z = (343, nat_le x most_workgroups && nat_le y most_workgroups && nat_le z most_workgroups) ∷ []
+count_rules x y z = (WORKGROUPS_ARE_WITHIN_LIMIT, nat_le x most_workgroups && nat_le y most_workgroups && nat_le z most_workgroups) ∷ []
 
 -- the rules of what dispatches: those of the pipeline and its groups, and then those of its counts or of its buffer
 abbrev pub dispatching_rules : Settings → Running HandleValue → List Rule

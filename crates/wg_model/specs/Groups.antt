@@ -2,6 +2,7 @@
 use Rattle.std.specs.Prelude.{ℕ, ◌+◌, ◌%◌, Bool, true, false, not, ◌&&◌, ◌||◌, ◌==◌, nat_lt, nat_le, count_by, List, [], ◌∷◌, Option, is_some, option_and_then, if◌then◌else◌}
 use Rattle.std.specs.List.{list_all}
 use Rattle.std.specs.Option.{option_map_or}
+use Rattle.wg_rules.specs.declared.TheConstants.{ENTRIES_MATCH_LAYOUT, ENTRY_RESOURCES_FIT_LAYOUT, BOUND_BUFFER_USAGE_FITS, BOUND_RANGES_FIT_BUFFERS, BOUND_SIZES_ARE_WITHIN_LIMITS, BOUND_TEXTURE_VIEWS_FIT, BOUND_STORAGE_VIEWS_FIT, BOUND_SAMPLERS_FIT}
 use Rattle.wg_types.specs.Formats.{row, sampled_as, same_format}
 use Rattle.wg_types.specs.Bindings.{entry_of}
 use Rattle.wg_types.specs.declared.limits.Limits.{Limits}
@@ -146,12 +147,12 @@ sampler_fits _ _ = true
 -- level, and format and dimension as asked; 157 samplers are of a kind that will do.
 abbrev pub group_rules : Limits → List LayoutEntry → List BoundEntry → List Rule
 group_rules limits layout entries =
-    (150, are_matched layout entries)
-    ∷ ((151, each_fits sort_fits layout entries)
-    ∷ ((152, each_fits usage_fits layout entries)
-    ∷ ((153, each_fits (range_fits limits) layout entries)
-    ∷ ((154, each_fits (size_fits limits) layout entries)
-    ∷ ((155, each_fits view_fits layout entries)
-    ∷ ((156, each_fits storage_view_fits layout entries)
-    ∷ ((157, each_fits sampler_fits layout entries)
+    (ENTRIES_MATCH_LAYOUT, are_matched layout entries)
+    ∷ ((ENTRY_RESOURCES_FIT_LAYOUT, each_fits sort_fits layout entries)
+    ∷ ((BOUND_BUFFER_USAGE_FITS, each_fits usage_fits layout entries)
+    ∷ ((BOUND_RANGES_FIT_BUFFERS, each_fits (range_fits limits) layout entries)
+    ∷ ((BOUND_SIZES_ARE_WITHIN_LIMITS, each_fits (size_fits limits) layout entries)
+    ∷ ((BOUND_TEXTURE_VIEWS_FIT, each_fits view_fits layout entries)
+    ∷ ((BOUND_STORAGE_VIEWS_FIT, each_fits storage_view_fits layout entries)
+    ∷ ((BOUND_SAMPLERS_FIT, each_fits sampler_fits layout entries)
     ∷ [])))))))

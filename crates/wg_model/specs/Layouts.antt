@@ -1,6 +1,7 @@
 -- The rules of bind group layouts and pipeline layouts (WebGPU, "Bind Group Layout Creation" and "Pipeline Layout Creation").
 use Rattle.std.specs.Prelude.{ℕ, Bool, true, false, not, ◌&&◌, ◌||◌, ◌==◌, nat_lt, nat_le, count_by, length, List, [], ◌∷◌, ◌++◌, is_none}
 use Rattle.std.specs.List.{list_all, list_any}
+use Rattle.wg_rules.specs.declared.TheConstants.{LAYOUT_BINDINGS_ARE_DISTINCT, LAYOUT_BINDINGS_ARE_WITHIN_LIMIT, LAYOUT_VISIBILITY_IS_KNOWN, VERTEX_STAGE_WRITES_NOTHING, MULTISAMPLED_BINDING_IS_2D_AND_NOT_FLOAT, STORAGE_TEXTURE_FORMAT_HAS_ACCESS, LAYOUT_STAGES_ARE_WITHIN_LIMITS, LAYOUT_DYNAMIC_BUFFERS_ARE_WITHIN_LIMITS, PIPELINE_LAYOUT_COUNT_IS_WITHIN_LIMIT, PIPELINE_LAYOUT_STAGES_ARE_WITHIN_LIMITS, PIPELINE_LAYOUT_DYNAMIC_BUFFERS_ARE_WITHIN_LIMITS, LAYOUTS_ARE_EXCLUSIVE_TO_NO_PIPELINE}
 use Rattle.wg_types.specs.Formats.{row}
 use Rattle.wg_types.specs.declared.limits.Limits.{Limits}
 use Rattle.wg_types.specs.declared.formats.SampleType.{SampleType}
@@ -152,14 +153,14 @@ dynamic_fits limits entries =
 -- buffers are dynamic than may be.
 abbrev pub group_layout_rules : Limits → List LayoutEntry → List Rule
 group_layout_rules limits entries =
-    (130, bindings_are_distinct entries)
-    ∷ ((131, list_all (λ (entry : LayoutEntry). nat_lt entry.binding limits.max_bindings_per_bind_group) entries)
-    ∷ ((132, list_all (λ (entry : LayoutEntry). nat_le entry.visibility stages) entries)
-    ∷ ((133, list_all (λ (entry : LayoutEntry). not (is_seen_by vertex_stage entry && may_write entry.kind)) entries)
-    ∷ ((134, list_all (λ (entry : LayoutEntry). multi_fits entry.kind) entries)
-    ∷ ((135, list_all (λ (entry : LayoutEntry). storage_fits entry.kind) entries)
-    ∷ ((136, stages_fit limits entries)
-    ∷ ((137, dynamic_fits limits entries)
+    (LAYOUT_BINDINGS_ARE_DISTINCT, bindings_are_distinct entries)
+    ∷ ((LAYOUT_BINDINGS_ARE_WITHIN_LIMIT, list_all (λ (entry : LayoutEntry). nat_lt entry.binding limits.max_bindings_per_bind_group) entries)
+    ∷ ((LAYOUT_VISIBILITY_IS_KNOWN, list_all (λ (entry : LayoutEntry). nat_le entry.visibility stages) entries)
+    ∷ ((VERTEX_STAGE_WRITES_NOTHING, list_all (λ (entry : LayoutEntry). not (is_seen_by vertex_stage entry && may_write entry.kind)) entries)
+    ∷ ((MULTISAMPLED_BINDING_IS_2D_AND_NOT_FLOAT, list_all (λ (entry : LayoutEntry). multi_fits entry.kind) entries)
+    ∷ ((STORAGE_TEXTURE_FORMAT_HAS_ACCESS, list_all (λ (entry : LayoutEntry). storage_fits entry.kind) entries)
+    ∷ ((LAYOUT_STAGES_ARE_WITHIN_LIMITS, stages_fit limits entries)
+    ∷ ((LAYOUT_DYNAMIC_BUFFERS_ARE_WITHIN_LIMITS, dynamic_fits limits entries)
     ∷ [])))))))
 
 -- the entries of several layouts together, of one that stands there twice also twice: 141 and 142 ask of these what 136 and
@@ -172,9 +173,9 @@ all_entries (layout ∷ layouts) = layout.entries ++ all_entries layouts
 -- than it may; 142 no more buffers in all of them are dynamic than may be.
 abbrev pub together_rules : Limits → List GroupLayoutInfo → List Rule
 together_rules limits layouts =
-    (140, nat_le (length layouts) limits.max_bind_groups)
-    ∷ ((141, stages_fit limits (all_entries layouts))
-    ∷ ((142, dynamic_fits limits (all_entries layouts))
+    (PIPELINE_LAYOUT_COUNT_IS_WITHIN_LIMIT, nat_le (length layouts) limits.max_bind_groups)
+    ∷ ((PIPELINE_LAYOUT_STAGES_ARE_WITHIN_LIMITS, stages_fit limits (all_entries layouts))
+    ∷ ((PIPELINE_LAYOUT_DYNAMIC_BUFFERS_ARE_WITHIN_LIMITS, dynamic_fits limits (all_entries layouts))
     ∷ []))
 
 -- whether any pipeline may use a layout
@@ -183,4 +184,4 @@ is_for_all layout = is_none layout.exclusive
 
 -- createPipelineLayout: 140 to 142, and 143 none of the layouts is exclusive to a pipeline.
 abbrev pub pipeline_layout_rules : Limits → List GroupLayoutInfo → List Rule
-pipeline_layout_rules limits layouts = together_rules limits layouts ++ (143, list_all is_for_all layouts) ∷ []
+pipeline_layout_rules limits layouts = together_rules limits layouts ++ (LAYOUTS_ARE_EXCLUSIVE_TO_NO_PIPELINE, list_all is_for_all layouts) ∷ []

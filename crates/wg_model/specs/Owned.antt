@@ -1,5 +1,6 @@
 -- That bind groups of the layouts of one pipeline do not serve another (WebGPU, "exclusivePipeline").
 use Rattle.std.specs.Prelude.{◌≡◌, ℕ, ◌==◌, true, false, List, Option, Some, None, slice_get, slice_index_or}
+use Rattle.wg_rules.specs.declared.TheConstants.{GROUPS_FIT_PIPELINE}
 use Rattle.wg_types.specs.Handles.{HandleValue}
 use Rattle.wg_types.specs.declared.groups.GroupLayoutInfo.{GroupLayoutInfo}
 use Rattle.wg_types.specs.declared.commands.BoundGroup.{BoundGroup}
@@ -23,11 +24,11 @@ pub record IsOfOther (other : ℕ) (layouts : List GroupLayoutInfo) (groups : Li
 abbrev pub OthersAreRefused : Type 0
 OthersAreRefused = (owner : Option ℕ) (other : ℕ) (layouts : List GroupLayoutInfo) (groups : List (Option BoundGroup)) (index : ℕ)
     → IsOfOther other layouts groups index → same_owner owner (Some other) ≡ false
-    → first_unmet (bound_rules owner layouts groups) ≡ Some 341
+    → first_unmet (bound_rules owner layouts groups) ≡ Some GROUPS_FIT_PIPELINE
 
 -- A dispatch or draw has rule 341 first unmet wherever another pipeline is set than that to which the layout of a group that
 -- it asks for is exclusive, whether it has derived its layouts or not.
 abbrev pub OthersDoNotRun : Type 0
 OthersDoNotRun = (set : Settings) (pipeline : HandleValue) (other index : ℕ)
     → set.pipeline ≡ Some pipeline → IsOfOther other (layouts_in pipeline.info) set.groups index → (pipeline.reference.number == other) ≡ false
-    → first_unmet (ready_rules set) ≡ Some 341
+    → first_unmet (ready_rules set) ≡ Some GROUPS_FIT_PIPELINE

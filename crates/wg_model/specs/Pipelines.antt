@@ -3,6 +3,7 @@
 use Rattle.std.specs.Prelude.{ℕ, Bool, false, ◌&&◌, List, [], ◌∷◌, slice_get}
 use Rattle.std.specs.List.{list_all}
 use Rattle.std.specs.Option.{option_map_or}
+use Rattle.wg_rules.specs.declared.TheConstants.{INTERFACE_FITS_LAYOUT}
 use Rattle.wg_types.specs.Formats.{same_format}
 use Rattle.wg_types.specs.Bindings.{entry_of}
 use Rattle.wg_types.specs.declared.bindings.Stage.{Stage}
@@ -39,5 +40,5 @@ abbrev pub offers : List GroupLayoutInfo → IfaceEntry → Bool
 offers layouts used = option_map_or (λ (layout : GroupLayoutInfo). option_map_or (serves used) (entry_of layout.entries used.binding) false) (slice_get layouts used.group) false
 
 -- rule 160 of createComputePipeline: the layout offers each entry of the interface
-abbrev pub compute_rules : List GroupLayoutInfo → List IfaceEntry → List Rule
-compute_rules layouts iface = (160, list_all (offers layouts) iface) ∷ []
+abbrev pub compute_pipeline_rules : List GroupLayoutInfo → List IfaceEntry → List Rule
+compute_pipeline_rules layouts iface = (INTERFACE_FITS_LAYOUT, list_all (offers layouts) iface) ∷ []

@@ -4,6 +4,7 @@
 use Rattle.std.specs.Prelude.{ℕ, ◌+◌, ◌==◌, nat_lt, nat_le, Bool, true, false, not, List, [], ◌∷◌, ◌++◌, Option, Some, None, is_some, option_map}
 use Rattle.std.specs.List.{list_any}
 use Rattle.std.specs.Option.{option_map_or}
+use Rattle.wg_rules.specs.declared.TheConstants.{QUERY_COUNT_IS_WITHIN_LIMIT, EVERY_OCCLUSION_QUERY_HAS_ENDED, PASS_HAS_QUERY_SET, QUERY_INDEX_IS_IN_SET, NO_OCCLUSION_QUERY_IS_ACTIVE, QUERY_IS_NOT_BEGUN_BEFORE, OCCLUSION_QUERY_IS_ACTIVE}
 use Rattle.wg_types.specs.Handles.{HandleValue}
 use Rattle.wg_types.specs.Commands.{Command, bracket, Act, begins, sets, runs, occludes, executes, neither, act, OcclusionCall, begin_occlusion, end_occlusion}
 use Rattle.wg_types.specs.declared.commands.Bracket.{Bracket}
@@ -18,7 +19,7 @@ use Rattle.wg_model.specs.Touches.{Touch, query_write_usage}
 
 -- createQuerySet (WebGPU, "QuerySet Creation"): 170 the count is within the limit
 abbrev pub create_queries_rules : Limits → QueriesInfo → List Rule
-create_queries_rules limits info = (170, nat_le info.count limits.max_queries_per_set) ∷ []
+create_queries_rules limits info = (QUERY_COUNT_IS_WITHIN_LIMIT, nat_le info.count limits.max_queries_per_set) ∷ []
 
 -- what a command does with queries, if anything
 abbrev pub occlusion_by : Act HandleValue → Option OcclusionCall
@@ -84,15 +85,15 @@ was_begun queries index = list_any (λ (other : ℕ). other == index) queries.be
 -- query is active; 363 the query was not begun before in this pass.
 abbrev pub begin_query_rules : Option ℕ → Occlusion → ℕ → List Rule
 begin_query_rules count queries index =
-    (360, is_some count)
-    ∷ ((361, option_map_or (nat_lt index) count false)
-    ∷ ((362, not queries.active)
-    ∷ ((363, not (was_begun queries index))
+    (PASS_HAS_QUERY_SET, is_some count)
+    ∷ ((QUERY_INDEX_IS_IN_SET, option_map_or (nat_lt index) count false)
+    ∷ ((NO_OCCLUSION_QUERY_IS_ACTIVE, not queries.active)
+    ∷ ((QUERY_IS_NOT_BEGUN_BEFORE, not (was_begun queries index))
     ∷ [])))
 
 -- endOcclusionQuery (WebGPU, "endOcclusionQuery"): 364 a query is active.
 abbrev pub end_query_rules : Occlusion → List Rule
-end_query_rules queries = (364, queries.active) ∷ []
+end_query_rules queries = (OCCLUSION_QUERY_IS_ACTIVE, queries.active) ∷ []
 
 -- the rules of what a command does with occlusion queries
 abbrev pub occlusion_rules : Option (ℕ × ℕ) → Occlusion → Option OcclusionCall → List Rule
@@ -104,7 +105,7 @@ occlusion_rules set queries (Some end_occlusion) = end_query_rules queries
 abbrev pub pass_end_rules_by : Bool → Bracket → List Rule
 pass_end_rules_by active brackets.BeginComputePass = []
 pass_end_rules_by active brackets.BeginRenderPass = []
-pass_end_rules_by active brackets.EndPass = (311, not active) ∷ []
+pass_end_rules_by active brackets.EndPass = (EVERY_OCCLUSION_QUERY_HAS_ENDED, not active) ∷ []
 pass_end_rules_by active brackets.PushGroup = []
 pass_end_rules_by active brackets.PopGroup = []
 pass_end_rules_by active brackets.Neither = []

@@ -3,6 +3,7 @@
 use Rattle.std.specs.Prelude.{ℕ, ◌+◌, ◌*◌, ◌%◌, ◌==◌, nat_le, nat_lt, Bool, true, false, not, ◌&&◌, ◌||◌, List, [], ◌∷◌, ◌++◌, Option, Some, None, is_some, is_none, option_and_then, slice_index_or, if◌then◌else◌}
 use Rattle.std.specs.List.{list_all, flat_map}
 use Rattle.std.specs.Option.{option_map_or, option_map, option_or}
+use Rattle.wg_rules.specs.declared.TheConstants.{PIPELINE_DRAWS_TO_TARGETS, PIPELINE_SPARES_READ_ONLY, VERTEX_BUFFER_HAS_VERTEX, VERTEX_SLOT_IS_WITHIN_LIMIT, VERTEX_OFFSET_IS_ALIGNED, VERTEX_RANGE_FITS_BUFFER, INDEX_BUFFER_HAS_INDEX, INDEX_OFFSET_IS_ALIGNED, INDEX_RANGE_FITS_BUFFER, VERTEX_BUFFERS_ARE_SET, VERTEX_RANGES_SUFFICE, INDEX_BUFFER_IS_SET, INDEX_RANGE_SUFFICES, BUNDLE_TARGETS_ARE_OF_PASS, BUNDLES_SPARE_READ_ONLY}
 use Rattle.wg_types.specs.Handles.{HandleValue}
 use Rattle.wg_types.specs.Formats.{same_format}
 use Rattle.wg_types.specs.Vertex.{index_bytes}
@@ -236,7 +237,10 @@ spares targets depth = not (targets.depth_read_only && depth.depth_write) && not
 -- at the end of the targets does not count; 321 it writes neither depth nor stencil where the pass only reads that
 abbrev pub pipeline_rules : TargetInfo → Option RenderDesc → List Rule
 pipeline_rules targets None = []
-pipeline_rules targets (Some desc) = (320, draws_to targets desc) ∷ ((321, option_map_or (spares targets) desc.depth true) ∷ [])
+pipeline_rules targets (Some desc) =
+    (PIPELINE_DRAWS_TO_TARGETS, draws_to targets desc)
+    ∷ ((PIPELINE_SPARES_READ_ONLY, option_map_or (spares targets) desc.depth true)
+    ∷ [])
 
 -- the rules of a pipeline that a command sets, if it sets one
 abbrev pub pipeline_given_rules : TargetInfo → Option HandleValue → List Rule
@@ -266,7 +270,10 @@ all_bundles test bundles = list_all (λ bundle. option_map_or test (known_bundle
 -- 370 the colors, the depth format and the samples of each bundle are those of the pass; 371 what the pass only reads each only
 -- reads
 abbrev pub execute_rules : TargetInfo → List HandleValue → List Rule
-execute_rules targets bundles = (370, all_bundles (bundle_fits targets) bundles) ∷ ((371, all_bundles (bundle_spares targets) bundles) ∷ [])
+execute_rules targets bundles =
+    (BUNDLE_TARGETS_ARE_OF_PASS, all_bundles (bundle_fits targets) bundles)
+    ∷ ((BUNDLES_SPARE_READ_ONLY, all_bundles (bundle_spares targets) bundles)
+    ∷ [])
 
 -- how many vertex buffers may be set
 abbrev pub most_slots : ℕ
@@ -276,18 +283,18 @@ most_slots = 8
 -- the range fits
 abbrev pub vertex_rules : ℕ → HandleValue → ℕ → ℕ → List Rule
 vertex_rules slot buffer offset size =
-    (330, has_usage (buffer_of buffer).usage 32)
-    ∷ ((331, nat_lt slot most_slots)
-    ∷ ((332, offset % 4 == 0)
-    ∷ ((333, nat_le (offset + size) (buffer_of buffer).size)
+    (VERTEX_BUFFER_HAS_VERTEX, has_usage (buffer_of buffer).usage 32)
+    ∷ ((VERTEX_SLOT_IS_WITHIN_LIMIT, nat_lt slot most_slots)
+    ∷ ((VERTEX_OFFSET_IS_ALIGNED, offset % 4 == 0)
+    ∷ ((VERTEX_RANGE_FITS_BUFFER, nat_le (offset + size) (buffer_of buffer).size)
     ∷ [])))
 
 -- setIndexBuffer: 335 the buffer has INDEX 16; 336 the offset is a multiple of the bytes of an index; 337 the range fits
 abbrev pub index_rules : HandleValue → IndexFormat → ℕ → ℕ → List Rule
 index_rules buffer format offset size =
-    (335, has_usage (buffer_of buffer).usage 16)
-    ∷ ((336, offset % index_bytes format == 0)
-    ∷ ((337, nat_le (offset + size) (buffer_of buffer).size)
+    (INDEX_BUFFER_HAS_INDEX, has_usage (buffer_of buffer).usage 16)
+    ∷ ((INDEX_OFFSET_IS_ALIGNED, offset % index_bytes format == 0)
+    ∷ ((INDEX_RANGE_FITS_BUFFER, nat_le (offset + size) (buffer_of buffer).size)
     ∷ []))
 
 -- whether a range is set for each of these vertex buffers, the first of which has this slot
@@ -302,16 +309,16 @@ indices_fit first indices (Some index) = nat_le ((first + indices) * index_bytes
 
 -- rule 350: each vertex buffer of the pipeline is set (WebGPU, "valid to draw")
 abbrev pub vertex_buffers_rule : RenderSet → Rule
-vertex_buffers_rule render = (350, are_set (buffers_wanted render.set) render.ranges 0)
+vertex_buffers_rule render = (VERTEX_BUFFERS_ARE_SET, are_set (buffers_wanted render.set) render.ranges 0)
 
 -- rule 351: the ranges that are set serve the draw, which goes up to firstVertex and vertices together, and up to
 -- firstInstance and instances together; of an indexed draw instances alone are told
 abbrev pub draw_rule : RenderSet → Option ℕ → ℕ → Rule
-draw_rule render vertices instances = (351, draw_fits (buffers_wanted render.set) render.ranges vertices instances)
+draw_rule render vertices instances = (VERTEX_RANGES_SUFFICE, draw_fits (buffers_wanted render.set) render.ranges vertices instances)
 
 -- rule 352: an index buffer is set
 abbrev pub index_buffer_rule : RenderSet → Rule
-index_buffer_rule render = (352, is_some render.index)
+index_buffer_rule render = (INDEX_BUFFER_IS_SET, is_some render.index)
 
 -- the rules of a draw
 abbrev pub draw_rules : RenderSet → ℕ → ℕ → List Rule
@@ -319,7 +326,7 @@ draw_rules render vertices instances = ready_rules render.set ++ vertex_buffers_
 
 -- rule 353: the indexes of a draw fit the index buffer that is set
 abbrev pub indices_rule : RenderSet → ℕ → ℕ → Rule
-indices_rule render first indices = (353, indices_fit first indices render.index)
+indices_rule render first indices = (INDEX_RANGE_SUFFICES, indices_fit first indices render.index)
 
 -- the rules of a drawIndexed
 abbrev pub draw_indexed_rules : RenderSet → ℕ → ℕ → ℕ → List Rule

@@ -2,6 +2,7 @@
 use Rattle.std.specs.Prelude.{ℕ, ◌==◌, nat_le, Bool, true, not, ◌&&◌, ◌||◌, List, [], ◌∷◌, ◌++◌, Option, is_some, length}
 use Rattle.std.specs.List.{list_all, list_any}
 use Rattle.std.specs.Option.{option_map_or}
+use Rattle.wg_rules.specs.declared.TheConstants.{INTERFACE_FITS_LAYOUT, PIPELINE_TARGETS_ARE_COLORS, PIPELINE_DEPTH_FORMAT_FITS, PIPELINE_HAS_TARGET, PIPELINE_SAMPLES_ARE_ALLOWED}
 use Rattle.wg_types.specs.Formats.{row}
 use Rattle.wg_types.specs.declared.formats.Format.{Format}
 use Rattle.wg_types.specs.declared.limits.Limits.{Limits}
@@ -37,12 +38,17 @@ samples_fit samples targets depth_allows = samples == 1 || (samples == 4 && (lis
 -- target is given, or depth; 166 there are 1 or 4 samples, and with 4 all formats allow that
 abbrev pub target_rules : Limits → RenderDesc → List Rule
 target_rules limits desc =
-    (163, nat_le (length desc.targets) limits.max_color_attachments && list_all (passes is_color) desc.targets)
-    ∷ ((164, option_map_or depth_state_fits desc.depth true)
-    ∷ ((165, list_any (λ (target : Option Format). is_some target) desc.targets || is_some desc.depth)
-    ∷ ((166, samples_fit desc.samples desc.targets (option_map_or (λ (depth : DepthState). is_multisampled depth.format) desc.depth true))
+    (PIPELINE_TARGETS_ARE_COLORS, nat_le (length desc.targets) limits.max_color_attachments && list_all (passes is_color) desc.targets)
+    ∷ ((PIPELINE_DEPTH_FORMAT_FITS, option_map_or depth_state_fits desc.depth true)
+    ∷ ((PIPELINE_HAS_TARGET, list_any (λ (target : Option Format). is_some target) desc.targets || is_some desc.depth)
+    ∷ ((
+      PIPELINE_SAMPLES_ARE_ALLOWED,
+      samples_fit desc.samples desc.targets
+          (option_map_or (λ (depth : DepthState). is_multisampled depth.format) desc.depth true),
+    )
     ∷ [])))
 
 -- 160 the layout has each binding that a shader uses, visible to its stage and of the same kind
 unfoldable pub render_pipeline_rules : Limits → List GroupLayoutInfo → RenderDesc → List Rule
-render_pipeline_rules limits layouts desc = (160, list_all (offers layouts) desc.iface) ∷ (layout_rules limits desc.buffers ++ target_rules limits desc)
+render_pipeline_rules limits layouts desc =
+    (INTERFACE_FITS_LAYOUT, list_all (offers layouts) desc.iface) ∷ (layout_rules limits desc.buffers ++ target_rules limits desc)

@@ -3,6 +3,7 @@
 -- "Drawing".
 use Rattle.std.specs.Prelude.{ℕ, ◌+◌, ◌-◌, ◌%◌, ◌==◌, nat_le, Bool, true, false, List, [], ◌∷◌, Option, Some, None, option_and_then, is_some, if◌then◌else◌}
 use Rattle.std.specs.Option.{option_or}
+use Rattle.wg_rules.specs.declared.TheConstants.{EVERY_DEBUG_GROUP_OF_PASS_IS_CLOSED, PIPELINE_IS_SET, INDIRECT_BUFFER_HAS_INDIRECT, INDIRECT_OFFSET_IS_ALIGNED, INDIRECT_ARGUMENTS_FIT_BUFFER}
 use Rattle.wg_types.specs.Handles.{HandleValue}
 use Rattle.wg_types.specs.Commands.{Command, bracket, Act, begins, sets, runs, occludes, executes, neither, act}
 use Rattle.wg_types.specs.Commands.{Setting, set_pipeline, set_group, set_vertex_buffer, set_index_buffer}
@@ -135,7 +136,7 @@ owner_set set = option_and_then owner_of set.pipeline
 abbrev pub end_rules_by : ℕ → Bracket → List Rule
 end_rules_by depth brackets.BeginComputePass = []
 end_rules_by depth brackets.BeginRenderPass = []
-end_rules_by depth brackets.EndPass = (310, depth == 0) ∷ []
+end_rules_by depth brackets.EndPass = (EVERY_DEBUG_GROUP_OF_PASS_IS_CLOSED, depth == 0) ∷ []
 end_rules_by depth brackets.PushGroup = []
 end_rules_by depth brackets.PopGroup = []
 end_rules_by depth brackets.Neither = []
@@ -151,15 +152,15 @@ given_rules (Some given) = set_rules given.0 (known_group given.1.group) given.1
 
 -- dispatches and draws: 340 a pipeline is set, and then the rules of the groups
 abbrev pub ready_rules : Settings → List Rule
-ready_rules set = (340, is_some set.pipeline) ∷ bound_rules (owner_set set) (layouts_set set) set.groups
+ready_rules set = (PIPELINE_IS_SET, is_some set.pipeline) ∷ bound_rules (owner_set set) (layouts_set set) set.groups
 
 -- what is asked of an indirect buffer (WebGPU, "dispatchWorkgroupsIndirect" and "drawIndirect"): 344 it has INDIRECT 256; 345
 -- the offset is a multiple of 4; 346 the bytes from there on fit
 abbrev pub indirect_rules : HandleValue → ℕ → ℕ → List Rule
 indirect_rules buffer offset bytes =
-    (344, has_usage (buffer_of buffer).usage 256)
-    ∷ ((345, offset % 4 == 0)
-    ∷ ((346, nat_le (offset + bytes) (buffer_of buffer).size)
+    (INDIRECT_BUFFER_HAS_INDIRECT, has_usage (buffer_of buffer).usage 256)
+    ∷ ((INDIRECT_OFFSET_IS_ALIGNED, offset % 4 == 0)
+    ∷ ((INDIRECT_ARGUMENTS_FIT_BUFFER, nat_le (offset + bytes) (buffer_of buffer).size)
     ∷ []))
 
 -- an indirect call reads its numbers

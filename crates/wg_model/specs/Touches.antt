@@ -15,6 +15,7 @@ use Rattle.wg_rows.specs.Runs.{PartRun, Cells, Bytes, Layers, Slices, Queries, c
 use Rattle.wg_rows.specs.Uses.{Usages, AccessKind, Read, Write, Both, printed_accesses}
 use Rattle.wg_rows.specs.Sets.{UseRow, sets}
 use Rattle.wg_orders.specs.Steps.{Step, StepPlace}
+pub use Rattle.wg_orders.specs.Steps.{placed}
 use Rattle.wg_model.specs.Formats.{texel_from, texel_to}
 use Rattle.wg_model.specs.Subresources.{copied_cells, has_no_texel}
 use Rattle.wg_model.specs.TexelCopies.{required, covers_all, bytes_in, whole_spot}
@@ -100,10 +101,6 @@ deed_of doing =
       uses = sets (uses_in doing);
       accesses = printed_accesses (filter has_cells (map access_of doing.1));
     }
-
--- the step at a place
-abbrev pub placed : StepPlace → Deed → Step
-placed place deed = record { place = place; name = deed.name; uses = deed.uses; accesses = deed.accesses }
 
 -- the step at a place, of what is done
 abbrev pub step_of : StepPlace → Doing → Step

@@ -2,6 +2,7 @@
 -- "valid to draw").
 use Rattle.std.specs.Prelude.{ℕ, ◌+◌, ◌-◌, ◌*◌, ◌%◌, ◌==◌, nat_le, nat_lt, min, max, Bool, true, not, ◌&&◌, ◌||◌, List, [], ◌∷◌, Option, Some, None, unwrap_or, length, slice_index_or, if◌then◌else◌}
 use Rattle.std.specs.List.{list_all, list_any, flat_map}
+use Rattle.wg_rules.specs.declared.TheConstants.{VERTEX_BUFFERS_ARE_WITHIN_LIMITS, VERTEX_ATTRIBUTES_FIT}
 use Rattle.wg_types.specs.Vertex.{vertex_bytes}
 use Rattle.wg_types.specs.declared.limits.Limits.{Limits}
 use Rattle.wg_types.specs.declared.vertex.VertexStep.{VertexStep}
@@ -44,9 +45,16 @@ attributes_fit limits buffer = list_all (attribute_fits (attribute_room limits b
 -- strides are multiples of 4 within the limit. 162 locations are below the limit of attributes, and distinct in all buffers
 -- together; each attribute fits its buffer.
 unfoldable pub layout_rules : Limits → List VertexBuffer → List Rule
-layout_rules limits buffers =
-    (161, nat_le (length buffers) limits.max_vertex_buffers && (nat_le (length (all_attributes buffers)) limits.max_vertex_attributes && list_all (stride_fits limits) buffers))
-    ∷ ((162, list_all (λ (attribute : VertexAttribute). nat_lt attribute.location limits.max_vertex_attributes) (all_attributes buffers) && (locations_are_distinct (all_attributes buffers) && list_all (attributes_fit limits) buffers))
+layout_rules limits buffers = (
+  VERTEX_BUFFERS_ARE_WITHIN_LIMITS,
+  nat_le (length buffers) limits.max_vertex_buffers
+      && (nat_le (length (all_attributes buffers)) limits.max_vertex_attributes && list_all (stride_fits limits) buffers),
+)
+    ∷ ((
+      VERTEX_ATTRIBUTES_FIT,
+      list_all (λ (attribute : VertexAttribute). nat_lt attribute.location limits.max_vertex_attributes) (all_attributes buffers)
+          && (locations_are_distinct (all_attributes buffers) && list_all (attributes_fit limits) buffers),
+    )
     ∷ [])
 
 -- the greatest end of an attribute, or 0 where there is none

@@ -2,6 +2,7 @@
 -- (WebGPU, "Command Encoding", "encoder state"). An encoder is unlocked, or locked by the one pass that is open on it.
 use Rattle.std.specs.Prelude.{ℕ, ◌+◌, ◌==◌, ◌&&◌, ◌||◌, Bool, false, List, [], ◌∷◌, ◌++◌, map, Option, Some, None, is_none, option_to_list, reverse, if◌then◌else◌}
 use Rattle.std.specs.Option.{option_or}
+use Rattle.wg_rules.specs.declared.TheConstants.{NO_PASS_IS_OPEN}
 use Rattle.wg_types.specs.declared.commands.On.{On}
 use Rattle.wg_types.specs.declared.commands.On.TheVariants.{Encoder, Pass}
 use Rattle.wg_types.specs.Commands.{Command}
@@ -164,7 +165,7 @@ handed device (Some pass) command = if is_end command then pass_rule device pass
 -- what a command on the encoder gives it: on a locked one rule 240, on an unlocked one its own first unmet rule; that of a
 -- begin goes to the pass that it begins
 abbrev pub encoder_gives : ℕ → Option PassSoFar → ℕ → Command → Option ℕ
-encoder_gives device (Some pass) depth command = Some 240
+encoder_gives device (Some pass) depth command = Some NO_PASS_IS_OPEN
 encoder_gives device None depth command = if is_begin command then None else first_unmet (command_rules device depth command)
 
 -- what a command gives the encoder: on an unlocked one its own first unmet rule, on a locked one 240; the end of the open pass
@@ -254,8 +255,8 @@ DeedsOf device None commands = encoder_deeds device (reverse commands)
 DeedsOf device (Some targets) commands = []
 
 -- What is known of the bundle that a recording makes: where some rule was unmet, not what it touches.
-abbrev pub touched_within : ℕ → TargetInfo → List Command → List BundleTouch
-touched_within device targets earlier = if is_none (bundle_verdict device targets earlier) then bundle_touches (bundle_set targets earlier).touches else []
+abbrev pub recorded_touches : ℕ → TargetInfo → List Command → List BundleTouch
+recorded_touches device targets earlier = if is_none (bundle_verdict device targets earlier) then bundle_touches (bundle_set targets earlier).touches else []
 
 -- the targets of nothing, as of a recording that comes after the first of a bundle encoder
 abbrev pub no_targets : TargetInfo
@@ -265,4 +266,4 @@ no_targets = record { colors = []; depth = None; samples = 1; depth_read_only = 
 abbrev pub bundle_of : ℕ → Option TargetInfo → List (On × Command) → BundleInfo
 bundle_of device None commands = record { targets = no_targets; named = references_within commands; touches = [] }
 bundle_of device (Some targets) commands =
-    record { targets = targets; named = references_within commands; touches = touched_within device targets (bundled commands) }
+    record { targets = targets; named = references_within commands; touches = recorded_touches device targets (bundled commands) }

@@ -67,14 +67,6 @@ in_full lo hi n = by_test (nat_lt lo hi) refl
         empty : (lo hi n : ℕ) → nat_lt lo hi ≡ false → in_run lo hi n ≡ false
         empty lo hi n e = grind (arith, nat_tests)
 
--- Runs after some, when those end before them.
-apart_full : (from lo hi next : ℕ) (runs : Runs) → from ≤ lo → hi + 1 ≤ next → from ≤ next → AreApart next runs → AreApart from (full_run lo hi ++ runs)
-apart_full from lo hi next runs l m k a = by_test (nat_lt lo hi) refl
-  where
-    by_test : (b : Bool) → nat_lt lo hi ≡ b → AreApart from ((if b then (lo, hi) ∷ [] else []) ++ runs)
-    by_test true e = (l, ltb-true lo hi e, later next (hi + 1) runs m a)
-    by_test false e = later next from runs k a
-
 -- the numbers of a run below another, or from it on, and those that are neither
 
 below : (a b l n : ℕ) → in_run a (min b l) n ≡ (in_run a b n && nat_lt n l)

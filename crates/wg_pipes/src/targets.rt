@@ -10,6 +10,10 @@ ghost use Rattle.wg_model.specs.Formats.{is_color, has_depth, has_stencil};
 ghost use Rattle.wg_model.specs.RenderPipelines.{passes, depth_state_fits, is_multisampled, samples_fit, target_rules};
 
 use wg_formats::{has_depth, has_stencil, is_color};
+use wg_rules::{
+    PIPELINE_DEPTH_FORMAT_FITS, PIPELINE_HAS_TARGET, PIPELINE_SAMPLES_ARE_ALLOWED,
+    PIPELINE_TARGETS_ARE_COLORS,
+};
 use wg_types::formats::Format;
 use wg_types::limits::Limits;
 use wg_types::render::{DepthState, RenderDesc};
@@ -71,17 +75,17 @@ pub fn check_targets(desc: &RenderDesc, limits: &Limits) -> Option<u16>
 {
     let targets = desc.targets.as_slice();
     if targets.len() as u64 > u64::from(limits.max_color_attachments) || !are_color(targets) {
-        return Some(163);
+        return Some(PIPELINE_TARGETS_ARE_COLORS);
     }
     if !desc.depth.is_none_or(depth_fits) {
-        return Some(164);
+        return Some(PIPELINE_DEPTH_FORMAT_FITS);
     }
     if !has_target(targets) && desc.depth.is_none() {
-        return Some(165);
+        return Some(PIPELINE_HAS_TARGET);
     }
     let depth_allows = desc.depth.is_none_or(|depth| is_multisampled(depth.format));
     if !samples_fit(desc.samples, targets, depth_allows) {
-        return Some(166);
+        return Some(PIPELINE_SAMPLES_ARE_ALLOWED);
     }
     None
 }

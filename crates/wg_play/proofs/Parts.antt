@@ -1,12 +1,12 @@
 -- What a phase added, from what was seen before and after it.
-use Rattle.std.proofs.Common.{◌≡◌, ℕ, suc, ◌+◌, ◌≤◌, ◌==◌, List, [], ◌∷◌, ◌++◌, length, refl, ap, sym, ◌∙◌, subst, arith, append_assoc, append-nil, Option, Some}
+use Rattle.std.proofs.Common.{◌≡◌, ℕ, ◌+◌, ◌≤◌, ◌==◌, List, [], ◌∷◌, ◌++◌, length, refl, ap, sym, ◌∙◌, subst, append_assoc, append-nil, Option}
 use Rattle.std.proofs.lemmas.List.Elements.{filter-append}
 use Rattle.wg_history.specs.Entries.{Entry}
 use Rattle.wg_history.specs.declared.events.Event.{Event}
 use Rattle.wg_trace.specs.declared.replies.Reply.{Reply}
 use Rattle.wg_history.specs.declared.events.Setup.{Setup}
 use Rattle.wg_script.specs.CallOf.{BoundCall}
-use Rattle.wg_play.specs.Turns.{made_by, Gives, AllGive, all_after, lane_at}
+use Rattle.wg_play.specs.Turns.{made_by, AllGive, all_after}
 use Rattle.wg_play.specs.declared.objects.Object.{Object}
 use Rattle.wg_play.specs.Lanes.{starts, gathered, next_event}
 use Rattle.wg_play.specs.Play.{after_, PlaysTo, Interleaves}

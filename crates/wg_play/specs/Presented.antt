@@ -1,6 +1,7 @@
 -- The textures of canvases that were presented: what is refused of them from then on, and when they are released.
 use Rattle.std.specs.Prelude.{◌≡◌, ℕ, List, [], ◌∷◌, ◌++◌, length, reverse, true, false, Option, Some, None, count_by, if◌then◌else◌}
 use Rattle.std.specs.List.{flat_map}
+use Rattle.wg_rules.specs.declared.TheConstants.{SUBMITTED_OBJECTS_ARE_NOT_DESTROYED, WRITTEN_TEXTURE_IS_NOT_DESTROYED}
 use Rattle.wg_types.specs.declared.canvases.CanvasOf.{CanvasOf}
 use Rattle.wg_types.specs.declared.handles.ObjRef.{ObjRef}
 use Rattle.wg_types.specs.declared.textures.DataLayout.{DataLayout}
@@ -32,10 +33,11 @@ pub record IsRefused (past : Past) (entry : Entry) (rule : ℕ) (before : List R
 pub record HasExpired (setup : Setup) (front back : List Entry) (texture : ObjRef) : Type 0 where
   pub submits : (between rest : List Entry) (entry : Entry) (buffers : List ObjRef) → back ≡ between ++ entry ∷ rest → entry.event ≡ Submit buffers
       → submit_uses (reverse (front ++ between)) buffers texture.number ≡ true
-      → IsRefused (reverse (front ++ between)) entry 193 (submit_before setup (reverse (front ++ between)) buffers)
+      → IsRefused (reverse (front ++ between)) entry SUBMITTED_OBJECTS_ARE_NOT_DESTROYED (submit_before setup (reverse (front ++ between)) buffers)
   pub writes : (between rest : List Entry) (entry : Entry) (target : ObjRef) (spot : TextureSpot) (layout : DataLayout) (size : List ℕ) (data_size : ℕ)
       → back ≡ between ++ entry ∷ rest → entry.event ≡ WriteTexture target spot layout size data_size → target.number ≡ texture.number
-      → IsRefused (reverse (front ++ between)) entry 210 (write_before setup (reverse (front ++ between)) target spot layout size data_size)
+      → IsRefused (reverse (front ++ between)) entry WRITTEN_TEXTURE_IS_NOT_DESTROYED
+      (write_before setup (reverse (front ++ between)) target spot layout size data_size)
   pub released : (before rest : List Entry) → front ++ back ≡ before ++ rest
       → count_by (releases_object texture.number) (Trace setup before) ≡ (if is_over setup (reverse before) texture.number then 1 else 0)
 

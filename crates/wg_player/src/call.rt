@@ -14,9 +14,7 @@ use wg_calls::ended_by;
 use wg_device::{Device, DevicePass};
 use wg_encoder::{Noted, Recorder};
 use wg_entry::NoMemory;
-use wg_play::{
-    Object, LaneSight, command_of, note_command, reference_at, request_of, stand_at,
-};
+use wg_play::{LaneSight, Object, command_of, note_command, reference_at, request_of, stand_at};
 use wg_script::BoundCall;
 use wg_types::commands::CommandOf;
 use wg_types::handles::Handle;

@@ -17,7 +17,7 @@ use wg_canvas::{Canvas, Maker};
 use wg_core::Event;
 use wg_device::{Device, DevicePass};
 use wg_entry::NoMemory;
-use wg_play::{Object, LaneSight};
+use wg_play::{LaneSight, Object};
 use wg_types::canvases::{CanvasCall, CanvasOf};
 use wg_types::handles::Handle;
 use wg_types::replies::Reply;

@@ -11,7 +11,7 @@ use std::thread::Threads;
 use wg_device::{Device, DevicePass};
 use wg_entry::NoMemory;
 use wg_lanes::{Gate, run_all};
-use wg_play::{Object, LaneSight, count_made};
+use wg_play::{LaneSight, Object, count_made};
 use wg_script::{BoundCall, BoundLane};
 
 /// The calls of a lane, or none where the phase has fewer lanes.

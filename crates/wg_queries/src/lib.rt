@@ -7,6 +7,10 @@ ghost use Rattle.wg_model.specs.Rules.{first_unmet};
 
 use std::alloc::Global;
 use std::marker::Model;
+use wg_rules::{
+    NO_OCCLUSION_QUERY_IS_ACTIVE, OCCLUSION_QUERY_IS_ACTIVE, PASS_HAS_QUERY_SET,
+    QUERY_COUNT_IS_WITHIN_LIMIT, QUERY_INDEX_IS_IN_SET, QUERY_IS_NOT_BEGUN_BEFORE,
+};
 use wg_types::NoMemory;
 use wg_types::handles::QueriesInfo;
 use wg_types::limits::Limits;
@@ -17,7 +21,7 @@ pub fn check_create(info: &QueriesInfo, limits: &Limits) -> Option<u16>
     ensures { result ≡ first_unmet (create_queries_rules limits.now info.now) }
 {
     if info.count > limits.max_queries_per_set {
-        return Some(170);
+        return Some(QUERY_COUNT_IS_WITHIN_LIMIT);
     }
     None
 }
@@ -69,16 +73,16 @@ impl Occlusion {
         ensures { result ≡ first_unmet (begin_query_rules count self.now index) }
     {
         let Some(count) = count else {
-            return Some(360);
+            return Some(PASS_HAS_QUERY_SET);
         };
         if index >= count {
-            return Some(361);
+            return Some(QUERY_INDEX_IS_IN_SET);
         }
         if self.active {
-            return Some(362);
+            return Some(NO_OCCLUSION_QUERY_IS_ACTIVE);
         }
         if self.was_begun(index) {
-            return Some(363);
+            return Some(QUERY_IS_NOT_BEGUN_BEFORE);
         }
         None
     }
@@ -88,7 +92,7 @@ impl Occlusion {
         ensures { result ≡ first_unmet (end_query_rules self.now) }
     {
         if !self.active {
-            return Some(364);
+            return Some(OCCLUSION_QUERY_IS_ACTIVE);
         }
         None
     }

@@ -28,7 +28,7 @@ use Rattle.wg_model.specs.Commands.{common_rules, debug_rules, size_or_rest}
 use Rattle.wg_model.specs.Textures.{extent}
 use Rattle.wg_types.specs.Textures.{depth}
 use Rattle.wg_model.specs.Bound.{set_places}
-use Rattle.wg_model.specs.Bundles.{bundle_in, known_bundle, bundle_touch, touches_within, executed_touches}
+use Rattle.wg_model.specs.Bundles.{bundle_in, known_bundle, bundle_touch, known_touches, executed_touches}
 use Rattle.wg_model.specs.Settings.{Settings, settings, group_given, given_rules, end_rules, ready_rules, indirect_rules, indirect_touch, layouts_set}
 use Rattle.wg_model.specs.Compute.{compute_rules, dispatch_rules, dispatch_touches, compute_does}
 use Rattle.wg_model.specs.Queries.{Occlusion, set_of_pass, count_given, begin_query_rules, pass_end_rules, query_begun_touches}
@@ -91,20 +91,20 @@ touched_small : (touches : List BundleTouch) → AreSmallTouched touches → Are
 touched_small [] h = tt
 touched_small (touch ∷ touches) h = (h.0, touched_small touches h.1)
 
-bundle_small : (bundle : HandleValue) → IsSmallHandle bundle → AreSmallTouches (touches_within (known_bundle bundle))
+bundle_small : (bundle : HandleValue) → IsSmallHandle bundle → AreSmallTouches (known_touches (known_bundle bundle))
 bundle_small bundle small = by_valid bundle.valid small
   where
-    by_info : (known : Info) → IsSmallInfo known → AreSmallTouches (touches_within (bundle_in known))
+    by_info : (known : Info) → IsSmallInfo known → AreSmallTouches (known_touches (bundle_in known))
     by_info (Bundle known) h = touched_small known.touches h
     by_info _ h = tt
 
-    by_valid : (b : Bool) → (b ≡ true → IsSmallInfo bundle.info) → AreSmallTouches (touches_within (if b then bundle_in bundle.info else None))
+    by_valid : (b : Bool) → (b ≡ true → IsSmallInfo bundle.info) → AreSmallTouches (known_touches (if b then bundle_in bundle.info else None))
     by_valid true h = by_info bundle.info (h refl)
     by_valid false h = tt
 
 executed_small : (bundles : List HandleValue) → AreSmallNamed (all_wanted wanted.Bundle bundles) → AreSmallTouches (executed_touches bundles)
 executed_small [] h = tt
-executed_small (bundle ∷ bundles) h = both_touched (touches_within (known_bundle bundle)) (executed_touches bundles) (bundle_small bundle h.0) (executed_small bundles h.1)
+executed_small (bundle ∷ bundles) h = both_touched (known_touches (known_bundle bundle)) (executed_touches bundles) (bundle_small bundle h.0) (executed_small bundles h.1)
 
 -- what commands of render passes touch
 abbrev AreSmallQueries : Option (ℕ × ℕ) → Type 0

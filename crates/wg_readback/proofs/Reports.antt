@@ -1,5 +1,5 @@
 -- The lines of a history are lines of a text, and none is `trace`.
-use Rattle.std.specs.Prelude.{map, codes, decimal, bytes_eq, Option, Some, None}
+use Rattle.std.specs.Prelude.{codes, decimal, bytes_eq, Option, Some, None}
 use Rattle.std.specs.List.{list_all, list_any}
 use Rattle.std.specs.Fmt.{digits as printed_digits, digits_onto, digit_glyph}
 use Rattle.std.proofs.Common.{◌≡◌, ℕ, zero, suc, ◌+◌, ◌/◌, ◌%◌, ◌<◌, ◌==◌, ◌&&◌, ◌||◌, List, [], ◌∷◌, ◌++◌, Bool, true, false, if◌then◌else◌, ap, sym, refl, ◌∙◌, arith, append-nil, append_assoc, subst}
@@ -244,8 +244,3 @@ history_front entries =
 
 pub report_reads_back : ReportReadsBack
 report_reads_back entries trace h = reads_back (history_text entries) trace (history_front entries) h
-
--- texts of what items are told as
-pub numbered_map : {X Y : Type 0} (f : X → Y) (next : ℕ → Y → ℕ) (text : ℕ → Y → List ℕ) (n : ℕ) (xs : List X) → numbered next text n (map f xs) ≡ numbered (λ m x. next m (f x)) (λ m x. text m (f x)) n xs
-numbered_map f next text n [] = refl
-numbered_map f next text n (x ∷ xs) = ap (λ (t : List ℕ). text n (f x) ++ t) (numbered_map f next text (next n (f x)) xs)

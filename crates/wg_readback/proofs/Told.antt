@@ -45,9 +45,6 @@ any_has (Some x) = tt
 word_has : {A : Type 0} (P : A → Type 0) (f : List ℕ → Option A) (bs : List ℕ) → ((w : List ℕ) → Has P (f w)) → Gets P (word_as f bs)
 word_has P f bs h = then_has IsAny (λ x. P x.0) (field bs) (λ w. f w.0 >>= λ x. Some (x, w.1)) (any_has (field bs)) (λ w _. then_has P (λ x. P x.0) (f w.0) (λ x. Some (x, w.1)) (h w.0) (λ x k. k))
 
-any_word : {A : Type 0} (f : List ℕ → Option A) (bs : List ℕ) → Gets IsAny (word_as f bs)
-any_word f bs = word_has IsAny f bs (λ w. any_has (f w))
-
 -- numbers and ranges
 digits_has : (most n : ℕ) (bs : List ℕ) → n ≤ most → Has (λ m. m ≤ most) (digits most n bs)
 digits_has most n [] l = l

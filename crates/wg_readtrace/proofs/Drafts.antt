@@ -17,9 +17,9 @@ use Rattle.wg_readtrace.specs.declared.reading.TraceFault.{TraceFault}
 use Rattle.wg_readtrace.specs.declared.reading.TraceFault.TheVariants.{Bad, NoMemory}
 use Rattle.wg_readtrace.specs.Forms.{line_of}
 use Rattle.wg_readtrace.specs.Lines.{line_len}
-use Rattle.wg_readtrace.specs.Reading.{Refuses, lines_of, steps_in, is_none_left, last_line, given_by, judged, then_read, onto, read_from, items_of, uses_in, accesses_in, as_items}
+use Rattle.wg_readtrace.specs.Reading.{Refuses, lines_of, steps_in, is_none_left, last_line, given_by, judged, then_read, onto, read_from, items_of, uses_in, accesses_in}
 use Rattle.wg_readtrace.specs.Drafts.{steps_after, rows_after, lines_from, flow, items_with, read_with, Gives}
-use Rattle.wg_readtrace.proofs.Lines.{line_at, no_lines}
+use Rattle.wg_readtrace.proofs.Lines.{line_at}
 
 -- The lines as they are defined are those by what is kept of the lines before.
 given_more : (before : List Line) (line : Line) → given_by (line ∷ before) ≡ rows_after (given_by before) line
@@ -74,17 +74,6 @@ use_more items None uses accesses part set lines = refl
 use_more items (Some step) uses accesses part set lines =
     ap (λ (us : List (PartRun × Usages)). items ++ (item.Step (record { place = step.0; name = step.1; uses = us; accesses = accesses ++ accesses_in lines }) ∷ items_of lines)) (append_assoc uses ((part, set) ∷ []) (uses_in lines))
 
-pub access_more : (items : List Item) (open_ : Option (StepPlace × StepName)) (uses : List (PartRun × Usages)) (accesses : List (Cells × AccessKind)) (kind : AccessKind) (cells : Cells) (lines : List Line)
-    → items ++ flow open_ uses (accesses ++ (cells, kind) ∷ []) lines ≡ items ++ flow open_ uses accesses (Acc kind cells ∷ lines)
-access_more items None uses accesses kind cells lines = refl
-access_more items (Some step) uses accesses kind cells lines =
-    ap (λ (as_ : List (Cells × AccessKind)). items ++ (item.Step (record { place = step.0; name = step.1; uses = uses ++ uses_in lines; accesses = as_ }) ∷ items_of lines)) (append_assoc accesses ((cells, kind) ∷ []) (accesses_in lines))
-
--- a turn of the loop that reads the lines, by how it ends
-pub start_as : (draft : Draft) (r : Result (List Line) (ℕ × ℕ)) → ((lines : List Line) → items_with draft lines ≡ items_of lines) → read_with draft r ≡ as_items r
-start_as draft (Ok lines) h = ap Ok (h lines)
-start_as draft (Err e) h = refl
-
 front_more : (draft draft2 : Draft) (line : Line) (r : Result (List Line) (ℕ × ℕ)) → ((lines : List Line) → items_with draft2 lines ≡ items_with draft (line ∷ lines)) → read_with draft2 r ≡ read_with draft (onto line r)
 front_more draft draft2 line (Ok lines) h = ap Ok (h lines)
 front_more draft draft2 line (Err e) h = refl
@@ -94,10 +83,6 @@ lines_here : (n : ℕ) (last : Option Line) (steps : ℕ) (rows : List Cells) (t
     ≡ then_read (λ line. lines_from (suc n) (Some line) (steps_after steps line) (rows_after rows line) (lines_of (drop (end + 1) text)))
     (judged n (is_none_left (lines_of (drop (end + 1) text))) last steps rows (line_of (take (end - at) (drop at text))))
 lines_here n last steps rows text at end l le e = ap (lines_from n last steps rows) (line_at text at end l le e)
-
-pub end_ok : (draft : Draft) (n : ℕ) (last : Option Line) (steps : ℕ) (rows : List Cells) (text : List ℕ) (at : ℕ) → length text ≤ at
-    → read_with draft (lines_from n last steps rows (lines_of (drop at text))) ≡ Ok (items_with draft [])
-end_ok draft n last steps rows text at l = ap (λ (texts : List (List ℕ)). read_with draft (lines_from n last steps rows texts)) (no_lines text at l)
 
 pub turn_err : (draft : Draft) (n : ℕ) (last : Option Line) (steps : ℕ) (rows : List Cells) (text : List ℕ) (at end : ℕ) (is_last : Bool) (e : TraceFault) → at < length text → at ≤ end → end - at ≡ line_len (drop at text)
     → is_last ≡ is_none_left (lines_of (drop (end + 1) text)) → Gives (Err e) (judged n is_last last steps rows (line_of (take (end - at) (drop at text))))

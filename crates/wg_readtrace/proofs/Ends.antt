@@ -329,17 +329,6 @@ one_more ends ends2 rows run t full fresh h = record { found = found; given = gi
             by_order there place (inr k) = k
         by_cases (Old o) (Old p) = t.apart line at end at2 end2 (sym o.0 ∙ e) (sym p.0 ∙ e2) l
 
-pub nothing_given : (ends : Ends) → ((q : Place) → ends q ≡ None) → Tells ends []
-nothing_given ends none = record {
-  found = λ c e. absurd (true≢false (sym e));
-  given = λ c at end e l u. absurd (no (line_of c, at) end e);
-  full = λ line at end e. absurd (no (line, at) end e);
-  apart = λ line at end at2 end2 e e2 l. absurd (no (line, at) end e);
-}
-  where
-    no : (q : Place) (v : ℕ) → ends q ≡ Some v → ⊥
-    no q v e = let h : ends q ≡ None = none q in cc
-
 -- the place before an end
 abbrev before_end : Line → ℕ → Place
 before_end line high = (line, high - 1)

@@ -1,5 +1,5 @@
 -- The lines of a text from a place on.
-use Rattle.std.specs.Prelude.{Some, None, bytes_eq, codes}
+use Rattle.std.specs.Prelude.{Some, bytes_eq, codes}
 use Rattle.std.proofs.Common.{◌≡◌, ℕ, suc, ◌+◌, ◌-◌, ◌<◌, ◌≤◌, ◌==◌, List, [], ◌∷◌, length, take, drop, Bool, true, false, if◌then◌else◌, ap, sym, refl, ◌∙◌, arith, length-drop}
 use Rattle.std.proofs.lemmas.List.{drop-drop, drop_all}
 use Rattle.wg_readtrace.specs.Lines.{line_len}
@@ -48,6 +48,3 @@ pub trace_here : (text : List ℕ) (n at end : ℕ) → at < length text → at 
 trace_here text n at end l le e same =
     ap (behind_trace n) (line_at text at end l le e)
     ∙ ap (λ (t : Bool). if t then Some (n, lines_of (drop (end + 1) text)) else behind_trace (suc n) (lines_of (drop (end + 1) text))) same
-
-pub no_trace : (text : List ℕ) (n at : ℕ) → length text ≤ at → behind_trace n (lines_of (drop at text)) ≡ None
-no_trace text n at l = ap (behind_trace n) (no_lines text at l)

@@ -1,6 +1,6 @@
 //! The forms of a trace's lines. A form reads on from a place of a line, and answers what it read with the
 //! place behind it.
-ghost use Rattle.std.specs.Prelude.{◌≡◌, ℕ, ◌≤◌, ◌<◌, ◌^◌, drop, length, IfSome};
+ghost use Rattle.std.specs.Prelude.{◌≡◌, ◌≤◌, ◌<◌, ◌^◌, drop, length, IfSome};
 ghost use Rattle.wg_readtrace.specs.Words.{aspect_word, kind_word, name_word, sort_word, set_word};
 ghost use Rattle.wg_readtrace.specs.Given.{IsFull};
 ghost use Rattle.wg_readtrace.specs.Drafts.{LineIsFull};

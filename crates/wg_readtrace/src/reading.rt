@@ -1,5 +1,5 @@
 //! The rules on a trace's lines.
-ghost use Rattle.std.specs.Prelude.{◌≡◌, ℕ, ◌≤◌, ◌<◌, ◌+◌, ◌-◌, ◌^◌, drop, take, length, List, [], ◌==◌, bytes_eq, true, IfOk, IfErr, IfSome, IsNone, None, Some};
+ghost use Rattle.std.specs.Prelude.{◌≡◌, ◌≤◌, ◌<◌, ◌+◌, ◌-◌, ◌^◌, drop, length, List, [], ◌==◌, true, IfOk, IfErr, IfSome, IsNone, None, Some};
 ghost use Rattle.std.specs.List.{list_all};
 ghost use Rattle.wg_rows.specs.Once.{AreOnce};
 ghost use Rattle.wg_rows.specs.Runs.{Cells as Run};
@@ -19,7 +19,7 @@ use wg_trace::steps::Item;
 
 /// Why a text is no trace: the rule that it breaks first, with the number of the line, from 1, or 0 for
 /// the text; or there is no memory.
-#[derive(Clone, Copy, PartialEq, Eq, Debug)]
+#[derive(Clone, Copy, PartialEq, Eq)]
 pub enum TraceFault {
     Bad { rule: u8, line: u64 },
     NoMemory,

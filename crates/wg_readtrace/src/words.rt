@@ -1,5 +1,5 @@
 //! Words of a line, and numbers, kinds and sets of usages among them.
-ghost use Rattle.std.specs.Prelude.{◌≡◌, ℕ, ◌≤◌, ◌<◌, ◌^◌, drop, take, ◌-◌, length, IfSome, IsNone, None, Some, bytes_eq, []};
+ghost use Rattle.std.specs.Prelude.{◌≡◌, ◌≤◌, ◌<◌, ◌^◌, drop, take, ◌-◌, length, IfSome, IsNone, None, Some, bytes_eq, []};
 ghost use Rattle.wg_readtrace.specs.Words.{gap_len, field, digits, number_word, aspect_word, kind_word, name_word, sort_word, usage_word, set_word};
 
 use bitflags::Flags;

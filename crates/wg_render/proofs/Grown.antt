@@ -1,23 +1,13 @@
 -- What is set after one more command.
-use Rattle.std.proofs.Common.{◌≡◌, ◌∙◌, List, ◌∷◌, ◌++◌, [], Option, Some, None, ℕ, true, false, refl, ap, sym, append-nil, length, replicate}
-use Rattle.wg_types.specs.Commands.{Command}
+use Rattle.std.proofs.Common.{◌≡◌, ◌∙◌, List, ◌∷◌, ◌++◌, [], Option, Some, None, ℕ, true, false, ap, sym, append-nil, length, replicate}
 use Rattle.wg_types.specs.declared.commands.BoundGroup.{BoundGroup}
 use Rattle.wg_types.specs.declared.commands.CommandOf.TheVariants.{End, BeginOcclusionQuery, EndOcclusionQuery}
 use Rattle.wg_model.specs.Touches.{Touch}
 use Rattle.wg_model.specs.Queries.{Occlusion, query_written, query_begun_touches}
-use Rattle.wg_model.specs.Attachments.{RenderBegin}
-use Rattle.wg_types.specs.declared.render.TargetInfo.{TargetInfo}
-use Rattle.wg_model.specs.Render.{RenderSet, render_set, bundle_set}
+use Rattle.wg_model.specs.Render.{RenderSet}
 use Rattle.wg_compute.proofs.Slots.{slots_unset, none_emptied, all_emptied}
 use Rattle.wg_compute.specs.After.{slots_after, emptied}
 use Rattle.wg_render.specs.After.{render_after}
-
--- What a command does to what is set is what makes up what is set.
-pub render_grows : (begin : RenderBegin) (earlier : List Command) (command : Command) → render_after (render_set begin earlier) command ≡ render_set begin (command ∷ earlier)
-render_grows begin earlier command = refl
-
-pub bundle_grows : (targets : TargetInfo) (earlier : List Command) (command : Command) → render_after (bundle_set targets earlier) command ≡ bundle_set targets (command ∷ earlier)
-bundle_grows targets earlier command = refl
 
 -- Nothing is in eight slots that are emptied.
 pub eight_emptied : {X : Type 0} (slots : List (Option X)) → length slots ≡ 8 → emptied true slots ≡ None ∷ (None ∷ (None ∷ (None ∷ (None ∷ (None ∷ (None ∷ (None ∷ [])))))))

@@ -8,6 +8,12 @@ ghost use Rattle.wg_render.specs.Attached.{given_of, drawn_in, attached_in, AreA
 
 use crate::views::{ColorTarget, DepthTarget, RenderBegin, view_of};
 use wg_formats::{extent, has_named, is_color, named_aspects};
+use wg_rules::{
+    ATTACHMENTS_AGREE_IN_EXTENT_AND_SAMPLES, COLOR_VIEWS_ARE_RENDERABLE,
+    DEPTH_OPERATIONS_FIT_FORMAT, DEPTH_SLICES_FIT_VIEWS, DEPTH_VIEW_IS_RENDERABLE,
+    NOTHING_IS_ATTACHED_TWICE, PASS_COLORS_ARE_WITHIN_LIMIT, PASS_HAS_ATTACHMENT,
+    RESOLVE_VIEWS_FIT_COLORS,
+};
 use wg_subres::views_meet;
 use wg_types::render::{LoadOp, StoreOp};
 use wg_types::textures::{AspectWord, ViewDim, ViewInfo};
@@ -334,31 +340,31 @@ pub fn check_begin(begin: &RenderBegin) -> Option<u16>
 {
     let colors = begin.colors.as_slice();
     if colors.len() > MOST_COLORS {
-        return Some(300);
+        return Some(PASS_COLORS_ARE_WITHIN_LIMIT);
     }
     if !some_given(begin) {
-        return Some(301);
+        return Some(PASS_HAS_ATTACHMENT);
     }
     if !colors_fit(colors) {
-        return Some(302);
+        return Some(COLOR_VIEWS_ARE_RENDERABLE);
     }
     if !slices_fit(colors) {
-        return Some(308);
+        return Some(DEPTH_SLICES_FIT_VIEWS);
     }
     if !depth_view_fits(&begin.depth) {
-        return Some(303);
+        return Some(DEPTH_VIEW_IS_RENDERABLE);
     }
     if !ops_given_fit(&begin.depth) {
-        return Some(304);
+        return Some(DEPTH_OPERATIONS_FIT_FORMAT);
     }
     if !all_alike(colors, &begin.depth) {
-        return Some(305);
+        return Some(ATTACHMENTS_AGREE_IN_EXTENT_AND_SAMPLES);
     }
     if !are_apart(colors, &begin.depth) {
-        return Some(306);
+        return Some(NOTHING_IS_ATTACHED_TWICE);
     }
     if !resolves_fit(colors) {
-        return Some(307);
+        return Some(RESOLVE_VIEWS_FIT_COLORS);
     }
     None
 }

@@ -2,12 +2,13 @@
 ghost use Rattle.std.specs.Prelude.{◌≡◌, ◌++◌, true, map, OnOk};
 ghost use Rattle.std.specs.Option.{option_map_or};
 ghost use Rattle.wg_model.specs.Rules.{first_unmet};
-ghost use Rattle.wg_model.specs.Bundles.{known_bundle, bundle_touch, touches_within, executed_touches};
+ghost use Rattle.wg_model.specs.Bundles.{known_bundle, bundle_touch, known_touches, executed_touches};
 ghost use Rattle.wg_model.specs.Render.{bundle_fits, bundle_spares, all_bundles, execute_rules};
 
 use crate::pipelines::{same_target, same_targets};
 use wg_access::bundle_touch;
 use wg_formats::known_bundle;
+use wg_rules::{BUNDLE_TARGETS_ARE_OF_PASS, BUNDLES_SPARE_READ_ONLY};
 use wg_types::NoMemory;
 use wg_types::bundles::{BundleInfo, BundleTouch};
 use wg_types::handles::Handle;
@@ -78,10 +79,10 @@ pub fn check_bundles(targets: &TargetInfo, bundles: &[Handle]) -> Option<u16>
     ensures { result ≡ first_unmet (execute_rules targets.now bundles.now) }
 {
     if !all_fit(targets, bundles) {
-        return Some(370);
+        return Some(BUNDLE_TARGETS_ARE_OF_PASS);
     }
     if !all_spare(targets, bundles) {
-        return Some(371);
+        return Some(BUNDLES_SPARE_READ_ONLY);
     }
     None
 }
@@ -97,7 +98,7 @@ fn push_within(touches: &mut Touches, within: &[BundleTouch]) -> Result<(), NoMe
 }
 
 fn push_bundle(touches: &mut Touches, bundle: &Handle) -> Result<(), NoMemory>
-    ensures { OnOk result (touches.new ≡ touches.old ++ touches_within (known_bundle bundle.now)) }
+    ensures { OnOk result (touches.new ≡ touches.old ++ known_touches (known_bundle bundle.now)) }
 {
     match known_bundle(bundle) {
         Some(known) => return push_within(touches, known.touches.as_slice()),

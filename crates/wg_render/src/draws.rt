@@ -5,6 +5,11 @@ ghost use Rattle.wg_model.specs.Rules.{first_unmet};
 ghost use Rattle.wg_model.specs.Render.{vertex_rules, index_rules, are_set, indices_fit};
 
 use wg_formats::buffer_of;
+use wg_rules::{
+    INDEX_BUFFER_HAS_INDEX, INDEX_OFFSET_IS_ALIGNED, INDEX_RANGE_FITS_BUFFER,
+    VERTEX_BUFFER_HAS_VERTEX, VERTEX_OFFSET_IS_ALIGNED, VERTEX_RANGE_FITS_BUFFER,
+    VERTEX_SLOT_IS_WITHIN_LIMIT,
+};
 use wg_types::handles::Handle;
 use wg_types::vertex::{IndexFormat, VertexBuffer};
 
@@ -30,16 +35,16 @@ pub fn check_vertex(slot: u32, buffer: &Handle, offset: u64, size: u64) -> Optio
 {
     let info = buffer_of(buffer);
     if info.usage & VERTEX == 0 {
-        return Some(330);
+        return Some(VERTEX_BUFFER_HAS_VERTEX);
     }
     if slot >= MOST_SLOTS {
-        return Some(331);
+        return Some(VERTEX_SLOT_IS_WITHIN_LIMIT);
     }
     if offset % 4 != 0 {
-        return Some(332);
+        return Some(VERTEX_OFFSET_IS_ALIGNED);
     }
     if !range_fits(offset, size, info.size) {
-        return Some(333);
+        return Some(VERTEX_RANGE_FITS_BUFFER);
     }
     None
 }
@@ -60,13 +65,13 @@ pub fn check_index(buffer: &Handle, format: IndexFormat, offset: u64, size: u64)
 {
     let info = buffer_of(buffer);
     if info.usage & INDEX == 0 {
-        return Some(335);
+        return Some(INDEX_BUFFER_HAS_INDEX);
     }
     if !is_aligned(format, offset) {
-        return Some(336);
+        return Some(INDEX_OFFSET_IS_ALIGNED);
     }
     if !range_fits(offset, size, info.size) {
-        return Some(337);
+        return Some(INDEX_RANGE_FITS_BUFFER);
     }
     None
 }

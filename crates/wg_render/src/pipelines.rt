@@ -8,6 +8,7 @@ ghost use Rattle.wg_model.specs.Equality.{same_option};
 ghost use Rattle.wg_model.specs.Render.{desc_in, known_pipeline, buffers_wanted, none_given, same_targets, draws_to, spares, pipeline_rules, pipeline_given_rules};
 
 use wg_compute::Settings;
+use wg_rules::{PIPELINE_DRAWS_TO_TARGETS, PIPELINE_SPARES_READ_ONLY};
 use wg_types::formats::Format;
 use wg_types::handles::{Handle, Info};
 use wg_types::render::{DepthState, RenderDesc, TargetInfo};
@@ -114,11 +115,11 @@ fn check_desc(targets: &TargetInfo, desc: &RenderDesc) -> Option<u16>
     ensures { result ≡ first_unmet (pipeline_rules targets.now (Some desc.now)) }
 {
     if !draws_to(targets, desc) {
-        return Some(320);
+        return Some(PIPELINE_DRAWS_TO_TARGETS);
     }
     if let Some(depth) = desc.depth {
         if !spares(targets, depth) {
-            return Some(321);
+            return Some(PIPELINE_SPARES_READ_ONLY);
         }
     }
     None

@@ -4,6 +4,7 @@ ghost use Rattle.wg_model.specs.Rules.{first_unmet};
 ghost use Rattle.wg_model.specs.Queries.{set_given, set_of_pass, count_given, pass_end_rules};
 
 use wg_formats::queries_of;
+use wg_rules::EVERY_OCCLUSION_QUERY_HAS_ENDED;
 use wg_types::commands::{Bracket, Command};
 use wg_types::handles::Handle;
 
@@ -41,7 +42,7 @@ pub fn check_pass_end(active: bool, command: &Command) -> Option<u16>
     match command.bracket() {
         Bracket::EndPass => {
             if active {
-                return Some(311);
+                return Some(EVERY_OCCLUSION_QUERY_HAS_ENDED);
             }
             return None;
         }

@@ -25,6 +25,9 @@ use wg_compute::{
 };
 use wg_formats::size_or_rest;
 use wg_queries::Occlusion;
+use wg_rules::{
+    INDEX_BUFFER_IS_SET, INDEX_RANGE_SUFFICES, VERTEX_BUFFERS_ARE_SET, VERTEX_RANGES_SUFFICE,
+};
 use wg_types::NoMemory;
 use wg_types::commands::Command;
 use wg_types::handles::Handle;
@@ -137,12 +140,12 @@ impl RenderState {
             return Some(rule);
         }
         if !self.buffers_are_set() {
-            return Some(350);
+            return Some(VERTEX_BUFFERS_ARE_SET);
         }
         let vertices = u64::from(first_vertex) + u64::from(vertices);
         let instances = u64::from(first_instance) + u64::from(instances);
         if !self.draw_fits(Some(vertices), instances) {
-            return Some(351);
+            return Some(VERTEX_RANGES_SUFFICE);
         }
         None
     }
@@ -161,17 +164,17 @@ impl RenderState {
             return Some(rule);
         }
         if !self.buffers_are_set() {
-            return Some(350);
+            return Some(VERTEX_BUFFERS_ARE_SET);
         }
         if self.index.is_none() {
-            return Some(352);
+            return Some(INDEX_BUFFER_IS_SET);
         }
         if !indices_fit(first_index, indices, self.index) {
-            return Some(353);
+            return Some(INDEX_RANGE_SUFFICES);
         }
         let instances = u64::from(first_instance) + u64::from(instances);
         if !self.draw_fits(None, instances) {
-            return Some(351);
+            return Some(VERTEX_RANGES_SUFFICE);
         }
         None
     }
@@ -187,7 +190,7 @@ impl RenderState {
             return Some(rule);
         }
         if !self.buffers_are_set() {
-            return Some(350);
+            return Some(VERTEX_BUFFERS_ARE_SET);
         }
         None
     }
@@ -203,10 +206,10 @@ impl RenderState {
             return Some(rule);
         }
         if !self.buffers_are_set() {
-            return Some(350);
+            return Some(VERTEX_BUFFERS_ARE_SET);
         }
         if self.index.is_none() {
-            return Some(352);
+            return Some(INDEX_BUFFER_IS_SET);
         }
         None
     }

@@ -4,6 +4,7 @@ pub mod Printed
 pub mod Told
 pub mod Cut
 pub mod Values
+pub mod Overwritten
 pub mod Sets
 pub mod Order
 pub mod Lying

@@ -1,11 +1,11 @@
 -- The sets of uses are found line by line.
-use Rattle.std.proofs.Common.{◌≡◌, List, [], ◌∷◌, ◌++◌, Bool, true, false, Option, refl, ap, sym, ◌∙◌, if◌then◌else◌, IsPermutation}
+use Rattle.std.proofs.Common.{◌≡◌, List, [], ◌∷◌, ◌++◌, true, ap, sym, ◌∙◌, if◌then◌else◌, IsPermutation}
 use Rattle.std.proofs.lemmas.List.{append-nil, append_assoc}
 use Rattle.std.proofs.lemmas.List.Sorted.{IsPermutation-middle}
 use Rattle.wg_rows.specs.Rows.{Apart}
-use Rattle.wg_rows.specs.Runs.{Part, part_sort, is_full}
-use Rattle.wg_rows.specs.Uses.{Usages, same_set, row_set}
-use Rattle.wg_rows.specs.Sets.{UseRow, union_row, with_use, sets, AreSameSets}
+use Rattle.wg_rows.specs.Runs.{part_sort}
+use Rattle.wg_rows.specs.Uses.{same_set, row_set}
+use Rattle.wg_rows.specs.Sets.{UseRow, with_use, sets, AreSameSets}
 use Rattle.wg_rows.specs.Order.{are_apart}
 use Rattle.wg_rows.proofs.Sets.{both_options, joined_set, sets_row, sets_tell}
 use Rattle.wg_rows.proofs.Order.{sets_kept, sets_same}

@@ -1,5 +1,5 @@
 -- Rows are in printed form where they are told to be, and uses in that form are their own sets.
-use Rattle.std.proofs.Common.{◌≡◌, ◌≢◌, ◌<◌, ◌≤◌, List, [], ◌∷◌, Bool, true, false, ◌&&◌, ◌||◌, not, ◌⊎◌, inl, inr, Option, refl, ap, ap₂, sym, ◌∙◌, arith, nat_lt, nat_le, true≢false}
+use Rattle.std.proofs.Common.{◌≡◌, ◌≢◌, ◌<◌, ◌≤◌, List, [], ◌∷◌, Bool, true, false, ◌&&◌, ◌||◌, not, ◌⊎◌, inl, inr, Option, ap, sym, ◌∙◌, arith, nat_lt, nat_le, true≢false}
 use Rattle.std.specs.Option.{option_map_or}
 use Rattle.std.proofs.lemmas.Bool.{and_parts, and_from, or_cases, ltb-true, leb-true, le-leb, cases_eq}
 use Rattle.wg_rows.specs.Rows.{Sort, list_eq, list_before, touch, meet, Spot, EachRow, After, Apart}
@@ -9,7 +9,7 @@ use Rattle.wg_rows.specs.Runs.{part_sort}
 use Rattle.wg_rows.specs.Uses.{Usages, same_set}
 use Rattle.wg_rows.specs.Sets.{UseRow, sets}
 use Rattle.wg_rows.specs.Order.{are_full, is_first, are_apart}
-use Rattle.wg_rows.proofs.Put.{list_eq_true, list_eq_refl}
+use Rattle.wg_rows.proofs.Put.{list_eq_true}
 use Rattle.wg_rows.proofs.Printed.{Tells, each_row_map, after_trans, rows_unique}
 use Rattle.wg_rows.proofs.Told.{uses_tell}
 use Rattle.wg_rows.proofs.Values.{has_at, apart_loose}

@@ -1,11 +1,10 @@
 -- What rows say does not depend on their order, where it does not depend on which comes first.
-use Rattle.std.proofs.Common.{◌≡◌, ℕ, zero, suc, ◌<◌, max, List, [], ◌∷◌, Bool, true, false, ◌&&◌, ◌||◌, ◌==◌, Option, Some, None, is_some, refl, ap, ap₂, sym, ◌∙◌, arith, bit_or, if◌then◌else◌, true≢false, IsPermutation}
+use Rattle.std.proofs.Common.{◌≡◌, ℕ, zero, suc, ◌<◌, max, List, [], ◌∷◌, Bool, true, false, ◌&&◌, ◌||◌, ◌==◌, Option, Some, None, is_some, refl, ap, sym, ◌∙◌, arith, if◌then◌else◌, true≢false, IsPermutation}
 use Rattle.std.specs.Int.{bit_at}
 use Rattle.std.specs.List.{list_any}
 use Rattle.std.specs.Option.{option_map_or}
 use Rattle.std.proofs.lemmas.Bool.{and_from, or_left, or_right}
 use Rattle.std.proofs.lemmas.List.Sorted.{list_any-IsPermutation}
-use Rattle.std.proofs.lemmas.Nat.{or_comm}
 use Rattle.std.proofs.lemmas.Nat.Bits.{same_from_bits, bit_at_or, bit_at-lt, bit_at-zero}
 use Rattle.wg_rows.specs.Rows.{Sort, Spot, covers_spot, any_row, printed, has_value, EachRow, Apart, Alike, Fits, AllFit}
 use Rattle.wg_rows.specs.Cut.{value_at}

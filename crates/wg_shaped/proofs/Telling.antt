@@ -25,7 +25,7 @@ use Rattle.wg_types.specs.declared.bundles.BundleInfo.{BundleInfo}
 use Rattle.wg_types.specs.declared.bundles.BundleTouch.{BundleTouch}
 use Rattle.wg_types.specs.declared.bundles.BundleUse.{BundleUse}
 use Rattle.wg_types.specs.declared.bundles.BundleUse.TheVariants.{Input, Constant, StorageRead, Storage as StorageUse}
-use Rattle.wg_model.specs.Bundles.{known_bundle, bundle_how, bundle_touch, touches_within, executed_touches}
+use Rattle.wg_model.specs.Bundles.{known_bundle, bundle_how, bundle_touch, known_touches, executed_touches}
 use Rattle.wg_model.specs.Queries.{query_begun_touches}
 use Rattle.wg_types.specs.Handles.{HandleValue}
 use Rattle.wg_trace.specs.declared.parts.Aspect.{Aspect}
@@ -175,13 +175,13 @@ touched_plain : (touches : List BundleTouch) → EachRow (λ (touch : BundleTouc
 touched_plain [] h = tt
 touched_plain (touch ∷ touches) h = (bundle_plain touch.used touch.cells h.0, touched_plain touches h.1)
 
-within_plain : (known : Option BundleInfo) → IsFairInfo known → ArePlain (touches_within known)
+within_plain : (known : Option BundleInfo) → IsFairInfo known → ArePlain (known_touches known)
 within_plain None h = tt
 within_plain (Some bundle) h = touched_plain bundle.touches h
 
 executed_plain : (bundles : List HandleValue) → EachRow IsFairBundle bundles → ArePlain (executed_touches bundles)
 executed_plain [] h = tt
-executed_plain (bundle ∷ bundles) h = plain_joined (touches_within (known_bundle bundle)) (executed_touches bundles) (within_plain (known_bundle bundle) h.0) (executed_plain bundles h.1)
+executed_plain (bundle ∷ bundles) h = plain_joined (known_touches (known_bundle bundle)) (executed_touches bundles) (within_plain (known_bundle bundle) h.0) (executed_plain bundles h.1)
 
 -- what commands of render passes touch
 query_plain : (queries : Option (ℕ × ℕ)) (index : ℕ) → ArePlain (query_begun_touches queries index)

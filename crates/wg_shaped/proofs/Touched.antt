@@ -38,7 +38,7 @@ use Rattle.wg_types.specs.declared.bundles.BundleInfo.{BundleInfo}
 use Rattle.wg_types.specs.declared.bundles.BundleTouch.{BundleTouch}
 use Rattle.wg_types.specs.declared.bundles.BundleUse.{BundleUse}
 use Rattle.wg_types.specs.declared.bundles.BundleUse.TheVariants.{Input, Constant, StorageRead, Storage as StorageUse}
-use Rattle.wg_model.specs.Bundles.{known_bundle, bundle_how, bundle_touch, touches_within, executed_touches}
+use Rattle.wg_model.specs.Bundles.{known_bundle, bundle_how, bundle_touch, known_touches, executed_touches}
 use Rattle.wg_model.specs.Queries.{set_of_pass, query_begun_touches}
 use Rattle.wg_types.specs.Handles.{HandleValue}
 use Rattle.wg_trace.specs.declared.parts.Aspect.{Aspect}
@@ -189,13 +189,13 @@ bundle_sets : (touches : List BundleTouch) → AreSets (map bundle_touch touches
 bundle_sets [] = tt
 bundle_sets (touch ∷ touches) = (bundle_set touch.used, bundle_sets touches)
 
-within_sets : (known : Option BundleInfo) → AreSets (touches_within known)
+within_sets : (known : Option BundleInfo) → AreSets (known_touches known)
 within_sets None = tt
 within_sets (Some bundle) = bundle_sets bundle.touches
 
 executed_sets : (bundles : List HandleValue) → AreSets (executed_touches bundles)
 executed_sets [] = tt
-executed_sets (bundle ∷ bundles) = joined_sets (touches_within (known_bundle bundle)) (executed_touches bundles) (within_sets (known_bundle bundle)) (executed_sets bundles)
+executed_sets (bundle ∷ bundles) = joined_sets (known_touches (known_bundle bundle)) (executed_touches bundles) (within_sets (known_bundle bundle)) (executed_sets bundles)
 
 query_sets : (queries : Option (ℕ × ℕ)) (index : ℕ) → AreSets (query_begun_touches queries index)
 query_sets None index = tt

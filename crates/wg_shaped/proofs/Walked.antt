@@ -1,7 +1,7 @@
 -- What holds of all that the commands of a recording do whose rules are met, where some such thing holds of each command.
 use Rattle.std.specs.Prelude.{option_to_list, reverse}
 use Rattle.std.specs.Option.{option_or}
-use Rattle.std.proofs.Common.{◌≡◌, ℕ, List, [], ◌∷◌, ◌++◌, Bool, true, false, Option, Some, None, refl, sym, subst, if◌then◌else◌}
+use Rattle.std.proofs.Common.{◌≡◌, ℕ, List, [], ◌∷◌, Bool, true, false, Option, Some, None, refl, sym, subst, if◌then◌else◌}
 use Rattle.std.proofs.lemmas.List.{reverse-append}
 use Rattle.wg_types.specs.Commands.{Command, is_begin, is_end}
 use Rattle.wg_types.specs.declared.commands.On.{On}

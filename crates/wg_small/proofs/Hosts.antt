@@ -2,6 +2,7 @@
 use Rattle.std.specs.List.{flat_map, list_any}
 use Rattle.std.proofs.Common.{◌≡◌, ℕ, ◌<◌, ◌≤◌, ◌==◌, ◌||◌, not, List, [], ◌∷◌, length, Bool, true, false, nat_lt, Option, Some, None, is_none, option_and_then, refl, sym, ◌∙◌, subst, arith, if◌then◌else◌, true≢false}
 use Rattle.std.proofs.lemmas.Bool.{ltb-true, eq-eqb}
+use Rattle.wg_rules.specs.declared.TheConstants.{OBJECT_IS_OF_DEVICE, OBJECT_IS_NOT_DROPPED}
 use Rattle.wg_types.specs.declared.handles.ObjRef.{ObjRef}
 use Rattle.wg_types.specs.declared.mappings.Mapping.{Mapping}
 use Rattle.wg_types.specs.declared.mappings.MapMode.{MapMode}
@@ -55,7 +56,7 @@ read_within most at WriteMode buffer m early made = tt
 
 unmap_met : (setup : Setup) (past : Past) (buffer : ObjRef) → is_none (unmap_rule setup past buffer) ≡ true → buffer.number < count past
 unfolding unmap_rule
-unmap_met setup past buffer e = own_below setup past _ buffer (all_met ((10, is_own setup past is_buffer buffer) ∷ ((11, not (is_dropped setup past buffer.number)) ∷ [])) e).0
+unmap_met setup past buffer e = own_below setup past _ buffer (all_met ((OBJECT_IS_OF_DEVICE, is_own setup past is_buffer buffer) ∷ ((OBJECT_IS_NOT_DROPPED, not (is_dropped setup past buffer.number)) ∷ [])) e).0
 
 unmap_within : (setup : Setup) (past : Past) (most : ℕ) (o : Option ObjRef) → length past < most → Each (Within most) (unmap_groups setup past o)
 unmap_within setup past most None early = tt

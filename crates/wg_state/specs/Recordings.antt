@@ -1,6 +1,6 @@
 -- The recordings of command buffers that may still be submitted.
-use Rattle.std.specs.Prelude.{◌≡◌, ℕ, ◌+◌, Bool, ◌||◌, ◌==◌, nat_eq, List, [], Option, Some, None, option_and_then, option_to_list, length, if◌then◌else◌}
-use Rattle.std.specs.List.{list_any, flat_map}
+use Rattle.std.specs.Prelude.{◌≡◌, ℕ, ◌+◌, ◌++◌, Bool, true, ◌||◌, ◌==◌, nat_eq, List, [], Option, Some, None, option_and_then, option_to_list, length, if◌then◌else◌}
+use Rattle.std.specs.List.{list_any, flat_map, AllByRecursion}
 use Rattle.std.specs.Map.{lookup}
 use Rattle.std.specs.Option.{option_map_or}
 use Rattle.wg_types.specs.declared.commands.On.{On}
@@ -22,8 +22,9 @@ pub record RecordingsValue : Type 0 where
   pub kept : List (ℕ × RecordingValue)
   pub spare : ℕ
 
--- for how many more recordings that are given back there is room
+-- the recordings that were given back, and for how many more there is room
 pub record SpentValue : Type 0 where
+  pub handed : List RecordingValue
   pub room : ℕ
 
 -- what is kept of object n
@@ -74,6 +75,26 @@ pub record Forgets (test : ℕ → Bool) (old new : List (ℕ × RecordingValue)
 abbrev pub put : Bool → Option RecordingValue → Option RecordingValue → Option RecordingValue
 put b None recording = recording
 put b (Some new) recording = if b then Some new else recording
+
+-- a recording was kept under a number that passes a test
+abbrev pub WasKept : (ℕ → Bool) → List (ℕ × RecordingValue) → RecordingValue → Type 0
+WasKept test kept recording = (n : ℕ) × ((test n ≡ true) × (kept_at kept n ≡ Some recording))
+
+-- recordings are handed out behind those of a list, each of which was kept under a number that passes a test
+pub record HandsOut (test : ℕ → Bool) (kept : List (ℕ × RecordingValue)) (old new : List RecordingValue) : Type 0 where
+  pub more : List RecordingValue
+  pub is : new ≡ old ++ more
+  pub each : AllByRecursion (WasKept test kept) more
+
+-- a recording is that of a command buffer of which no submit is accepted any more
+abbrev pub WasSpent : Setup → Past → RecordingValue → Type 0
+WasSpent setup past recording = (n : ℕ) × ((is_spent setup past n ≡ true) × (recording_at past n ≡ Some recording))
+
+-- recordings are handed out behind those of a list, each that of a command buffer of which no submit is accepted any more
+pub record HandsOutSpent (setup : Setup) (past : Past) (old new : List RecordingValue) : Type 0 where
+  pub more : List RecordingValue
+  pub is : new ≡ old ++ more
+  pub each : AllByRecursion (WasSpent setup past) more
 
 -- A recording, if there is one, is kept under a number.
 pub record Keeps (number : ℕ) (more : Option RecordingValue) (old new : List (ℕ × RecordingValue)) : Type 0 where

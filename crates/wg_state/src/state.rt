@@ -15,7 +15,7 @@ ghost use Rattle.wg_life.specs.Lives.{live_count};
 ghost use Rattle.wg_state.specs.States.{IsKept};
 ghost use Rattle.wg_state.specs.Waits.{map_waits};
 ghost use Rattle.wg_state.specs.Uses.{uses_of};
-ghost use Rattle.wg_state.specs.Recordings.{any_spent, is_spent, most_spent};
+ghost use Rattle.wg_state.specs.Recordings.{any_spent, is_spent, most_spent, HandsOutSpent};
 ghost use Rattle.wg_history.specs.Objects.{deeds_at};
 
 use crate::book::Book;
@@ -386,7 +386,7 @@ impl State {
     /// Adds an entry, which makes this object, of which this is known, if it makes one, and of which the
     /// operation uses these, and its releases to a trace, in room that there is for all that is live and
     /// one more, and gives its reply. The recordings that it spends are handed out, in room that there is.
-    #[tactic(auto, using(crate::proofs::Recorded::left_next, crate::proofs::LifeLemmas::drops_are))]
+    #[tactic(auto, using(crate::proofs::Recorded::left_next, crate::proofs::LifeLemmas::drops_are, crate::proofs::Handed::handed_spent))]
     pub fn add(
         &mut self,
         entry: Entry,
@@ -409,6 +409,7 @@ impl State {
         ensures history { self.new.history ≡ self.old.history ++ entry ∷ [] }
         ensures reply { result ≡ entry.reply }
         ensures trace { trace.new.items ≡ trace.old.items ++ map free (freed self.old.setup (entry ∷ reverse self.old.history)) }
+        ensures spent { HandsOutSpent self.old.setup (entry ∷ reverse self.old.history) spent.old.handed spent.new.handed }
     {
         forget_spent(
             self.setup,

@@ -1,5 +1,5 @@
 -- Two attachments meet exactly where some cell is in both.
-use Rattle.std.proofs.Common.{◌≡◌, ℕ, ◌+◌, ◌<◌, ◌≤◌, ◌==◌, max, nat_lt, nat_le, Bool, true, false, ◌&&◌, ◌||◌, List, [], ◌∷◌, map, Option, Some, None, refl, sym, ap, ap₂, subst, ◌∙◌, ◌⊎◌, inl, inr, arith, eqb-true, eq-eqb}
+use Rattle.std.proofs.Common.{◌≡◌, ℕ, ◌+◌, ◌<◌, ◌≤◌, ◌==◌, max, nat_lt, nat_le, true, false, ◌&&◌, ◌||◌, List, [], ◌∷◌, map, Option, Some, None, refl, sym, ap, ap₂, subst, ◌∙◌, ◌⊎◌, inl, inr, arith, eqb-true, eq-eqb}
 use Rattle.std.specs.List.{list_any}
 use Rattle.std.proofs.lemmas.Bool.{and_parts, and_from, or_cases, or_left, or_right, le-leb, leb-true, lt-ltb, ltb-true}
 use Rattle.wg_types.specs.declared.formats.FormatAspects.{FormatAspects}
@@ -18,9 +18,9 @@ use Rattle.wg_rows.specs.Rows.{in_range, list_eq}
 use Rattle.wg_rows.specs.Runs.{Aspect, Color, Depth, Stencil, aspect_number, Part, Buffer, Subresource, QuerySet, PartRun, BufferPart, LayerParts, QueryPart, Cell, Byte, Texels, Slice, Query, Cells, Bytes, Layers, Slices, Queries, part_of, covers, covers_part, run_part}
 use Rattle.wg_rows.proofs.Runs.{tags_differ}
 use Rattle.wg_model.specs.Formats.{named_aspects, is_color_alone}
-use Rattle.wg_model.specs.Textures.{dim_fits, shrunk, extent_at, extent, layer_count}
+use Rattle.wg_model.specs.Textures.{dim_fits, extent_at, extent}
 use Rattle.wg_model.specs.Subresources.{view_runs, view_cells, run_cells, texture_cells, is_aspect_of, views_meet}
-use Rattle.wg_model.specs.Attachments.{Attached, sliced, is_deep, color_fits, slice_fits, attached_meet}
+use Rattle.wg_model.specs.Attachments.{Attached, sliced, is_deep, attached_meet}
 use Rattle.wg_subres.specs.Has.{is_covered, view_has}
 use Rattle.wg_subres.specs.Attached.{attached_cells, attached_has, IsAttachable, KnowOne, AttachedMeet}
 use Rattle.wg_subres.proofs.Lying.{runs_of_view}

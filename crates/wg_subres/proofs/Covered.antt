@@ -44,7 +44,7 @@ none_second : (x z : Bool) → false ≡ x && (false && z)
 none_second false z = refl
 none_second true z = refl
 
-or_both : (z r : Bool) → z || (r && z) ≡ z
+pub or_both : (z r : Bool) → z || (r && z) ≡ z
 or_both true r = refl
 or_both false true = refl
 or_both false false = refl
@@ -79,7 +79,7 @@ aspects_cover object lo hi first n (aspect ∷ aspects) o a m l =
     ∙ or_second (object == o) (aspect_number aspect == aspect_number a) (is_aspect_of a aspects) (in_range first (first + n) m && in_range lo hi l)))
 
 -- Parts that are no subresources.
-no_line : (x z : Bool) → (x && false) && z ≡ false
+pub no_line : (x z : Bool) → (x && false) && z ≡ false
 no_line true z = refl
 no_line false z = refl
 

@@ -17,7 +17,7 @@ use Rattle.wg_model.specs.Textures.{layers_in, layer_count, extent}
 use Rattle.wg_model.specs.Subresources.{level_runs, aspect_runs, view_runs, view_cells, run_cells, texture_cells, first_layer, end_layer, copied_cells, copy_runs}
 
 -- The layers of a 3D texture are the one layer 0.
-abbrev IsOneLayer : TextureDim → ℕ → ℕ → Type 0
+abbrev pub IsOneLayer : TextureDim → ℕ → ℕ → Type 0
 IsOneLayer texture_dim.Three lo hi = (lo ≡ 0) × (hi ≡ 1)
 IsOneLayer _ lo hi = Unit {0}
 
@@ -37,7 +37,7 @@ if_lie : (b : Bool) (dim : TextureDim) (object mip lo hi from to : ℕ) (aspects
 if_lie true dim object mip lo hi from to aspects one = layers_lie dim object mip lo hi from to aspects one
 if_lie false dim object mip lo hi from to aspects one = refl
 
-copy_one_layer : (dim : TextureDim) (origin size : List ℕ) → IsOneLayer dim (first_layer dim origin) (end_layer dim origin size)
+pub copy_one_layer : (dim : TextureDim) (origin size : List ℕ) → IsOneLayer dim (first_layer dim origin) (end_layer dim origin size)
 copy_one_layer texture_dim.Three origin size = (refl, refl)
 copy_one_layer texture_dim.One origin size = tt
 copy_one_layer texture_dim.Two origin size = tt
@@ -65,7 +65,7 @@ aspects_lie info object lo hi mips (aspect ∷ aspects) one =
     ∙ (ap₂ ◌++◌ (levels_lie info object lo hi mips aspect one) (aspects_lie info object lo hi mips aspects one)
     ∙ sym (flat_map-cons (level_runs object lo hi mips) aspect aspects))))
 
-view_one_layer : (dim : TextureDim) (size : List ℕ) (base layers : ℕ) → nat_lt base (min (base + layers) (layers_in dim size)) ≡ true → IsOneLayer dim base (min (base + layers) (layers_in dim size))
+pub view_one_layer : (dim : TextureDim) (size : List ℕ) (base layers : ℕ) → nat_lt base (min (base + layers) (layers_in dim size)) ≡ true → IsOneLayer dim base (min (base + layers) (layers_in dim size))
 view_one_layer texture_dim.Three size base layers e = let below : base < min (base + layers) 1 = ltb-true base (min (base + layers) 1) e in (omega arith, omega arith)
 view_one_layer texture_dim.One size base layers e = tt
 view_one_layer texture_dim.Two size base layers e = tt

@@ -1,6 +1,5 @@
 -- Two copies meet exactly where some part is in both.
-use Rattle.std.proofs.Common.{◌≡◌, ℕ, ◌==◌, max, nat_lt, Bool, true, false, ◌&&◌, ◌||◌, List, [], ◌∷◌, refl, sym, ◌∙◌, ◌⊎◌, inl, inr, arith, eqb-true, eq-eqb}
-use Rattle.std.specs.List.{list_any}
+use Rattle.std.proofs.Common.{◌≡◌, ℕ, ◌==◌, max, true, ◌&&◌, ◌||◌, List, [], ◌∷◌, refl, sym, ◌∙◌, ◌⊎◌, inl, inr, arith, eqb-true, eq-eqb}
 use Rattle.std.proofs.lemmas.Bool.{and_parts, and_from, or_cases, or_left, or_right}
 use Rattle.std.proofs.lemmas.Bool.Decides.{nat_tests}
 use Rattle.wg_types.specs.declared.textures.TextureInfo.{TextureInfo}

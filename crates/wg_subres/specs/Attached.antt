@@ -1,5 +1,5 @@
 -- Which cells an attachment has, told one by one, and when two attachments have one in common.
-use Rattle.std.specs.Prelude.{◌≡◌, Bool, true, List, map, Option, Some, None}
+use Rattle.std.specs.Prelude.{◌≡◌, Bool, true, List, map, Some, None}
 use Rattle.wg_rows.specs.Runs.{Cell, Cells}
 use Rattle.wg_model.specs.Textures.{dim_fits}
 use Rattle.wg_model.specs.Subresources.{view_cells}

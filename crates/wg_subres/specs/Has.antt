@@ -1,15 +1,18 @@
 -- Which subresources a view and a copy have, told one by one, and that their runs have just these.
-use Rattle.std.specs.Prelude.{◌≡◌, ℕ, ◌+◌, ◌==◌, nat_lt, Bool, true, false, ◌&&◌, List, map}
+use Rattle.std.specs.Prelude.{◌≡◌, ℕ, ◌+◌, ◌==◌, nat_lt, Bool, true, false, not, ◌&&◌, List, map}
 use Rattle.std.specs.List.{list_any}
+use Rattle.wg_types.specs.declared.textures.TextureDim.{TextureDim}
+use Rattle.wg_types.specs.declared.textures.TextureDim.TheVariants as texture_dim
 use Rattle.wg_types.specs.declared.textures.TextureInfo.{TextureInfo}
 use Rattle.wg_types.specs.declared.textures.TextureSpot.{TextureSpot}
 use Rattle.wg_types.specs.declared.textures.ViewInfo.{ViewInfo}
 use Rattle.wg_types.specs.Formats.{row}
+use Rattle.wg_types.specs.Textures.{depth}
 use Rattle.wg_rows.specs.Rows.{in_range, Apart}
-use Rattle.wg_rows.specs.Runs.{Part, Buffer, Subresource, QuerySet, PartRun, covers_part, part_sort, Cells, Cell, covers, cell_sort, part_of, run_part}
+use Rattle.wg_rows.specs.Runs.{Aspect, Color, Part, Buffer, Subresource, QuerySet, PartRun, covers_part, part_sort, Cells, Cell, Byte, Texels, Slice, Query, covers, cell_sort, part_of, run_part}
 use Rattle.wg_rows.specs.Uses.{Usages, printed_uses, AccessKind, printed_accesses}
 use Rattle.wg_model.specs.Formats.{named_aspects}
-use Rattle.wg_model.specs.Textures.{layer_count}
+use Rattle.wg_model.specs.Textures.{layer_count, extent}
 use Rattle.wg_model.specs.Subresources.{view_runs, view_cells, first_layer, end_layer, copied_cells, copy_runs, is_aspect_of, copies_meet, views_meet, has_no_texel}
 
 -- Whether a view has a part: a subresource of its texture, of an aspect that it names, with mip level and layer in its
@@ -63,6 +66,40 @@ CopiedCellsLie =
     (texture : ℕ) (info : TextureInfo) (spot : TextureSpot) (size : List ℕ) (cell : Cell)
     → is_accessed (copied_cells texture info spot size) cell ≡ true
     → copy_has texture info spot size (part_of cell) ≡ true
+
+-- whether the cells of an aspect of such a texture are slices of its one layer, as those of the color of a 3D texture are, and else
+-- layers
+abbrev pub is_in_slices : TextureDim → Aspect → Bool
+is_in_slices texture_dim.Three Color = true
+is_in_slices _ aspect = false
+
+-- whether such a texture has cells like this one; of slices those from one on, up to but not including another
+abbrev pub is_cell_of : TextureDim → ℕ → ℕ → Cell → Bool
+is_cell_of dim from to (Byte object at) = false
+is_cell_of dim from to (Texels object aspect mip layer) = not (is_in_slices dim aspect)
+is_cell_of dim from to (Slice object mip at) = is_in_slices dim Color && in_range from to at
+is_cell_of dim from to (Query object at) = false
+
+-- the mip level of a cell of a texture
+abbrev pub cell_mip : Cell → ℕ
+cell_mip (Byte object at) = 0
+cell_mip (Texels object aspect mip layer) = mip
+cell_mip (Slice object mip at) = mip
+cell_mip (Query object at) = 0
+
+-- A view has just the cells of the parts that it has, of a 3D texture all slices of each mip level,
+abbrev pub ViewCellsAre : Type 0
+ViewCellsAre =
+    (view : ViewInfo) (cell : Cell)
+    → is_accessed (view_cells view) cell
+    ≡ view_has view (part_of cell) && is_cell_of view.texture_info.dim 0 (depth (extent view.texture_info (cell_mip cell))) cell
+
+-- and a copy accesses just those of the parts that it has, of a 3D texture as many slices as its depth, from its origin on.
+abbrev pub CopiedCellsAre : Type 0
+CopiedCellsAre =
+    (texture : ℕ) (info : TextureInfo) (spot : TextureSpot) (size : List ℕ) (cell : Cell)
+    → is_accessed (copied_cells texture info spot size) cell
+    ≡ copy_has texture info spot size (part_of cell) && is_cell_of info.dim (depth spot.origin) (depth spot.origin + depth size) cell
 
 -- Two copies within one texture meet exactly where some part is in both.
 pub record CopiesMeet : Type 0 where

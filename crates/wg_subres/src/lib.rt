@@ -7,7 +7,7 @@ ghost use Rattle.wg_types.specs.Textures.{depth};
 ghost use Rattle.wg_rows.specs.Rows.{numbers};
 ghost use Rattle.wg_model.specs.Formats.{named_aspects};
 ghost use Rattle.wg_model.specs.Subresources.{level_runs, aspect_runs, view_runs, end_layer, texture_cells, run_cells, view_cells, layer_cells, copied_cells, ranges_meet, view_layers_end, view_mips_end, views_meet};
-ghost use Rattle.wg_subres.specs.Has.{ViewsCover, CopiesCover, ViewCellsLie, CopiedCellsLie, CopiesMeet, ViewsMeet, ViewsPrinted, CopiesPrinted, CellsPrinted};
+ghost use Rattle.wg_subres.specs.Has.{ViewsCover, CopiesCover, ViewCellsLie, CopiedCellsLie, ViewCellsAre, CopiedCellsAre, CopiesMeet, ViewsMeet, ViewsPrinted, CopiesPrinted, CellsPrinted};
 ghost use Rattle.wg_subres.specs.Attached.{AttachedMeet};
 
 use std::alloc::Global;
@@ -276,7 +276,8 @@ pub fn cells_of_copy(
 }
 
 /// The runs of a view cover just the subresources that the view has, in which its cells lie, and those
-/// of a copy just what the copy has, in which the cells lie that it accesses. Two copies within one
+/// of a copy just what the copy has, in which the cells lie that it accesses. A view has, and a copy
+/// accesses, just the cells of these that are layers or, of a 3D texture, slices in their range. Two copies within one
 /// texture meet exactly where some subresource is in both, and so do two views. Two attachments meet
 /// exactly where some cell is in both.
 pub fn runs_cover()
@@ -284,6 +285,8 @@ pub fn runs_cover()
     ensures copies { CopiesCover }
     ensures view_cells { ViewCellsLie }
     ensures cells { CopiedCellsLie }
+    ensures all_of_view { ViewCellsAre }
+    ensures all_of_copy { CopiedCellsAre }
     ensures meet { CopiesMeet }
     ensures views_meet { ViewsMeet }
     ensures attached_meet { AttachedMeet }

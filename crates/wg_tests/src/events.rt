@@ -1,4 +1,4 @@
-//! Events that a device answers one by one.
+//! Events that a device answers one by one, whose references no script can have.
 use std::alloc::Global;
 use std::sync::Arc;
 use wg_core::{Event, LoggedCore};
@@ -10,13 +10,12 @@ use wg_types::commands::{Command, On};
 use wg_types::handles::{BufferInfo, Handle, Info, ObjRef};
 use wg_types::items::Items;
 use wg_types::replies::{Answer, Caught, Fault, FaultKind};
-use wg_types::steps::{Item, Sort};
 
 // Each test makes its device in one function and asks it in another, that borrows it and gives plain answers: so
 // its drop, which is dear to prove, stands at one way out, and nothing is held where a test asserts.
 
 /// The object of this number of the device with serial 1.
-pub(crate) fn own(number: u64) -> ObjRef {
+fn own(number: u64) -> ObjRef {
     ObjRef { device: 1, number }
 }
 
@@ -30,17 +29,12 @@ fn uncaptured(rule: u16) -> Option<Fault> {
 }
 
 /// The answer of an event that makes an object.
-pub(crate) fn made(number: u64, valid: bool) -> Answer {
+fn made(number: u64, valid: bool) -> Answer {
     Answer::Made { number, valid }
 }
 
 /// Whether an event is answered so; no promise settles.
-pub(crate) fn ask(
-    core: &mut LoggedCore,
-    event: Event,
-    answer: Answer,
-    fault: Option<Fault>,
-) -> bool {
+fn ask(core: &mut LoggedCore, event: Event, answer: Answer, fault: Option<Fault>) -> bool {
     match core.act(0, event) {
         Ok((reply, _)) => {
             reply.answer == answer && reply.fault == fault && reply.settled.as_slice().is_empty()
@@ -50,7 +44,7 @@ pub(crate) fn ask(
 }
 
 /// The same of an event that took memory to make.
-pub(crate) fn ask_made(
+fn ask_made(
     core: &mut LoggedCore,
     event: Result<Event, NoMemory>,
     answer: Answer,
@@ -73,76 +67,14 @@ fn create(usage: u32) -> Event {
     }
 }
 
-/// A writeBuffer at the start of a buffer.
-fn write(buffer: ObjRef, size: u64) -> Event {
-    Event::WriteBuffer {
-        buffer,
-        offset: 0,
-        size,
-    }
-}
-
 /// A destroy.
 fn destroy(object: ObjRef) -> Event {
     Event::Destroy { object }
 }
 
 /// A finish of an encoder.
-pub(crate) fn finish(encoder: ObjRef, recording: Recording) -> Event {
+fn finish(encoder: ObjRef, recording: Recording) -> Event {
     Event::Finish { encoder, recording }
-}
-
-/// A complete.
-fn complete(op: u64) -> Event {
-    Event::Complete { op }
-}
-
-/// A buffer of another device.
-const FOREIGN: ObjRef = ObjRef {
-    device: 2,
-    number: 0,
-};
-
-/// The calls on buffers, one after another.
-fn ask_calls(core: &mut LoggedCore) -> [bool; 11] {
-    [
-        ask(core, create(8), made(0, true), None),
-        ask(core, write(own(0), 16), Answer::Queued(1), None),
-        ask(core, write(own(0), 0), Answer::Queued(2), None),
-        ask(core, write(FOREIGN, 4), Answer::Plain, uncaptured(10)),
-        ask(core, destroy(FOREIGN), Answer::Plain, uncaptured(10)),
-        ask(core, destroy(own(1)), Answer::Plain, uncaptured(10)),
-        ask(core, destroy(own(0)), Answer::Plain, None),
-        ask(core, write(own(0), 4), Answer::Plain, uncaptured(203)),
-        ask(core, complete(3), Answer::BadCompletion, None),
-        ask(core, complete(2), Answer::Plain, None),
-        ask(core, complete(2), Answer::BadCompletion, None),
-    ]
-}
-
-/// Whether a trace is of one step, and then of the release of the buffer with number 0.
-fn is_step_and_release(trace: &[Item]) -> bool {
-    trace.len() == 2
-        && matches!(&trace[0], Item::Step(_))
-        && matches!(
-            &trace[1],
-            Item::Free {
-                object: 0,
-                sort: Sort::Buffer
-            }
-        )
-}
-
-/// Whether each is answered so, the length of the history, and whether the trace is as it should be.
-fn of_calls(alloc: Global) -> ([bool; 11], usize, bool) {
-    let mut core = LoggedCore::new(alloc, 1_000_000, 1, &default_limits());
-    let asked = ask_calls(&mut core);
-    (asked, core.lines().len(), is_step_and_release(core.trace()))
-}
-
-#[test]
-fn each_call_is_answered(rt: HostRuntime) {
-    assert!(rt; of_calls(rt.alloc()) == ([true; 11], 11, true));
 }
 
 /// A handle of a buffer of the device with serial 1, with these usages and 16 bytes.
@@ -187,7 +119,7 @@ fn forged(alloc: Global) -> Result<Event, NoMemory> {
 }
 
 /// A submit of the object with this number.
-pub(crate) fn submit(alloc: Global, number: u64) -> Result<Event, NoMemory> {
+fn submit(alloc: Global, number: u64) -> Result<Event, NoMemory> {
     let mut buffers = Items::new(alloc);
     buffers.push(own(number))?;
     Ok(Event::Submit { buffers })

@@ -4,6 +4,11 @@ ghost use Rattle.wg_model.specs.Rules.{first_unmet};
 ghost use Rattle.wg_model.specs.Textures.{within_limits, mips_fit, is_multisampling, has_storage, is_1d, is_2d, create_texture_rules};
 
 use wg_formats::is_color;
+use wg_rules::{
+    DEPTH_STENCIL_TEXTURE_IS_2D, FORMAT_ALLOWS_STORAGE_BINDING, MIP_LEVELS_FIT_TEXTURE,
+    RENDER_ATTACHMENT_IS_NOT_1D, TEXTURE_MAY_BE_MULTISAMPLED, TEXTURE_SAMPLES_ARE_ONE_OR_FOUR,
+    TEXTURE_SIZE_IS_NOT_ZERO, TEXTURE_SIZE_IS_WITHIN_LIMITS, TEXTURE_USAGE_IS_KNOWN,
+};
 use wg_types::formats::StorageAccesses;
 use wg_types::limits::Limits;
 use wg_types::textures::{TextureDim, TextureInfo};
@@ -113,31 +118,31 @@ pub fn check_create(info: &TextureInfo, limits: &Limits) -> Option<u16>
 {
     let size = info.size;
     if info.usage == 0 || info.usage > 31 {
-        return Some(110);
+        return Some(TEXTURE_USAGE_IS_KNOWN);
     }
     if size[0] == 0 || size[1] == 0 || size[2] == 0 {
-        return Some(111);
+        return Some(TEXTURE_SIZE_IS_NOT_ZERO);
     }
     if !within_limits(limits, info.dim, size) {
-        return Some(112);
+        return Some(TEXTURE_SIZE_IS_WITHIN_LIMITS);
     }
     if !mips_fit(info.dim, size, info.mips) {
-        return Some(113);
+        return Some(MIP_LEVELS_FIT_TEXTURE);
     }
     if info.samples != 1 && info.samples != 4 {
-        return Some(114);
+        return Some(TEXTURE_SAMPLES_ARE_ONE_OR_FOUR);
     }
     if info.samples == 4 && !is_multisampling(info) {
-        return Some(115);
+        return Some(TEXTURE_MAY_BE_MULTISAMPLED);
     }
     if !is_2d(info.dim) && !is_color(info.format) {
-        return Some(116);
+        return Some(DEPTH_STENCIL_TEXTURE_IS_2D);
     }
     if info.usage & 16 != 0 && is_1d(info.dim) {
-        return Some(117);
+        return Some(RENDER_ATTACHMENT_IS_NOT_1D);
     }
     if info.usage & 8 != 0 && !has_storage(info.format.row().storage) {
-        return Some(118);
+        return Some(FORMAT_ALLOWS_STORAGE_BINDING);
     }
     None
 }

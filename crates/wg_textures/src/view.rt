@@ -4,6 +4,11 @@ ghost use Rattle.wg_model.specs.Rules.{first_unmet};
 ghost use Rattle.wg_model.specs.Textures.{dim_fits, layers_fit, is_cube, is_2d_view, create_view_rules};
 
 use wg_formats::{has_named, layer_count};
+use wg_rules::{
+    CUBE_VIEW_TEXTURE_IS_SQUARE, FORMAT_HAS_VIEW_ASPECT, MULTISAMPLED_VIEW_IS_2D,
+    VIEW_DIMENSION_FITS_TEXTURE, VIEW_LAYERS_ARE_IN_TEXTURE, VIEW_LAYERS_FIT_DIMENSION,
+    VIEW_MIP_LEVELS_ARE_IN_TEXTURE,
+};
 use wg_types::textures::{TextureDim, TextureInfo, ViewDesc, ViewDim};
 
 /// Whether a range is not empty and ends within a count.
@@ -65,25 +70,25 @@ pub fn check_view(texture: &TextureInfo, view: &ViewDesc) -> Option<u16>
     ensures { result ≡ first_unmet (create_view_rules texture.now view.now) }
 {
     if !has_named(view.aspect, texture.format) {
-        return Some(120);
+        return Some(FORMAT_HAS_VIEW_ASPECT);
     }
     if !range_fits(view.base_mip, view.mips, texture.mips) {
-        return Some(121);
+        return Some(VIEW_MIP_LEVELS_ARE_IN_TEXTURE);
     }
     if !range_fits(view.base_layer, view.layers, layer_count(texture)) {
-        return Some(122);
+        return Some(VIEW_LAYERS_ARE_IN_TEXTURE);
     }
     if !dim_fits(view.dim, texture.dim) {
-        return Some(123);
+        return Some(VIEW_DIMENSION_FITS_TEXTURE);
     }
     if !layers_fit(view.dim, view.layers) {
-        return Some(124);
+        return Some(VIEW_LAYERS_FIT_DIMENSION);
     }
     if is_cube(view.dim) && texture.size[0] != texture.size[1] {
-        return Some(125);
+        return Some(CUBE_VIEW_TEXTURE_IS_SQUARE);
     }
     if texture.samples != 1 && !is_2d_view(view.dim) {
-        return Some(126);
+        return Some(MULTISAMPLED_VIEW_IS_2D);
     }
     None
 }

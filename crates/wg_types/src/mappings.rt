@@ -17,7 +17,7 @@ pub enum MapState {
 
 /// What a buffer was before it was unmapped: nothing but that, pending with this promise, mapped for
 /// reading, or mapped for writing in the bytes from the first number to below the second.
-#[derive(Clone, Copy, PartialEq, Eq, Debug)]
+#[derive(Clone, Copy, PartialEq, Eq)]
 pub enum Unmapped {
     Nothing,
     Aborted(u64),

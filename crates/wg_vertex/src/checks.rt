@@ -6,6 +6,7 @@ ghost use Rattle.wg_model.specs.Vertex.{stride_fits, attributes_fit, layout_rule
 
 use crate::attributes::attributes_fit;
 use crate::locations::{are_apart, are_below, are_few};
+use wg_rules::{VERTEX_ATTRIBUTES_FIT, VERTEX_BUFFERS_ARE_WITHIN_LIMITS};
 use wg_types::limits::Limits;
 use wg_types::render::RenderDesc;
 use wg_types::vertex::VertexBuffer;
@@ -38,22 +39,22 @@ pub fn check_layout(desc: &RenderDesc, limits: &Limits) -> Option<u16>
 {
     let buffers = desc.buffers.as_slice();
     if buffers.len() as u64 > u64::from(limits.max_vertex_buffers) {
-        return Some(161);
+        return Some(VERTEX_BUFFERS_ARE_WITHIN_LIMITS);
     }
     if !are_few(buffers, limits.max_vertex_attributes) {
-        return Some(161);
+        return Some(VERTEX_BUFFERS_ARE_WITHIN_LIMITS);
     }
     if !strides_fit(limits, buffers) {
-        return Some(161);
+        return Some(VERTEX_BUFFERS_ARE_WITHIN_LIMITS);
     }
     if !are_below(buffers, limits.max_vertex_attributes) {
-        return Some(162);
+        return Some(VERTEX_ATTRIBUTES_FIT);
     }
     if !are_apart(buffers) {
-        return Some(162);
+        return Some(VERTEX_ATTRIBUTES_FIT);
     }
     if !all_fit(limits, buffers) {
-        return Some(162);
+        return Some(VERTEX_ATTRIBUTES_FIT);
     }
     None
 }

@@ -1,4 +1,5 @@
 use Rattle.wg_subres.proofs.Covered.{views_cover, copies_cover, view_cells_lie, copied_cells_lie}
+use Rattle.wg_subres.proofs.Accessed.{view_cells_are, copied_cells_are}
 use Rattle.wg_subres.proofs.Meeting.{copies_meet_where}
 use Rattle.wg_subres.proofs.ViewsMeeting.{views_meet_where}
 use Rattle.wg_subres.proofs.Attaching.{attached_meet_where}
@@ -15,6 +16,12 @@ returns-clause-view_cells c = view_cells_lie
 
 pub returns-clause-cells : goal.returns-clause-cells
 returns-clause-cells c = copied_cells_lie
+
+pub returns-clause-all_of_view : goal.returns-clause-all_of_view
+returns-clause-all_of_view c = view_cells_are
+
+pub returns-clause-all_of_copy : goal.returns-clause-all_of_copy
+returns-clause-all_of_copy c = copied_cells_are
 
 pub returns-clause-meet : goal.returns-clause-meet
 returns-clause-meet c = copies_meet_where

@@ -1,7 +1,7 @@
 use Rattle.std.proofs.Common.{◌≡◌, ◌∙◌, ap, sym, subst, map, arith, List}
 use Rattle.wg_check.specs.declared.ends.Event.{Event}
 use Rattle.wg_check.specs.Keys.{key_events}
-use Rattle.wg_check.specs.Segments.{KeyEvent, Rises, story_at, ranked, EndsIn}
+use Rattle.wg_check.specs.Segments.{Rises, story_at, ranked, EndsIn}
 use Rattle.wg_check.proofs.Placing.{rises}
 use Rattle.wg_check.proofs.Judging.{verdict_from}
 use Rattle.wg_check.proofs.clashes.least_clash.Goals as goal

@@ -1,6 +1,7 @@
 use Rattle.std.proofs.Common.{◌≡◌, reverse, Some, None, rules, arith}
 use Rattle.wg_state.specs.Rows.{dropped_by}
 use Rattle.wg_state.proofs.Recorded.{dropped_none, dropped_one, dropped_some}
+use Rattle.wg_state.proofs.Handed.{handed_dropped}
 use Rattle.wg_state.proofs.recordings.forget_dropped.Goals as goal
 
 pub returns-in_default-clause-kept : goal.returns-in_default-clause-kept
@@ -26,3 +27,8 @@ returns-clause-room c =
     let one = dropped_some c.args.setup (reverse c.args.book.now.entries) c.args.event.now c.in-Some.number some in
     let room = c.forget.ensures.room in
     omega (arith, one, room)
+
+pub returns-clause-handed : goal.returns-clause-handed
+returns-clause-handed c =
+    let some : dropped_by c.args.setup (reverse c.args.book.now.entries) c.args.event.now ≡ Some c.in-Some.number = search rules in
+    handed_dropped c.args.setup (reverse c.args.book.now.entries) c.args.event.now c.in-Some.number c.args.recordings.now.kept _ _ some c.forget.ensures.handed

@@ -1,7 +1,7 @@
 use Rattle.std.proofs.Common.{ap, ◌∙◌, nat_eq, map}
 use Rattle.indexmap.specs.IndexSet.{insert_all}
 use Rattle.wg_types.specs.declared.handles.ObjRef.{ObjRef}
-use Rattle.wg_types.specs.contracts.steps.UsedPartialEq.TheImpl.{eq-value}
+use Rattle.wg_trace.specs.contracts.steps.UsedPartialEq.TheImpl.{eq-value}
 use Rattle.wg_encoder.proofs.OnceLemmas.{named_more}
 use Rattle.wg_encoder.proofs.naming.Naming.add.Goals as goal
 
