@@ -10,9 +10,9 @@ use Rattle.wg_readtrace.specs.Reading.{trace_in}
 use Rattle.wg_history.specs.declared.events.Setup.{Setup}
 use Rattle.wg_history.specs.Entries.{Entry}
 use Rattle.wg_history.specs.Traces.{Trace}
-use Rattle.wg_judged.proofs.Agreeing.{verdict_is_none}
+use Rattle.wg_accepted.proofs.Agreeing.{verdict_is_none}
 use Rattle.wg_shaped.specs.Reports.{report_of}
-use Rattle.wg_ranged.proofs.Texts.{reads_back_by_length}
+use Rattle.wg_small.proofs.Texts.{reads_back_by_length}
 use Rattle.wg_play.specs.Play.{setup_of}
 use Rattle.wg_accepted.specs.Accepted.{ReportsAreAccepted}
 use Rattle.wg_accepted.proofs.Granted.{limits_are_granted}

@@ -1,7 +1,8 @@
-//! The reports of scripts are accepted where traces are checked. The laws are the contracts of a function that does
-//! nothing.
+//! The verdict on the traces that a device makes, and on the reports of scripts, which are accepted where traces are
+//! checked. The laws are the contracts of functions that do nothing.
 #![tactic(auto)]
 
+ghost use Rattle.wg_accepted.specs.Agreeing.{NoneDiffers, SeenAsPrinted, VerdictIsNone};
 ghost use Rattle.wg_accepted.specs.Accepted.{LimitsAreGranted, ReportsAreAccepted};
 
 /// The report of a script that was read and of a history of its device whose replies are the right ones is read as the
@@ -11,4 +12,13 @@ ghost use Rattle.wg_accepted.specs.Accepted.{LimitsAreGranted, ReportsAreAccepte
 pub fn reports_are_accepted()
     ensures limits { LimitsAreGranted }
     ensures accepted { ReportsAreAccepted }
+{}
+
+/// The barriers of a device's trace are enough: in every order of the accesses to a cell that keeps
+/// them each reader, and who looks after the last step, sees the write that it sees as printed; so no
+/// writer differs, and what the verdict on the trace is can only be None.
+pub fn traces_agree()
+    ensures seen { SeenAsPrinted }
+    ensures differs { NoneDiffers }
+    ensures verdict { VerdictIsNone }
 {}

@@ -17,11 +17,10 @@ ghost use Rattle.wg_cbtrack.specs.Leaves.{
 ghost use Rattle.wg_cbtrack.specs.Next.{AreCells};
 
 use crate::about::about_cells;
-use crate::cuts::{gaps, inside, overwrite};
 use std::alloc::Global;
 use wg_entry::NoMemory;
 use wg_rows::cell_runs::{cell_hi, cell_lo, reads, unsets, writes};
-use wg_rows::rows::{are_apart, put_all};
+use wg_rows::rows::{are_apart, gaps, inside, overwrite, put_all};
 use wg_trace::parts::{AccessKind, Cells};
 
 /// The cells that a clear inside sets, those that are wanted from before all steps, and what is left of

@@ -6,7 +6,6 @@ ghost use Rattle.wg_cbtrack.specs.Stands.{FreesKeep};
 
 mod about;
 mod cells;
-mod cuts;
 mod draft;
 mod join;
 mod kept;

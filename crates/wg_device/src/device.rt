@@ -150,9 +150,32 @@ impl Device {
         Ok((handle, reply))
     }
 
-    /// A call that makes an object, which is handed over and dropped here, so that no caller drops one at its ways out.
+    /// A call that makes an object.
     #[tactic(auto, using(crate::proofs::Calling::asked_gives))]
     pub(crate) fn make(
+        &self,
+        rt: &impl Wait,
+        pass: &mut DevicePass,
+        request: &RequestOf<Handle>,
+    ) -> Result<(Handle, Reply), NoMemory>
+        requires pass { CanCall self.now.lock pass.old }
+        requires makes { is_some (kind_made request.now) ≡ true }
+        ensures called { HasCalled self.now.lock pass.old pass.new }
+        ensures done { IfOk result (λ t. IsAct self.now.lock pass.old pass.new (event_asked request.now) t.1) }
+        ensures handle { IfOk result (λ t. IsHandleOf self.now.lock request.now t.1 t.0) }
+        ensures genuine { IfOk result (λ t. AreGenuineIn self.now.lock pass.new (named request.now)
+            → IsGenuineIn self.now.lock pass.new t.0) }
+        ensures refused { IfErr result (λ _. HasNotMade self.now.lock pass.old pass.new) }
+    {
+        let (made, reply) = self.ask(rt, pass, request)?;
+        match made {
+            Some(handle) => Ok((handle, reply)),
+            None => unreachable!(),
+        }
+    }
+
+    /// A call that makes an object, which is handed over and dropped here, so that no caller drops one at its ways out.
+    pub(crate) fn make_of(
         &self,
         rt: &impl Wait,
         pass: &mut DevicePass,
@@ -167,13 +190,7 @@ impl Device {
             → IsGenuineIn self.now.lock pass.new t.0) }
         ensures refused { IfErr result (λ _. HasNotMade self.now.lock pass.old pass.new) }
     {
-        match self.ask(rt, pass, &request) {
-            Ok((made, reply)) => match made {
-                Some(handle) => Ok((handle, reply)),
-                None => unreachable!(),
-            },
-            Err(error) => Err(error),
-        }
+        self.make(rt, pass, &request)
     }
 
     /// Ends the encoder of a recorder, by a finish, or by a finishBundle where the recorder is that of a bundle

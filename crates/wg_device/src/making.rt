@@ -51,7 +51,7 @@ impl Device {
         ensures genuine { IfOk result (λ t. IsGenuineIn self.now.lock pass.new t.0) }
         ensures refused { IfErr result (λ _. HasNotMade self.now.lock pass.old pass.new) }
     {
-        self.make(rt, pass, RequestOf::CreateBuffer { info })
+        self.make_of(rt, pass, RequestOf::CreateBuffer { info })
     }
 
     /// Makes a texture (WebGPU, "createTexture").
@@ -69,7 +69,7 @@ impl Device {
         ensures genuine { IfOk result (λ t. IsGenuineIn self.now.lock pass.new t.0) }
         ensures refused { IfErr result (λ _. HasNotMade self.now.lock pass.old pass.new) }
     {
-        self.make(rt, pass, RequestOf::CreateTexture { info })
+        self.make_of(rt, pass, RequestOf::CreateTexture { info })
     }
 
     /// Makes a view of a texture (WebGPU, "createView"), of which no part is left out.
@@ -96,7 +96,7 @@ impl Device {
             layers: Some(desc.layers),
         };
         let texture = texture.share()?;
-        self.make(rt, pass, RequestOf::CreateView { texture, asked })
+        self.make_of(rt, pass, RequestOf::CreateView { texture, asked })
     }
 
     /// Makes a sampler (WebGPU, "createSampler").
@@ -114,7 +114,7 @@ impl Device {
         ensures genuine { IfOk result (λ t. IsGenuineIn self.now.lock pass.new t.0) }
         ensures refused { IfErr result (λ _. HasNotMade self.now.lock pass.old pass.new) }
     {
-        self.make(rt, pass, RequestOf::CreateSampler { kind })
+        self.make_of(rt, pass, RequestOf::CreateSampler { kind })
     }
 
     /// Makes a bind group layout (WebGPU, "createBindGroupLayout").
@@ -133,7 +133,7 @@ impl Device {
         ensures refused { IfErr result (λ _. HasNotMade self.now.lock pass.old pass.new) }
     {
         let entries = Shared::new(self.alloc, Items::from_vec(entries))?;
-        self.make(rt, pass, RequestOf::CreateBindGroupLayout { entries })
+        self.make_of(rt, pass, RequestOf::CreateBindGroupLayout { entries })
     }
 
     /// Makes a pipeline layout (WebGPU, "createPipelineLayout").
@@ -152,7 +152,7 @@ impl Device {
         ensures refused { IfErr result (λ _. HasNotMade self.now.lock pass.old pass.new) }
     {
         let layouts = Items::from_vec(layouts);
-        self.make(rt, pass, RequestOf::CreatePipelineLayout { layouts })
+        self.make_of(rt, pass, RequestOf::CreatePipelineLayout { layouts })
     }
 
     /// Makes a bind group (WebGPU, "createBindGroup").
@@ -174,7 +174,7 @@ impl Device {
     {
         let layout = layout.share()?;
         let entries = Items::from_vec(entries);
-        self.make(rt, pass, RequestOf::CreateBindGroup { layout, entries })
+        self.make_of(rt, pass, RequestOf::CreateBindGroup { layout, entries })
     }
 
     /// Makes a compute pipeline (WebGPU, "createComputePipeline"), whose shader uses these bindings. With no
@@ -201,7 +201,7 @@ impl Device {
             entries: Items::from_vec(iface),
         };
         let iface = Shared::new(self.alloc, iface)?;
-        self.make(rt, pass, RequestOf::CreateComputePipeline { layout, iface })
+        self.make_of(rt, pass, RequestOf::CreateComputePipeline { layout, iface })
     }
 
     /// Makes a render pipeline (WebGPU, "createRenderPipeline"). With no layout it derives one from what its
@@ -224,7 +224,7 @@ impl Device {
     {
         let layout = shared(layout)?;
         let desc = Shared::new(self.alloc, desc)?;
-        self.make(rt, pass, RequestOf::CreateRenderPipeline { layout, desc })
+        self.make_of(rt, pass, RequestOf::CreateRenderPipeline { layout, desc })
     }
 
     /// Makes the bind group layout of a group of a pipeline of either kind (WebGPU, "getBindGroupLayout"). It
@@ -245,7 +245,7 @@ impl Device {
         ensures refused { IfErr result (λ _. HasNotMade self.now.lock pass.old pass.new) }
     {
         let pipeline = pipeline.share()?;
-        self.make(rt, pass, RequestOf::GetBindGroupLayout { pipeline, index })
+        self.make_of(rt, pass, RequestOf::GetBindGroupLayout { pipeline, index })
     }
 
     /// Makes a query set of so many occlusion queries (WebGPU, "QuerySet Creation"). More than the limit are
@@ -265,7 +265,7 @@ impl Device {
         ensures refused { IfErr result (λ _. HasNotMade self.now.lock pass.old pass.new) }
     {
         let info = QueriesInfo { count };
-        self.make(rt, pass, RequestOf::CreateQuerySet { info })
+        self.make_of(rt, pass, RequestOf::CreateQuerySet { info })
     }
 
     /// Makes an encoder (WebGPU, "createCommandEncoder"), with a recorder that is open for it.
@@ -283,7 +283,7 @@ impl Device {
         ensures genuine { IfOk result (λ t. IsGenuineIn self.now.lock pass.new t.1) }
         ensures refused { IfErr result (λ _. HasNotMade self.now.lock pass.old pass.new) }
     {
-        let (handle, reply) = self.make(rt, pass, RequestOf::CreateEncoder)?;
+        let (handle, reply) = self.make_of(rt, pass, RequestOf::CreateEncoder)?;
         let recorder = recorder_for(self.alloc, handle.reference());
         Ok((recorder, handle, reply))
     }
@@ -307,7 +307,7 @@ impl Device {
     {
         let targets = Shared::new(self.alloc, targets)?;
         let kept = targets.share()?;
-        let (handle, reply) = self.make(rt, pass, RequestOf::CreateBundleEncoder { targets })?;
+        let (handle, reply) = self.make_of(rt, pass, RequestOf::CreateBundleEncoder { targets })?;
         let recorder = bundle_recorder_for(self.alloc, handle.reference(), kept);
         Ok((recorder, handle, reply))
     }

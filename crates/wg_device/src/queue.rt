@@ -31,6 +31,22 @@ impl Device {
         &self,
         rt: &impl Wait,
         pass: &mut DevicePass,
+        request: &RequestOf<Handle>,
+    ) -> Result<Reply, NoMemory>
+        requires { CanCall self.now.lock pass.old }
+        ensures called { HasCalled self.now.lock pass.old pass.new }
+        ensures done { IfOk result (λ reply. IsAct self.now.lock pass.old pass.new (event_asked request.now) reply) }
+        ensures refused { IfErr result (λ _. HasNotMade self.now.lock pass.old pass.new) }
+    {
+        let (_, reply) = self.ask(rt, pass, request)?;
+        Ok(reply)
+    }
+
+    /// The same of a call that is handed over, and dropped here, so that no caller drops one at its ways out.
+    fn tell_of(
+        &self,
+        rt: &impl Wait,
+        pass: &mut DevicePass,
         request: RequestOf<Handle>,
     ) -> Result<Reply, NoMemory>
         requires { CanCall self.now.lock pass.old }
@@ -38,10 +54,7 @@ impl Device {
         ensures done { IfOk result (λ reply. IsAct self.now.lock pass.old pass.new (event_asked request) reply) }
         ensures refused { IfErr result (λ _. HasNotMade self.now.lock pass.old pass.new) }
     {
-        match self.ask(rt, pass, &request) {
-            Ok((_, reply)) => Ok(reply),
-            Err(error) => Err(error),
-        }
+        self.tell(rt, pass, &request)
     }
 
     /// Submits command buffers (WebGPU, "submit").
@@ -57,7 +70,7 @@ impl Device {
         ensures refused { IfErr result (λ _. HasNotMade self.now.lock pass.old pass.new) }
     {
         let buffers = shared_all(self.alloc, buffers)?;
-        self.tell(rt, pass, RequestOf::Submit { buffers })
+        self.tell_of(rt, pass, RequestOf::Submit { buffers })
     }
 
     /// Writes to a buffer (WebGPU, "writeBuffer"). Offset and size are in bytes.
@@ -80,7 +93,7 @@ impl Device {
             offset,
             size,
         };
-        self.tell(rt, pass, request)
+        self.tell_of(rt, pass, request)
     }
 
     /// Writes to a texture (WebGPU, "writeTexture"). The size is in texels, that of the data in bytes.
@@ -108,7 +121,7 @@ impl Device {
             size,
             data_size,
         };
-        self.tell(rt, pass, request)
+        self.tell_of(rt, pass, request)
     }
 
     /// Asks to map a range of a buffer (WebGPU, "mapAsync"), in bytes. The mode is its bits (WebGPU, "GPUMapMode").
@@ -133,7 +146,7 @@ impl Device {
             offset,
             size: Some(size),
         };
-        self.tell(rt, pass, request)
+        self.tell_of(rt, pass, request)
     }
 
     /// Unmaps a buffer (WebGPU, "unmap").
@@ -149,7 +162,7 @@ impl Device {
         ensures refused { IfErr result (λ _. HasNotMade self.now.lock pass.old pass.new) }
     {
         let buffer = buffer.share()?;
-        self.tell(rt, pass, RequestOf::Unmap { buffer })
+        self.tell_of(rt, pass, RequestOf::Unmap { buffer })
     }
 
     /// Asks to be told once all operations that were issued are complete (WebGPU, "onSubmittedWorkDone").
@@ -159,7 +172,7 @@ impl Device {
         ensures done { IfOk result (λ reply. IsAct self.now.lock pass.old pass.new Event.WorkDone reply) }
         ensures refused { IfErr result (λ _. HasNotMade self.now.lock pass.old pass.new) }
     {
-        self.tell(rt, pass, RequestOf::WorkDone)
+        self.tell_of(rt, pass, RequestOf::WorkDone)
     }
 
     /// Destroys a resource (WebGPU, "destroy" of a buffer, a texture or a query set).
@@ -175,7 +188,7 @@ impl Device {
         ensures refused { IfErr result (λ _. HasNotMade self.now.lock pass.old pass.new) }
     {
         let object = object.share()?;
-        self.tell(rt, pass, RequestOf::Destroy { object })
+        self.tell_of(rt, pass, RequestOf::Destroy { object })
     }
 
     /// Says that the caller lets go of an object, which it will not name again.
@@ -191,7 +204,7 @@ impl Device {
         ensures refused { IfErr result (λ _. HasNotMade self.now.lock pass.old pass.new) }
     {
         let object = object.share()?;
-        self.tell(rt, pass, RequestOf::Drop { object })
+        self.tell_of(rt, pass, RequestOf::Drop { object })
     }
 
     /// Opens an error scope (WebGPU, "pushErrorScope").
@@ -206,7 +219,7 @@ impl Device {
         ensures done { IfOk result (λ reply. IsAct self.now.lock pass.old pass.new (Event.PushErrorScope filter) reply) }
         ensures refused { IfErr result (λ _. HasNotMade self.now.lock pass.old pass.new) }
     {
-        self.tell(rt, pass, RequestOf::PushErrorScope { filter })
+        self.tell_of(rt, pass, RequestOf::PushErrorScope { filter })
     }
 
     /// Closes the innermost error scope (WebGPU, "popErrorScope").
@@ -216,7 +229,7 @@ impl Device {
         ensures done { IfOk result (λ reply. IsAct self.now.lock pass.old pass.new Event.PopErrorScope reply) }
         ensures refused { IfErr result (λ _. HasNotMade self.now.lock pass.old pass.new) }
     {
-        self.tell(rt, pass, RequestOf::PopErrorScope)
+        self.tell_of(rt, pass, RequestOf::PopErrorScope)
     }
 
     /// Says that all operations up to a number are complete.
@@ -231,7 +244,7 @@ impl Device {
         ensures done { IfOk result (λ reply. IsAct self.now.lock pass.old pass.new (Event.Complete op) reply) }
         ensures refused { IfErr result (λ _. HasNotMade self.now.lock pass.old pass.new) }
     {
-        self.tell(rt, pass, RequestOf::Complete { op })
+        self.tell_of(rt, pass, RequestOf::Complete { op })
     }
 
     /// Says that the device is lost (WebGPU, "lost" of a device).
@@ -241,6 +254,6 @@ impl Device {
         ensures done { IfOk result (λ reply. IsAct self.now.lock pass.old pass.new Event.Lose reply) }
         ensures refused { IfErr result (λ _. HasNotMade self.now.lock pass.old pass.new) }
     {
-        self.tell(rt, pass, RequestOf::Lose)
+        self.tell_of(rt, pass, RequestOf::Lose)
     }
 }

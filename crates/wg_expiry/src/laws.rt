@@ -1,4 +1,6 @@
-//! The laws of what is destroyed, as the contract of a function that does nothing.
+//! The laws of what is destroyed and of lost devices, and of events that have a fault, as the contracts of functions
+//! that do nothing.
+ghost use Rattle.wg_expiry.specs.Lost.{FaultyReleases, LostReplies, LostWritesBack};
 ghost use Rattle.wg_expiry.specs.Expiry.{DestroyExpires, StaysExpired, SubmitIsPlain, SubmitIsRefused, WriteIsPlain, WriteIsRefused, FreedOnceOver};
 
 /// A destroy of a resource of the device that was not dropped destroys it, and it stays so. Then each submit
@@ -13,4 +15,17 @@ pub fn destroyed_objects()
     ensures write { WriteIsPlain }
     ensures write_rule { WriteIsRefused }
     ensures freed { FreedOnceOver }
+{}
+
+/// On a lost device an event that makes an object makes an invalid one, no reply has a fault or an
+/// operation, and the trace of a run grows by the host write of an unmap that meets its rules, with its
+/// barriers, and by releases alone.
+pub fn lost_devices()
+    ensures replies { LostReplies }
+    ensures trace { LostWritesBack }
+{}
+
+/// An event whose reply has a fault adds releases alone to the trace: no barrier and no step.
+pub fn faulty_events()
+    ensures { FaultyReleases }
 {}

@@ -134,18 +134,22 @@ place_fits place = moved_range_fits place.moved place.resource
 abbrev pub most_groups : ℕ
 most_groups = 4
 
+-- of what each dynamic offset is a multiple
+abbrev pub offset_alignment : ℕ
+offset_alignment = 256
+
 -- the rules of a group that is set with some offsets: 326 there is one for each dynamic entry; 327 each is a multiple of
--- 256; 328 each range, moved, fits its buffer
+-- `offset_alignment`; 328 each range, moved, fits its buffer
 abbrev pub offset_rules : Option GroupInfo → List ℕ → List Rule
 offset_rules None offsets = []
 offset_rules (Some group) offsets =
     (OFFSET_COUNT_FITS_LAYOUT, length offsets == dynamics group.layout_info.entries)
-    ∷ ((DYNAMIC_OFFSETS_ARE_ALIGNED, list_all (λ offset. offset % 256 == 0) offsets)
+    ∷ ((DYNAMIC_OFFSETS_ARE_ALIGNED, list_all (λ offset. offset % offset_alignment == 0) offsets)
     ∷ ((DYNAMIC_RANGES_FIT_BUFFERS, list_all place_fits (places_in group offsets))
     ∷ []))
 
 -- setBindGroup (WebGPU, "setBindGroup"): 325 the index is one that a device has; 326 there are as many offsets as dynamic
--- bindings; 327 each is a multiple of 256; 328 each bound range, moved by its offset, fits its buffer.
+-- bindings; 327 each is a multiple of `offset_alignment`; 328 each bound range, moved by its offset, fits its buffer.
 unfoldable pub set_rules : ℕ → Option GroupInfo → List ℕ → List Rule
 set_rules index group offsets = (GROUP_INDEX_IS_WITHIN_LIMIT, nat_lt index most_groups) ∷ offset_rules group offsets
 

@@ -4,6 +4,7 @@
 #![tactic(auto)]
 
 pub mod accesses;
+mod cell_cuts;
 pub mod cell_runs;
 pub mod part_runs;
 pub mod rows;

@@ -10,3 +10,11 @@ pub mod Limited
 pub mod Mapped
 pub mod Copied
 pub mod Stepped
+pub mod Known
+pub mod Bound
+pub mod Meeting
+pub mod Copies
+pub mod Passes
+pub mod Bundled
+pub mod RangedHistory
+pub mod Texts

@@ -4,9 +4,13 @@ use Rattle.wg_types.specs.declared.handles.Info.{Info}
 use Rattle.wg_types.specs.declared.handles.Info.TheVariants.{Buffer, Texture, Queries}
 use Rattle.wg_types.specs.declared.limits.Limits.{Limits}
 use Rattle.wg_types.specs.declared.mappings.Mapping.{Mapping}
+use Rattle.wg_model.specs.Attachments.{most_colors}
+use Rattle.wg_model.specs.Bound.{most_groups, offset_alignment}
+use Rattle.wg_model.specs.Compute.{most_workgroups}
+use Rattle.wg_model.specs.Render.{most_slots}
 use Rattle.wg_model.specs.Textures.{within_limits, mips_fit}
 use Rattle.wg_trace.specs.declared.steps.StepPlace.TheVariants.{Op}
-use Rattle.wg_limits.specs.Limits.{AreNoBetter}
+use Rattle.wg_limits.specs.Limits.{default_limits, AreNoBetter, HaveFixed}
 use Rattle.wg_rows.specs.Rows.{EachRow}
 use Rattle.wg_model.specs.Touches.{placed}
 use Rattle.wg_history.specs.declared.events.Setup.{Setup}
@@ -72,3 +76,17 @@ ReadsBackByRecordings =
     → EachRow RecordsSmallRanges history
     → step_count (Trace setup history) ≤ most_53 + 1
     → trace_in (report_of setup history) ≡ Ok (Trace setup history)
+
+-- The numbers by which the commands of a recorder go, which knows no device, are limits of a device.
+pub record GoByLimits (limits : Limits) : Type 0 where
+  pub groups : limits.max_bind_groups ≡ most_groups
+  pub slots : limits.max_vertex_buffers ≡ most_slots
+  pub colors : limits.max_color_attachments ≡ most_colors
+  pub workgroups : limits.max_compute_workgroups_per_dimension ≡ most_workgroups
+  pub uniform_offsets : limits.min_uniform_buffer_offset_alignment ≡ offset_alignment
+  pub storage_offsets : limits.min_storage_buffer_offset_alignment ≡ offset_alignment
+
+-- They are those of a device that is opened without asking for any, and of each that has the same of what none has otherwise.
+pub record RecordersGoByLimits : Type 0 where
+  pub by_default : GoByLimits default_limits
+  pub fixed : (limits : Limits) → HaveFixed limits → GoByLimits limits

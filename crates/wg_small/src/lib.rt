@@ -1,7 +1,9 @@
-//! How large the numbers in the traces of histories are. The laws are the contracts of functions that do nothing.
+//! How large the numbers in the traces of histories are, and those of what command buffers do, so that the report of a
+//! run is read back. The laws are the contracts of functions that do nothing.
 #![tactic(auto)]
 
-ghost use Rattle.wg_small.specs.Limits.{MappingsAreWithinLimits, ObjectsAreWithinLimits, RangesOfRecordings, ReadsBackByRecordings};
+ghost use Rattle.wg_small.specs.Ranged.{ReadsBackByCounts, ReadsBackByLength, RecordingsAreSmall, StepsAreSmall};
+ghost use Rattle.wg_small.specs.Limits.{MappingsAreWithinLimits, ObjectsAreWithinLimits, RangesOfRecordings, ReadsBackByRecordings, RecordersGoByLimits};
 ghost use Rattle.wg_small.specs.Small.{NumbersAreWithin, RangesOfSteps, ReadsBackByRanges};
 
 /// The operations, entries and objects in the trace of a history whose replies are the right ones are numbered within its
@@ -25,4 +27,21 @@ pub fn objects_are_within_limits()
 pub fn ranges_are_small()
     ensures steps { RangesOfRecordings }
     ensures read { ReadsBackByRecordings }
+{}
+
+/// The numbers by which the commands of recorders go, which know no device, are the limits of every device that has those which
+/// no script changes as they are by default.
+pub fn recorders_go_by_limits()
+    ensures { RecordersGoByLimits }
+{}
+
+/// In a history whose replies are the right ones what valid command buffers do lies in small ranges, and so do all
+/// steps: within buffers, textures and query sets, which are within the limits of the device. So its report is read as
+/// its trace, if there are numbers for its entries and its steps, as there are where the report has no more bytes than
+/// the greatest number that the reader takes.
+pub fn recordings_are_small()
+    ensures recordings { RecordingsAreSmall }
+    ensures steps { StepsAreSmall }
+    ensures counts { ReadsBackByCounts }
+    ensures length { ReadsBackByLength }
 {}

@@ -1,5 +1,4 @@
 //! Last uses, noted step by step, with the barriers before each.
-use bitflags::Flags;
 use std::alloc::Global;
 use wg_bars::LastUse;
 use wg_types::NoMemory;
@@ -92,28 +91,32 @@ fn of_three(alloc: Global, state: &mut LastUse) -> [Result<bool, NoMemory>; 3] {
     ]
 }
 
-/// The rows of what is used and of what is not, and those of a copy.
-fn of_rows(state: &LastUse) -> Result<[bool; 4], NoMemory> {
-    let rows = [(layers(0, 3), SAMPLED)];
+/// Whether a copy has these rows of the texture.
+fn copy_has(state: &LastUse, rows: &[(PartRun, Usages)]) -> Result<bool, NoMemory> {
     let other = state.copy()?;
-    Ok([
-        is_row(state, TEXTURE, &rows),
-        is_row(&other, TEXTURE, &rows),
-        is_row(state, TEXTURE + 1, &[]),
-        is_row(state, 0, &[]),
-    ])
+    Ok(is_row(&other, TEXTURE, rows))
 }
 
-/// Both of one state, which is dropped here.
-fn of_state(alloc: Global) -> ([Result<bool, NoMemory>; 3], Result<[bool; 4], NoMemory>) {
+type Told = (
+    [Result<bool, NoMemory>; 3],
+    [bool; 3],
+    Result<bool, NoMemory>,
+);
+
+/// The barriers of three steps, and the rows after them of what is used and of what is not, and those of a copy.
+fn of_state(alloc: Global) -> Told {
     let mut state = LastUse::new(alloc);
     let barred = of_three(alloc, &mut state);
-    (barred, of_rows(&state))
+    let rows = [(layers(0, 3), SAMPLED)];
+    let noted = [
+        is_row(&state, TEXTURE, &rows),
+        is_row(&state, TEXTURE + 1, &[]),
+        is_row(&state, 0, &[]),
+    ];
+    (barred, noted, copy_has(&state, &rows))
 }
 
 #[test]
 fn barriers_go_from_the_last_set(rt: HostRuntime) {
-    let (barred, rows) = of_state(rt.alloc());
-    assert!(rt; barred == [Ok(true); 3]);
-    assert!(rt; rows == Ok([true; 4]));
+    assert!(rt; of_state(rt.alloc()) == ([Ok(true); 3], [true; 3], Ok(true)));
 }

@@ -11,7 +11,7 @@ use wg_types::bindings::{BindingKind, GroupEntryOf, LayoutEntry, ResourceOf, Sam
 use wg_types::formats::Format;
 use wg_types::handles::{BufferInfo, Handle, Info, ObjRef, QueriesInfo};
 use wg_types::items::Items;
-use wg_types::render::{DepthState, RenderDesc};
+use wg_types::render::{DepthState, RenderDesc, TargetInfo};
 use wg_types::replies::{Answer, Filter, How, Reply, Settlement};
 use wg_types::textures::{
     AspectWord, DataLayout, TextureDim, TextureInfo, TextureSpot, ViewDesc, ViewDim,
@@ -236,12 +236,29 @@ fn of_queries<R: Wait>(
     Some((queries.reference(), queries.valid(), count))
 }
 
-/// Opens a scope and closes it at entry 22, with no fault in it, and then loses the device.
+/// Makes object 13, a bundle encoder that draws to a depth attachment alone, and gives whether it is valid and its
+/// recorder is open for it.
+fn of_bundle<R: Wait>(rt: &R, alloc: Global, device: &Device, pass: &mut DevicePass) -> Option<bool>
+    requires { IsPassOf device.now.lock pass.old × (calls_of pass.old < 100) }
+    ensures { IsPassOf device.now.lock pass.new × (calls_of pass.new ≤ calls_of pass.old + 1) }
+{
+    let targets = TargetInfo {
+        colors: Items::new(alloc),
+        depth: Some(Format::Depth16Unorm),
+        samples: 1,
+        depth_read_only: false,
+        stencil_read_only: false,
+    };
+    let (recorder, encoder, _) = device.create_bundle_encoder(rt, pass, targets).ok()?;
+    Some(encoder.valid() && recorder.encoder() == Some(encoder.reference()))
+}
+
+/// Opens a scope and closes it at entry 23, with no fault in it, and then loses the device.
 fn of_scope<R: Wait>(rt: &R, device: &Device, pass: &mut DevicePass) -> [bool; 3]
     requires { IsPassOf device.now.lock pass.old × (calls_of pass.old < 100) }
 {
     let null = Settlement {
-        promise: 22,
+        promise: 23,
         how: How::Null,
     };
     let pushed = device.push_error_scope(rt, pass, Filter::Validation);
@@ -258,9 +275,10 @@ type Pair = Option<(bool, bool)>;
 
 type Queued = (Option<Answer>, Option<([bool; 5], bool)>);
 
-type Last = (Option<(ObjRef, bool, Option<u32>)>, [bool; 3]);
+type Last = (Option<(ObjRef, bool, Option<u32>)>, Option<bool>, [bool; 3]);
 
-/// What makes objects, then what is queued and settled, and last a query set and a scope, on one new device.
+/// What makes objects, then what is queued and settled, and last a query set, a bundle encoder and a scope, on one
+/// new device.
 fn answers<R: Wait>(rt: &R, alloc: Global) -> Option<((Pair, Pair), Queued, Last)> {
     let Ok((device, mut passes)) = Device::open(alloc, 1024, 7, &default_limits(), 1) else {
         return None;
@@ -271,8 +289,13 @@ fn answers<R: Wait>(rt: &R, alloc: Global) -> Option<((Pair, Pair), Queued, Last
     let submitted = submission(rt, &device, &mut pass);
     let buffer = of_buffer(rt, &device, &mut pass);
     let queries = of_queries(rt, &device, &mut pass);
+    let bundle = of_bundle(rt, alloc, &device, &mut pass);
     let scope = of_scope(rt, &device, &mut pass);
-    Some(((texture, pipelines), (submitted, buffer), (queries, scope)))
+    Some((
+        (texture, pipelines),
+        (submitted, buffer),
+        (queries, bundle, scope),
+    ))
 }
 
 #[test]
@@ -283,17 +306,6 @@ fn calls_are_answered(rt: HostRuntime) {
         device: 7,
         number: 12,
     };
-    let last = (Some((queries, true, Some(3))), [true; 3]);
+    let last = (Some((queries, true, Some(3))), Some(true), [true; 3]);
     assert!(rt; answers(&rt, rt.alloc()) == Some(((both, both), queued, last)));
-}
-
-/// How many passes a device of the greatest count of callers has, and the numbers of the first and the last.
-fn of_many(alloc: Global) -> Option<(usize, u32, u32)> {
-    let (_device, passes) = Device::open(alloc, 1024, 7, &default_limits(), 65536).ok()?;
-    Some((passes.len(), passes[0].number(), passes[65535].number()))
-}
-
-#[test]
-fn a_device_has_65536_callers(rt: HostRuntime) {
-    assert!(rt; of_many(rt.alloc()) == Some((65536, 0, 65535)));
 }

@@ -17,39 +17,41 @@ fn bytes(object: u64, lo: u64, hi: u64) -> Cells {
 
 /// A list of these.
 fn items<T: Copy + Drop>(alloc: Global, rows: &[T]) -> Result<Items<T>, NoMemory> {
-    let mut held = Items::new(alloc);
-    for row in rows {
-        held.push(*row)?;
-    }
-    Ok(held)
+    Ok(Items::from_vec(Vec::from_slice(alloc, rows)?))
 }
 
-fn deed(
+/// Notes a step that does this.
+fn note(
+    track: &mut CbTrack,
     alloc: Global,
     name: StepName,
     uses: &[(PartRun, Usages)],
     accesses: &[(Cells, AccessKind)],
-) -> Result<Deed, NoMemory> {
-    Ok(Deed {
+) -> Result<(), NoMemory> {
+    let uses = items(alloc, uses)?;
+    let accesses = items(alloc, accesses)?;
+    let deed = Deed {
         name,
-        uses: items(alloc, uses)?,
-        accesses: items(alloc, accesses)?,
-    })
+        uses,
+        accesses,
+    };
+    track.note(&deed)
 }
 
-/// A dispatch that stores in buffer 0, and then a copy of what it stored to buffer 1.
-fn noted(alloc: Global) -> Result<CbTrack, NoMemory> {
-    let mut track = CbTrack::new(alloc);
+/// Notes a dispatch that stores in buffer 0, and then a copy of what it stored to buffer 1.
+fn note_both(track: &mut CbTrack, alloc: Global) -> [Result<(), NoMemory>; 2] {
     let stored = [(buffer(0), Usages::STORAGE)];
     let both = [(bytes(0, 0, 16), AccessKind::Both)];
-    track.note(&deed(alloc, StepName::Dispatch, &stored, &both)?)?;
     let copied = [(buffer(0), Usages::COPY_SRC), (buffer(1), Usages::COPY_DST)];
     let cells = [
         (bytes(0, 0, 16), AccessKind::Read),
         (bytes(1, 0, 16), AccessKind::Write),
     ];
-    track.note(&deed(alloc, StepName::CopyBufferToBuffer, &copied, &cells)?)?;
-    Ok(track)
+    let copy = StepName::CopyBufferToBuffer;
+    [
+        note(track, alloc, StepName::Dispatch, &stored, &both),
+        note(track, alloc, copy, &copied, &cells),
+    ]
 }
 
 /// Whether its first and last uses are told, and what it needs from before it.
@@ -64,14 +66,26 @@ fn is_told(track: &CbTrack) -> [bool; 3] {
     ]
 }
 
-/// What is told of the two steps, and whether both were kept.
-fn told(alloc: Global) -> Result<([bool; 3], bool), NoMemory> {
-    let track = noted(alloc)?;
-    let kept = track.noted()?;
-    Ok((is_told(&track), kept.as_slice().len() == 2))
+/// How many steps are kept.
+fn kept(track: &CbTrack) -> Result<usize, NoMemory> {
+    let deeds = track.noted()?;
+    Ok(deeds.as_slice().len())
+}
+
+type Told = (
+    [Result<(), NoMemory>; 2],
+    [bool; 3],
+    Result<usize, NoMemory>,
+);
+
+/// Whether both were noted, what is told of them, and how many are kept, of what is dropped here.
+fn of_track(alloc: Global) -> Told {
+    let mut track = CbTrack::new(alloc);
+    let noted = note_both(&mut track, alloc);
+    (noted, is_told(&track), kept(&track))
 }
 
 #[test]
 fn a_command_buffer_needs_what_it_reads_first(rt: HostRuntime) {
-    assert!(rt; told(rt.alloc()) == Ok(([true; 3], true)));
+    assert!(rt; of_track(rt.alloc()) == ([Ok(()); 2], [true; 3], Ok(2)));
 }

@@ -57,6 +57,28 @@ fn record_copy(recorder: &mut Recorder, source: &Handle, target: &Handle) -> Res
     Ok(())
 }
 
+/// What the end of an encoder answered.
+fn told_of(ended: Result<(Handle, Reply), NoMemory>) -> Told {
+    let (_, reply) = ended.ok()?;
+    told(Ok(reply))
+}
+
+/// The finish of the encoder of a recorder, which is dropped here, after a copy from one buffer to the other.
+fn ended<R: Wait>(
+    rt: &R,
+    device: &Device,
+    pass: &mut DevicePass,
+    mut recorder: Recorder,
+    (source, target): (&Handle, &Handle),
+) -> Told
+    requires pass { IsPassOf device.now.lock pass.old × (calls_of pass.old < 100) }
+    requires opened { is_some recorder.encoder ≡ true }
+    ensures { IsPassOf device.now.lock pass.new × (calls_of pass.new ≤ calls_of pass.old + 1) }
+{
+    let _ = record_copy(&mut recorder, source, target);
+    told_of(device.finish(rt, pass, &mut recorder))
+}
+
 /// The finish of an encoder on which a copy from one buffer to the other was recorded.
 fn copied<R: Wait>(
     rt: &R,
@@ -65,13 +87,11 @@ fn copied<R: Wait>(
     source: &Handle,
     target: &Handle,
 ) -> Told
-    requires { IsPassOf device.now.lock pass.old × (calls_of pass.old < 100) }
+    requires { IsPassOf device.now.lock pass.old × (calls_of pass.old < 90) }
     ensures { IsPassOf device.now.lock pass.new × (calls_of pass.new ≤ calls_of pass.old + 2) }
 {
-    let (mut recorder, _, _) = device.create_encoder(rt, pass).ok()?;
-    record_copy(&mut recorder, source, target).ok()?;
-    let (_, reply) = device.finish(rt, pass, &mut recorder).ok()?;
-    told(Ok(reply))
+    let (recorder, _, _) = device.create_encoder(rt, pass).ok()?;
+    ended(rt, device, pass, recorder, (source, target))
 }
 
 /// What a device, which has a buffer of its own with the same number, answers to a write and a destroy of a

@@ -159,9 +159,10 @@ fn references_that_no_script_has(rt: HostRuntime) {
     assert!(rt; of_references(rt.alloc()) == ([true; 7], [true; 2]));
 }
 
-/// On the device with serial 2, destroys of objects of another device, and of one that was never made.
-fn of_another_device(alloc: Global) -> [bool; 3] {
-    let unknown = ObjRef {
+/// On the device with serial 2, destroys of an object of another device, of one that was never made, and of an
+/// encoder.
+fn of_another_device(alloc: Global) -> [bool; 5] {
+    let second = ObjRef {
         device: 2,
         number: 1,
     };
@@ -169,11 +170,13 @@ fn of_another_device(alloc: Global) -> [bool; 3] {
     [
         ask(&mut core, create(8), made(0, true), None),
         ask(&mut core, destroy(own(0)), Answer::Plain, uncaptured(10)),
-        ask(&mut core, destroy(unknown), Answer::Plain, uncaptured(10)),
+        ask(&mut core, destroy(second), Answer::Plain, uncaptured(10)),
+        ask(&mut core, Event::CreateEncoder, made(1, true), None),
+        ask(&mut core, destroy(second), Answer::Plain, uncaptured(10)),
     ]
 }
 
 #[test]
-fn references_of_another_device(rt: HostRuntime) {
-    assert!(rt; of_another_device(rt.alloc()) == [true; 3]);
+fn references_of_another_device_and_kind(rt: HostRuntime) {
+    assert!(rt; of_another_device(rt.alloc()) == [true; 5]);
 }

@@ -51,43 +51,37 @@ fn has(state: &CellState, row: CellRow, runs: &[(u64, u64)]) -> bool {
     state.set_runs(row) == runs
 }
 
-/// A state in which the first 4 bytes were written.
-fn begun(alloc: Global) -> Result<CellState, NoMemory> {
-    let mut state = CellState::new(alloc);
-    note(&mut state, alloc, (0, 4), AccessKind::Write)?;
-    Ok(state)
+/// Whether a copy of a state lacks these too.
+fn copy_lacks(state: &CellState, alloc: Global, cells: &[Cells]) -> Result<bool, NoMemory> {
+    let other = state.copy()?;
+    lacks(&other, alloc, cells)
 }
 
-/// What a read finds before and after what follows was written, and whether that was noted.
-fn of_state(alloc: Global) -> Result<([Result<bool, NoMemory>; 4], [bool; 3]), NoMemory> {
-    let mut state = begun(alloc)?;
+type Told = (
+    [Result<(), NoMemory>; 3],
+    [Result<bool, NoMemory>; 3],
+    [bool; 3],
+);
+
+/// Whether three accesses are noted; what a read finds after the first of them, by a copy too, and after all; and
+/// what was then written.
+fn of_state(alloc: Global) -> Told {
+    let mut state = CellState::new(alloc);
+    let first = note(&mut state, alloc, (0, 4), AccessKind::Write);
     let before = lacks(&state, alloc, &[bytes(4, 8)]);
-    let noted = note(&mut state, alloc, (8, 12), AccessKind::Write).is_ok();
-    let both = note(&mut state, alloc, (4, 8), AccessKind::Both).is_ok();
-    let found = [before, Ok(noted), Ok(both), lacks(&state, alloc, &[])];
+    let copied = copy_lacks(&state, alloc, &[bytes(4, 8)]);
+    let second = note(&mut state, alloc, (8, 12), AccessKind::Write);
+    let third = note(&mut state, alloc, (4, 8), AccessKind::Both);
+    let after = lacks(&state, alloc, &[]);
     let rows = [
         has(&state, CellRow::Buffer(BUFFER), &[(0, 12)]),
         has(&state, CellRow::Buffer(BUFFER + 1), &[]),
         has(&state, CellRow::Queries(BUFFER), &[]),
     ];
-    Ok((found, rows))
+    ([first, second, third], [before, copied, after], rows)
 }
 
 #[test]
 fn a_read_finds_what_was_not_written(rt: HostRuntime) {
-    assert!(rt; of_state(rt.alloc()) == Ok(([Ok(true); 4], [true; 3])));
-}
-
-/// What a copy has that was made before its source was written on.
-fn of_copy(alloc: Global) -> Result<(bool, Result<bool, NoMemory>, bool), NoMemory> {
-    let mut state = begun(alloc)?;
-    let other = state.copy()?;
-    let noted = note(&mut state, alloc, (4, 12), AccessKind::Write).is_ok();
-    let row = has(&other, CellRow::Buffer(BUFFER), &[(0, 4)]);
-    Ok((noted, lacks(&other, alloc, &[bytes(4, 8)]), row))
-}
-
-#[test]
-fn a_copy_keeps_what_was_written(rt: HostRuntime) {
-    assert!(rt; of_copy(rt.alloc()) == Ok((true, Ok(true), true)));
+    assert!(rt; of_state(rt.alloc()) == ([Ok(()); 3], [Ok(true); 3], [true; 3]));
 }

@@ -5,6 +5,6 @@ use Rattle.wg_device.proofs.device.Device.create_bind_group.Goals as goal
 
 pub returns-clause-genuine : goal.returns-clause-genuine
 returns-clause-genuine g c =
-    after_group c.make.result (setup_of c.args.self.now.lock) (front_in c.args.self.now.lock c.make.new.pass)
+    after_group c.make_of.result (setup_of c.args.self.now.lock) (front_in c.args.self.now.lock c.make_of.new.pass)
     c.in_ok-layout.layout c.args.layout.now wanted.GroupLayout c.from_vec-entries.result c.args.entries.items c.in_ok-layout.ensures.same c.from_vec-entries.ensures
-    c.make.ensures.genuine
+    c.make_of.ensures.genuine

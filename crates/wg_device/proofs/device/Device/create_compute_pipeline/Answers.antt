@@ -6,6 +6,6 @@ use Rattle.wg_device.proofs.device.Device.create_compute_pipeline.Goals as goal
 
 pub returns-clause-genuine : goal.returns-clause-genuine
 returns-clause-genuine g c =
-    after_maybe c.make.result (setup_of c.args.self.now.lock) (front_in c.args.self.now.lock c.make.new.pass)
+    after_maybe c.make_of.result (setup_of c.args.self.now.lock) (front_in c.args.self.now.lock c.make_of.new.pass)
     c.in_ok-layout.layout (option_copied c.args.layout) wanted.PipelineLayout c.in_ok-layout.ensures
-    c.make.ensures.genuine
+    c.make_of.ensures.genuine

@@ -5,6 +5,6 @@ use Rattle.wg_device.proofs.device.Device.create_pipeline_layout.Goals as goal
 
 pub returns-clause-genuine : goal.returns-clause-genuine
 returns-clause-genuine g c =
-    after_all c.make.result (setup_of c.args.self.now.lock) (front_in c.args.self.now.lock c.make.new.pass)
+    after_all c.make_of.result (setup_of c.args.self.now.lock) (front_in c.args.self.now.lock c.make_of.new.pass)
     c.from_vec-layouts.result c.args.layouts.items wanted.GroupLayout c.from_vec-layouts.ensures
-    c.make.ensures.genuine
+    c.make_of.ensures.genuine

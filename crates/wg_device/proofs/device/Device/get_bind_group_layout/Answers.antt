@@ -5,6 +5,6 @@ use Rattle.wg_device.proofs.device.Device.get_bind_group_layout.Goals as goal
 
 pub returns-clause-genuine : goal.returns-clause-genuine
 returns-clause-genuine g c =
-    after_one c.make.result (setup_of c.args.self.now.lock) (front_in c.args.self.now.lock c.make.new.pass)
+    after_one c.make_of.result (setup_of c.args.self.now.lock) (front_in c.args.self.now.lock c.make_of.new.pass)
     c.in_ok-pipeline.pipeline c.args.pipeline.now wanted.Pipeline c.in_ok-pipeline.ensures.same
-    c.make.ensures.genuine
+    c.make_of.ensures.genuine

@@ -1,5 +1,0 @@
-use Rattle.wg_lost.proofs.laws.faulty_events.Goals as goal
-use Rattle.wg_lost.proofs.Losing.{faulty_releases}
-
-pub returns : goal.returns
-returns _ setup history entry same faulty = faulty_releases setup history entry same faulty
