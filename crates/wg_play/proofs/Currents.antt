@@ -139,10 +139,10 @@ pub plain_contains : (serial : ℕ) (sight : Sight) (calls : List PlayedCall) (s
 plain_contains serial sight [] seen_then c there = absurd (omega (arith, there.1))
 plain_contains serial sight (call ∷ calls) seen_then c there =
     elim (Contains-append_cases ((sight, call) ∷ []) (with_sights serial (after_call serial sight (with_answer call)) calls) (seen_then, c) there) [
-  | inl here ↦ let same : call ≡ c = ap (λ (x : Sight × PlayedCall). x.1) (single (sight, call) (seen_then, c) here) in
-      subst (λ (x : PlayedCall). Contains {X = PlayedCall} (call ∷ calls) x) same (0, omega arith, refl)
-  | inr later ↦ Contains-append_right (call ∷ []) calls c (plain_contains serial (after_call serial sight (with_answer call)) calls seen_then c later)
-]
+      | inl here ↦ let same : call ≡ c = ap (λ (x : Sight × PlayedCall). x.1) (single (sight, call) (seen_then, c) here) in
+          subst (λ (x : PlayedCall). Contains {X = PlayedCall} (call ∷ calls) x) same (0, omega arith, refl)
+      | inr later ↦ Contains-append_right (call ∷ []) calls c (plain_contains serial (after_call serial sight (with_answer call)) calls seen_then c later)
+    ]
 
 module _ (setup : Setup) where
   one_shown : (sight : Sight) (before : List (Sight × PlayedCall)) (call : PlayedCall) → ShownFrom sight.first sight.own before → RunsAs setup sight call.0 call.1
@@ -150,18 +150,18 @@ module _ (setup : Setup) where
       → ShownFrom sight.first (after_call setup.serial sight (with_answer call)).own (before ++ (sight, call) ∷ [])
   one_shown sight before call was runs here = λ seen_then canvas name there.
       elim (Contains-push_cases before (sight, call) (seen_then, (Canvas (On canvas Current) (Some name), None)) there) [
-    | inl old ↦ call_keeps setup.serial sight call.0 (with_answer call).1 (name - sight.first) (current_seen seen_then canvas) (was seen_then canvas name old)
-    | inr same ↦ let saw : sight ≡ seen_then = ap (λ (x : Sight × PlayedCall). x.0) same in
-        let is : call ≡ (Canvas (On canvas Current) (Some name), None) = ap (λ (x : Sight × PlayedCall). x.1) same in
-        let runs_so : RunsAs setup sight (Canvas (On canvas Current) (Some name)) None = subst (λ (c : PlayedCall). RunsAs setup sight c.0 c.1) is runs in
-        let made : made_of call.0 ≡ Some (name, kinds.CanvasTexture) = ap (λ (c : PlayedCall). made_of c.0) is in
-        let next : name ≡ sight.first + length sight.own = here (name, kinds.CanvasTexture) made in
-        let place : length sight.own ≡ name - sight.first = omega (arith, next) in
-        subst (λ n. slice_get (after_call setup.serial sight (with_answer call)).own n ≡ Some (object.Shown (current_seen seen_then canvas))) place
-        (subst (λ (s : Sight). slice_get (after_call setup.serial sight (with_answer call)).own (length sight.own) ≡ Some (object.Shown (current_seen s canvas))) saw
-        (subst (λ (c : PlayedCall). slice_get (after_call setup.serial sight (with_answer c)).own (length sight.own) ≡ Some (object.Shown (current_seen sight canvas))) (sym is)
-        (current_new setup.serial sight canvas name (drawn_as setup sight (On canvas Current) (Some name) None runs_so))))
-  ]
+        | inl old ↦ call_keeps setup.serial sight call.0 (with_answer call).1 (name - sight.first) (current_seen seen_then canvas) (was seen_then canvas name old)
+        | inr same ↦ let saw : sight ≡ seen_then = ap (λ (x : Sight × PlayedCall). x.0) same in
+            let is : call ≡ (Canvas (On canvas Current) (Some name), None) = ap (λ (x : Sight × PlayedCall). x.1) same in
+            let runs_so : RunsAs setup sight (Canvas (On canvas Current) (Some name)) None = subst (λ (c : PlayedCall). RunsAs setup sight c.0 c.1) is runs in
+            let made : made_of call.0 ≡ Some (name, kinds.CanvasTexture) = ap (λ (c : PlayedCall). made_of c.0) is in
+            let next : name ≡ sight.first + length sight.own = here (name, kinds.CanvasTexture) made in
+            let place : length sight.own ≡ name - sight.first = omega (arith, next) in
+            subst (λ n. slice_get (after_call setup.serial sight (with_answer call)).own n ≡ Some (object.Shown (current_seen seen_then canvas))) place
+            (subst (λ (s : Sight). slice_get (after_call setup.serial sight (with_answer call)).own (length sight.own) ≡ Some (object.Shown (current_seen s canvas))) saw
+            (subst (λ (c : PlayedCall). slice_get (after_call setup.serial sight (with_answer c)).own (length sight.own) ≡ Some (object.Shown (current_seen sight canvas))) (sym is)
+            (current_new setup.serial sight canvas name (drawn_as setup sight (On canvas Current) (Some name) None runs_so))))
+      ]
 
   pub lane_shown : (calls : List PlayedCall) (before : List (Sight × PlayedCall)) (sight : Sight) → ShownFrom sight.first sight.own before → Runs setup sight calls
       → AreFrom (sight.first + length sight.own) (slots_of (made_in (calls_in calls)))
@@ -200,9 +200,9 @@ module _ (setup : Setup) where
       → ShownAll (objects ++ own) (seen ++ with_sights setup.serial sight calls)
   lane_joined objects own seen sight calls was made from = λ seen_then canvas name there.
       elim (Contains-append_cases seen (with_sights setup.serial sight calls) (seen_then, (Canvas (On canvas Current) (Some name), None)) there) [
-    | inl old ↦ at_append objects own name (object.Shown (current_seen seen_then canvas)) (was seen_then canvas name old)
-    | inr new ↦ at_behind objects own name (own_named sight calls (length objects) seen_then canvas name from new) ∙ made seen_then canvas name new
-  ]
+        | inl old ↦ at_append objects own name (object.Shown (current_seen seen_then canvas)) (was seen_then canvas name old)
+        | inr new ↦ at_behind objects own name (own_named sight calls (length objects) seen_then canvas name from new) ∙ made seen_then canvas name new
+      ]
 
   pub lanes_shown : (others : List Object) (lanes : List (List PlayedCall)) (objects : List Object) (seen : List (Sight × PlayedCall)) → ShownAll objects seen
       → AllRun setup others (length objects) lanes
