@@ -1,10 +1,9 @@
-"""What hangs on the graph of crates.txt: the longest chain of crates that stand on one another, and what the sums of libraries take by a
-kit that makes them anew along each way through it."""
+"""What the sums of libraries take by a kit that makes them anew along each way through crates.txt, and the longest chain in words."""
 
 import functools
 import hashlib
 import time
-from typing import Callable, Dict, List, Tuple
+from typing import Callable, Dict, List
 
 from wgsim import TOP
 from wgsim.program import crates
@@ -12,18 +11,6 @@ from wgsim.program import crates
 PARTS = ("src", "specs", "proofs")
 # How often such a kit sums up a library in a gate: before it is proved, and once more after.
 SUMS = 2
-
-
-def longest(seconds: Callable[[str], float], below: Dict[str, List[str]]) -> Tuple[float, List[str]]:
-    """The seconds of the dearest chain of crates that stand on one another, and its crates, the lowest first."""
-
-    @functools.lru_cache(maxsize=None)
-    def chain(crate: str) -> Tuple[float, Tuple[str, ...]]:
-        took, names = max((chain(each) for each in below[crate]), default=(0.0, ()))
-        return took + seconds(crate), (*names, crate)
-
-    took, names = max((chain(crate) for crate in below), default=(0.0, ()))
-    return took, list(names)
 
 
 def ways(below: Dict[str, List[str]]) -> Dict[str, int]:
@@ -74,7 +61,7 @@ def as_13b(seconds: Callable[[str], float], whole: float) -> str:
     below = crates.listed()
     sums, counted = sums_of(below, {crate: reading_of(crate) for crate in below}), ways(below)
     of_libraries = {crate: SUMS * took for crate, took in sums.items() if not is_program(crate)}
-    took, names = longest(lambda crate: seconds(crate) + of_libraries.get(crate, 0), below)
+    took, names = crates.longest(lambda crate: seconds(crate) + of_libraries.get(crate, 0), below)
     dearest = sorted(of_libraries, key=lambda crate: -of_libraries[crate])[:8]
     lines = ["| Crate | Ways | Sums, in seconds |", "|---|--:|--:|"]
     lines += [f"| `{crate}` | {counted[crate]:,} | {of_libraries[crate]:,.1f} |" for crate in dearest]

@@ -347,7 +347,7 @@ def seconds_of(costs):
 
 def chain(costs):
     """The longest chain of crates, which no number of processors makes shorter, in a sentence."""
-    found = chains.told(*chains.longest(seconds_of(costs), crates.listed()))
+    found = chains.told(*crates.longest(seconds_of(costs), crates.listed()))
     return f"The longest chain of crates that stand on one another takes {found}."
 
 

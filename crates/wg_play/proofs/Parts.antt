@@ -22,8 +22,6 @@ part_of n front part old new es before now grown =
     after_same old (made_by n part) es
     (ap (λ o. o ++ made_by n part) (sym before) ∙ (sym (filter-append (λ e. e.who == n) front part) ∙ (now ∙ grown)))
 
-module _ {W : Type 0} (next : W → Option Event) (after : W → Reply → W) where
-
 module _ (setup : Setup) where
   -- one phase more
   pub plays_more : (phases : List (List (List BoundCall))) (phase : List (List BoundCall)) (objects mid : List Object) (log part : List Entry) → PlaysTo setup phases objects log mid

@@ -28,13 +28,13 @@ use Rattle.wg_play.specs.declared.objects.Object.{Object}
 use Rattle.wg_play.specs.declared.objects.Object.TheVariants as object
 use Rattle.wg_play.specs.Objects.{unknown, handle_in, handle_at, is_late_on}
 use Rattle.wg_play.specs.Sights.{Sight, place_in, handle_in_sight}
-use Rattle.wg_play.specs.Lanes.{Lane, settle, stand_seen, starts, next_event}
+use Rattle.wg_play.specs.Lanes.{Lane, settle, stand_seen, starts, next_event, count_made}
 use Rattle.wg_play.specs.Turns.{made_by as entries_by, after_all}
 use Rattle.wg_play.specs.Play.{after_}
 use Rattle.wg_play.specs.Late.{Answered as AnsweredCall, IsAnswered, after_calls, slots_before, finishes, has_pass_ended}
-use Rattle.wg_play.specs.Found.{IsOf, Holds, object_in_sight, phase_of}
+use Rattle.wg_play.specs.Found.{IsShown, IsOf, Holds, object_in_sight, IsSeen, phase_of}
 use Rattle.wg_play.specs.Kept.{IsKept, AreKept, SeesGenuine, LanesSee}
-use Rattle.wg_play.specs.Played.{PlayedCall, PlayedPhase, calls_in, entries_in, lanes_in, with_answer, answered_lanes, objects_next, objects_after, sight_after, seen_calls, is_late_after, IsPlayedAs, IsOfCanvas, IsOfCall, StandsForMade, past_at, IsMoment, IsPlayedAt, PlayGoesThrough}
+use Rattle.wg_play.specs.Played.{PlayedCall, PlayedPhase, calls_in, entries_in, lanes_in, with_answer, answered_lanes, objects_next, objects_after, sight_after, seen_calls, with_sights, lanes_sights, phases_sights, seen_with, current_seen, ShowsCurrent, is_late_after, IsPlayedAs, IsOfCanvas, IsOfCall, StandsForMade, past_at, IsMoment, IsPlayedAt, PlayGoesThrough}
 use Rattle.wg_play.proofs.Turning.{onto}
 use Rattle.wg_play.proofs.Phases.{onto_back, onto_more}
 use Rattle.wg_play.proofs.Keeping.{settled_sees}
@@ -45,7 +45,8 @@ use Rattle.wg_play.proofs.Backward.{play_back}
 use Rattle.wg_play.proofs.Running.{HasVerb, RunsAs, Runs, lane_with, goes_to, runs_front, runs_at, lane_answered, recorded_as, asked_as, drawn_as, settled_back}
 use Rattle.wg_play.proofs.Following.{same_kind}
 use Rattle.wg_play.proofs.Encoders.{encoder_is}
-use Rattle.wg_play.proofs.Makers.{lane_same, lanes_same, calls_more, made_among, IsFromCanvas, IsFrom, IsMadeAt, MadeFrom, none_made, lane_made, start_at, AllRun, all_answered, MadeAll, lanes_joined}
+use Rattle.wg_play.proofs.Makers.{lane_same, lanes_same, calls_more, made_among, IsFromCanvas, IsFrom, IsMadeAt, maker_contains, MadeFrom, none_made, lane_made, start_at, AllRun, all_answered, MadeAll, lanes_joined}
+use Rattle.wg_play.proofs.Currents.{ShownFrom, ShownAll, plain_contains, lane_shown, none_shown, lanes_shown}
 use Rattle.wg_play.proofs.PlayedPhases.{lanes_length, after_part, PhaseRuns, PhasesRun, entries_of, script_runs, phase_at, all_interleaved, lane_run_at, lane_sees_at}
 
 -- what the calls of phases make, and all their calls
@@ -199,14 +200,16 @@ module _ (setup : Setup) (some : setup.serial ≢ 0) where
 
   -- ---- what stands before each phase
 
-  record StandsAll (objects : List Object) (phases : List PlayedPhase) : Type 0 where
+  record StandsAll (objects : List Object) (phases : List PlayedPhase) (seen : List (Sight × PlayedCall)) : Type 0 where
     held : Holds objects (slots_in phases)
     made : MadeAll setup objects (calls_of phases)
+    shown : ShownAll objects seen
 
-  stands_next : (done : List PlayedPhase) (phase : PlayedPhase) (later : List PlayedPhase) (objects : List Object)
+  stands_next : (done : List PlayedPhase) (phase : PlayedPhase) (later : List PlayedPhase) (objects : List Object) (seen : List (Sight × PlayedCall))
       → IsBound (map lanes_in (done ++ phase ∷ later)) → AllRun setup objects (length objects) phase.lanes
-      → StandsAll objects done → StandsAll (objects_next setup.serial objects phase.lanes) (done ++ phase ∷ [])
-  stands_next done phase later objects bound runs was =
+      → StandsAll objects done seen
+      → StandsAll (objects_next setup.serial objects phase.lanes) (done ++ phase ∷ []) (seen ++ lanes_sights setup.serial objects (length objects) phase.lanes)
+  stands_next done phase later objects seen bound runs was =
       let front : List (List (List BoundCall)) = map lanes_in done in
       let back : List (List (List BoundCall)) = map lanes_in later in
       let split : IsBound (front ++ lanes_in phase ∷ back) = subst IsBound (map-append lanes_in done (phase ∷ later)) bound in
@@ -234,24 +237,32 @@ module _ (setup : Setup) (some : setup.serial ≢ 0) where
             (ap (λ (ls : List (List BoundCall)). front ++ ls ∷ []) same ∙ sym one) held;
         made = subst (MadeAll setup (objects_next setup.serial objects phase.lanes)) (sym end)
             (lanes_joined setup objects phase.lanes objects (calls_of done) was.made runs numbers);
+        shown = lanes_shown setup objects phase.lanes objects seen was.shown runs numbers;
       }
 
-  stands_at : (earlier done later : List PlayedPhase) (objects : List Object) (past : Past) → IsBound (map lanes_in (done ++ (earlier ++ later)))
-      → PhasesRun setup some (earlier ++ later) objects past
-      → StandsAll objects done → StandsAll (objects_after setup.serial objects earlier) (done ++ earlier)
-  stands_at [] done later objects past bound run was = subst (StandsAll objects) (sym (append-nil done)) was
-  stands_at (phase ∷ earlier) done later objects past bound run was =
-      let next : StandsAll (objects_next setup.serial objects phase.lanes) (done ++ phase ∷ [])
-      = stands_next done phase (earlier ++ later) objects bound run.0.runs was in
-      let after : List Object = objects_after setup.serial (objects_next setup.serial objects phase.lanes) earlier in
-      subst (StandsAll after) (append_assoc done (phase ∷ []) earlier)
-      (stands_at earlier (done ++ phase ∷ []) later (objects_next setup.serial objects phase.lanes) (onto past phase.entries)
-      (subst (λ (ps : List PlayedPhase). IsBound (map lanes_in ps)) (sym (append_assoc done (phase ∷ []) (earlier ++ later))) bound) run.1 next)
+  stands_at : (earlier done later : List PlayedPhase) (objects : List Object) (seen : List (Sight × PlayedCall)) (past : Past)
+      → IsBound (map lanes_in (done ++ (earlier ++ later))) → PhasesRun setup some (earlier ++ later) objects past
+      → StandsAll objects done seen
+      → StandsAll (objects_after setup.serial objects earlier) (done ++ earlier) (seen ++ phases_sights setup.serial objects earlier)
+  stands_at [] done later objects seen past bound run was =
+      subst (λ (cs : List (Sight × PlayedCall)). StandsAll objects (done ++ []) cs) (sym (append-nil seen))
+      (subst (λ (ps : List PlayedPhase). StandsAll objects ps seen) (sym (append-nil done)) was)
+  stands_at (phase ∷ earlier) done later objects seen past bound run was =
+      let more : List (Sight × PlayedCall) = lanes_sights setup.serial objects (length objects) phase.lanes in
+      let mid : List Object = objects_next setup.serial objects phase.lanes in
+      let next : StandsAll mid (done ++ phase ∷ []) (seen ++ more)
+      = stands_next done phase (earlier ++ later) objects seen bound run.0.runs was in
+      let after : List Object = objects_after setup.serial mid earlier in
+      subst (λ (cs : List (Sight × PlayedCall)). StandsAll after (done ++ phase ∷ earlier) cs) (append_assoc seen more (phases_sights setup.serial mid earlier))
+      (subst (λ (ps : List PlayedPhase). StandsAll after ps ((seen ++ more) ++ phases_sights setup.serial mid earlier)) (append_assoc done (phase ∷ []) earlier)
+      (stands_at earlier (done ++ phase ∷ []) later mid (seen ++ more) (onto past phase.entries)
+      (subst (λ (ps : List PlayedPhase). IsBound (map lanes_in ps)) (sym (append_assoc done (phase ∷ []) (earlier ++ later))) bound) run.1 next))
 
-  none_stands : StandsAll [] []
+  none_stands : StandsAll [] [] []
   none_stands = record {
     held = record { count = refl; stands = λ slot k there. absurd (omega (arith, there.1)) };
     made = λ maker slot k there makes. absurd (omega (arith, there.1));
+    shown = λ before canvas name there. absurd (omega (arith, there.1));
   }
 
   -- ---- a call at its place
@@ -392,6 +403,104 @@ module _ (setup : Setup) (some : setup.serial ≢ 0) where
       (subst (λ (os : List Object). MadeAll setup os (calls_of earlier)) (sym others_is) made) own sees shows used is)
       (uses_of call.0) (subst (λ (ms : Slots). All (IsFound (ms ++ ours) ours) (uses_of call.0)) (sym same) found)
 
+  -- each name of a texture that was there stands for that which its canvas had
+
+  -- the texture that a name stands for
+  shown_known : (texture : Option HandleValue) → IsShown texture → texture ≡ Some (handle_in (object.Shown texture))
+  shown_known None is = absurd is
+  shown_known (Some texture) is = refl
+
+  shown_in_sight : (sight : Sight) (name : ℕ) (texture : Option HandleValue) → IsSeen sight name kinds.CanvasTexture
+      → object_in_sight sight name ≡ Some (object.Shown texture) → texture ≡ Some (handle_in_sight sight name)
+  shown_in_sight sight name texture found is =
+      let same : object.Shown texture ≡ found.what = cc (is, found.is) in
+      let of : IsOf kinds.CanvasTexture (object.Shown texture) = subst (IsOf kinds.CanvasTexture) (sym same) found.of in
+      shown_known texture of.1 ∙ ap (λ (h : HandleValue). Some h) (ap handle_in same ∙ sym found.handle)
+
+  other_object : (sight : Sight) (name : ℕ) → name < sight.first → object_in_sight sight name ≡ slice_get sight.others name
+  other_object sight name less =
+      let is : nat_lt name sight.first ≡ true = grind (arith, nat_tests, less) in
+      ap (λ (b : Bool). if b then slice_get sight.others name else slice_get sight.own (place_in sight name)) is
+
+  own_object : (sight : Sight) (name : ℕ) → sight.first ≤ name → object_in_sight sight name ≡ slice_get sight.own (place_in sight name)
+  own_object sight name from =
+      let is : nat_lt name sight.first ≡ false = grind (arith, nat_tests, from) in
+      ap (λ (b : Bool). if b then slice_get sight.others name else slice_get sight.own (place_in sight name)) is
+
+  lanes_plain : (others : List Object) (first : ℕ) (lanes : List (List PlayedCall)) (before : Sight) (call : PlayedCall)
+      → Contains {X = Sight × PlayedCall} (lanes_sights setup.serial others first lanes) (before, call)
+      → Contains {X = PlayedCall} (flat_map (λ (cs : List PlayedCall). cs) lanes) call
+  lanes_plain others first [] before call there = absurd (omega (arith, there.1))
+  lanes_plain others first (calls ∷ lanes) before call there =
+      let rest : List PlayedCall = flat_map (λ (cs : List PlayedCall). cs) lanes in
+      elim (Contains-append_cases (with_sights setup.serial (start_at setup others first) calls) (lanes_sights setup.serial others (first + count_made (calls_in calls)) lanes) (before, call) there) [
+        | inl here ↦ Contains-append_left calls rest call (plain_contains setup.serial (start_at setup others first) calls before call here)
+        | inr later ↦ Contains-append_right calls rest call (lanes_plain others (first + count_made (calls_in calls)) lanes before call later)
+      ]
+
+  phases_plain : (objects : List Object) (phases : List PlayedPhase) (before : Sight) (call : PlayedCall)
+      → Contains {X = Sight × PlayedCall} (phases_sights setup.serial objects phases) (before, call) → Contains {X = PlayedCall} (calls_of phases) call
+  phases_plain objects [] before call there = absurd (omega (arith, there.1))
+  phases_plain objects (phase ∷ phases) before call there =
+      let mid : List Object = objects_next setup.serial objects phase.lanes in
+      let here : List PlayedCall = flat_map (λ (cs : List PlayedCall). cs) phase.lanes in
+      elim (Contains-append_cases (lanes_sights setup.serial objects (length objects) phase.lanes) (phases_sights setup.serial mid phases) (before, call) there) [
+        | inl first ↦ Contains-append_left here (calls_of phases) call (lanes_plain objects (length objects) phase.lanes before call first)
+        | inr later ↦ Contains-append_right here (calls_of phases) call (phases_plain mid phases before call later)
+      ]
+
+  current_at : (earlier later : List PlayedPhase) (lanes_before lanes_after : List (List PlayedCall)) (before after : List PlayedCall) (call : PlayedCall)
+      → BoundAt earlier later lanes_before lanes_after (calls_in before ++ call.0 ∷ calls_in after)
+      → Holds (objects_after setup.serial [] earlier) (slots_in earlier) → ShownAll (objects_after setup.serial [] earlier) (phases_sights setup.serial [] earlier)
+      → Runs setup (start_at setup (objects_after setup.serial [] earlier) (slots_before (map lanes_in earlier) (map calls_in lanes_before))) before
+      → ShowsCurrent (sight_after setup.serial earlier lanes_before before) (seen_with setup.serial earlier lanes_before before)
+  current_at earlier later lanes_before lanes_after before after call bound holds shown runs =
+      let others : List Object = objects_after setup.serial [] earlier in
+      let first : ℕ = slots_before (map lanes_in earlier) (map calls_in lanes_before) in
+      let start : Sight = start_at setup others first in
+      let sight : Sight = sight_after setup.serial earlier lanes_before before in
+      let left : List BoundCall = call.0 ∷ calls_in after in
+      let calls : List BoundCall = calls_in before ++ left in
+      let ours : Slots = made_in (calls_in before) in
+      let made : Slots = made_in (calls_in (calls_of earlier)) in
+      let same : made ≡ slots_in earlier = phases_make earlier in
+      let parts : made_in calls ≡ ours ++ made_in left = flat_map-append made_by (calls_in before) left in
+      let numbers : AreFrom first (slots_of ours) = from_front first ours (made_in left)
+      (subst (λ (ms : Slots). AreFrom first (slots_of ms)) parts
+      (lane_from (map lanes_in earlier) (map lanes_in later) (map calls_in lanes_before) (map calls_in lanes_after) calls bound.count bound.numbered)) in
+      let from_others : AreFrom 0 (slots_of made)
+      = subst (λ (ms : Slots). AreFrom 0 (slots_of ms)) (sym same)
+      (earlier_from (map lanes_in earlier) ((map calls_in lanes_before ++ calls ∷ map calls_in lanes_after) ∷ map lanes_in later) bound.count bound.numbered) in
+      let first_is : sight.first ≡ first = first_after setup.serial (map with_answer before) start in
+      let count : length made ≡ length (slots_in earlier) = ap (λ (ms : Slots). length ms) same in
+      let short : length made ≤ sight.first = omega (arith, first_is, count) in
+      let others_is : sight.others ≡ others = others_after setup.serial (map with_answer before) start in
+      let zero_is : first ≡ first + 0 = omega arith in
+      let seen : SeesAll sight (slots_in earlier ++ ours)
+      = subst (λ (cs : List BoundCall). SeesAll sight (slots_in earlier ++ made_in cs)) (lane_same before)
+      (sees_before (map lanes_in earlier) (map lanes_in later) (map calls_in lanes_before) (map calls_in lanes_after) (map with_answer before) call.0 (calls_in after)
+      (subst (λ (cs : List BoundCall). BoundAt earlier later lanes_before lanes_after (cs ++ call.0 ∷ calls_in after)) (sym (lane_same before)) bound)
+      (lane_answered setup before start runs) setup.serial others holds).seen in
+      let own : ShownFrom sight.first sight.own (with_sights setup.serial start before)
+      = lane_shown setup before [] start (none_shown setup first) runs (subst (λ n. AreFrom n (slots_of ours)) zero_is numbers) in
+      λ then_seen canvas name there.
+      elim (Contains-append_cases (phases_sights setup.serial [] earlier) (with_sights setup.serial start before) (then_seen, (Canvas (On canvas Current) (Some name), None)) there) [
+        | inl other ↦ let slot : Contains made (name, kinds.CanvasTexture) = maker_contains (calls_of earlier) (Canvas (On canvas Current) (Some name), None) (name, kinds.CanvasTexture)
+            (phases_plain [] earlier then_seen (Canvas (On canvas Current) (Some name), None) other) refl in
+            let low = below 0 made name kinds.CanvasTexture from_others slot in
+            let less : name < sight.first = omega (arith, low, short) in
+            shown_in_sight sight name (current_seen then_seen canvas)
+            (seen name kinds.CanvasTexture (Contains-append_left (slots_in earlier) ours (name, kinds.CanvasTexture) (subst (λ (ms : Slots). Contains ms (name, kinds.CanvasTexture)) same slot)))
+            (other_object sight name less ∙ (ap (λ (os : List Object). slice_get os name) others_is ∙ shown then_seen canvas name other))
+        | inr mine ↦ let slot : Contains ours (name, kinds.CanvasTexture) = maker_contains before (Canvas (On canvas Current) (Some name), None) (name, kinds.CanvasTexture)
+            (plain_contains setup.serial start before then_seen (Canvas (On canvas Current) (Some name), None) mine) refl in
+            let least : first ≤ name = at_least first ours name kinds.CanvasTexture numbers slot in
+            let from : sight.first ≤ name = omega (arith, least, first_is) in
+            shown_in_sight sight name (current_seen then_seen canvas)
+            (seen name kinds.CanvasTexture (Contains-append_right (slots_in earlier) ours (name, kinds.CanvasTexture) slot))
+            (own_object sight name from ∙ own then_seen canvas name mine)
+      ]
+
   played_at : (earlier later : List PlayedPhase) (phase : PlayedPhase) (lanes_before lanes_after : List (List PlayedCall)) (before after : List PlayedCall)
       (call : PlayedCall)
       → phase.lanes ≡ lanes_before ++ (before ++ call ∷ after) ∷ lanes_after → IsBound (map lanes_in (earlier ++ phase ∷ later))
@@ -402,7 +511,7 @@ module _ (setup : Setup) (some : setup.serial ≢ 0) where
       let first : ℕ = slots_before (map lanes_in earlier) (map calls_in lanes_before) in
       let start : Sight = start_at setup others first in
       let sight : Sight = sight_after setup.serial earlier lanes_before before in
-      let stands : StandsAll others earlier = stands_at earlier [] (phase ∷ later) [] [] bound run none_stands in
+      let stands : StandsAll others earlier (phases_sights setup.serial [] earlier) = stands_at earlier [] (phase ∷ later) [] [] [] bound run none_stands in
       let here = phase_at setup some earlier phase later [] [] run in
       let first_is : length others + length (flat_map made_in (map calls_in lanes_before)) ≡ first
       = ap (λ n. n + length (flat_map made_in (map calls_in lanes_before))) stands.held.count in
@@ -429,6 +538,7 @@ module _ (setup : Setup) (some : setup.serial ≢ 0) where
               names = names_at earlier later lanes_before lanes_after before after call bound_here stands.held stands.made front_runs
                   (past_at earlier front) genuine;
             };
+        current = current_at earlier later lanes_before lanes_after before after call bound_here stands.held stands.shown front_runs;
       }
 
 pub play_goes_through : PlayGoesThrough

@@ -1,10 +1,11 @@
 -- What a script has given that was played: each of its calls, with the entry that it became where it is an event.
-use Rattle.std.specs.Prelude.{◌≡◌, ◌≢◌, ℕ, List, [], ◌∷◌, ◌++◌, length, map, reverse, get_or, Bool, true, ◌||◌, Option, Some, None, is_some, All, Contains}
+use Rattle.std.specs.Prelude.{◌≡◌, ◌≢◌, ℕ, ◌+◌, List, [], ◌∷◌, ◌++◌, length, map, reverse, get_or, Bool, true, ◌||◌, Option, Some, None, is_some, option_and_then, All, Contains}
 use Rattle.std.specs.Option.{option_map, option_map_or, option_to_list}
 use Rattle.std.specs.List.{flat_map, list_any}
 use Rattle.wg_types.specs.Handles.{HandleValue}
 use Rattle.wg_types.specs.Wanted.{admits}
 use Rattle.wg_trace.specs.declared.replies.Answer.TheVariants.{Made}
+use Rattle.wg_types.specs.declared.canvases.CanvasCall.TheVariants.{Current}
 use Rattle.wg_types.specs.declared.canvases.CanvasOf.{CanvasOf}
 use Rattle.wg_types.specs.declared.canvases.CanvasOf.TheVariants.{Create, On}
 use Rattle.wg_types.specs.declared.requests.RequestOf.{RequestOf}
@@ -15,17 +16,19 @@ use Rattle.wg_history.specs.declared.events.Setup.{Setup}
 use Rattle.wg_history.specs.Entries.{Entry, Past, verb_of}
 use Rattle.wg_history.specs.Rules.{is_genuine}
 use Rattle.wg_history.specs.Answers.{Run}
+use Rattle.wg_canvas.specs.Canvases.{texture_of}
 use Rattle.wg_calls.specs.Calls.{event_asked}
 use Rattle.wg_script.specs.CallOf.{BoundCall}
 use Rattle.wg_script.specs.declared.calls.CallOf.TheVariants.{Record, Ask, Canvas}
 use Rattle.wg_names.specs.Bound.{IsBound}
 use Rattle.wg_names.specs.Uses.{made_of, uses_of}
 use Rattle.wg_play.specs.declared.objects.Object.{Object}
+use Rattle.wg_play.specs.Canvases.{canvas_at}
 use Rattle.wg_play.specs.Objects.{reference_at}
-use Rattle.wg_play.specs.Sights.{Sight, handle_in_sight}
-use Rattle.wg_play.specs.Lanes.{stand_seen, canvas_asks, request_seen, event_sent, gathered}
+use Rattle.wg_play.specs.Sights.{Sight, place_in, handle_in_sight}
+use Rattle.wg_play.specs.Lanes.{stand_seen, canvas_asks, request_seen, event_sent, count_made, gathered}
 use Rattle.wg_play.specs.Turns.{made_by, callers_of}
-use Rattle.wg_play.specs.Late.{Answered, no_answer, after_calls, slots_before, finishes, encoder_of, has_pass_ended}
+use Rattle.wg_play.specs.Late.{Answered, no_answer, after_call, after_calls, slots_before, finishes, encoder_of, has_pass_ended}
 use Rattle.wg_play.specs.Found.{ended_from}
 use Rattle.wg_play.specs.Kept.{AreKept, SeesGenuine}
 use Rattle.wg_play.specs.Play.{Play, Interleaves}
@@ -124,7 +127,8 @@ pub record IsOfEntry (setup : Setup) (past : Past) (handle : HandleValue) (entry
   pub answer : entry.reply.answer ≡ Made handle.reference.number handle.valid
   pub genuine : is_genuine setup past handle ≡ true
 
--- what a currentTexture shows was made by its entry, where it became one, and is genuine where it was there; a canvas has no handle
+-- What a currentTexture shows was made by its entry, where it became one; where it was there it is genuine, and `ShowsCurrent` says
+-- which texture it is. A canvas has no handle.
 abbrev pub IsOfCanvas : Setup → Past → HandleValue → CanvasOf ℕ → Option Entry → Type 0
 IsOfCanvas setup past handle (Create width height) found = Unit {0}
 IsOfCanvas setup past handle (On canvas call) None = is_genuine setup past handle ≡ true
@@ -146,6 +150,36 @@ pub record StandsForMade (setup : Setup) (past : Past) (sight : Sight) (seen : L
   pub fits : admits used.1 kind ≡ true
   pub of : IsOfCall setup past (handle_in_sight sight used.0) maker.0 maker.1
 
+-- the calls of a lane, each with what the lane saw before it
+abbrev pub with_sights : ℕ → Sight → List PlayedCall → List (Sight × PlayedCall)
+with_sights serial sight [] = []
+with_sights serial sight (call ∷ calls) = (sight, call) ∷ with_sights serial (after_call serial sight (with_answer call)) calls
+
+-- those of the lanes of a phase, from the lane on whose first slot is this, each with what its lane saw before it
+abbrev pub lanes_sights : ℕ → List Object → ℕ → List (List PlayedCall) → List (Sight × PlayedCall)
+lanes_sights serial others first [] = []
+lanes_sights serial others first (calls ∷ lanes) =
+    with_sights serial (record { others = others; first = first; own = [] }) calls ++ lanes_sights serial others (first + count_made (calls_in calls)) lanes
+
+-- those of phases, which begin with these objects, each with what its lane saw before it
+abbrev pub phases_sights : ℕ → List Object → List PlayedPhase → List (Sight × PlayedCall)
+phases_sights serial objects [] = []
+phases_sights serial objects (phase ∷ phases) = lanes_sights serial objects (length objects) phase.lanes ++ phases_sights serial (objects_next serial objects phase.lanes) phases
+
+-- the calls whose objects a lane sees, as `seen_calls` has them, each with what its lane saw before it
+abbrev pub seen_with : ℕ → List PlayedPhase → List (List PlayedCall) → List PlayedCall → List (Sight × PlayedCall)
+seen_with serial earlier lanes before = phases_sights serial [] earlier
+    ++ with_sights serial (record { others = objects_after serial [] earlier; first = slots_before (map lanes_in earlier) (map calls_in lanes); own = [] }) before
+
+-- the current texture of a canvas of a lane, if it has one
+abbrev pub current_seen : Sight → ℕ → Option HandleValue
+current_seen sight canvas = option_and_then texture_of (canvas_at sight.own (place_in sight canvas))
+
+-- The name of a currentTexture that became no entry stands for the current texture that its canvas had then.
+abbrev pub ShowsCurrent : Sight → List (Sight × PlayedCall) → Type 0
+ShowsCurrent sight seen = (before : Sight) (canvas name : ℕ) → Contains {X = Sight × PlayedCall} seen (before, (Canvas (On canvas Current) (Some name), None))
+    → current_seen before canvas ≡ Some (handle_in_sight sight name)
+
 -- ---- a call at its place
 
 -- What has happened up to a moment of a phase, in which these entries were made before it.
@@ -163,13 +197,14 @@ pub record SeesMade (setup : Setup) (past : Past) (sight : Sight) (seen : List P
   pub genuine : SeesGenuine setup past sight
   pub names : All (StandsForMade setup past sight seen) (uses_of call)
 
--- A call was played as what it is; and so it is at each moment from the last entry of the calls before it to its own, or to the
--- lane's next.
+-- A call was played as what it is; so are the names that it uses at each moment from the last entry of the calls before it to its own,
+-- or to the lane's next; and each name of a texture that was there stands for that.
 pub record IsPlayedAt (setup : Setup) (earlier : List PlayedPhase) (phase : PlayedPhase) (lanes : List (List PlayedCall))
     (before : List PlayedCall) (call : PlayedCall) : Type 0 where
   pub how : IsPlayedAs (sight_after setup.serial earlier lanes before) (calls_in before) call.0 call.1
   pub sees : (front : List Entry) → IsMoment phase (length lanes) before front
       → SeesMade setup (past_at earlier front) (sight_after setup.serial earlier lanes before) (seen_calls earlier before) call.0
+  pub current : ShowsCurrent (sight_after setup.serial earlier lanes before) (seen_with setup.serial earlier lanes before)
 
 -- each call of a script, whatever phases, lanes and calls go before and after it
 abbrev pub EachIsPlayed : Setup → List PlayedPhase → Type 0

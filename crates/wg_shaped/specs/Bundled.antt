@@ -26,7 +26,8 @@ use Rattle.wg_model.specs.Render.{bundle_set}
 use Rattle.wg_model.specs.Walk.{Verdict, bundled, bundle_of}
 use Rattle.wg_subres.specs.Has.{view_has}
 use Rattle.wg_history.specs.declared.events.Setup.{Setup}
-use Rattle.wg_history.specs.Entries.{FinishBundle, Entry}
+use Rattle.wg_history.specs.declared.events.Event.TheVariants.{FinishBundle}
+use Rattle.wg_history.specs.Entries.{Entry}
 use Rattle.wg_history.specs.Objects.{is_valid}
 use Rattle.wg_history.specs.Answers.{Run}
 use Rattle.wg_history.specs.Exclusive.{event_at}

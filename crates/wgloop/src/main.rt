@@ -1,5 +1,5 @@
 //! Drives the state of a device, which keeps no history and no log, through the same few calls over and
-//! over, so that what it keeps can be measured (`tests/bench`): each time a buffer is made, written, copied
+//! over, so that what it keeps can be measured (`measure/bench`): each time a buffer is made, written, copied
 //! from, destroyed and dropped, with an encoder and a command buffer that are dropped as well. The word after
 //! the program's name is how often. It prints how many entries there were, and how many items came.
 #![tactic(auto)]

@@ -1,7 +1,8 @@
 """The crates of the repository as crates.txt lists them: what each stands on, and a checksum of what it is made of."""
 
+import functools
 import hashlib
-from typing import Dict, Iterable, List, Set
+from typing import Callable, Dict, Iterable, List, Set, Tuple
 
 from wgsim import TOP
 
@@ -45,6 +46,18 @@ def reached(first: Iterable[str], following: Dict[str, List[str]]) -> Set[str]:
             found.add(name)
             waiting += following.get(name, [])
     return found
+
+
+def longest(seconds: Callable[[str], float], below: Dict[str, List[str]]) -> Tuple[float, List[str]]:
+    """The seconds of the dearest chain of crates that stand on one another, and its crates, the lowest first."""
+
+    @functools.lru_cache(maxsize=None)
+    def chain(crate: str) -> Tuple[float, Tuple[str, ...]]:
+        took, names = max((chain(each) for each in below[crate]), default=(0.0, ()))
+        return took + seconds(crate), (*names, crate)
+
+    took, names = max((chain(crate) for crate in below), default=(0.0, ()))
+    return took, list(names)
 
 
 def sum_of(names: Iterable[str]) -> str:

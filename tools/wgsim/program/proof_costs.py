@@ -4,6 +4,8 @@ it."""
 import json
 import pathlib
 
+from wgsim.program import crates
+
 TABLE = json.loads((pathlib.Path(__file__).resolve().parent / "proof_costs.json").read_text(encoding="utf-8"))
 # So many seconds count as passed at the pace of the table, so that the first crates, which are small and end beside large ones that
 # go on, do not say too much.
@@ -14,23 +16,10 @@ def seconds_of(crate):
     return TABLE["seconds"].get(crate, TABLE["otherwise"])
 
 
-def clock_of(crates, below, at_once):
-    """The seconds of the clock that some crates take: their sum by so many at once, or the longest chain of those that stand on each
-    other."""
-    chains = {}
-    for crate in in_order(crates, below):
-        chains[crate] = seconds_of(crate) + max([chains[other] for other in below.get(crate, []) if other in chains], default=0)
-    return max([sum(map(seconds_of, crates)) / at_once, *chains.values()], default=0) if crates else 0
-
-
-def in_order(crates, below):
-    """Crates with each behind those that it stands on."""
-    found, waiting = {}, sorted(crates)
-    while waiting:
-        ready = [crate for crate in waiting if not any(other in waiting for other in below.get(crate, []))] or waiting
-        found.update(dict.fromkeys(ready))
-        waiting = [crate for crate in waiting if crate not in found]
-    return list(found)
+def clock_of(some, below, at_once):
+    """The seconds of the clock that some crates take: their sum by so many at once, or the longest chain of those that stand on others."""
+    among = {crate: [other for other in below.get(crate, []) if other in some] for crate in some}
+    return max(sum(map(seconds_of, some)) / at_once, crates.longest(seconds_of, among)[0])
 
 
 class Estimate:
