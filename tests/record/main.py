@@ -175,6 +175,7 @@ def test_places():
     for name, told in (
         ("resize", "resize.html:21:32 in frame"),
         ("resize", "resize.html:15:24 in frame"),
+        ("resize", 'Make the texture of "v3" anew with the width of the canvas, whenever that changes its size.'),
         ("scopes", 'in the page "b2" comes from scopes.html:14:33'),
     ):
         check(told in wgsim("explain", KEPT / f"{name}.json")[0], f"explain of {name}: {told} is not told")
