@@ -179,11 +179,36 @@ def test_places():
         ("scopes", 'in the page "b2" comes from scopes.html:14:33'),
     ):
         check(told in wgsim("explain", KEPT / f"{name}.json")[0], f"explain of {name}: {told} is not told")
+    check("call 26, in the page: " in wgsim("explain", KEPT / "resize.json")[0], "explain does not number calls as judge does")
     faults = [one for one in json.loads(wgsim("explain", "--json", KEPT / "resize.json")[0]) if one["kind"] == "fault"]
     check(
         [(one["page"], one["commandPage"]) for one in faults[:1]] == [("resize.html:21:32 in frame", "resize.html:15:24 in frame")],
         f"explain --json of resize: {faults[:1]}",
     )
+
+
+def test_browser_errors():
+    """`explain` tells the errors that the browser alone made, a shader that it refuses first, with its words and why no rule is broken."""
+    text = wgsim("explain", KEPT / "outside.json", status=1)[0]
+    words = (
+        "the browser made 9 errors where no rule of this core is broken\n\nBROWSER'S ERROR before call 8: createShaderModule\n",
+        "    in the page: outside.html:18:23\n    the browser (validation): Error while parsing WGSL: :1:54 error: cannot convert value",
+        "no rule of this core is broken: it does not look into shaders. ",
+        f"BROWSER'S ERROR at call 7: {KEPT}/outside.json:9:1\n",
+        "    the browser (validation, uncaptured): LOD min clamp (2.000000) is larger than the max clamp (1.000000).\n",
+        "    no rule of this core is broken: it used the levels of detail of a sampler, and that may be why\n",
+        "follows from an earlier error: call 9: ",
+        "follows from an earlier error: call 31: ",
+    )
+    for each in words:
+        check(each in text, f"explain of outside does not say `{each}`")
+    found = [one for one in json.loads(wgsim("explain", "--json", KEPT / "outside.json", status=1)[0]) if one["kind"] == "browser"]
+    check(
+        (len(found), found[0]["do"], found[1]["number"], found[1]["call"], found[1]["page"], found[2]["follows"])
+        == (9, "createShaderModule", 7, "9:1", "outside.html:17:8", True),
+        f"explain --json of outside: {found[:3]}",
+    )
+    check("the browser made" not in wgsim("explain", KEPT / "late.json")[0], "explain tells an error of the browser that a rule tells")
 
 
 # Changes of what a browser answered, each with what judge then says: the recording, what is done to an answer, the words.
@@ -367,6 +392,7 @@ def main():
             (test_tables, ()),
             (test_judged, ()),
             (test_places, ()),
+            (test_browser_errors, ()),
             (test_changed, (folder / "changed",)),
             (test_saved, (folder / "saved",)),
         ]

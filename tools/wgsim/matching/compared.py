@@ -30,14 +30,26 @@ QUEUING = {"submit", "writeBuffer", "writeTexture"}
 # The rules that the standard tells by an exception.
 THROWS = {number for rule in rules.RULES if rule.is_thrown for number in rule.numbers}
 LONGEST = 20
+TOO_SMALL = re.compile(next(row["says"] for row in TABLE["known"] if "createBindGroup" in row.get("calls", [])))
 
 
 class Verdict:
-    """What is told of one call."""
+    """What is told of one call. `is_alone` says that the browser alone refuses it, with an error of a kind and the message."""
 
     def __init__(self, number: Any, call: Any, at: Any, how: Any, core: Any, browser: Any, why: Any = None) -> None:
         self.number, self.call, self.at, self.how, self.core, self.browser, self.why = number, call, at, how, core, browser, why
         self.word = call.word if call is not None else None
+        self.is_alone, self.kind, self.message = False, None, ""
+
+    def of_browser(self, answer: dict[str, Any]) -> None:
+        """Takes the error that the browser alone told."""
+        self.is_alone = True
+        self.kind = "thrown" if "throws" in answer else f"{answer['error']}, {answer['caught']}"
+        self.message = answer["throws"] if "throws" in answer else answer["message"]
+
+    def is_too_small(self) -> bool:
+        """Whether the browser alone tells that a buffer is smaller than what the shader reads: a write past its end follows from that."""
+        return self.is_alone and TOO_SMALL.search(self.message) is not None
 
     def place(self) -> str:
         return f"at call {self.number}"
@@ -66,6 +78,7 @@ class Passed(Verdict):
         why = f"no script has it: {listed([passed['outside']])}" + (f", {passed['detail']}" if passed.get("detail") else "")
         super().__init__(passed["before"], None, passed.get("at"), OUTSIDE, "has it not", browser_of(passed), why)
         self.word = passed["do"]
+        self.of_browser(passed)
 
     def place(self) -> str:
         return f"before call {self.number}"
@@ -103,6 +116,8 @@ class Compared:
             self.note(number, call, how, core_of(fault), browser_of(answer), None if how == AGREES else self.reason(call, fault, answer))
         elif fault is not None or has_failed:
             self.note(number, call, DIFFERS, core_of(fault), browser_of(answer), self.reason(call, fault, answer))
+            if has_failed:
+                self.verdicts[-1].of_browser(answer)
         elif entry is not None and "settle" in answer:
             self.settle(number, call, entry, answer)
 

@@ -6,8 +6,8 @@ import functools
 from typing import TYPE_CHECKING, Any, Callable
 
 from wgsim import causes
-from wgsim.exit_status import REFUSED, SILENT, End
-from wgsim.matching import culprit, refusal
+from wgsim.exit_status import DIFFERENT, REFUSED, SILENT, End
+from wgsim.matching import browser_errors, culprit, refusal
 from wgsim.matching.beside import Beside, DoNotMatch
 from wgsim.matching.scopes import Scopes
 from wgsim.reading import bits, browser_answers, calls, frames, rules
@@ -40,7 +40,8 @@ ACCESSES = {
 
 
 class Explained:
-    """The lines that explain one script, and the status with which the program ended."""
+    """The lines that explain one script, and the status: that with which the program ended, or, where the browser that played it made errors of
+    its own, that of a difference."""
 
     def __init__(self, text: Text, program: Any, data: bytes) -> None:
         self.text = text
@@ -55,8 +56,12 @@ class Explained:
         self.pages = browser_answers.Pages(text.name)
         self.scopes = Scopes(self.beside)
         self.causes = causes.of_report(data, self.beside)
-        self.say(self.head())
+        self.browsers = browser_errors.found(text, data, said)
+        self.status = DIFFERENT if self.browsers else self.status
+        self.say(self.head(), *browser_errors.head(self.browsers))
+        self.of_browser([error for error in self.browsers if error.is_first])
         self.faults()
+        self.of_browser([error for error in self.browsers if not error.is_first])
         self.history()
         self.canvases()
         self.trace()
@@ -87,8 +92,14 @@ class Explained:
                 self.say(f"    {self.beside.script.said(call)}", *[f"    {line}" for line in more])
             self.fault(entry, call)
         if not wrong:
-            self.say("", "NO FAULT: every call was taken" if self.scopes.lost is None else "NO FAULT: every call before the loss was taken")
+            taken = "every call was taken" if self.scopes.lost is None else "every call before the loss was taken"
+            self.say("", f"NO FAULT: {taken}" + (" by this core, and the browser's errors are its own" if self.browsers else ""))
         self.say(*self.scopes.loss())
+
+    def of_browser(self, errors: list[browser_errors.BrowserError]) -> None:
+        """The errors that the browser alone made."""
+        for error in errors:
+            self.say(*error.lines(self.beside.script))
 
     def following(self, entry, call):
         """The line of a fault that only follows from another, and the error scope that caught it, if one did."""
