@@ -155,6 +155,8 @@ def test_judged():
         "createComputePipeline is not in the script: the number A + 1 of a group or a binding, at 2:20 of the text of the shader",
         "left out, since no script says it: ", "the browser refuses a shader: ", "outside before call ",
         "no script has it: an object of another device", "agrees at call ",
+        "outside at call 30, outside.html:44:34 in frame, the first of 3 times: finish: ",
+        "        @compute @workgroup_size(1) fn main() { let a: i32 = 1.5; }\n",
     ):
         check(words in text, f"judge does not say `{words}`")
 
@@ -209,6 +211,48 @@ def test_browser_errors():
         f"explain --json of outside: {found[:3]}",
     )
     check("the browser made" not in wgsim("explain", KEPT / "late.json")[0], "explain tells an error of the browser that a rule tells")
+
+
+# What a browser may say at a call of a recording that used something that no script says, and what `judge` then tells: the call, what was
+# left out, the browser's words, the verdict and the reason.
+EXCUSED = [
+    ("createRenderPipeline", ["depthStencil.depthCompare", "target.blend"], "Blend factor is not allowed.", "outside", "it used blending"),
+    (
+        "createRenderPipeline",
+        ["setViewport", "shader"],
+        "[Invalid ShaderModule (unlabeled)] is invalid due to a previous error.",
+        "outside",
+        "it used a shader that the browser refuses",
+    ),
+    ("createRenderPipeline", ["depthStencil.depthCompare"], "Color format of target 0 is wrong.", "differs", None),
+    ("createRenderPipeline", ["setViewport"], "Viewport width (640000.000000) exceeds the maximum (8192).", "differs", None),
+    (
+        "createRenderPipeline",
+        [],
+        "Vertex attribute slot 1 used in the shader is not present in the VertexState.",
+        "outside",
+        "it is about the vertex inputs that the interface of the shader has, at which this core does not look",
+    ),
+    ("finish", ["setViewport", "format", "setScissorRect"], "Viewport width (640000.0) exceeds it.", "outside", "it used the viewport"),
+    ("finish", ["setViewport", "format"], "No bind group set.", "outside", "it used a format of textures that a script does not have"),
+]
+
+
+def test_excused(folder):
+    """What was left out excuses an error of the browser alone where it can be why, and nothing else does."""
+    for kept in KEPT.glob("bundles.*"):
+        (folder / kept.name).write_bytes(kept.read_bytes())
+    path = folder / "bundles.answers.json"
+    answers = json.loads(path.read_text(encoding="utf-8"))
+    calls = json.loads((folder / "bundles.json").read_text(encoding="utf-8"))["phases"][0][0]
+    at = {word: next(n for n, call in enumerate(calls) if call["do"] == word) for word in ("createRenderPipeline", "finish")}
+    for word, left, message, verdict, why in EXCUSED:
+        told = {"call": at[word], "do": word, "error": "validation", "caught": "uncaptured", "message": message, "left": left}
+        others = [answer for answer in answers["answers"] if answer["call"] != at[word]]
+        path.write_text(json.dumps({**answers, "answers": [*others, told]}), encoding="utf-8")
+        judged = verdicts(folder, int(verdict == "differs"))["bundles.json"]["recorded"]["told"]
+        found = next(one for one in judged if one["call"] == at[word])
+        check((found["verdict"], found["why"]) == (verdict, why), f"judge of {message} beside {left}: {found}")
 
 
 # Changes of what a browser answered, each with what judge then says: the recording, what is done to an answer, the words.
@@ -394,6 +438,7 @@ def main():
             (test_places, ()),
             (test_browser_errors, ()),
             (test_changed, (folder / "changed",)),
+            (test_excused, (folder / "excused",)),
             (test_saved, (folder / "saved",)),
         ]
         tests += [(test_wgsl, ()), (test_null, (folder / "null",))] if NODE else []

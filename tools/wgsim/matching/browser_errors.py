@@ -14,8 +14,8 @@ if TYPE_CHECKING:
     from wgsim.reading.script import Call
 
 OF_SHADERS = (
-    "no rule of this core is broken: it does not look into shaders. What is made of a shader that is refused is invalid, and what names that"
-    " fails too: mend this first."
+    "no rule of this core is broken: it does not look into shaders. What is made of a shader that is refused is invalid, and what names"
+    " that fails too: mend this first."
 )
 WHY = {
     compared.OUTSIDE: "no rule of this core is broken: {}, and that may be why",

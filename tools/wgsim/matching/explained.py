@@ -40,8 +40,8 @@ ACCESSES = {
 
 
 class Explained:
-    """The lines that explain one script, and the status: that with which the program ended, or, where the browser that played it made errors of
-    its own, that of a difference."""
+    """The lines that explain one script, and the status: that with which the program ended, or, where the browser that played it made
+    errors of its own, that of a difference."""
 
     def __init__(self, text: Text, program: Any, data: bytes) -> None:
         self.text = text
