@@ -211,6 +211,12 @@ def test_browser_errors():
         f"explain --json of outside: {found[:3]}",
     )
     check("the browser made" not in wgsim("explain", KEPT / "late.json")[0], "explain tells an error of the browser that a rule tells")
+    again = "this is the first of 3 times at this place of the page"
+    heads = re.findall(r"^(?:FAULT|BROWSER'S ERROR) .*", text, re.M)
+    check(
+        text.count(again) == 2 and f"{again}; it comes again at entries 33, 47\n" in text and len(heads) == 4,
+        f"explain of outside does not tell once what comes in each frame: {heads}",
+    )
 
 
 # What a browser may say at a call of a recording that used something that no script says, and what `judge` then tells: the call, what was

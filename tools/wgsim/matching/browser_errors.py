@@ -41,17 +41,19 @@ class BrowserError:
         self.why = WHY[verdict.how].format(verdict.why) if verdict.how in WHY else verdict.why
         return self
 
-    def lines(self, script: Any) -> list[str]:
-        """The error in words."""
+    def lines(self, script: Any, times: int = 1) -> list[str]:
+        """The error in words, with how often it comes."""
         where = "before" if self.call is None else "at"
         place = f": {script.where(self.call)}" if self.call is not None else ""
         first = (self.message.splitlines() or ["it says nothing"])[0]
         if self.follows:
-            return ["", f"follows from an earlier error: call {self.number}{place}: {self.word}: the browser: {first}"]
+            often = f" (the first of {times} times)" if times > 1 else ""
+            return ["", f"follows from an earlier error: call {self.number}{place}: {self.word}: the browser: {first}{often}"]
         page = f"in the page: {self.page}" if self.page else ""
         said = [f"    {script.said(self.call)}"] if self.call is not None else []
         head = f"BROWSER'S ERROR {where} call {self.number}{place}" + (f": {self.word}" if self.call is None else "")
-        return ["", head, *said, *[f"    {line}" for line in (page, *self.quoted(), self.why) if line]]
+        often = f"this is the first of {times} times at this place of the page" if times > 1 else ""
+        return ["", head, *said, *[f"    {line}" for line in (page, often, *self.quoted(), self.why) if line]]
 
     def quoted(self) -> list[str]:
         """The browser's words, as many lines as they have."""
