@@ -19,6 +19,7 @@ import sys
 import tempfile
 import time
 
+from wgsim import exit_status
 from wgsim.matching import compared
 from wgsim.program import program as programs
 from wgsim.recorder import browser, visit, whole_text
@@ -353,6 +354,41 @@ def test_saved(folder):
     )
 
 
+def test_no_browser():
+    """Where no browser is found, it is said how one is installed."""
+    names, browser.NAMES = browser.NAMES, ("no-such-browser",)
+    try:
+        visit.recorded(str(PAGES / "late.html"), None)
+        check(False, "record by no browser ends well")
+    except exit_status.End as end:
+        is_said = "no-such-browser is installed: on Debian `sudo apt-get install chromium` installs one" in end.why
+        check(end.status == exit_status.UNREAD and is_said, f"record by no browser: {end.status}: {end.why}")
+    finally:
+        browser.NAMES = names
+
+
+def test_told_first(folder):
+    whole = ": Error: it failed\n        here\n        and there\n"
+    check(whole in text, f"judge does not tell the whole of what the page threw:\n{text}")
+    for kept in KEPT.glob("compute.*"):
+        (folder / kept.name).write_bytes(kept.read_bytes())
+    path = folder / "compute.answers.json"
+    answers = json.loads(path.read_text(encoding="utf-8"))
+    calls = json.loads((folder / "compute.json").read_text(encoding="utf-8"))["phases"][0][0]
+    at = next(n for n, call in enumerate(calls) if call["do"] == "createBindGroup")
+    message = "Binding size (16) of [Buffer (unlabeled)] is smaller than the minimum binding size (64)."
+    told = {"call": at, "do": "createBindGroup", "error": "validation", "caught": "uncaptured", "message": message}
+    notes = [{"before": at, "page": "Error: it failed\nhere\nand there"}]
+    path.write_text(json.dumps({**answers, "answers": [*answers["answers"], told], "notes": notes}), encoding="utf-8")
+    text = wgsim("judge", folder)[0]
+    check(": Error: it failed\n        here\n        and there\n" in text, f"judge does not tell the whole of what the page threw:\n{text}")
+    first = text.split("\n")[1]
+    check(message in first and first.startswith("    differs as known at call"), f"judge does not tell the small buffer first:\n{text}")
+    text = wgsim("explain", folder / "compute.json", status=1)[0]
+    places = [text.find(message), text.find("\nFAULT at entry ")]
+    check(0 < places[0] < places[1], f"explain does not tell the small buffer first:\n{text[:2000]}")
+
+
 def test_browser(folder):
     """Each page, recorded in Chromium, has the verdicts that are expected; so has one by its address; and nothing goes elsewhere."""
     out = folder / "out"
@@ -445,6 +481,8 @@ def main():
             (test_browser_errors, ()),
             (test_changed, (folder / "changed",)),
             (test_excused, (folder / "excused",)),
+            (test_told_first, (folder / "first",)),
+            (test_no_browser, ()),
             (test_saved, (folder / "saved",)),
         ]
         tests += [(test_wgsl, ()), (test_null, (folder / "null",))] if NODE else []

@@ -118,8 +118,8 @@ def recorded(page, named, frames=FRAMES, seconds=SECONDS):
             raise exit_status.End(
                 exit_status.UNREAD,
                 (
-                    f"none of {', '.join(browser.NAMES)} is installed; another one is named by --browser, and `wgsim record --one-file` is"
-                    " for browsers of any kind"
+                    f"none of {', '.join(browser.NAMES)} is installed: on Debian `sudo apt-get install chromium` installs one; another one"
+                    " is named by --browser, and `wgsim record --one-file` is for browsers of any kind"
                 ),
             )
         try:
