@@ -143,6 +143,31 @@ def test_null(folder):
         )
 
 
+# Pages that present one frame and go on, each with how many frames are asked for, and why its recording has to end.
+FRAMES = [
+    ("context.configure({ device, format: 'rgba8unorm' }); context.getCurrentTexture();", 3, "3 frames"),
+    ("globalThis.refused = 'no';", 99, "the same error came in 10 frames: no"),
+]
+DRAWING = """<script type="module">
+const device = await (await navigator.gpu.requestAdapter()).requestDevice();
+const context = document.querySelectorAll('canvas')[0].getContext('webgpu');
+{}
+const frame = () => {{ device.queue.submit([device.createCommandEncoder().finish()]); requestAnimationFrame(frame); }};
+requestAnimationFrame(frame);
+</script>"""
+
+
+def test_frames(folder):
+    """Updates of a page count where nothing is presented, and one error in ten of them ends the recording."""
+    one_file, page = folder / whole_text.NAME, folder / "frames.html"
+    one_file.write_text(wgsim("record", "--one-file")[0], encoding="utf-8")
+    for text, frames, why in FRAMES:
+        page.write_text(DRAWING.format(text), encoding="utf-8")
+        ran = subprocess.run([NODE, PARTS / "null.js", one_file, page, str(frames)], capture_output=True, timeout=LONGEST)
+        found = json.loads(ran.stdout or b'{"recordings": []}')["recordings"]
+        check([one["ended"]["why"] for one in found] == [why], f"null: {text}: {found[:1]}: {ran.stderr.decode()[-400:]}")
+
+
 def test_judged():
     """The recordings that are kept have the verdicts that are expected, as docs/coverage.md says."""
     found = verdicts(KEPT, 0)
@@ -485,7 +510,7 @@ def main():
             (test_no_browser, ()),
             (test_saved, (folder / "saved",)),
         ]
-        tests += [(test_wgsl, ()), (test_null, (folder / "null",))] if NODE else []
+        tests += [(test_wgsl, ()), (test_null, (folder / "null",)), (test_frames, (folder / "frames",))] if NODE else []
         tests += [(test_browser, (folder / "browser",))] if path else []
         for test, given in tests:
             for each in given:
