@@ -62,6 +62,8 @@ def test_fault(case, told, listed):
         findings.append(f"{case.where}: {case.what}: as JSON it is {sentence}")
     if not last["values"]:
         findings.append(f"{case.where}: {case.what}: there are no values")
+    if last["remedy"] is None and last["follows_from"] is None:
+        findings.append(f"{case.where}: {case.what}: it is not said what to do: {last['condition']}")
 
 
 def test(case, program):

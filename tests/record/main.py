@@ -19,6 +19,7 @@ import sys
 import tempfile
 import time
 
+from wgsim import exit_status
 from wgsim.matching import compared
 from wgsim.program import program as programs
 from wgsim.recorder import browser, visit, whole_text
@@ -142,6 +143,31 @@ def test_null(folder):
         )
 
 
+# Pages that present one frame and go on, each with how many frames are asked for, and why its recording has to end.
+FRAMES = [
+    ("context.configure({ device, format: 'rgba8unorm' }); context.getCurrentTexture();", 3, "3 frames"),
+    ("globalThis.refused = 'no';", 99, "the same error came in 10 frames: no"),
+]
+DRAWING = """<script type="module">
+const device = await (await navigator.gpu.requestAdapter()).requestDevice();
+const context = document.querySelectorAll('canvas')[0].getContext('webgpu');
+{}
+const frame = () => {{ device.queue.submit([device.createCommandEncoder().finish()]); requestAnimationFrame(frame); }};
+requestAnimationFrame(frame);
+</script>"""
+
+
+def test_frames(folder):
+    """Updates of a page count where nothing is presented, and one error in ten of them ends the recording."""
+    one_file, page = folder / whole_text.NAME, folder / "frames.html"
+    one_file.write_text(wgsim("record", "--one-file")[0], encoding="utf-8")
+    for text, frames, why in FRAMES:
+        page.write_text(DRAWING.format(text), encoding="utf-8")
+        ran = subprocess.run([NODE, PARTS / "null.js", one_file, page, str(frames)], capture_output=True, timeout=LONGEST)
+        found = json.loads(ran.stdout or b'{"recordings": []}')["recordings"]
+        check([one["ended"]["why"] for one in found] == [why], f"null: {text}: {found[:1]}: {ran.stderr.decode()[-400:]}")
+
+
 def test_judged():
     """The recordings that are kept have the verdicts that are expected, as docs/coverage.md says."""
     found = verdicts(KEPT, 0)
@@ -155,6 +181,8 @@ def test_judged():
         "createComputePipeline is not in the script: the number A + 1 of a group or a binding, at 2:20 of the text of the shader",
         "left out, since no script says it: ", "the browser refuses a shader: ", "outside before call ",
         "no script has it: an object of another device", "agrees at call ",
+        "outside at call 30, outside.html:44:34 in frame, the first of 3 times: finish: ",
+        "        @compute @workgroup_size(1) fn main() { let a: i32 = 1.5; }\n",
     ):
         check(words in text, f"judge does not say `{words}`")
 
@@ -175,14 +203,88 @@ def test_places():
     for name, told in (
         ("resize", "resize.html:21:32 in frame"),
         ("resize", "resize.html:15:24 in frame"),
+        ("resize", 'Make the texture of "v3" anew with the width of the canvas, whenever that changes its size.'),
         ("scopes", 'in the page "b2" comes from scopes.html:14:33'),
     ):
         check(told in wgsim("explain", KEPT / f"{name}.json")[0], f"explain of {name}: {told} is not told")
+    check("call 26, in the page: " in wgsim("explain", KEPT / "resize.json")[0], "explain does not number calls as judge does")
     faults = [one for one in json.loads(wgsim("explain", "--json", KEPT / "resize.json")[0]) if one["kind"] == "fault"]
     check(
         [(one["page"], one["commandPage"]) for one in faults[:1]] == [("resize.html:21:32 in frame", "resize.html:15:24 in frame")],
         f"explain --json of resize: {faults[:1]}",
     )
+
+
+def test_browser_errors():
+    """`explain` tells the errors that the browser alone made, a shader that it refuses first, with its words and why no rule is broken."""
+    text = wgsim("explain", KEPT / "outside.json", status=1)[0]
+    words = (
+        "the browser made 9 errors where no rule of this core is broken\n\nBROWSER'S ERROR before call 8: createShaderModule\n",
+        "    in the page: outside.html:18:23\n    the browser (validation): Error while parsing WGSL: :1:54 error: cannot convert value",
+        "no rule of this core is broken: it does not look into shaders. ",
+        f"BROWSER'S ERROR at call 7: {KEPT}/outside.json:9:1\n",
+        "    the browser (validation, uncaptured): LOD min clamp (2.000000) is larger than the max clamp (1.000000).\n",
+        "    no rule of this core is broken: it used the levels of detail of a sampler, and that may be why\n",
+        "follows from an earlier error: call 9: ",
+        "follows from an earlier error: call 31: ",
+    )
+    for each in words:
+        check(each in text, f"explain of outside does not say `{each}`")
+    found = [one for one in json.loads(wgsim("explain", "--json", KEPT / "outside.json", status=1)[0]) if one["kind"] == "browser"]
+    check(
+        (len(found), found[0]["do"], found[1]["number"], found[1]["call"], found[1]["page"], found[2]["follows"])
+        == (9, "createShaderModule", 7, "9:1", "outside.html:17:8", True),
+        f"explain --json of outside: {found[:3]}",
+    )
+    check("the browser made" not in wgsim("explain", KEPT / "late.json")[0], "explain tells an error of the browser that a rule tells")
+    again = "this is the first of 3 times at this place of the page"
+    heads = re.findall(r"^(?:FAULT|BROWSER'S ERROR) .*", text, re.M)
+    check(
+        text.count(again) == 2 and f"{again}; it comes again at entries 33, 47\n" in text and len(heads) == 4,
+        f"explain of outside does not tell once what comes in each frame: {heads}",
+    )
+
+
+# What a browser may say at a call of a recording that used something that no script says, and what `judge` then tells: the call, what was
+# left out, the browser's words, the verdict and the reason.
+EXCUSED = [
+    ("createRenderPipeline", ["depthStencil.depthCompare", "target.blend"], "Blend factor is not allowed.", "outside", "it used blending"),
+    (
+        "createRenderPipeline",
+        ["setViewport", "shader"],
+        "[Invalid ShaderModule (unlabeled)] is invalid due to a previous error.",
+        "outside",
+        "it used a shader that the browser refuses",
+    ),
+    ("createRenderPipeline", ["depthStencil.depthCompare"], "Color format of target 0 is wrong.", "differs", None),
+    ("createRenderPipeline", ["setViewport"], "Viewport width (640000.000000) exceeds the maximum (8192).", "differs", None),
+    (
+        "createRenderPipeline",
+        [],
+        "Vertex attribute slot 1 used in the shader is not present in the VertexState.",
+        "outside",
+        "it is about the vertex inputs that the interface of the shader has, at which this core does not look",
+    ),
+    ("finish", ["setViewport", "format", "setScissorRect"], "Viewport width (640000.0) exceeds it.", "outside", "it used the viewport"),
+    ("finish", ["setViewport", "format"], "No bind group set.", "outside", "it used a format of textures that a script does not have"),
+]
+
+
+def test_excused(folder):
+    """What was left out excuses an error of the browser alone where it can be why, and nothing else does."""
+    for kept in KEPT.glob("bundles.*"):
+        (folder / kept.name).write_bytes(kept.read_bytes())
+    path = folder / "bundles.answers.json"
+    answers = json.loads(path.read_text(encoding="utf-8"))
+    calls = json.loads((folder / "bundles.json").read_text(encoding="utf-8"))["phases"][0][0]
+    at = {word: next(n for n, call in enumerate(calls) if call["do"] == word) for word in ("createRenderPipeline", "finish")}
+    for word, left, message, verdict, why in EXCUSED:
+        told = {"call": at[word], "do": word, "error": "validation", "caught": "uncaptured", "message": message, "left": left}
+        others = [answer for answer in answers["answers"] if answer["call"] != at[word]]
+        path.write_text(json.dumps({**answers, "answers": [*others, told]}), encoding="utf-8")
+        judged = verdicts(folder, int(verdict == "differs"))["bundles.json"]["recorded"]["told"]
+        found = next(one for one in judged if one["call"] == at[word])
+        check((found["verdict"], found["why"]) == (verdict, why), f"judge of {message} beside {left}: {found}")
 
 
 # Changes of what a browser answered, each with what judge then says: the recording, what is done to an answer, the words.
@@ -277,6 +379,40 @@ def test_saved(folder):
     )
 
 
+def test_no_browser():
+    """Where no browser is found, it is said how one is installed."""
+    names, browser.NAMES = browser.NAMES, ("no-such-browser",)
+    try:
+        visit.recorded(str(PAGES / "late.html"), None)
+        check(False, "record by no browser ends well")
+    except exit_status.End as end:
+        is_said = "no-such-browser is installed: on Debian `sudo apt-get install chromium` installs one" in end.why
+        check(end.status == exit_status.UNREAD and is_said, f"record by no browser: {end.status}: {end.why}")
+    finally:
+        browser.NAMES = names
+
+
+def test_told_first(folder):
+    """What the page threw is told whole; a buffer that is smaller than what a shader reads comes before a write past its end."""
+    for kept in KEPT.glob("compute.*"):
+        (folder / kept.name).write_bytes(kept.read_bytes())
+    path = folder / "compute.answers.json"
+    answers = json.loads(path.read_text(encoding="utf-8"))
+    calls = json.loads((folder / "compute.json").read_text(encoding="utf-8"))["phases"][0][0]
+    at = next(n for n, call in enumerate(calls) if call["do"] == "createBindGroup")
+    message = "Binding size (16) of [Buffer (unlabeled)] is smaller than the minimum binding size (64)."
+    told = {"call": at, "do": "createBindGroup", "error": "validation", "caught": "uncaptured", "message": message}
+    notes = [{"before": at, "page": "Error: it failed\nhere\nand there"}]
+    path.write_text(json.dumps({**answers, "answers": [*answers["answers"], told], "notes": notes}), encoding="utf-8")
+    text = wgsim("judge", folder)[0]
+    check(": Error: it failed\n        here\n        and there\n" in text, f"judge does not tell the whole of what the page threw:\n{text}")
+    first = text.split("\n")[1]
+    check(message in first and first.startswith("    differs as known at call"), f"judge does not tell the small buffer first:\n{text}")
+    text = wgsim("explain", folder / "compute.json", status=1)[0]
+    places = [text.find(message), text.find("\nFAULT at entry ")]
+    check(0 < places[0] < places[1], f"explain does not tell the small buffer first:\n{text[:2000]}")
+
+
 def test_browser(folder):
     """Each page, recorded in Chromium, has the verdicts that are expected; so has one by its address; and nothing goes elsewhere."""
     out = folder / "out"
@@ -366,10 +502,14 @@ def main():
             (test_tables, ()),
             (test_judged, ()),
             (test_places, ()),
+            (test_browser_errors, ()),
             (test_changed, (folder / "changed",)),
+            (test_excused, (folder / "excused",)),
+            (test_told_first, (folder / "first",)),
+            (test_no_browser, ()),
             (test_saved, (folder / "saved",)),
         ]
-        tests += [(test_wgsl, ()), (test_null, (folder / "null",))] if NODE else []
+        tests += [(test_wgsl, ()), (test_null, (folder / "null",)), (test_frames, (folder / "frames",))] if NODE else []
         tests += [(test_browser, (folder / "browser",))] if path else []
         for test, given in tests:
             for each in given:

@@ -1,7 +1,8 @@
 // Plays a page under the recorder, with a WebGPU that does nothing and refuses nothing, and writes what was recorded.
 //
-//     node null.js RECORDER PAGE.html
+//     node null.js RECORDER PAGE.html [FRAMES]
 //
+// It refuses everything with a message while the page has put one into `refused`.
 // So the recorder is tested where there is no browser. Of the page its scripts alone are run: those that it loads, and the module in it.
 'use strict';
 const fs = require('fs'), path = require('path'), vm = require('vm');
@@ -69,7 +70,7 @@ const GIVES = {
     if (size < 0) throw new TypeError('a size below 0');
     return Object.assign(new world.GPUBuffer(), { size, usage });
   },
-  popErrorScope: () => Promise.resolve(null), onSubmittedWorkDone: () => Promise.resolve(), mapAsync: () => Promise.resolve(),
+  popErrorScope: () => Promise.resolve(world.refused ? Object.assign(new world.GPUValidationError(), { message: world.refused }) : null), onSubmittedWorkDone: () => Promise.resolve(), mapAsync: () => Promise.resolve(),
   getMappedRange() { return new ArrayBuffer(this.size); },
   getCurrentTexture() {
     const { width, height } = this.canvas;
@@ -106,10 +107,10 @@ function open() {
   vm.createContext(world);
 }
 
-async function main(recorder, page) {
+async function main(recorder, page, frames = 3) {
   open();
   const handed = new Promise(hand => { world.hand = hand; });
-  vm.runInContext(`globalThis.wgsimRecordAsked = ${JSON.stringify({ frames: 3, seconds: 30, idle: 500, hand: 'hand' })};`, world);
+  vm.runInContext(`globalThis.wgsimRecordAsked = ${JSON.stringify({ frames: Number(frames), seconds: 30, idle: 500, hand: 'hand' })};`, world);
   vm.runInContext(fs.readFileSync(recorder, 'utf8'), world, { filename: 'wgsim-record.js' });
   const text = fs.readFileSync(page, 'utf8');
   const parts = [...text.matchAll(/<script src="([^"]+)"><\/script>/g)].map(found => fs.readFileSync(path.join(path.dirname(page), found[1]), 'utf8'));

@@ -26,7 +26,11 @@ def attached(case):
 @rule(300)
 def most_colors(case):
     count = len(case.call["colors"])
-    return None if count <= 8 else Cause(f"colors has {count} items, and at most 8 are allowed", {"colors": count, "most": 8})
+    if count <= 8:
+        return None
+    return Cause(
+        f"colors has {count} items, and at most 8 are allowed", {"colors": count, "most": 8}, "Attach the others in a pass of their own."
+    )
 
 
 @rule(301)
@@ -52,7 +56,7 @@ def color_view(case, where, view, dims):
         return Cause(
             f"{where}: {case.named(view)} has the format {format}, which has {case.aspects(format)} and no color",
             {"view": view.call["as"], "format": format},
-            "Attach it as depth." if where.startswith("color") else None,
+            "Attach it as depth." if where.startswith("color") else "Resolve to a view of a format that has color.",
         )
     return flat(case, where, view, dims)
 
@@ -65,6 +69,7 @@ def flat(case, where, view, dims):
         return Cause(
             f"{where}: {case.named(view)} has the dim {told['dim']}, and {asked} is asked for",
             {"view": view.call["as"], "dim": told["dim"], "allowed": list(dims)},
+            f"Attach a view with the dim {dims[0]}.",
         )
     for key, word in (("mips", "mip level"), ("layers", "layer")):
         if told[key] != 1:
@@ -176,10 +181,19 @@ def alike(case):
                     f"{views[0][0]} ({case.named(views[0][1])}) has {the(what)} {one}, and {where} ({case.named(view)}) has"
                     f" {the(what)} {other}"
                 )
-                return Cause(
-                    said, {"first": views[0][1].call["as"], "other": view.call["as"], "what": what, "firstHas": one, "otherHas": other}
-                )
+                values = {"first": views[0][1].call["as"], "other": view.call["as"], "what": what, "firstHas": one, "otherHas": other}
+                return Cause(said, values, to_be_alike(case, what, views[0][1], view))
     return None
+
+
+def to_be_alike(case, what, one, other):
+    """What to do where two views that are attached differ: what stands beside a canvas has to change its size with that."""
+    if what == "samples":
+        return "Make both textures with the same samples."
+    for each, its in ((one, other), (other, one)):
+        if case.play.call_of(each.uses["texture"]).frame is not None:
+            return f"Make the texture of {case.name(its)} anew with {the(what)} of the canvas, whenever that changes its size."
+    return f"Make both with the same {what}."
 
 
 def the(what):
@@ -199,7 +213,9 @@ def apart(case):
             if both:
                 values = {"first": view.call["as"], "other": second.call["as"], **case.part_values(both)}
                 remedy = (
-                    "Give each a slice of its own." if both[0] == "s" and one.startswith("color") and other.startswith("color") else None
+                    "Give each a slice of its own."
+                    if both[0] == "s" and one.startswith("color") and other.startswith("color")
+                    else "Attach it once, and another texture, level or layer in its other place."
                 )
                 return Cause(f"{one} ({case.named(view)}) and {other} ({case.named(second)}) both attach {case.part(both)}", values, remedy)
     return None
@@ -232,7 +248,9 @@ def resolve_of(case, place, view, resolve):
         return wrong
     if target["samples"] != 1:
         return Cause(
-            f"{where} ({case.named(resolve)}) has {target['samples']} samples, and 1 is asked for", {**values, "samples": target["samples"]}
+            f"{where} ({case.named(resolve)}) has {target['samples']} samples, and 1 is asked for",
+            {**values, "samples": target["samples"]},
+            "Resolve to a texture of 1 sample.",
         )
     pairs = [("format", color["format"], target["format"])]
     pairs += zip(("width", "height"), case.second.attachments.width_and_height(view), case.second.attachments.width_and_height(resolve))
@@ -241,5 +259,6 @@ def resolve_of(case, place, view, resolve):
             return Cause(
                 f"{where} ({case.named(resolve)}) has the {what} {other}, and color {place} ({case.named(view)}) has {one}",
                 {**values, "what": what, "colorHas": one, "resolveHas": other},
+                f"Make both with the same {what}.",
             )
     return None

@@ -42,29 +42,34 @@ def bundle_drawn(case, bundle):
     return Drawn(case, bundle, "bundle", case.second.bundles.targets_of(bundle.uses["on"]))
 
 
-def difference(one, other, remedy):
-    """In what two things do not draw to the same, as a cause, or None."""
+def difference(one, other, made):
+    """In what two things do not draw to the same, as a cause, or None. `made` is what is to be made otherwise, in words."""
     values = {one.word: one.thing.call["as"], other.word: other.thing.call["as"]}
     for place, (mine, theirs) in enumerate(zip(one.colors, other.colors)):
         if mine != theirs:
             said = f"{one.color} {place} of {one.name} is {mine or 'null'}, and {other.color} {place} of {other.name} is {theirs or 'null'}"
-            return Cause(said, {**values, "at": place, one.color_key: mine, other.color_key: theirs})
+            remedy = f"Make {made} with the {one.color} {place} {theirs or 'null'}."
+            return Cause(said, {**values, "at": place, one.color_key: mine, other.color_key: theirs}, remedy)
     if len(one.colors) != len(other.colors):
         said = (
             f"{one.name} has {plural(len(one.colors), one.color)}, and {other.name} has {plural(len(other.colors), other.color)}, without"
             " nulls at the end"
         )
-        return Cause(said, {**values, f"{one.color_key}s": len(one.colors), f"{other.color_key}s": len(other.colors)})
+        remedy = f"Make {made} with {plural(len(other.colors), one.color)}."
+        return Cause(said, {**values, f"{one.color_key}s": len(one.colors), f"{other.color_key}s": len(other.colors)}, remedy)
     if one.depth != other.depth:
         told = [f"the depth {format}" if format else "no depth" for format in (one.depth, other.depth)]
         return Cause(
             f"{one.name} has {told[0]}, and {other.name} has {told[1]}",
             {**values, f"{one.word}Depth": one.depth, f"{other.word}Depth": other.depth},
+            f"Make {made} with {told[1]}.",
         )
     if one.samples != other.samples:
         said = f"{one.name} has {plural(one.samples, 'sample')}, and {other.name} has {other.samples}"
         return Cause(
-            said, {**values, f"{one.word}Samples": one.samples, f"{other.word}Samples": other.samples}, remedy.format(other.samples)
+            said,
+            {**values, f"{one.word}Samples": one.samples, f"{other.word}Samples": other.samples},
+            f"Make {made} with samples {other.samples}.",
         )
     return None
 
@@ -74,7 +79,9 @@ def colors(case):
     depth = case.call["depth"]
     wrong = wrong_colors(case, "color", case.call["colors"])
     if wrong is None and depth is not None and case.second.formats.is_color(depth):
-        return Cause(f"depth is {depth}, which has color, and neither depth nor stencil", {"format": depth})
+        return Cause(
+            f"depth is {depth}, which has color, and neither depth nor stencil", {"format": depth}, "Give it among the colors."
+        )
     return wrong
 
 
@@ -92,7 +99,7 @@ def samples(case):
 def pipeline_fits(case):
     """A pipeline draws to what the pass has attached, or to what the bundle encoder was made with."""
     place = place_drawn(case)
-    return difference(pipeline_drawn(case, case.uses["pipeline"]), place, "Make the pipeline with samples {}.") if place else None
+    return difference(pipeline_drawn(case, case.uses["pipeline"]), place, "the pipeline") if place else None
 
 
 @rule(321)
@@ -112,8 +119,8 @@ def pipeline_spares(case):
 
 @rule(370)
 def bundles_fit(case):
-    remedy = "Make the bundle encoder with samples {}."
-    return first(difference(bundle_drawn(case, bundle), place_drawn(case), remedy) for bundle in case.uses["bundles"])
+    place = place_drawn(case)
+    return first(difference(bundle_drawn(case, bundle), place, "the bundle encoder") for bundle in case.uses["bundles"])
 
 
 @rule(371)

@@ -94,13 +94,16 @@ def spot(case, texture, mip, origin):
     named, values = case.named(texture), {"object": call["as"], mip_key: level}
     if level >= call["mips"]:
         return Cause(
-            f"{mip_key} is {level}, and {named} has {plural(call['mips'], 'mip level')}, counted from 0", {**values, "mips": call["mips"]}
+            f"{mip_key} is {level}, and {named} has {plural(call['mips'], 'mip level')}, counted from 0",
+            {**values, "mips": call["mips"]},
+            f"The greatest is {call['mips'] - 1}; make the texture with more where that is wanted.",
         )
     whole = case.second.formats.extent(call, level)
     for name, low, length, there in zip(EXTENTS[call["dim"]], start, size, whole):
         if low + length > there:
             said = f"{name} {length} from {low} on ends at {low + length}, and mip level {level} of {named} has {name} {there}"
-            return Cause(said, {**values, "extent": name, "origin": low, "size": length, "end": low + length, "has": there})
+            values = {**values, "extent": name, "origin": low, "size": length, "end": low + length, "has": there}
+            return Cause(said, values, f"Take at most {there - low} from {low} on." if low < there else f"Nothing is there from {low} on.")
     if case.second.formats.is_color(call["format"]) and call["samples"] == 1:
         return None
     why = "4 samples" if call["samples"] == 4 else f"the format {call['format']}"
@@ -140,8 +143,13 @@ def aspect(case):
             "Copy one aspect, with the aspect stencil-only.",
         )
     if not aspects:
-        return Cause(f"aspect is {word}, and {case.named(texture)} has the format {format}, which has {case.aspects(format)} alone", values)
-    return Cause(f"the {aspects[0]} of {format} of {case.named(texture)} cannot be {where}", values)
+        return Cause(
+            f"aspect is {word}, and {case.named(texture)} has the format {format}, which has {case.aspects(format)} alone",
+            values,
+            "Leave aspect out.",
+        )
+    instead = "Copy it to another texture, or read it in a shader" if where == "copied from" else "Draw it in a render pass"
+    return Cause(f"the {aspects[0]} of {format} of {case.named(texture)} cannot be {where}", values, f"{instead}.")
 
 
 @rule(260)
@@ -175,11 +183,14 @@ def texel_layout(case):
         return Cause(
             f"bytesPerRow is {row}, and a row has {plural(width, 'texel')} of {plural(size, 'byte')}: {width * size}",
             {**values, "least": width * size},
+            f"Give at least {width * size}.",
         )
     if rows is None and depth > 1:
         return Cause(f"rowsPerImage is left out, and the copy has {depth} images", values, f"Give at least the height, {height}.")
     if rows is not None and rows < height:
-        return Cause(f"rowsPerImage is {rows}, and an image has {height} rows", {**values, "least": height})
+        return Cause(
+            f"rowsPerImage is {rows}, and an image has {height} rows", {**values, "least": height}, f"Give at least {height}."
+        )
     return too_few(case, values)
 
 
@@ -193,7 +204,8 @@ def too_few(case, values):
         return None
     has = f"dataSize is {there}" if is_write else f"{case.named(case.uses['buffer'])} has {plural(there, 'byte')}"
     said = f"offset {offset} and the {taken} bytes of the texels, {product(call, size)}, end at {offset + taken}, and {has}"
-    return Cause(said, {**values, "offset": offset, "taken": taken, "end": offset + taken, "bytes": there})
+    remedy = f"Give at least {offset + taken} bytes." if is_write else f"Make the buffer with at least {offset + taken} bytes."
+    return Cause(said, {**values, "offset": offset, "taken": taken, "end": offset + taken, "bytes": there}, remedy)
 
 
 def product(call, size):
@@ -226,6 +238,7 @@ def differ(case, key, why):
             f"source{key.capitalize()}": source.call[key],
             f"target{key.capitalize()}": target.call[key],
         },
+        f"Make both with the same {key}.",
     )
 
 

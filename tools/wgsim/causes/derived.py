@@ -42,7 +42,10 @@ OF_LAYOUTS = {131: layouts.binding_limit, 133: layouts.vertex_writes, 134: layou
 
 @rule(168)
 def can_be_made(case):
-    found = first(at_most("group", used["group"], 3, f"entry {number} of iface: ") for number, used in enumerate(case.call["iface"]))
+    remedy = "Groups are numbered from 0 to 3."
+    found = first(
+        at_most("group", used["group"], 3, remedy, f"entry {number} of iface: ") for number, used in enumerate(case.call["iface"])
+    )
     if found:
         return found
     derived = case.second.automatic.merged(case.call["iface"])
@@ -71,5 +74,5 @@ def group_of_pipeline(case):
     return Cause(
         f"index is {index}, and {case.named(pipeline)} has {has}{why}",
         {"index": index, "pipeline": pipeline.call["as"], "groups": count, "derived": derives},
-        f"The greatest index is {count - 1}." if count else None,
+        f"The greatest index is {count - 1}." if count else "Leave it out: the pipeline takes no bind group.",
     )

@@ -22,7 +22,7 @@ def vertex_usage(case):
 
 @rule(331)
 def slot(case):
-    return at_most("slot", case.call["slot"], 7)
+    return at_most("slot", case.call["slot"], 7, "Slots are numbered from 0 to 7.")
 
 
 @rule(332)
@@ -71,7 +71,8 @@ def indirect_range(case):
         f"offset {offset} and the {length} bytes that a {case.do} reads end at {offset + length}, and {case.named(buffer)} has"
         f" {plural(there, 'byte')}"
     )
-    return Cause(said, {"object": buffer.call["as"], "offset": offset, "reads": length, "end": offset + length, "bytes": there})
+    remedy = f"The greatest offset is {(there - length) // 4 * 4}." if length <= there else f"Make it with at least {length} bytes."
+    return Cause(said, {"object": buffer.call["as"], "offset": offset, "reads": length, "end": offset + length, "bytes": there}, remedy)
 
 
 def wanted(case):
@@ -172,12 +173,12 @@ def elements_of(case, at, one):
         "bytes": there,
         "object": setting.uses["buffer"].call["as"],
     }
-    return Cause(said, values, remedy_of(low, one["stride"], last, there, one["step"]))
+    return Cause(said, values, remedy_of(one["stride"], last, there, one["step"], f"set at least {asked} bytes"))
 
 
-def remedy_of(low, stride, last, there, step):
-    """How many elements are there, where that is plain."""
-    if stride == 0 or there < last:
-        return None
+def remedy_of(stride, last, there, step, more):
+    """How many elements are there, and to set more bytes where they are to be drawn."""
+    if there < last:
+        return f"No whole element for each {step} is there: {more}."
     count = (there - last) // stride + 1
-    return f"There are {plural(count, 'element')} for each {step}." if count > 1 else f"There is 1 element for each {step}."
+    return f"There {'is' if count == 1 else 'are'} {plural(count, 'element')} for each {step}: draw no more of them, or {more}."

@@ -19,7 +19,7 @@ class Bound:
         self.words = f"entry {number} (binding {entry['binding']}): "
         self.values = {"entry": number, "binding": entry["binding"]}
 
-    def cause(self, condition, values, remedy=None):
+    def cause(self, condition, values, remedy):
         return Cause(self.words + condition, {**self.values, **values}, remedy)
 
 
@@ -48,6 +48,7 @@ def bindings(case):
         return Cause(
             f"{case.named(layout)} has {many}, and no entry has {'it' if len(missing) == 1 else 'them'}",
             {"layout": layout.call["as"], "missing": missing, "given": given},
+            f"Add {'an entry for it' if len(missing) == 1 else 'entries for them'}.",
         )
     pair = twice(given)
     if pair:
@@ -61,6 +62,9 @@ def bindings(case):
             return Cause(
                 f"entry {number} has the binding {binding}, and {case.named(layout)} has {listed(asked)}",
                 {"entry": number, "binding": binding, "layout": layout.call["as"], "has": asked},
+                "Leave it out: no shader of the pipeline that derived the layout uses it."
+                if layout.owner
+                else "Leave it out, or add it to the layout.",
             )
     return None
 
@@ -73,7 +77,8 @@ def holds(case):
             layout = case.uses["layout"]
             asks = HOLDS[wanted] + (f" as {one.asked['kind']}" if one.asked["kind"] != wanted else "")
             said = f"it holds {HOLDS[key]}, {case.named(one.thing)}, and {case.named(layout)} asks for {asks}"
-            return one.cause(said, {"holds": key, "object": one.entry[key], "asked": wanted, "kind": one.asked["kind"]})
+            values = {"holds": key, "object": one.entry[key], "asked": wanted, "kind": one.asked["kind"]}
+            return one.cause(said, values, f"Give it {HOLDS[wanted]}, or another binding.")
     return None
 
 
@@ -100,6 +105,7 @@ def buffer_range(case):
                     f" {one.thing.call['size']} bytes"
                 ),
                 {"offset": offset, "size": 0, "bytes": one.thing.call["size"]},
+                f"Take an offset below {one.thing.call['size']}, or make the buffer larger." if is_left_out else "Leave the size out.",
             )
         cause = cause or fits(case, one.thing, offset, size, is_left_out=is_left_out, where=one.words)
         if cause:
@@ -110,7 +116,7 @@ def buffer_range(case):
 @rule(154)
 def buffer_size(case):
     groups, layout = case.second.groups, case.uses["layout"]
-    for one, _, size, is_left_out in ranges(case):
+    for one, offset, size, is_left_out in ranges(case):
         kind, limit = one.asked["kind"], groups.BUFFER_KINDS[one.asked["kind"]][1]
         most = case.history.limits[limit]
         told, values = with_left_out("size", size, is_left_out), {"size": size, "kind": kind}
@@ -131,8 +137,17 @@ def buffer_size(case):
             return one.cause(
                 f"{told} is below the minSize {one.asked['minSize']} of {case.named(layout)}",
                 {**values, "least": one.asked["minSize"], "layout": layout.call["as"]},
+                to_be_large(case, one, offset),
             )
     return None
+
+
+def to_be_large(case, one, offset):
+    """What to do where fewer bytes are bound than the shader reads: the buffer may have them, or has to be made with them."""
+    least = one.asked["minSize"]
+    if offset + least <= one.thing.call["size"]:
+        return f"Bind at least {least} bytes."
+    return f"Make {case.name(one.thing)} with at least {offset + least} bytes."
 
 
 @rule(155)
@@ -161,6 +176,7 @@ def sampled_one(case, one):
         return one.cause(
             f"{name} of {format} is sampled as {has}, and {asks} {one.asked['sample']}",
             {"view": one.thing.call["as"], "format": format, "sampled": has, "asked": one.asked["sample"]},
+            f"Take the sample {has} in the layout, or a texture of a format that is sampled as {one.asked['sample']}.",
         )
     if view["dim"] != one.asked["dim"]:
         return one.cause(
@@ -170,10 +186,11 @@ def sampled_one(case, one):
         )
     samples = texture.call["samples"]
     if (samples == 4) != one.asked["multi"]:
-        told = "true" if one.asked["multi"] else "false"
+        told, told_other = ("true", "false") if one.asked["multi"] else ("false", "true")
         return one.cause(
             f"{case.named(texture)} has {samples} sample{'s' * (samples != 1)}, and {case.named(layout)} has multi {told}",
             {"object": texture.call["as"], "samples": samples, "multi": one.asked["multi"]},
+            f"Make the texture with samples {4 if one.asked['multi'] else 1}, or the layout with multi {told_other}.",
         )
     return None
 
@@ -197,6 +214,7 @@ def stored(case):
                 return one.cause(
                     f"{name} has the {key} {has}, and {case.named(layout)} asks for {one.asked[key]}",
                     {"view": one.thing.call["as"], key: has, "asked": one.asked[key]},
+                    f"Make the {'texture' if key == 'format' else 'view'} with the {key} {one.asked[key]}.",
                 )
     return None
 

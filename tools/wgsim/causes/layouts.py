@@ -63,6 +63,7 @@ def binding_limit(case):
             cause = Cause(
                 f"entry {number}{of_iface(case)} has the binding {entry['binding']}, and the greatest is {most}",
                 {"entry": number, "binding": entry["binding"], "most": most},
+                None,
             )
             return limited("maxBindingsPerBindGroup", entry["binding"] + 1, cause)
     return None
@@ -115,7 +116,7 @@ def multisampled(case):
         if entry["kind"] == "texture" and entry["multi"]:
             values = {"entry": number, "binding": entry["binding"], "dim": entry["dim"], "sample": entry["sample"]}
             if entry["dim"] != "2d":
-                return Cause(f"{said} has multi true and the dim {entry['dim']}, where 2d is asked for", values)
+                return Cause(f"{said} has multi true and the dim {entry['dim']}, where 2d is asked for", values, "Take the dim 2d.")
             if entry["sample"] == "float":
                 return Cause(
                     f"{said} has multi true and the sample type float, which cannot be filtered with several samples",
@@ -180,7 +181,7 @@ def too_many(case, counts, limit, before, after, values):
     by = ": " + listed(f"{number} in {said}" for said, number in counts if said and number) if counts[0][0] else ""
     many = f"{plural(total, 'entry') if total == 1 else f'{total} entries'} {after}"
     said = f"{before} {many}" if before else f"there are {many}"
-    return limited(limit, total, Cause(f"{said}, and at most {most} are allowed{by}", {**values, "count": total, "most": most}))
+    return limited(limit, total, Cause(f"{said}, and at most {most} are allowed{by}", {**values, "count": total, "most": most}, None))
 
 
 @rule(136)
@@ -200,7 +201,13 @@ def layouts_of(case):
 @rule(140)
 def layouts(case):
     count = len(case.uses["layouts"])
-    return None if count <= 4 else Cause(f"layouts has {count} items, and at most 4 are allowed", {"layouts": count, "most": 4})
+    if count <= 4:
+        return None
+    return Cause(
+        f"layouts has {count} items, and at most 4 are allowed",
+        {"layouts": count, "most": 4},
+        "Put the entries of several layouts into one.",
+    )
 
 
 @rule(141)

@@ -5,12 +5,12 @@ from wgsim.reading import bits, limits
 
 class Cause:
     """Why a rule is unmet: the condition that failed, as a sentence; the values on both sides, by name; and what to do, as a sentence, or
-    None.
+    None of what only follows from another fault.
 
     `follows_from` is the entry whose fault brought this one, where it is nothing but a consequence, and `about` the command that a rule of
     the finish itself is about."""
 
-    def __init__(self, condition, values, remedy=None, follows_from=None, about=None):
+    def __init__(self, condition, values, remedy, follows_from=None, about=None):
         self.condition = condition
         self.values = values
         self.remedy = remedy
@@ -101,7 +101,7 @@ def multiple(key, number, of, where="", why=""):
     )
 
 
-def at_most(key, number, most, where="", remedy=None):
+def at_most(key, number, most, remedy, where=""):
     """A number is above a limit."""
     if number <= most:
         return None
@@ -109,7 +109,8 @@ def at_most(key, number, most, where="", remedy=None):
 
 
 def limited(name, needed, cause):
-    """A cause that a limit of the device brings, with the limit by its name, and whether a script may ask for as much as is needed."""
+    """A cause that a limit of the device brings, which may have no remedy yet, with the limit by its name, and whether a script may ask for
+    as much as is needed."""
     if cause is None:
         return None
     limit = limits.TABLE[name]

@@ -38,7 +38,8 @@ def mode(case):
     number = case.call["mode"]
     if number in (1, 2):
         return None
-    return Cause(f"mode is {bits.said(number, bits.MODES)}, and READ (1) or WRITE (2) is asked for", {"mode": number, "allowed": [1, 2]})
+    said = f"mode is {bits.said(number, bits.MODES)}, and READ (1) or WRITE (2) is asked for"
+    return Cause(said, {"mode": number, "allowed": [1, 2]}, "Take one of the two.")
 
 
 @rule(224)

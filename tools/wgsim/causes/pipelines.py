@@ -21,27 +21,29 @@ def interface(case):
         where = f"entry {number} of iface (group {used['group']}, binding {used['binding']}): "
         found = unused(case, layout, used)
         if found:
-            condition, values = found
-            return Cause(where + condition, {"entry": number, "group": used["group"], "binding": used["binding"], **values})
+            condition, values, remedy = found
+            return Cause(where + condition, {"entry": number, "group": used["group"], "binding": used["binding"], **values}, remedy)
     return None
 
 
 def unused(case, layout, used):
-    """What a pipeline layout does not offer to an entry of the interface: a condition with its values, or None."""
+    """What a pipeline layout does not offer to an entry of the interface: a condition with its values and a remedy, or None."""
     layouts = layout.uses["layouts"]
     if used["group"] >= len(layouts):
-        return f"{case.named(layout)} has {plural(len(layouts), 'layout')}, and none at {used['group']}", {
-            "layout": layout.call["as"],
-            "layouts": len(layouts),
-        }
+        return (
+            f"{case.named(layout)} has {plural(len(layouts), 'layout')}, and none at {used['group']}",
+            {"layout": layout.call["as"], "layouts": len(layouts)},
+            f"Give {case.name(layout)} a layout at {used['group']}, or name another group.",
+        )
     group = layouts[used["group"]]
     has = {entry["binding"]: entry for entry in group.entries}
     found, stage = has.get(used["binding"]), used.get("stage", "compute")
     if found is None:
-        return f"{case.named(group)} has no binding {used['binding']}" + (f"; it has {listed(has)}" if has else ""), {
-            "layout": group.call["as"],
-            "has": list(has),
-        }
+        return (
+            f"{case.named(group)} has no binding {used['binding']}" + (f"; it has {listed(has)}" if has else ""),
+            {"layout": group.call["as"], "has": list(has)},
+            f"Add it to {case.name(group)}, or name another binding.",
+        )
     bit = case.second.groups.STAGES[stage]
     if not found["visibility"] & bit:
         seen = found["visibility"]
@@ -55,15 +57,15 @@ def unused(case, layout, used):
         return (
             f"{case.named(group)} has the visibility {bits.said(seen, bits.STAGES)} there, and {bits.one(bit, bits.STAGES)} is missing",
             values,
+            f"Add it where {case.name(group)} is made.",
         )
     for key in ("kind", *OF_KINDS):
         if key in used and found.get(key) != used[key]:
-            return f"the {key} is {told(used[key])}, and {told(found[key])} in {case.named(group)}", {
-                "key": key,
-                "asked": used[key],
-                "has": found[key],
-                "layout": group.call["as"],
-            }
+            return (
+                f"the {key} is {told(used[key])}, and {told(found[key])} in {case.named(group)}",
+                {"key": key, "asked": used[key], "has": found[key], "layout": group.call["as"]},
+                f"Make {case.name(group)} with the {key} {told(used[key])}, or name it with {told(found[key])}.",
+            )
     return None
 
 
@@ -84,11 +86,15 @@ def attributes_of(case):
 def vertex_buffers(case):
     buffers, attributes = case.call["buffers"], attributes_of(case)
     if len(buffers) > 8:
-        return Cause(f"buffers has {len(buffers)} vertex buffers, and at most 8 are allowed", {"buffers": len(buffers), "most": 8})
+        return Cause(
+            f"buffers has {len(buffers)} vertex buffers, and at most 8 are allowed",
+            {"buffers": len(buffers), "most": 8},
+            "Put the attributes of several into one buffer.",
+        )
     most, widest = case.history.limits["maxVertexAttributes"], case.history.limits["maxVertexBufferArrayStride"]
     if len(attributes) > most:
         said = f"the vertex buffers have {len(attributes)} attributes together, and at most {most} are allowed"
-        return limited("maxVertexAttributes", len(attributes), Cause(said, {"attributes": len(attributes), "most": most}))
+        return limited("maxVertexAttributes", len(attributes), Cause(said, {"attributes": len(attributes), "most": most}, None))
     for place, one in buffers_of(case):
         stride, low = one["stride"], one["stride"] - one["stride"] % 4
         if stride % 4:
@@ -99,7 +105,7 @@ def vertex_buffers(case):
             )
         if stride > widest:
             said = f"buffer {place} has the stride {stride}, and at most {widest} is allowed"
-            return limited("maxVertexBufferArrayStride", stride, Cause(said, {"buffer": place, "stride": stride, "most": widest}))
+            return limited("maxVertexBufferArrayStride", stride, Cause(said, {"buffer": place, "stride": stride, "most": widest}, None))
     return None
 
 
@@ -111,6 +117,7 @@ def attributes(case):
             cause = Cause(
                 f"{where}the location is {attribute['location']}, and the greatest is {most}",
                 {"buffer": place, "attribute": number, "location": attribute["location"], "most": most},
+                None,
             )
             return limited("maxVertexAttributes", attribute["location"] + 1, cause)
     pair = twice([attribute["location"] for _, _, _, attribute, _ in found])
@@ -141,6 +148,7 @@ def placed(case, where, place, number, attribute, one):
         cause = Cause(
             f"{where}{attribute['format']} at offset {offset} ends at {offset} + {size} = {offset + size}, and {limit}",
             {**values, "end": offset + size, "most": most},
+            f"Give a stride of at least {offset + size}, or a smaller offset." if one["stride"] else None,
         )
         return cause if one["stride"] else limited("maxVertexBufferArrayStride", offset + size, cause)
     step = min(4, size)
@@ -163,7 +171,9 @@ def wrong_colors(case, word, formats):
     many, or one has no color."""
     if len(formats) > MOST_COLORS:
         return Cause(
-            f"{word}s has {len(formats)} items, and at most {MOST_COLORS} are allowed", {f"{word}s": len(formats), "most": MOST_COLORS}
+            f"{word}s has {len(formats)} items, and at most {MOST_COLORS} are allowed",
+            {f"{word}s": len(formats), "most": MOST_COLORS},
+            "Draw to the others in a pass of their own.",
         )
     for place, format in enumerate(formats):
         if format is not None and not case.second.formats.is_color(format):
@@ -182,7 +192,11 @@ def depth(case):
         return None
     format, aspects = state["format"], case.second.formats.aspects_of(state["format"])
     if "color" in aspects:
-        return Cause(f"the format of depth is {format}, which has color, and neither depth nor stencil", {"format": format})
+        return Cause(
+            f"the format of depth is {format}, which has color, and neither depth nor stencil",
+            {"format": format},
+            "Give it among the targets.",
+        )
     for key, aspect in (("depthWrite", "depth"), ("stencilWrite", "stencil")):
         if state[key] and aspect not in aspects:
             return Cause(
@@ -220,7 +234,7 @@ def wrong_samples(case, word, formats, depth):
     """What is wrong with a count of samples: it is none, or a format does not allow it."""
     count = case.call["samples"]
     if count not in (1, 4):
-        return Cause(f"samples is {count}, and 1 or 4 is asked for", {"samples": count, "allowed": [1, 4]})
+        return Cause(f"samples is {count}, and 1 or 4 is asked for", {"samples": count, "allowed": [1, 4]}, "Take 1 or 4.")
     drawn = [(f"{word} {place}", format) for place, format in enumerate(formats) if format is not None]
     drawn += [("depth", depth)] if depth is not None else []
     for where, format in drawn:

@@ -11,6 +11,11 @@ def queries(count):
     return "1 query" if count == 1 else f"{count} queries"
 
 
+def greatest(count):
+    """What to do where a query is named that a set of so many does not have."""
+    return f"The greatest is {count - 1}; make the query set with more where that is wanted." if count else "Make the query set with more."
+
+
 @rule(170)
 def count_of_set(case):
     return at_most("count", case.call["count"], MOST_QUERIES, remedy="Take several query sets.")
@@ -27,7 +32,7 @@ def resolved_from(case):
     there = made.call["count"]
     values = {"object": made.call["as"], "first": first, "count": count, "queries": there}
     if first >= there:
-        return Cause(f"first is {first}, and {case.named(made)} has {queries(there)}, counted from 0", values)
+        return Cause(f"first is {first}, and {case.named(made)} has {queries(there)}, counted from 0", values, greatest(there))
     if first + count > there:
         remedy = f"From {first} on {queries(there - first)} {'is' if there - first == 1 else 'are'} there."
         return Cause(
@@ -114,6 +119,7 @@ def index(case):
     return Cause(
         f"index is {number}, and {case.named(made)} has {queries(there)}, counted from 0",
         {"object": made.call["as"], "index": number, "queries": there},
+        greatest(there),
     )
 
 

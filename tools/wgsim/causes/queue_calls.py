@@ -46,9 +46,8 @@ def invalid(case):
     for key, thing in case.named_things():
         if not thing.is_valid:
             said = f"{case.named(thing)}, which is {key}, is invalid since it was made, at entry {thing.entry}, by rule {thing.rule}"
-            return Cause(
-                said, {"object": thing.call["as"], "key": key, "madeAt": thing.entry, "madeByRule": thing.rule}, follows_from=thing.entry
-            )
+            values = {"object": thing.call["as"], "key": key, "madeAt": thing.entry, "madeByRule": thing.rule}
+            return Cause(said, values, None, follows_from=thing.entry)
     return None
 
 

@@ -9,9 +9,11 @@ WHOLE = {"beginRenderPass": "the render pass", "finishBundle": "the bundle that 
 
 
 class Use:
-    """A use of a part in a scope: the usage, the words that tell of what it comes, and the command with its place."""
+    """A use of a part in a scope: the usage, the words that tell of what it comes, the command with its place, and the view that is bound,
+    if one is."""
 
-    def __init__(self, case, usage, words, command):
+    def __init__(self, case, usage, words, command, bound=None):
+        self.bound = bound
         self.usage = usage
         self.words = words
         self.command = command
@@ -22,10 +24,25 @@ def of_setting(case, setting):
     """What a setBindGroup brings: pairs of a cell and its use."""
     group, found = setting.uses["group"], []
     for asked, entry, thing, move in case.second.bound_groups.bindings(group, setting.call["offsets"]):
-        words = f"binding {entry['binding']} of {case.named(group)}, set at {case.place(setting)}"
+        bound = thing if thing.do == "createView" else None
+        view = f", with {seen_by(case, bound)}" if bound else ""
+        words = f"binding {entry['binding']} of {case.named(group)}, set at {case.place(setting)}{view}"
         touches = case.second.bound_groups.touches_of(asked, entry, thing, move)
-        found += [(cell, Use(case, usage, words, setting)) for cell, usage, _ in touches]
+        found += [(cell, Use(case, usage, words, setting, bound)) for cell, usage, _ in touches]
     return found
+
+
+def seen_by(case, view):
+    """A view that is bound, with its mip levels and layers."""
+    told = case.second.textures.told(view)
+    runs = [run("mip level", told["baseMip"], told["mips"])]
+    if told["dim"] != "3d":
+        runs.append(run("layer", told["baseLayer"], told["layers"]))
+    return f"{case.named(view)} of {' and '.join(runs)}"
+
+
+def run(what, base, count):
+    return f"{what} {base}" if count == 1 else f"{what}s {base} to {base + count - 1}"
 
 
 def of_command(case, command):
@@ -39,7 +56,8 @@ def of_executed(case, command):
     found = []
     for bundle in dict.fromkeys(command.uses["bundles"]):
         for cell, use in of_drawing(case, case.history.commands_of(bundle)):
-            found.append((cell, Use(case, use.usage, f"{use.words} in {case.named(bundle)}, executed at {case.place(command)}", command)))
+            words = f"{use.words} in {case.named(bundle)}, executed at {case.place(command)}"
+            found.append((cell, Use(case, use.usage, words, command, use.bound)))
     return found
 
 
@@ -131,4 +149,12 @@ def clashing(case, command, part, one, other, about):
         "finishBundle": "Use them in two bundles, and execute these in two render passes.",
     }
     remedy = remedies.get(command.do, "Use them in two dispatches, or bind both for reading alone.")
-    return Cause(said, values, remedy, about=about)
+    bound = one.bound or other.bound
+    return Cause(said, values, apart(case, bound) or remedy if bound else remedy, about=about)
+
+
+def apart(case, bound):
+    """What to do where a view is bound that has more mip levels or layers than the part that clashes; None where it has that alone."""
+    told = case.second.textures.told(bound)
+    what = "mip level" if told["mips"] > 1 else "layer" if told["layers"] > 1 and told["dim"] != "3d" else None
+    return f"Bind a view of one {what} that nothing else uses here, in place of {case.name(bound)}." if what else None

@@ -7,7 +7,7 @@ from .making import Cause, at_most, first, listed, plural, rule
 
 @rule(325)
 def index(case):
-    return at_most("index", case.call["index"], 3)
+    return at_most("index", case.call["index"], 3, "Bind groups are set at 0 to 3.")
 
 
 @rule(326)
@@ -63,7 +63,9 @@ def moved(case):
                 "object": thing.call["as"],
                 "bytes": thing.call["size"],
             }
-            return Cause(said, values, "Give the entry of the group a size that leaves room." if entry["size"] is None else None)
+            most = (thing.call["size"] - offset - size) // 256 * 256
+            is_left_out = entry["size"] is None
+            return Cause(said, values, "Give the entry of the group a size that leaves room." if is_left_out else f"Give at most {most}.")
     return None
 
 
@@ -123,7 +125,8 @@ def groups_set(case):
             return cause
         why = difference(asked.entries, other.entries)
         if why:
-            return Cause(set_there + why, {**values, "difference": why})
+            group_of = f'"{asked.name}"' if asked.name else f"what getBindGroupLayout gives of {case.name(pipeline)} for {asked.at}"
+            return Cause(set_there + why, {**values, "difference": why}, f"Make the group of {group_of}.")
     return None
 
 
@@ -215,4 +218,5 @@ def overlap(case, one, other):
 
 @rule(343)
 def counts(case):
-    return first(at_most(key, case.call[key], 65535) for key in ("x", "y", "z"))
+    remedy = "Spread the workgroups over x, y and z, or over several dispatches."
+    return first(at_most(key, case.call[key], 65535, remedy) for key in ("x", "y", "z"))

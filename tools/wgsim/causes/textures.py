@@ -25,7 +25,8 @@ def extents(case):
 def no_extent(case):
     for name, length, _ in extents(case):
         if length < 1:
-            return Cause(f"{name} is 0 in the size {case.call['size']}, and at least 1 is asked for", {"extent": name, "is": 0, "least": 1})
+            said = f"{name} is 0 in the size {case.call['size']}, and at least 1 is asked for"
+            return Cause(said, {"extent": name, "is": 0, "least": 1}, "Give at least 1.")
     return None
 
 
@@ -39,6 +40,7 @@ def extent_limits(case):
             cause = Cause(
                 f"{name} is {length} in the size {case.call['size']}, and a {dim} texture {asked}",
                 {"extent": name, "is": length, "most": most, "dim": dim},
+                None if limit else "Give 1.",
             )
             return limited(limit, length, cause) if limit else cause
     return None
@@ -50,22 +52,24 @@ def mips(case):
     counted = size if dim == "3d" else size[:2]
     most = 1 if dim == "1d" else max(counted).bit_length()
     if count < 1:
-        return Cause("mips is 0, and at least 1 is asked for", {"mips": 0, "least": 1, "most": most})
+        return Cause("mips is 0, and at least 1 is asked for", {"mips": 0, "least": 1, "most": most}, f"Give 1 to {most}.")
     if count > most:
         why = "a 1d texture has 1" if dim == "1d" else f"a {dim} texture of {' by '.join(map(str, counted))} has at most {most}"
-        return Cause(f"mips is {count}, and {why}", {"mips": count, "most": most, "dim": dim})
+        return Cause(f"mips is {count}, and {why}", {"mips": count, "most": most, "dim": dim}, f"Give at most {most}.")
     return None
 
 
 @rule(114)
 def samples(case):
     count = case.call["samples"]
-    return None if count in (1, 4) else Cause(f"samples is {count}, and 1 or 4 is asked for", {"samples": count, "allowed": [1, 4]})
+    if count in (1, 4):
+        return None
+    return Cause(f"samples is {count}, and 1 or 4 is asked for", {"samples": count, "allowed": [1, 4]}, "Take 1 or 4.")
 
 
 def four(key, value, asked, is_met):
     said = f"with 4 samples {key} is to be {asked}, and it is {value}"
-    return None if is_met else Cause(said, {"samples": 4, key: value, "asked": asked})
+    return None if is_met else Cause(said, {"samples": 4, key: value, "asked": asked}, f"Give {key} {asked}, or samples 1.")
 
 
 @rule(115)

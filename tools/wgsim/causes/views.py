@@ -47,13 +47,16 @@ def run_of(case, key, base, count, of):
                 f" {plural(have, of)}"
             ),
             {count: view[count], base: view[base], "object": call["as"], "has": have},
+            "Give at least 1." if view[base] < have else f"The greatest {base} is {have - 1}.",
         )
     if view[base] + view[count] > have:
         said = (
             f"{base} {view[base]} and {told(case, view, count)} end at {view[base] + view[count]}, and {case.named(texture)} has"
             f" {plural(have, of)}"
         )
-        return Cause(said, {base: view[base], count: view[count], "end": view[base] + view[count], "object": call["as"], "has": have})
+        values = {base: view[base], count: view[count], "end": view[base] + view[count], "object": call["as"], "has": have}
+        remedy = f"Give {count} of at most {have - view[base]}." if view[base] < have else f"The greatest {base} is {have - 1}."
+        return Cause(said, values, remedy)
     return None
 
 
@@ -89,10 +92,11 @@ def layers_of_dimension(case):
         return Cause(
             f"a cube-array has a multiple of 6 layers, and {that_is(case, view, 'layers')}",
             {"dim": "cube-array", "layers": view["layers"], "multipleOf": 6},
+            "Give layers that are 6 for each cube.",
         )
     if asked is None or view["layers"] == asked:
         return None
-    remedy = "Take the dim 2d-array." if view["dim"] == "2d" else None
+    remedy = "Take the dim 2d-array." if view["dim"] == "2d" else f"Give layers {asked}."
     return Cause(
         f"a view of the dim {view['dim']} has {plural(asked, 'layer')}, and {that_is(case, view, 'layers')}",
         {"dim": view["dim"], "layers": view["layers"], "asked": asked},
@@ -109,6 +113,7 @@ def square(case):
     return Cause(
         f"a {view['dim']} is square, and {case.named(texture)} is {width} by {height}",
         {"dim": view["dim"], "object": call["as"], "width": width, "height": height},
+        "Make the texture as wide as it is high.",
     )
 
 

@@ -15,7 +15,7 @@ BY_PROGRAM = False
 def add_words(parser):
     parser.add_argument("--out", metavar="FOLDER", help="where the files are written; else here")
     parser.add_argument("--browser", metavar="PATH", help="another browser than the Chromium that is installed")
-    parser.add_argument("--frames", metavar="N", help="after how many frames of canvases it ends: 3")
+    parser.add_argument("--frames", metavar="N", help="after how many frames it ends: 3")
     parser.add_argument("--seconds", metavar="N", help="after how many seconds it ends at most: 30")
     parser.add_argument("--saved", action="store_true", help="of a file that was saved")
     parser.add_argument("--one-file", action="store_true", help="the recorder, to standard output")

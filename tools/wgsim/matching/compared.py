@@ -30,20 +30,34 @@ QUEUING = {"submit", "writeBuffer", "writeTexture"}
 # The rules that the standard tells by an exception.
 THROWS = {number for rule in rules.RULES if rule.is_thrown for number in rule.numbers}
 LONGEST = 20
+TOO_SMALL = re.compile(next(row["says"] for row in TABLE["known"] if "createBindGroup" in row.get("calls", [])))
 
 
 class Verdict:
-    """What is told of one call."""
+    """What is told of one call. `is_alone` says that the browser alone refuses it, with an error of a kind and the message."""
 
     def __init__(self, number: Any, call: Any, at: Any, how: Any, core: Any, browser: Any, why: Any = None) -> None:
         self.number, self.call, self.at, self.how, self.core, self.browser, self.why = number, call, at, how, core, browser, why
         self.word = call.word if call is not None else None
+        self.is_alone, self.kind, self.message = False, None, ""
+
+    def of_browser(self, answer: dict[str, Any]) -> None:
+        """Takes the error that the browser alone told."""
+        self.is_alone = True
+        self.kind = "thrown" if "throws" in answer else f"{answer['error']}, {answer['caught']}"
+        self.message = answer["throws"] if "throws" in answer else answer["message"]
+
+    def is_too_small(self) -> bool:
+        """Whether the browser alone tells that a buffer is smaller than what the shader reads: a write past its end follows from that."""
+        return self.is_alone and TOO_SMALL.search(self.message) is not None
 
     def place(self) -> str:
         return f"at call {self.number}"
 
-    def text(self) -> str:
-        where = self.place() + (f", {self.at}" if self.at else "")
+    def text(self, times: int = 1) -> str:
+        """It in words, with how often it comes; without its number where that is 0."""
+        often = f", the first of {times} times" if times > 1 else ""
+        where = (self.place() + (f", {self.at}" if self.at else "") if times else "") + often
         why = f" ({self.why})" if self.why else ""
         return f"{self.how} {where}: {self.word}: core {self.core}; browser {self.browser}{why}"
 
@@ -66,6 +80,7 @@ class Passed(Verdict):
         why = f"no script has it: {listed([passed['outside']])}" + (f", {passed['detail']}" if passed.get("detail") else "")
         super().__init__(passed["before"], None, passed.get("at"), OUTSIDE, "has it not", browser_of(passed), why)
         self.word = passed["do"]
+        self.of_browser(passed)
 
     def place(self) -> str:
         return f"before call {self.number}"
@@ -103,6 +118,8 @@ class Compared:
             self.note(number, call, how, core_of(fault), browser_of(answer), None if how == AGREES else self.reason(call, fault, answer))
         elif fault is not None or has_failed:
             self.note(number, call, DIFFERS, core_of(fault), browser_of(answer), self.reason(call, fault, answer))
+            if has_failed:
+                self.verdicts[-1].of_browser(answer)
         elif entry is not None and "settle" in answer:
             self.settle(number, call, entry, answer)
 
@@ -126,9 +143,15 @@ class Compared:
         for row in TABLE["known"]:
             if is_of(row, call, fault, answer, settled):
                 return KNOWN, f"docs/coverage.md, \"{row['row']}\""
-        left = [word for word in answer.get("left", []) if not whole_text.OUTSIDE.get(word, {}).get("harmless")]
+        left = [word for word in answer.get("left", []) if excuses(word, call, answer)]
+        # What has words that the browser said goes before what may have any.
+        left = [word for word in left if whole_text.OUTSIDE.get(word, {}).get("says")] or left
         if fault is None and left:
-            return OUTSIDE, f"it used {listed(left)}"
+            return OUTSIDE, f"it used {listed(sorted(left, key=lambda word: word != 'shader'))}"
+        message = answer.get("message", "")
+        about = [row["said"] for row in TABLE["unlooked"] if call.word in row["calls"] and re.search(row["says"], message)]
+        if fault is None and about:
+            return OUTSIDE, f"it is about {about[0]}, at which this core does not look"
         lifted = [word for word in self.answers.device if fault is not None and fault[1] in TABLE["lifted"].get(word, [])]
         return (OUTSIDE, f"the device has {', '.join(lifted)}") if lifted else (DIFFERS, None)
 
@@ -168,21 +191,23 @@ class Compared:
                 found[row["said"]] = found.get(row["said"], 0) + times
         return [f"{said}, {count(times, 'time')}" for said, times in found.items()] + self.answers.device
 
+    def agreed(self) -> list[str]:
+        """The first error on which both agree, and how many more there are."""
+        found = self.of(AGREES)
+        return [verdict.text() for verdict in found[:1]] + ([f"and at {count(len(found) - 1, 'further call')}"] if len(found) > 1 else [])
+
     def lines(self) -> list[Any]:
-        """What is told below the first line."""
+        """What is told below the first line: shaders that were refused, and buffers that are too small for one, come first."""
         if self.refused:
             return [self.refused]
-        agreed = self.of(AGREES)
-        lines = [verdict.text() for verdict in agreed[:1]] + (
-            [f"and at {count(len(agreed) - 1, 'further call')}"] if len(agreed) > 1 else []
-        )
+        lines = [line for note in self.answers.notes if "shader" in note for line in noted(note)]
         others = [verdict for verdict in self.verdicts if verdict.how not in (AGREES, FOLLOWS)]
-        lines += [verdict.text() for verdict in others[:LONGEST]] + (
-            [f"and at {count(len(others) - LONGEST, 'further call')}"] if len(others) > LONGEST else []
-        )
+        lines += told_once([verdict for verdict in others if verdict.is_too_small()]) + self.agreed()
+        told = told_once([verdict for verdict in others if not verdict.is_too_small()])
+        lines += told[:LONGEST] + ([f"and {count(len(told) - LONGEST, 'other')}"] if len(told) > LONGEST else [])
         follow = len(self.of(FOLLOWS))
         lines += [f"{count(follow, 'call')} that {'follows' if follow == 1 else 'follow'} from an earlier one"] if follow else []
-        lines += [noted(note) for note in self.answers.notes]
+        lines += [line for note in self.answers.notes if "shader" not in note for line in noted(note)]
         unread = [passed for passed in self.answers.passed if passed["outside"] == "shader text" and passed["do"].startswith("create")]
         lines += [f"at {passed.get('at')}: {passed['do']} is not in the script: {passed['detail']}" for passed in unread]
         return lines + ([f"left out, since no script says it: {'; '.join(self.left())}"] if self.left() else [])
@@ -235,20 +260,41 @@ def is_of(row: Any, call: Any, fault: Any, answer: Any, settled: Any) -> Any:
     return all(holds)
 
 
+def excuses(word: str, call: Any, answer: Any) -> bool:
+    """Whether something that was left out can be why a browser refuses a call: by the call, and by the words of the browser."""
+    row = whole_text.OUTSIDE.get(word, {"calls": [call.word], "says": ""})
+    message = answer.get("message") or answer.get("throws", "")
+    return not row.get("harmless") and call.word in row["calls"] and re.search(row["says"], message, re.IGNORECASE) is not None
+
+
+def told_once(verdicts: list[Any]) -> list[str]:
+    """Verdicts in lines, where those that come again at the same place of the page, with the same words, are told once."""
+    groups: dict[Any, list[Any]] = {}
+    for verdict in verdicts:
+        is_placed = verdict.at is not None
+        groups.setdefault((verdict.at, verdict.text(0)) if is_placed else verdict, []).append(verdict)
+    return [found[0].text(len(found)) for found in groups.values()]
+
+
 def listed(words: Any) -> Any:
     """What was left out, in words."""
     return ", ".join(dict.fromkeys(whole_text.OUTSIDE.get(word, {"said": word})["said"] for word in words))
 
 
-def noted(note: Any) -> str:
-    """A note of the recorder, in a line."""
+def noted(note: Any) -> list[str]:
+    """A note of the recorder, in lines: the browser's or the page's words are told whole."""
+    lines = [line.rstrip() for line in said_of(note).splitlines() if line.strip()]
+    return lines[:1] + [f"    {line}" for line in lines[1:]]
+
+
+def said_of(note: Any) -> str:
     at = f"at {note['at']}: " if "at" in note else ""
     if "shader" in note:
-        return f"{at}the browser refuses a shader: {note['message'].strip().splitlines()[0]}"
+        return f"{at}the browser refuses a shader: {note['message'].strip()}"
     if "thrown" in note:
         return f"{at}{note['do']} threw {note['thrown']}, and is no call of the device"
     if "lost" in note:
         return f"before call {note['before']} the browser says that the device is lost ({note['lost']}): {note['message']}"
     if "stray" in note:
-        return f"before call {note['before']} the browser told an error of no call: {note['message'].strip().splitlines()[0]}"
+        return f"before call {note['before']} the browser told an error of no call: {note['message'].strip()}"
     return f"{at}the page failed before call {note['before']}: {note.get('page')}"

@@ -9,8 +9,8 @@ import json
 from typing import TYPE_CHECKING, Any
 
 from wgsim import causes
-from wgsim.exit_status import REFUSED
-from wgsim.matching import culprit, refusal
+from wgsim.exit_status import DIFFERENT, REFUSED
+from wgsim.matching import browser_errors, culprit, refusal
 from wgsim.matching.explained import answer, set_beside
 from wgsim.matching.scopes import Scopes
 from wgsim.reading import browser_answers
@@ -132,7 +132,8 @@ def listed(text: Any, data: Any, program: Any) -> tuple[Any, ...]:
     entries = beside.report.entries
     found = [of_fault(text, beside, scopes, causes_of, entry) for entry in entries if entry.fault]
     found += [of_promise(text, beside, scopes, entry) for entry in entries if entry.answer == ["promise"]]
-    return found + [of_status(text, beside, entry) for entry in entries], status
+    browsers = [error.json(text) for error in browser_errors.found(text, data, said)]
+    return found + browsers + [of_status(text, beside, entry) for entry in entries], DIFFERENT if browsers else status
 
 
 def explained(text: Text, data: bytes, program: Any) -> tuple[str, int]:

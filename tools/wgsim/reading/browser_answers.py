@@ -21,6 +21,11 @@ def is_beside(name: str) -> bool:
     return name.endswith((ANSWERS, CALLS))
 
 
+def is_recorded(path: pathlib.Path) -> bool:
+    """Whether what a browser answered lies beside a script."""
+    return path.suffix == ".json" and not is_beside(path.name) and path.with_name(path.stem + ANSWERS).is_file()
+
+
 def read(path: Any) -> Any:
     """A file of a recording, of the form that is known here."""
     try:
@@ -57,7 +62,7 @@ class Pages:
         """The same in words, in a line or none."""
         found = self.of(call)
         by = f", called from {', '.join(found[1:])}" if len(found) > 1 else ""
-        return [f"in the page: {found[0]}{by}"] if found else []
+        return [f"call {call.place[2]}, in the page: {found[0]}{by}"] if found else []
 
     def made(self, words: Any, script: Any) -> Any:
         """Where in the page the objects come from that some words name with their places in the script, in lines."""

@@ -9,6 +9,7 @@ function present(canvas) {
   canvas.recording.write({ do: 'present', canvas: canvas.name }, null).implied = true;
   canvas.texture = null;
   current.delete(canvas);
+  canvas.recording.updates = 0;
   if (++canvas.recording.frames >= asked.frames) canvas.recording.end(`${asked.frames} frames`);
 }
 function made(canvas, width, height, place) {
@@ -72,14 +73,26 @@ function expire(now) {
   for (const canvas of current) if (canvas.texture && canvas.frame !== null && canvas.frame !== now) present(canvas);
 }
 
+// A page that presents nothing, as one that keeps the texture of a canvas, has its updates counted in which it queued something.
+function countUpdate() {
+  for (const recording of recordings) {
+    if (recording.hasQueued && ++recording.updates >= asked.frames) recording.end(`${asked.frames} frames`);
+    recording.hasQueued = false;
+  }
+}
+
 // An update has begun. The task at its end may come after the next one has begun, so that this looks too.
 function update(time) {
   expire(time);
+  if (isInFrame) countUpdate();
+  else for (const recording of recordings) recording.hasQueued = false;
   frame = time;
   isInFrame = true;
   later(() => {
-    if (frame === time) isInFrame = false;
+    const isOver = frame === time;
+    if (isOver) isInFrame = false;
     expire(isInFrame ? frame : -1);
+    if (isOver) countUpdate();
   });
 }
 

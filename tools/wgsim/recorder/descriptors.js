@@ -38,11 +38,12 @@ function attributeFormat(word) {
   if (!TABLES.attributes.includes(word)) throw new Outside('vertex format', `the vertex format ${word}`);
   return word;
 }
-// Members that were given, of those that a script does not say, and all that are not `said`.
+// Members that were given, of those that a script does not say, and all that are not `said`. One that has its default says nothing.
 function leaveBut(recording, where, object, said) {
   for (const key in object || {}) {
     const value = object[key];
-    if (key !== 'label' && !said.includes(key) && value !== undefined && value !== null && value !== '') recording.leave(`${where}.${key}`);
+    const isGiven = value !== undefined && value !== null && value !== '' && value !== TABLES.defaults[`${where}.${key}`];
+    if (key !== 'label' && !said.includes(key) && isGiven) recording.leave(`${where}.${key}`);
   }
 }
 
@@ -139,7 +140,7 @@ function renderPipeline(recording, described) {
     call.depth = { format: format(depthStencil.format), depthWrite: !!depthStencil.depthWriteEnabled, stencilWrite: writesStencil(depthStencil, primitive) };
     leaveBut(recording, 'depthStencil', depthStencil, ['format', 'depthWriteEnabled']);
   }
-  leaveBut(recording, 'primitive', primitive, primitive && primitive.topology === 'triangle-list' ? ['topology'] : []);
+  leaveBut(recording, 'primitive', primitive, []);
   leaveBut(recording, 'multisample', multisample, ['count']);
   if (multisample && multisample.count !== undefined) call.samples = int(multisample.count);
   leaveBut(recording, 'renderPipeline', described, ['layout', 'vertex', 'fragment', 'depthStencil', 'primitive', 'multisample']);

@@ -1,6 +1,7 @@
 // What is recorded of a device: the calls of its script with their places in the page, and beside them what the browser answered.
 
 const MAX_CALLS = 65536, MAX_ITEMS = 1024, MAX_BYTES = 4194304 - 262144;   // of a script, with room for the numbers of `complete`
+const MAX_REPEATS = 10;                // of one error, each in another update
 const NATIVE = {};                     // the browser's own functions, as 'GPUDevice.createBuffer'
 const known = new WeakMap();           // of an object of WebGPU: its recording, its name, and what later calls need of it
 const recordings = [];
@@ -38,7 +39,7 @@ class Recording {
   constructor(device, descriptor) {
     Object.assign(this, {
       device, calls: [], answers: [], places: [], passed: [], notes: [], scopes: [], errors: new Set(), promises: new Set(), counts: {}, left: new Map(), leftNow: [],
-      limits: {}, ofDevice: [], ended: null, frames: 0, last: performance.now(), isLost: false, isWatching: false, bytes: 0,
+      limits: {}, ofDevice: [], ended: null, frames: 0, updates: 0, hasQueued: false, repeated: new Map(), last: performance.now(), isLost: false, isWatching: false, bytes: 0,
     });
     recordings.push(this);
     this.limited(descriptor && descriptor.requiredLimits || {});
@@ -95,13 +96,14 @@ class Recording {
   // Does something inside error scopes of our own; what they catch is noted, and then goes where the page would have it.
   watch(answer, act) {
     if (this.isLost) return act();
-    const scopes = this.scopes.slice();
+    const scopes = this.scopes.slice(), update = frame;
     for (const filter of ['internal', 'out-of-memory', 'validation']) NATIVE['GPUDevice.pushErrorScope'].call(this.device, filter);
     try { return act(); } finally {
       const popped = [0, 1, 2].map(() => NATIVE['GPUDevice.popErrorScope'].call(this.device).catch(() => null));
       const done = Promise.all(popped).then(found => {
         const error = found.find(each => each);
         if (error) this.deliver(answer, error, scopes);
+        if (error) this.repeat(`${answer.do} ${answer.error}`, answer.message, update);
         this.errors.delete(done);
       });
       this.errors.add(done);
@@ -117,6 +119,13 @@ class Recording {
     const event = new GPUUncapturedErrorEvent('uncapturederror', { error, cancelable: true });
     event.isOfRecording = true;
     if (this.device.dispatchEvent(event)) console.warn(error.message);
+  }
+
+  // The same error in ten updates of the page: more of them tell nothing new.
+  repeat(kind, message, update) {
+    const key = `${kind} ${message}`, found = (this.repeated.get(key) || new Set()).add(update);
+    this.repeated.set(key, found);
+    if (found.size >= MAX_REPEATS) this.end(`the same error came in ${MAX_REPEATS} frames: ${String(message).split('\n')[0]}`);
   }
 
   // A promise of the page was settled. After the end the script has nothing that could settle it.

@@ -118,8 +118,8 @@ def recorded(page, named, frames=FRAMES, seconds=SECONDS):
             raise exit_status.End(
                 exit_status.UNREAD,
                 (
-                    f"none of {', '.join(browser.NAMES)} is installed; another one is named by --browser, and `wgsim record --one-file` is"
-                    " for browsers of any kind"
+                    f"none of {', '.join(browser.NAMES)} is installed: on Debian `sudo apt-get install chromium` installs one; another one"
+                    " is named by --browser, and `wgsim record --one-file` is for browsers of any kind"
                 ),
             )
         try:
@@ -208,7 +208,7 @@ def told(found, written):
     if not written:
         lines.append("nothing was recorded: the page opened no device of WebGPU")
     lines += [f"the page asked for {address}, which is not of this machine, and did not get it" for address in found["elsewhere"]]
-    lines += [f"the page failed: {line}" for text in found["said"] for line in text.splitlines()[:2]]
+    lines += [f"the page failed: {line}" for text in found["said"] for line in text.splitlines()]
     return "".join(line + "\n" for line in lines)
 
 

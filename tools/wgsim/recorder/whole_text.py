@@ -27,6 +27,7 @@ def tables():
         "limits": {
             limit.name: {"default": limit.default, "best": limit.best, "isAlignment": limit.is_alignment} for limit in limits.TABLE.values()
         },
+        "defaults": {word: row["default"] for word, row in OUTSIDE.items() if "default" in row},
         "harmless": [word for word, row in OUTSIDE.items() if row.get("harmless")],
     }
 

@@ -73,7 +73,10 @@ function recorded(recording, on, act, plan) {
   }
   if (ends) known.get(ends).hasEnded = true;
   if (loses) recording.isLost = true;
-  if (queues) recording.watchWork();
+  if (queues) {
+    recording.hasQueued = true;
+    recording.watchWork();
+  }
   if (isAsync) return pipelineOf(recording, plan, answer, depth, result);
   if (as) known.set(result, { recording, name: call.as, ...plan.kept });
   return promise ? settled(recording, answer, promise, result, n) : result;
