@@ -39,7 +39,7 @@ class Verdict:
     def __init__(self, number: Any, call: Any, at: Any, how: Any, core: Any, browser: Any, why: Any = None) -> None:
         self.number, self.call, self.at, self.how, self.core, self.browser, self.why = number, call, at, how, core, browser, why
         self.word = call.word if call is not None else None
-        self.is_alone, self.kind, self.message = False, None, ""
+        self.is_alone, self.kind, self.message = False, "", ""
 
     def of_browser(self, answer: dict[str, Any]) -> None:
         """Takes the error that the browser alone told."""
