@@ -40,7 +40,7 @@ def test_calls():
         known = calls.keys_of(word)
         own = [(name, "=" if key.may_be_left_out else "") for name, key in (known or {}).items()]
         check(own == keys, f"tools/wgsim/reading/calls.json: {word} has not the keys of docs/script.md: {keys}")
-    test_objects(*[text.partition(f"\n### {title}\n")[2].split("\n### ")[0] for title in ("Bindings", "Render pipelines", "Render passes")])
+    check_objects(*[text.partition(f"\n### {title}\n")[2].split("\n### ")[0] for title in ("Bindings", "Render pipelines", "Render passes")])
     said = re.search(
         r"`on` names an encoder; a bundle encoder in (.*?); a pass in (.*?); and an encoder or a pass in (.*?)\. The pass has to be a"
         r" compute pass in (.*?), and a render pass in "
@@ -75,7 +75,7 @@ def test_calls():
         )
 
 
-def test_objects(*parts):
+def check_objects(*parts):
     """The same of the objects in calls, and of the words whose keys they have: in the parts of docs/script.md on bindings, render pipelines
     and render passes."""
     def has(keys, written, what):
