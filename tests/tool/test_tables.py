@@ -40,7 +40,8 @@ def test_calls():
         known = calls.keys_of(word)
         own = [(name, "=" if key.may_be_left_out else "") for name, key in (known or {}).items()]
         check(own == keys, f"tools/wgsim/reading/calls.json: {word} has not the keys of docs/script.md: {keys}")
-    check_objects(*[text.partition(f"\n### {title}\n")[2].split("\n### ")[0] for title in ("Bindings", "Render pipelines", "Render passes")])
+    titles = ("Bindings", "Render pipelines", "Render passes")
+    check_objects(*[text.partition(f"\n### {title}\n")[2].split("\n### ")[0] for title in titles])
     said = re.search(
         r"`on` names an encoder; a bundle encoder in (.*?); a pass in (.*?); and an encoder or a pass in (.*?)\. The pass has to be a"
         r" compute pass in (.*?), and a render pass in "
