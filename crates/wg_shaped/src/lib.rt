@@ -21,10 +21,11 @@ pub fn traces_are_shaped()
     ensures read { HistoryReadsBack }
 {}
 
-/// A bundle is known by what its commands touch: each part has the same set of usages, and each cell is
-/// accessed in the same ways; of a texture they use no part of which they access no cell. The resources
-/// that it is known to touch are those that its commands name, in each history whose replies are the
-/// right ones.
+/// A bundle is known by what its commands touch, where each of these may stand on a bundle encoder and
+/// none has an unmet rule: each part has the same set of usages, and each cell is accessed in the same
+/// ways; of a texture they use no part of which they access no cell. The resources that it is known to
+/// touch are those that its commands name, where the bind groups that they set are whole too, as they are
+/// in each valid bundle of a history whose replies are the right ones.
 pub fn bundles_are_known()
     ensures touches { TouchesAreKnown }
     ensures bundles { BundlesAreKnown }
