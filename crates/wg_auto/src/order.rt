@@ -1,5 +1,5 @@
 //! Uses in the order of their places.
-ghost use Rattle.std.specs.Prelude.{◌≡◌, IfOk, not, true, if◌then◌else◌};
+ghost use Rattle.std.specs.Prelude.{◌≡◌, IfOk, true, if◌then◌else◌};
 ghost use Rattle.wg_auto.specs.Walks.{use_before, is_clash, clashes_with_next, first_clash, in_order, SameUses};
 
 use std::alloc::Global;

@@ -9,7 +9,7 @@ ghost use Rattle.std.specs.Prelude.{◌≡◌};
 ghost use Rattle.wg_model.specs.Rules.{first_unmet};
 ghost use Rattle.wg_model.specs.Commands.{own_rules, buffer_of, texture_of};
 ghost use Rattle.wg_model.specs.Equality.{same_reference};
-ghost use Rattle.wg_model.specs.TexelCopies.{buffer_to_texture_rules, texture_to_buffer_rules, texture_to_texture_rules, whole_spot};
+ghost use Rattle.wg_model.specs.TexelCopies.{whole_spot};
 
 pub use buffers::check_write_buffer;
 pub use texels::check_write_texture;

@@ -1,16 +1,16 @@
 //! The first unmet rule of each event.
-ghost use Rattle.std.specs.Prelude.{◌≡◌, ◌==◌, ◌&&◌, ◌+◌, ◌*◌, ◌^◌, ◌<◌, reverse, [], Some, IsNone, IfOk, IfSome, false};
+ghost use Rattle.std.specs.Prelude.{◌≡◌, ◌&&◌, ◌+◌, ◌*◌, ◌^◌, ◌<◌, reverse, [], Some, IsNone, IfOk, IfSome, false};
 ghost use Rattle.wg_state.specs.Recordings.{any_spent};
 ghost use Rattle.std.specs.List.{list_any};
 ghost use Rattle.wg_model.specs.Rules.{first_unmet};
 ghost use Rattle.wg_core.specs.Plans.{use_rules, ending_rules, IsMapInRange};
 ghost use Rattle.wg_encoder.specs.Uses.{is_sort, is_used_as};
 ghost use Rattle.wg_state.specs.Uses.{uses_of};
-ghost use Rattle.wg_history.specs.Objects.{is_own, is_command_buffer, made_info};
+ghost use Rattle.wg_history.specs.Objects.{made_info};
 ghost use Rattle.wg_model.specs.Commands.{no_texture, query_bytes};
 ghost use Rattle.wg_access.specs.Ranges.{IsInRange};
 ghost use Rattle.wg_history.specs.Entries.{effects_of, submitted, written};
-ghost use Rattle.wg_history.specs.Rules.{is_busy, map_async_rule, unmap_rule, create_view_rule, write_buffer_rule, write_texture_rule, destroy_rule, drop_rule, destroys, is_destroyed, finish_rule, finish_bundle_rule, kept_rules, ends_encoder, has_finished, consumes, is_consumed, are_distinct, listed_rules, submit_rule};
+ghost use Rattle.wg_history.specs.Rules.{is_busy, map_async_rule, unmap_rule, create_view_rule, write_buffer_rule, write_texture_rule, destroy_rule, drop_rule, is_destroyed, finish_rule, finish_bundle_rule, kept_rules, has_finished, is_consumed, are_distinct, listed_rules, submit_rule};
 ghost use Rattle.wg_history.specs.FirstRules.{first_rule, create_buffer_rule, create_texture_rule, create_query_set_rule, create_bundle_encoder_rule};
 ghost use Rattle.wg_history.specs.Budget.{bytes_made};
 ghost use Rattle.wg_model.specs.Memory.{texture_bytes};

@@ -1,7 +1,5 @@
 //! The aspects of formats, and the bytes of a texel in copies.
 ghost use Rattle.std.specs.Prelude.{◌≡◌, ◌≤◌, ◌==◌, IfSome};
-ghost use Rattle.std.specs.List.{list_any};
-ghost use Rattle.wg_rows.specs.Runs.{aspect_number};
 ghost use Rattle.wg_types.specs.Formats.{row, format_number};
 ghost use Rattle.wg_model.specs.Subresources.{is_aspect_of, aspects_meet};
 ghost use Rattle.wg_model.specs.Formats.{has_depth, has_stencil, is_color, has_named, all_aspects, named_aspects, copied_aspect, bytes_to, bytes_from, texel_to, texel_from, linear, copy_compatible};

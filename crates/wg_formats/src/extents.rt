@@ -1,5 +1,5 @@
 //! Extents of mip levels, layers, and the places of copies.
-ghost use Rattle.std.specs.Prelude.{◌≡◌, ◌+◌, ◌^◌, ◌≤◌, max, nat_le};
+ghost use Rattle.std.specs.Prelude.{◌≡◌, ◌+◌, nat_le};
 ghost use Rattle.wg_model.specs.Textures.{shrunk, extent, layer_count};
 ghost use Rattle.wg_model.specs.Subresources.{first_layer, end_layer, has_no_texel};
 ghost use Rattle.wg_model.specs.TexelCopies.{lies_in, spans, spot_fits, covers_all};

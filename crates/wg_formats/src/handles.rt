@@ -1,7 +1,7 @@
 //! What handles know of their objects, what is known of a view, and where copies of whole textures begin.
 ghost use Rattle.std.specs.Prelude.{◌≡◌, option_copied};
 ghost use Rattle.wg_model.specs.TexelCopies.{whole_spot};
-ghost use Rattle.wg_model.specs.Commands.{buffer_of, buffer_or_none, no_buffer, texture_of, texture_or_none, no_texture, queries_of, queries_or_none, no_queries, rest_of, size_or_rest};
+ghost use Rattle.wg_model.specs.Commands.{buffer_of, no_buffer, texture_of, no_texture, queries_of, no_queries, rest_of, size_or_rest};
 ghost use Rattle.wg_model.specs.Bundles.{known_bundle};
 ghost use Rattle.wg_model.specs.Equality.{same_reference};
 ghost use Rattle.wg_model.specs.Making.{no_view};

@@ -1,6 +1,6 @@
 //! How many entries of a sort there may be, in a bind group layout and in those of a pipeline layout.
-ghost use Rattle.std.specs.Prelude.{◌≡◌, nat_le, count_by};
-ghost use Rattle.wg_model.specs.Layouts.{is_storage_buffer, is_dynamic, stage_fits, stages_fit, dynamic_fits, all_entries};
+ghost use Rattle.std.specs.Prelude.{◌≡◌, nat_le};
+ghost use Rattle.wg_model.specs.Layouts.{is_dynamic, stage_fits, stages_fit, dynamic_fits, all_entries};
 ghost use Rattle.wg_layouts.specs.declared.counts.Counted.TheVariants.{SeenBy};
 ghost use Rattle.wg_layouts.specs.Counted.{is_of, is_counted, counted, layout_entries, most_seen};
 

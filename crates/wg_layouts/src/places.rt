@@ -1,5 +1,5 @@
 //! What the groups that are set bind.
-ghost use Rattle.std.specs.Prelude.{◌≡◌, [], Some, None, option_copied, slice_index_or, not, MatchOption};
+ghost use Rattle.std.specs.Prelude.{◌≡◌, [], Some, None, option_copied, slice_index_or, MatchOption};
 ghost use Rattle.std.specs.Option.{option_to_list};
 ghost use Rattle.wg_model.specs.Bound.{entry_places, has_entries, info_set, set_places};
 ghost use Rattle.wg_layouts.specs.Places.{entries_places};

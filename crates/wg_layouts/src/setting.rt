@@ -4,7 +4,7 @@ ghost use Rattle.std.specs.Prelude.{◌≡◌, ◌%◌, ◌==◌, Some, option_c
 ghost use Rattle.std.specs.List.{list_all};
 ghost use Rattle.wg_model.specs.Rules.{first_unmet};
 ghost use Rattle.wg_model.specs.Automatic.{known_layouts};
-ghost use Rattle.wg_model.specs.Bound.{group_in, known_group, layouts_in, is_automatic, owner_of, dynamics, dynamics_before, moved_by, entry_places, moved_range_fits, place_fits, places_in, offset_rules, set_rules};
+ghost use Rattle.wg_model.specs.Bound.{group_in, known_group, layouts_in, is_automatic, owner_of, dynamics, dynamics_before, moved_by, entry_places, moved_range_fits, place_fits, offset_rules, set_rules};
 ghost use Rattle.wg_layouts.specs.Places.{entries_places};
 
 use crate::bindings::Bindings;

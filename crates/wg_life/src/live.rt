@@ -1,5 +1,5 @@
 //! The resources that are not released.
-ghost use Rattle.std.specs.Prelude.{◌≡◌, ℕ, ◌+◌, ◌≤◌, ◌<◌, ◌^◌, ◌∷◌, [], ◌++◌, ◌==◌, true, length, slice_index, IfSome, OnOk, vec_len, vec_capacity};
+ghost use Rattle.std.specs.Prelude.{◌≡◌, ℕ, ◌+◌, ◌<◌, ◌^◌, ◌∷◌, [], ◌++◌, ◌==◌, true, length, slice_index, IfSome, OnOk, vec_len, vec_capacity};
 ghost use Rattle.slab.specs.Slab.{slab_len};
 ghost use Rattle.wg_life.specs.Lives.{new_row, row_at, is_live, live_bytes, with_release, Notes};
 ghost use Rattle.wg_life.specs.Living.{HasPlacesFor, IsKept, IsLess};

@@ -1,5 +1,5 @@
 //! What is noted of each object.
-ghost use Rattle.std.specs.Prelude.{◌≡◌, ◌==◌, slice_set, vec_len, vec_capacity};
+ghost use Rattle.std.specs.Prelude.{◌≡◌, ◌==◌, slice_set, vec_capacity};
 ghost use Rattle.wg_life.specs.Lives.{row_at, with_destroyed, with_use, with_release, Notes};
 ghost use Rattle.wg_life.specs.Waits.{gone_at, Losses};
 

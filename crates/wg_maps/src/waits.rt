@@ -1,10 +1,10 @@
 //! The maps that are pending.
-ghost use Rattle.std.specs.Prelude.{◌≡◌, ℕ, ◌+◌, ◌<◌, ◌≤◌, ◌++◌, ◌∷◌, List, [], true, IsOk, OnOk, IfOk, IfSome, IfNone, None, filter, take, length, option_to_list, nat_eq, if◌then◌else◌};
+ghost use Rattle.std.specs.Prelude.{◌≡◌, ℕ, ◌+◌, ◌<◌, ◌≤◌, ◌++◌, [], true, IsOk, OnOk, IfOk, IfSome, IfNone, None, filter, take, length, option_to_list};
 ghost use Rattle.std.specs.HashMap.{spare};
 ghost use Rattle.std.specs.VecDeque.{deque_len, deque_capacity};
 ghost use Rattle.std.specs.List.Sorted.{IsNonDecreasingBy};
 ghost use Rattle.wg_types.specs.declared.mappings.PendingMap.{PendingMap};
-ghost use Rattle.wg_maps.specs.Mappings.{MappedValue, pending_of, maps_of, without, with_map, still_pending, with_due, is_latest, is_due, due_maps, still_pending_of, promises};
+ghost use Rattle.wg_maps.specs.Mappings.{pending_of, maps_of, without, with_map, still_pending, with_due, is_latest, is_due, due_maps, still_pending_of, promises};
 ghost use Rattle.wg_maps.specs.Waits.{WaitsValue, IsKept, IsListed, IsWithin, IsTidied, IsInserted, IsSettling, Settles, IsUnlike, AreUnlike, promise_of, is_waiting, arranged, waiting, starts_later};
 
 use crate::mapped::MappedBuffers;

@@ -1,7 +1,6 @@
 //! What shaders use, and what the layouts of their pipelines have.
 ghost use Rattle.std.specs.Prelude.{◌≡◌};
 ghost use Rattle.std.specs.List.{list_all};
-ghost use Rattle.wg_model.specs.Layouts.{is_seen_by};
 ghost use Rattle.wg_model.specs.Pipelines.{serves, offers};
 
 use wg_formats::{same_use, stage_bit};

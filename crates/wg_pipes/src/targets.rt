@@ -1,8 +1,7 @@
 //! To what a render pipeline draws: the rules of its color targets, of its depth and stencil, and of its
 //! samples; what is asked of these also of bundles.
-ghost use Rattle.std.specs.Prelude.{◌≡◌, true, Option, is_some};
+ghost use Rattle.std.specs.Prelude.{◌≡◌, Option, is_some};
 ghost use Rattle.std.specs.List.{list_all, list_any};
-ghost use Rattle.std.specs.Option.{option_map_or};
 ghost use Rattle.wg_types.specs.declared.formats.Format.{Format};
 ghost use Rattle.wg_types.specs.declared.render.DepthState.{DepthState};
 ghost use Rattle.wg_model.specs.Rules.{first_unmet};

@@ -1,5 +1,4 @@
 //! Reads the calls of canvases: a function for each, with its keys.
-ghost use Rattle.std.specs.Prelude.{◌≡◌};
 ghost use Rattle.serde_json.specs.View.{view};
 ghost use Rattle.wg_script.specs.Giving.{Gives};
 ghost use Rattle.wg_script.specs.CanvasCalls.{create_canvas_of, configure_canvas_of, current_texture_of, present_of};

@@ -1,5 +1,4 @@
 //! Reads the calls on compute passes: a function for each, with its keys.
-ghost use Rattle.std.specs.Prelude.{◌≡◌};
 ghost use Rattle.serde_json.specs.View.{view};
 ghost use Rattle.wg_script.specs.Giving.{Gives};
 ghost use Rattle.wg_script.specs.PassCalls.{begin_compute_pass_of, bare_of, end_of, set_pipeline_of, set_bind_group_of, dispatch_of, indirect_of, dispatch_indirect_of};

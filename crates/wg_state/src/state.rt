@@ -1,5 +1,5 @@
 //! A history with all that is kept beside it.
-ghost use Rattle.std.specs.Prelude.{◌≡◌, true, ◌+◌, ◌-◌, ◌^◌, ◌<◌, ◌≤◌, ◌∷◌, ◌++◌, [], map, filter, nat_le, is_some, not, length, reverse, vec_len, vec_capacity, OnOk, IfOk, Some, None, ◌||◌, ◌==◌, if◌then◌else◌, false, MatchOption};
+ghost use Rattle.std.specs.Prelude.{◌≡◌, true, ◌+◌, ◌-◌, ◌^◌, ◌<◌, ◌≤◌, ◌∷◌, ◌++◌, [], map, filter, nat_le, is_some, length, reverse, vec_len, vec_capacity, OnOk, IfOk, Some, None, ◌||◌, ◌==◌, if◌then◌else◌, false, MatchOption};
 ghost use Rattle.wg_orders.specs.Trace.{free};
 ghost use Rattle.wg_history.specs.Operations.{issued, completed, last_use};
 ghost use Rattle.wg_model.specs.ErrorScopes.{deliver, pop_how};

@@ -1,8 +1,7 @@
 //! The subresources of views and of copies, in runs of layers, and the cells of these.
 #![tactic(auto)]
 
-ghost use Rattle.std.specs.Prelude.{◌≡◌, ◌++◌, ◌+◌, min, map, [], IfOk, OnOk};
-ghost use Rattle.wg_types.specs.Formats.{row};
+ghost use Rattle.std.specs.Prelude.{◌≡◌, ◌++◌, ◌+◌, min, IfOk, OnOk};
 ghost use Rattle.wg_types.specs.Textures.{depth};
 ghost use Rattle.wg_rows.specs.Rows.{numbers};
 ghost use Rattle.wg_model.specs.Formats.{named_aspects};

@@ -1,5 +1,5 @@
 //! The calls of a device, each once, with ample memory: what is replied, whole.
-ghost use Rattle.std.specs.Prelude.{◌≡◌, ◌+◌, ◌<◌, ◌≤◌};
+ghost use Rattle.std.specs.Prelude.{◌+◌, ◌<◌, ◌≤◌};
 ghost use Rattle.wg_turn.specs.Passes.{IsPassOf, calls_of};
 
 use std::alloc::Global;

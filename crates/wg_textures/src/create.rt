@@ -1,5 +1,5 @@
 //! The rules of new textures.
-ghost use Rattle.std.specs.Prelude.{◌≡◌, ◌-◌, ◌^◌, ◌≤◌, max, nat_le};
+ghost use Rattle.std.specs.Prelude.{◌≡◌, ◌-◌, ◌^◌, max, nat_le};
 ghost use Rattle.wg_model.specs.Rules.{first_unmet};
 ghost use Rattle.wg_model.specs.Textures.{within_limits, mips_fit, is_multisampling, has_storage, is_1d, is_2d, create_texture_rules};
 

@@ -1,7 +1,7 @@
 //! Bindings: what layouts ask for, what shaders use, and what bind groups bind.
 ghost use Rattle.std.specs.Prelude.{◌≡◌, IfOk, map};
 ghost use Rattle.wg_types.specs.Refs.{first_of};
-ghost use Rattle.wg_types.specs.Bindings.{resource_named, map_resource, map_entry, entries_named, entry_of};
+ghost use Rattle.wg_types.specs.Bindings.{resource_named, map_entry, entries_named, entry_of};
 
 use crate::NoMemory;
 use crate::formats::{Format, SampleType};

@@ -3,7 +3,7 @@ ghost use Rattle.std.specs.Prelude.{◌≡◌, ◌++◌, IfOk, OnOk, map, option
 ghost use Rattle.std.specs.List.{flat_map};
 ghost use Rattle.wg_trace.specs.Added.{BeginsWith};
 ghost use Rattle.wg_types.specs.Refs.{first_of, maybe_wanted};
-ghost use Rattle.wg_types.specs.Render.{color_named, depth_named, targets_named, begin_named, map_color, map_depth, map_begin};
+ghost use Rattle.wg_types.specs.Render.{color_named, depth_named, begin_named, map_color, map_depth, map_begin};
 
 use crate::NoMemory;
 use crate::bindings::IfaceEntry;

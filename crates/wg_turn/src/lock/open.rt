@@ -4,7 +4,7 @@ ghost use Rattle.wg_turn.specs.Turns.{first_view};
 
 use super::{Pass, TurnLock};
 use crate::logged::Logged;
-use crate::turns::{Deal, Turns};
+use crate::turns::Deal;
 use crate::view::{Opening, View};
 use atomic_table::{Seat, Table};
 use std::alloc::Global;
