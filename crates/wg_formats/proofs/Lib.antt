@@ -1,2 +1,3 @@
+pub mod BindingKinds
 pub mod Halving
 pub mod Levels

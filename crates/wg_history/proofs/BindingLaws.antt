@@ -7,18 +7,9 @@ use Rattle.wg_types.specs.Formats.{same_format}
 use Rattle.wg_types.specs.Textures.{same_view}
 use Rattle.wg_types.specs.declared.handles.ObjRef.{ObjRef}
 use Rattle.wg_types.specs.declared.formats.Format.{Format}
-use Rattle.wg_types.specs.declared.formats.SampleType.{SampleType}
-use Rattle.wg_types.specs.declared.formats.SampleType.TheVariants as sample_type
-use Rattle.wg_types.specs.declared.bindings.BufferBinding.{BufferBinding}
-use Rattle.wg_types.specs.declared.bindings.BufferBinding.TheVariants.{Uniform, Storage, ReadOnlyStorage}
-use Rattle.wg_types.specs.declared.bindings.SamplerKind.{SamplerKind}
-use Rattle.wg_types.specs.declared.bindings.SamplerKind.TheVariants.{Filtering, NonFiltering, Comparison}
-use Rattle.wg_types.specs.declared.bindings.StorageAccess.{StorageAccess}
-use Rattle.wg_types.specs.declared.bindings.StorageAccess.TheVariants.{ReadOnly, WriteOnly, ReadWrite}
 use Rattle.wg_types.specs.declared.bindings.Stage.{Stage}
 use Rattle.wg_types.specs.declared.bindings.Stage.TheVariants as stage
 use Rattle.wg_types.specs.declared.bindings.BindingKind.{BindingKind}
-use Rattle.wg_types.specs.declared.bindings.BindingKind.TheVariants as binding
 use Rattle.wg_types.specs.declared.bindings.LayoutEntry.{LayoutEntry}
 use Rattle.wg_types.specs.declared.bindings.IfaceEntry.{IfaceEntry}
 use Rattle.wg_types.specs.declared.bindings.BoundResource.{BoundResource}
@@ -47,9 +38,10 @@ use Rattle.wg_types.specs.declared.vertex.VertexStep.TheVariants as vertex_step
 use Rattle.wg_types.specs.declared.vertex.VertexAttribute.{VertexAttribute}
 use Rattle.wg_types.specs.declared.vertex.VertexBuffer.{VertexBuffer}
 use Rattle.wg_types.specs.declared.handles.Info.TheVariants.{Buffer, Texture, View, Sampler, GroupLayout, PipelineLayout, Group, Compute, Render, Queries, Encoder, BundleEncoder, CommandBuffer, Bundle}
-use Rattle.wg_model.specs.Equality.{same_bool, same_list, same_owner, same_reference, same_buffer, sample_number, buffer_binding_number, sampler_number, access_number, stage_number, same_view_dim, same_sample, same_buffer_binding, same_sampler, same_access, same_stage, same_binding_kind, same_layout_entry, same_iface_entry, same_bound_resource, same_bound_entry, same_group_layout, same_pipeline_layout, same_group, same_compute, vertex_format_number, vertex_step_number, same_attribute, same_vertex_buffer, same_option, same_depth_state, same_render_desc, same_render}
+use Rattle.wg_model.specs.Equality.{same_bool, same_list, same_owner, same_reference, same_buffer, stage_number, same_sampler, same_stage, same_binding_kind, same_layout_entry, same_iface_entry, same_bound_resource, same_bound_entry, same_group_layout, same_pipeline_layout, same_group, same_compute, vertex_format_number, vertex_step_number, same_attribute, same_vertex_buffer, same_option, same_depth_state, same_render_desc, same_render}
 use Rattle.wg_history.specs.Infos.{same_target_info, same_cells, bundle_use_number, same_touch, same_bundle, SameInfoIs}
-use Rattle.wg_history.proofs.InfoLaws.{numbers_tell, words_tell, formats_tell, view_dims_tell, bools_tell, buffers_tell, queries_tell, textures_tell, references_tell, views_tell}
+use Rattle.wg_formats.proofs.BindingKinds.{numbers_tell, words_tell, bools_tell, like_two, like_three, like_four, like_five, formats_tell, samplers_tell, binding_kinds_tell}
+use Rattle.wg_history.proofs.InfoLaws.{buffers_tell, queries_tell, textures_tell, references_tell, views_tell}
 
 -- Lists, where their items are told apart.
 lists_tell : {X : Type 0} (same : X → X → Bool) → ((x y : X) → Decides (same x y) (x ≡ y)) → (xs ys : List X) → Decides (same_list same xs ys) (xs ≡ ys)
@@ -69,52 +61,6 @@ options_tell same tell (Some a) None = (λ e. absurd (cc), λ e. absurd (cc))
 options_tell {X} same tell (Some a) (Some b) = let d = tell a b in (λ e. ap (λ (x : X). Some x) (d.0 e), λ e. d.1 (cc))
 
 -- Words.
-abbrev sample_at : ℕ → SampleType
-sample_at n = if n == 0 then sample_type.Float else if n == 1 then sample_type.UnfilterableFloat else if n == 2 then sample_type.Depth else if n == 3 then sample_type.Sint else sample_type.Uint
-
-sample_back : (s : SampleType) → sample_at (sample_number s) ≡ s
-sample_back sample_type.Float = refl
-sample_back sample_type.UnfilterableFloat = refl
-sample_back sample_type.Depth = refl
-sample_back sample_type.Sint = refl
-sample_back sample_type.Uint = refl
-
-samples_tell : (a b : SampleType) → Decides (same_sample a b) (a ≡ b)
-samples_tell a b = words_tell sample_number sample_at sample_back a b
-
-abbrev buffer_binding_at : ℕ → BufferBinding
-buffer_binding_at n = if n == 0 then Uniform else if n == 1 then Storage else ReadOnlyStorage
-
-buffer_binding_back : (b : BufferBinding) → buffer_binding_at (buffer_binding_number b) ≡ b
-buffer_binding_back Uniform = refl
-buffer_binding_back Storage = refl
-buffer_binding_back ReadOnlyStorage = refl
-
-buffer_bindings_tell : (a b : BufferBinding) → Decides (same_buffer_binding a b) (a ≡ b)
-buffer_bindings_tell a b = words_tell buffer_binding_number buffer_binding_at buffer_binding_back a b
-
-abbrev sampler_at : ℕ → SamplerKind
-sampler_at n = if n == 0 then Filtering else if n == 1 then NonFiltering else Comparison
-
-sampler_back : (k : SamplerKind) → sampler_at (sampler_number k) ≡ k
-sampler_back Filtering = refl
-sampler_back NonFiltering = refl
-sampler_back Comparison = refl
-
-samplers_tell : (a b : SamplerKind) → Decides (same_sampler a b) (a ≡ b)
-samplers_tell a b = words_tell sampler_number sampler_at sampler_back a b
-
-abbrev access_at : ℕ → StorageAccess
-access_at n = if n == 0 then ReadOnly else if n == 1 then WriteOnly else ReadWrite
-
-access_back : (a : StorageAccess) → access_at (access_number a) ≡ a
-access_back ReadOnly = refl
-access_back WriteOnly = refl
-access_back ReadWrite = refl
-
-accesses_tell : (a b : StorageAccess) → Decides (same_access a b) (a ≡ b)
-accesses_tell a b = words_tell access_number access_at access_back a b
-
 abbrev stage_at : ℕ → Stage
 stage_at n = if n == 0 then stage.Vertex else if n == 1 then stage.Fragment else stage.Compute
 
@@ -125,33 +71,6 @@ stage_back stage.Compute = refl
 
 stages_tell : (a b : Stage) → Decides (same_stage a b) (a ≡ b)
 stages_tell a b = words_tell stage_number stage_at stage_back a b
-
--- Constructors and records of some parts.
-like_two : {A B X : Type 0} (f : A → B → X) (a c : A) (b d : B) → (a ≡ c) × (b ≡ d) → f a b ≡ f c d
-like_two f a c b d h = ap₂ f h.0 h.1
-
-like_three : {A B C X : Type 0} (f : A → B → C → X) (a p : A) (b q : B) (c r : C) → ((a ≡ p) × (b ≡ q)) × (c ≡ r) → f a b c ≡ f p q r
-like_three f a p b q c r h = ap (λ x. f x b c) h.0.0 ∙ (ap (λ x. f p x c) h.0.1 ∙ ap (λ x. f p q x) h.1)
-
-like_four : {A B C D X : Type 0} (f : A → B → C → D → X) (a p : A) (b q : B) (c r : C) (d s : D) → (((a ≡ p) × (b ≡ q)) × (c ≡ r)) × (d ≡ s) → f a b c d ≡ f p q r s
-like_four f a p b q c r d s h = ap (λ x. f x b c d) h.0.0.0 ∙ (ap (λ x. f p x c d) h.0.0.1 ∙ (ap (λ x. f p q x d) h.0.1 ∙ ap (λ x. f p q r x) h.1))
-
-like_five : {A B C D E X : Type 0} (f : A → B → C → D → E → X) (a p : A) (b q : B) (c r : C) (d s : D) (e t : E) → ((((a ≡ p) × (b ≡ q)) × (c ≡ r)) × (d ≡ s)) × (e ≡ t) → f a b c d e ≡ f p q r s t
-like_five f a p b q c r d s e t h = like_four (λ a b c d. f a b c d e) a p b q c r d s h.0 ∙ ap (λ x. f p q r s x) h.1
-
--- Kinds of bindings.
-binding_kinds_tell : (a b : BindingKind) → Decides (same_binding_kind a b) (a ≡ b)
-binding_kinds_tell (binding.Buffer a moves_a least_a) (binding.Buffer b moves_b least_b) =
-    Decides-like _ (like_three binding.Buffer a b moves_a moves_b least_a least_b) (λ e. ((cc, cc), cc))
-    (Decides-and _ (least_a == least_b) (Decides-and (same_buffer_binding a b) (same_bool moves_a moves_b) (buffer_bindings_tell a b) (bools_tell moves_a moves_b)) (numbers_tell least_a least_b))
-binding_kinds_tell (binding.Sampler a) (binding.Sampler b) = let d = samplers_tell a b in (λ e. ap binding.Sampler (d.0 e), λ e. d.1 (cc))
-binding_kinds_tell (binding.Texture a dim_a multi_a) (binding.Texture b dim_b multi_b) =
-    Decides-like _ (like_three binding.Texture a b dim_a dim_b multi_a multi_b) (λ e. ((cc, cc), cc))
-    (Decides-and _ (same_bool multi_a multi_b) (Decides-and (same_sample a b) (same_view_dim dim_a dim_b) (samples_tell a b) (view_dims_tell dim_a dim_b)) (bools_tell multi_a multi_b))
-binding_kinds_tell (binding.StorageTexture a format_a dim_a) (binding.StorageTexture b format_b dim_b) =
-    Decides-like _ (like_three binding.StorageTexture a b format_a format_b dim_a dim_b) (λ e. ((cc, cc), cc))
-    (Decides-and _ (same_view_dim dim_a dim_b) (Decides-and (same_access a b) (same_format format_a format_b) (accesses_tell a b) (formats_tell format_a format_b)) (view_dims_tell dim_a dim_b))
-binding_kinds_tell _ _ = (λ e. absurd (cc), λ e. absurd (cc))
 
 -- Entries.
 abbrev layout_entry_made : ℕ → ℕ → BindingKind → LayoutEntry

@@ -1,16 +1,14 @@
 -- The tests of buffers, query sets, textures and views tell whether they are equal.
-use Rattle.std.proofs.Common.{◌≡◌, ℕ, ◌==◌, Bool, true, false, ◌&&◌, List, refl, sym, ap, ◌∙◌, eqb-true, eq-eqb, if◌then◌else◌, bytes_eq}
+use Rattle.std.proofs.Common.{◌≡◌, ℕ, ◌==◌, Bool, ◌&&◌, List, refl, ap, ◌∙◌, if◌then◌else◌, bytes_eq}
 use Rattle.std.specs.Prelude.{Decides}
 use Rattle.std.proofs.lemmas.Bool.Decides.{Decides-and, Decides-like}
 use Rattle.std.proofs.lemmas.Slice.Eq.{bytes_eq-Decides}
-use Rattle.wg_types.specs.Formats.{format_number, same_format}
+use Rattle.wg_types.specs.Formats.{same_format}
 use Rattle.wg_types.specs.Textures.{texture_dim_number, view_dim_number, aspect_word_number, same_texture, same_view}
 use Rattle.wg_types.specs.declared.formats.Format.{Format}
-use Rattle.wg_types.specs.declared.formats.Format.TheVariants.{R8Unorm, Rg8Unorm, Rgba8Unorm, Rgba8UnormSrgb, Bgra8Unorm, R32Uint, R32Float, Rgba16Float, Rgba32Float, Depth16Unorm, Depth24Plus, Depth24PlusStencil8, Depth32Float, Stencil8}
 use Rattle.wg_types.specs.declared.textures.TextureDim.{TextureDim}
 use Rattle.wg_types.specs.declared.textures.TextureDim.TheVariants as texture_dim
 use Rattle.wg_types.specs.declared.textures.ViewDim.{ViewDim}
-use Rattle.wg_types.specs.declared.textures.ViewDim.TheVariants as view_dim
 use Rattle.wg_types.specs.declared.textures.AspectWord.{AspectWord}
 use Rattle.wg_types.specs.declared.textures.AspectWord.TheVariants.{All, DepthOnly, StencilOnly}
 use Rattle.wg_types.specs.declared.textures.TextureInfo.{TextureInfo}
@@ -19,37 +17,10 @@ use Rattle.wg_types.specs.declared.handles.ObjRef.{ObjRef}
 use Rattle.wg_types.specs.declared.handles.BufferInfo.{BufferInfo}
 use Rattle.wg_types.specs.declared.handles.QueriesInfo.{QueriesInfo}
 use Rattle.wg_model.specs.Equality.{same_bool, same_reference, same_buffer}
+use Rattle.wg_formats.proofs.BindingKinds.{numbers_tell, words_tell, bools_tell, formats_tell, view_dims_tell}
 use Rattle.wg_history.specs.Infos.{same_queries}
 
--- Numbers, and words by their numbers.
-pub numbers_tell : (a b : ℕ) → Decides (a == b) (a ≡ b)
-numbers_tell a b = (eqb-true a b, eq-eqb a b)
-
-pub words_tell : {X : Type 0} (number : X → ℕ) (back : ℕ → X) → ((x : X) → back (number x) ≡ x) → (a b : X) → Decides (number a == number b) (a ≡ b)
-words_tell number back is a b = (λ e. sym (is a) ∙ (ap back (eqb-true (number a) (number b) e) ∙ is b), λ e. eq-eqb (number a) (number b) (ap number e))
-
-abbrev format_at : ℕ → Format
-format_at n = if n == 0 then R8Unorm else if n == 1 then Rg8Unorm else if n == 2 then Rgba8Unorm else if n == 3 then Rgba8UnormSrgb else if n == 4 then Bgra8Unorm else if n == 5 then R32Uint else if n == 6 then R32Float else if n == 7 then Rgba16Float else if n == 8 then Rgba32Float else if n == 9 then Depth16Unorm else if n == 10 then Depth24Plus else if n == 11 then Depth24PlusStencil8 else if n == 12 then Depth32Float else Stencil8
-
-format_back : (f : Format) → format_at (format_number f) ≡ f
-format_back R8Unorm = refl
-format_back Rg8Unorm = refl
-format_back Rgba8Unorm = refl
-format_back Rgba8UnormSrgb = refl
-format_back Bgra8Unorm = refl
-format_back R32Uint = refl
-format_back R32Float = refl
-format_back Rgba16Float = refl
-format_back Rgba32Float = refl
-format_back Depth16Unorm = refl
-format_back Depth24Plus = refl
-format_back Depth24PlusStencil8 = refl
-format_back Depth32Float = refl
-format_back Stencil8 = refl
-
-pub formats_tell : (a b : Format) → Decides (same_format a b) (a ≡ b)
-formats_tell a b = words_tell format_number format_at format_back a b
-
+-- Words.
 abbrev texture_dim_at : ℕ → TextureDim
 texture_dim_at n = if n == 0 then texture_dim.One else if n == 1 then texture_dim.Two else texture_dim.Three
 
@@ -58,17 +29,6 @@ texture_dim_back texture_dim.One = refl
 texture_dim_back texture_dim.Two = refl
 texture_dim_back texture_dim.Three = refl
 
-abbrev view_dim_at : ℕ → ViewDim
-view_dim_at n = if n == 0 then view_dim.One else if n == 1 then view_dim.Two else if n == 2 then view_dim.TwoArray else if n == 3 then view_dim.Cube else if n == 4 then view_dim.CubeArray else view_dim.Three
-
-view_dim_back : (d : ViewDim) → view_dim_at (view_dim_number d) ≡ d
-view_dim_back view_dim.One = refl
-view_dim_back view_dim.Two = refl
-view_dim_back view_dim.TwoArray = refl
-view_dim_back view_dim.Cube = refl
-view_dim_back view_dim.CubeArray = refl
-view_dim_back view_dim.Three = refl
-
 abbrev aspect_word_at : ℕ → AspectWord
 aspect_word_at n = if n == 0 then All else if n == 1 then DepthOnly else StencilOnly
 
@@ -76,15 +36,6 @@ aspect_word_back : (w : AspectWord) → aspect_word_at (aspect_word_number w) �
 aspect_word_back All = refl
 aspect_word_back DepthOnly = refl
 aspect_word_back StencilOnly = refl
-
-pub view_dims_tell : (a b : ViewDim) → Decides (view_dim_number a == view_dim_number b) (a ≡ b)
-view_dims_tell a b = words_tell view_dim_number view_dim_at view_dim_back a b
-
-pub bools_tell : (a b : Bool) → Decides (same_bool a b) (a ≡ b)
-bools_tell true true = (λ e. refl, λ e. refl)
-bools_tell true false = (λ e. absurd (cc), λ e. absurd (cc))
-bools_tell false true = (λ e. absurd (cc), λ e. absurd (cc))
-bools_tell false false = (λ e. refl, λ e. refl)
 
 -- Buffers.
 abbrev buffer_made : ℕ → ℕ → Bool → BufferInfo
