@@ -113,11 +113,11 @@ left_is (x ∷ xs) rows a = by_test (kind_writes x.1) (is_full x.0) refl refl (�
     by_test false f e g rest = done rows (λ c. never c (covers_spot cell_sort x.0 (cell_spot c)) (kind_writes x.1) (ap (λ k. covers_spot cell_sort x.0 (cell_spot c) && k) e ∙ and_false (covers_spot cell_sort x.0 (cell_spot c)))) (rest rows a)
 
 -- Rows of one value.
-each_from : (kind : AccessKind) (rows : List (Cells × AccessKind)) → EachRow (λ row. row.1 ≡ kind) rows → Each_value kind rows
+pub each_from : (kind : AccessKind) (rows : List (Cells × AccessKind)) → EachRow (λ row. row.1 ≡ kind) rows → Each_value kind rows
 each_from kind [] h = tt
 each_from kind (x ∷ xs) h = (h.0, each_from kind xs h.1)
 
-each_to : (kind : AccessKind) (rows : List (Cells × AccessKind)) → Each_value kind rows → EachRow (λ row. row.1 ≡ kind) rows
+pub each_to : (kind : AccessKind) (rows : List (Cells × AccessKind)) → Each_value kind rows → EachRow (λ row. row.1 ≡ kind) rows
 each_to kind [] h = tt
 each_to kind (x ∷ xs) h = (h.0, each_to kind xs h.1)
 
@@ -134,7 +134,7 @@ each_by_value kind (x ∷ xs) l h = (h (cell_line x.0, cell_lo x.0) x.1 (ap (λ 
     rest spot v e false k = h spot v (ap (λ b. if b then Some x.1 else value_at cell_sort spot xs) k ∙ e)
 
 -- Pieces put among rows of the same value.
-fits_each : (kind : AccessKind) (r : Cells × AccessKind) (rows : List (Cells × AccessKind)) → r.1 ≡ kind → Each_value kind rows → EachRow (Fits cell_sort r) rows
+pub fits_each : (kind : AccessKind) (r : Cells × AccessKind) (rows : List (Cells × AccessKind)) → r.1 ≡ kind → Each_value kind rows → EachRow (Fits cell_sort r) rows
 fits_each kind r [] e h = tt
 fits_each kind r (y ∷ ys) e h = (λ spot p q. e ∙ sym h.0, fits_each kind r ys e h.1)
 

@@ -14,3 +14,11 @@ pub mod Leaving
 pub mod Whole
 pub mod Planned
 pub mod Seeing
+pub mod Standing
+pub mod Spreading
+pub mod Finding
+pub mod Telling
+pub mod Swifting
+pub mod Nearing
+pub mod Placing
+pub mod Single

@@ -384,7 +384,7 @@ all_apart place inner [] (k ∷ more) end h a = absurd h
 all_apart place inner (s ∷ steps) [] end h a = absurd h
 all_apart place inner (s ∷ steps) (k ∷ more) end h a = all_apart place (used_after (sets s.uses) inner) steps more end h.3 (step_used s inner a).0
 
-ends_apart : (deeds : List Deed) (held : List Kept) (ends : List UseRow) (wants leaves : List (Cells × AccessKind)) → IsTrack deeds held ends wants leaves → Apart part_sort ends
+pub ends_apart : (deeds : List Deed) (held : List Kept) (ends : List UseRow) (wants leaves : List (Cells × AccessKind)) → IsTrack deeds held ends wants leaves → Apart part_sort ends
 ends_apart deeds held ends wants leaves h = all_apart (Host 0) [] (inside_at (Host 0) deeds) held ends (h.kept (Host 0)) tt
 
 needs_ordered : (wants : List (Cells × AccessKind)) (found : List Cells) → Apart cell_sort wants → found ≡ map (λ row. row.0) wants → Ordered cells_object found

@@ -1,32 +1,20 @@
--- What rows have of a run is told by those of its object; and uses that take the place of what was there.
-use Rattle.std.proofs.Common.{◌≡◌, ℕ, List, [], ◌∷◌, ◌++◌, Bool, true, false, ◌||◌, ◌==◌, cond, Option, Some, None, refl, ap, ap₂, sym, ◌∙◌, append_assoc}
+-- Rows that were tested, and uses that take the place of what was there.
+use Rattle.std.proofs.Common.{◌≡◌, List, [], ◌∷◌, ◌++◌, Bool, true, Option, Some, None, refl, ap, sym, ◌∙◌, append_assoc}
 use Rattle.std.specs.List.{flat_map}
 use Rattle.std.specs.Option.{option_or, option_map_or}
-use Rattle.std.proofs.lemmas.Bool.{eq-eqb, or_left}
-use Rattle.wg_rows.specs.Rows.{line_object, Sort, Spot, Apart}
+use Rattle.wg_rows.specs.Rows.{Sort, Spot, Apart}
 use Rattle.wg_rows.specs.Order.{are_apart}
-use Rattle.wg_rows.specs.Cut.{value_at, cut, cut_row, inside, gaps, put_all}
-use Rattle.wg_rows.specs.Runs.{PartRun, Cells, Bytes, Layers, Slices, Queries, part_sort, cell_sort, cell_line, run_object}
+use Rattle.wg_rows.specs.Cut.{value_at, cut, cut_row, gaps, put_all}
+use Rattle.wg_rows.specs.Runs.{Cells, part_sort, cell_sort}
 use Rattle.wg_rows.specs.Uses.{AccessKind, Usages, same_set, same_kind}
 use Rattle.wg_rows.specs.Sets.{UseRow}
 use Rattle.wg_rows.proofs.Told.{uses_tell, accesses_tell}
 use Rattle.wg_rows.proofs.Order.{apart_told}
 use Rattle.wg_rows.proofs.Sets.{part_clips}
 use Rattle.wg_rows.proofs.Values.{apart_loose, all_put, GapsAre, gaps_are, AreFree}
-use Rattle.wg_bars.proofs.Parts.{object_is}
-use Rattle.wg_cbtrack.specs.Owners.{among, rows_of, rows_among, Ordered}
-use Rattle.wg_cbtrack.specs.Near.{use_object, access_object}
 use Rattle.wg_cbtrack.specs.Join.{used_after}
-use Rattle.wg_cbtrack.proofs.Local.{Keeps, of_row, apart_ordered, inside_among, gaps_among, same_values}
-use Rattle.wg_cbtrack.proofs.Nearby.{part_keeps}
+use Rattle.wg_cbtrack.proofs.Local.{same_values}
 use Rattle.wg_cbtrack.proofs.Joins.{UsedAfter, used_are}
-
--- A run of other ends is of the same line.
-cell_keeps : Keeps cell_sort
-cell_keeps (Bytes a x y) lo hi = refl
-cell_keeps (Layers a b c x y) lo hi = refl
-cell_keeps (Slices a b x y) lo hi = refl
-cell_keeps (Queries a x y) lo hi = refl
 
 -- Rows that were tested are in printed form.
 pub parts_printed : (b : Bool) (rows : List UseRow) → b ≡ are_apart part_sort same_set rows → b ≡ true → Apart part_sort rows
@@ -34,41 +22,6 @@ parts_printed b rows e t = apart_told part_sort same_set uses_tell rows (sym e �
 
 pub cells_printed : (b : Bool) (rows : List (Cells × AccessKind)) → b ≡ are_apart cell_sort same_kind rows → b ≡ true → Apart cell_sort rows
 cells_printed b rows e t = apart_told cell_sort same_kind accesses_tell rows (sym e ∙ t)
-
-pub parts_ordered : (rows : List UseRow) → Apart part_sort rows → Ordered use_object rows
-parts_ordered rows a = apart_ordered part_sort rows a
-
-pub cells_ordered : (rows : List (Cells × AccessKind)) → Apart cell_sort rows → Ordered access_object rows
-cells_ordered rows a = apart_ordered cell_sort rows a
-
-or_false : (b : Bool) → (b || false) ≡ b
-or_false true = refl
-or_false false = refl
-
-one_among : {T : Type 0} (object : T → ℕ) (o : ℕ) (rows : List T) → rows_among object (o ∷ []) rows ≡ rows_of object o rows
-one_among object o [] = refl
-one_among {T} object o (x ∷ xs) = ap₂ (λ (b : Bool) (ys : List T). cond b (x ∷ ys) ys) (or_false (object x == o)) (one_among object o xs)
-
-itself : (o : ℕ) → among (o ∷ []) o ≡ true
-itself o = or_left (o == o) false (eq-eqb o o refl)
-
-inside_about : {R V : Type 0} (sort : Sort R) (r : R) (rows : List (R × V)) → inside sort r (rows_of (of_row sort) (line_object (sort.line r)) rows) ≡ inside sort r rows
-inside_about sort r rows = ap (inside sort r) (sym (one_among (of_row sort) (line_object (sort.line r)) rows)) ∙ inside_among sort (line_object (sort.line r) ∷ []) r rows (itself (line_object (sort.line r)))
-
-gaps_about : {R V W : Type 0} (sort : Sort R) → Keeps sort → (u : R × W) (rows : List (R × V)) → gaps sort (u ∷ []) (rows_of (of_row sort) (line_object (sort.line u.0)) rows) ≡ gaps sort (u ∷ []) rows
-gaps_about sort keeps u rows = ap (gaps sort (u ∷ [])) (sym (one_among (of_row sort) (line_object (sort.line u.0)) rows)) ∙ gaps_among sort keeps (line_object (sort.line u.0) ∷ []) (u ∷ []) rows (itself (line_object (sort.line u.0)), tt)
-
-pub inside_parts : (run : PartRun) (o : ℕ) (mine rows : List UseRow) → o ≡ run_object run → mine ≡ rows_of use_object o rows → inside part_sort run mine ≡ inside part_sort run rows
-inside_parts run o mine rows at is = ap (inside part_sort run) (is ∙ ap (λ (n : ℕ). rows_of use_object n rows) (at ∙ sym (object_is run))) ∙ inside_about part_sort run rows
-
-pub gaps_parts : (run : PartRun) (v : Usages) (o : ℕ) (mine rows : List UseRow) → o ≡ run_object run → mine ≡ rows_of use_object o rows → gaps part_sort ((run, v) ∷ []) mine ≡ gaps part_sort ((run, v) ∷ []) rows
-gaps_parts run v o mine rows at is = ap (gaps part_sort ((run, v) ∷ [])) (is ∙ ap (λ (n : ℕ). rows_of use_object n rows) (at ∙ sym (object_is run))) ∙ gaps_about part_sort part_keeps (run, v) rows
-
-pub inside_cells : (run : Cells) (o : ℕ) (mine rows : List (Cells × AccessKind)) → o ≡ line_object (cell_line run) → mine ≡ rows_of access_object o rows → inside cell_sort run mine ≡ inside cell_sort run rows
-inside_cells run o mine rows at is = ap (inside cell_sort run) (is ∙ ap (λ (n : ℕ). rows_of access_object n rows) at) ∙ inside_about cell_sort run rows
-
-pub gaps_cells : (run : Cells) (v : AccessKind) (o : ℕ) (mine rows : List (Cells × AccessKind)) → o ≡ line_object (cell_line run) → mine ≡ rows_of access_object o rows → gaps cell_sort ((run, v) ∷ []) mine ≡ gaps cell_sort ((run, v) ∷ []) rows
-gaps_cells run v o mine rows at is = ap (gaps cell_sort ((run, v) ∷ [])) (is ∙ ap (λ (n : ℕ). rows_of access_object n rows) at) ∙ gaps_about cell_sort cell_keeps (run, v) rows
 
 -- What is left of rows is what is left of each.
 cut_append : {R W : Type 0} (sort : Sort R) (r : R) (xs ys : List (R × W)) → cut sort r (xs ++ ys) ≡ cut sort r xs ++ cut sort r ys

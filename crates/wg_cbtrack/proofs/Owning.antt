@@ -10,7 +10,7 @@ use Rattle.std.proofs.lemmas.List.Filters.{length-filter_both}
 use Rattle.wg_rows.specs.Rows.{EachRow}
 use Rattle.wg_cbtrack.specs.Owners.{among, rows_of, rows_below, rows_above, rows_among, Ordered, Rising, AreExchanged}
 
-less_no : (a b : ℕ) → b ≤ a → nat_lt a b ≡ false
+pub less_no : (a b : ℕ) → b ≤ a → nat_lt a b ≡ false
 less_no a b l = grind (arith, nat_tests)
 
 most_yes : (a b : ℕ) → a ≤ b → nat_le a b ≡ true
@@ -19,10 +19,10 @@ most_yes a b l = grind (arith, nat_tests)
 most_no : (a b : ℕ) → b < a → nat_le a b ≡ false
 most_no a b l = grind (arith, nat_tests)
 
-same_no : (a b : ℕ) → a < b → (a == b) ≡ false
+pub same_no : (a b : ℕ) → a < b → (a == b) ≡ false
 same_no a b l = grind (arith, nat_tests)
 
-same_not : (a b : ℕ) → b < a → (a == b) ≡ false
+pub same_not : (a b : ℕ) → b < a → (a == b) ≡ false
 same_not a b l = grind (arith, nat_tests)
 
 -- What a filter keeps.
@@ -40,7 +40,7 @@ each_filter {T} P p (x ∷ xs) h = by_test (p x) (each_filter P p xs h.1)
     by_test true rest = (h.0, rest)
     by_test false rest = rest
 
-each_kept : {T : Type 0} (p : T → Bool) (xs : List T) → EachRow (λ x. p x ≡ true) (filter p xs)
+pub each_kept : {T : Type 0} (p : T → Bool) (xs : List T) → EachRow (λ x. p x ≡ true) (filter p xs)
 each_kept p [] = tt
 each_kept {T} p (x ∷ xs) = by_test (p x) refl (each_kept p xs)
   where
@@ -60,12 +60,12 @@ pub each_append : {T : Type 0} (P : T → Type 0) (xs ys : List T) → EachRow P
 each_append P [] ys h k = k
 each_append P (x ∷ xs) ys h k = (h.0, each_append P xs ys h.1 k)
 
-each_at : {T : Type 0} (P : T → Type 0) (xs : List T) (k : ℕ) (d : T) → k < length xs → EachRow P xs → P (get_or xs k d)
+pub each_at : {T : Type 0} (P : T → Type 0) (xs : List T) (k : ℕ) (d : T) → k < length xs → EachRow P xs → P (get_or xs k d)
 each_at P [] k d l h = absurd (omega arith)
 each_at P (x ∷ xs) zero d l h = h.0
 each_at P (x ∷ xs) (suc k) d l h = each_at P xs k d (omega arith) h.1
 
-filter_within : {T : Type 0} (p q : T → Bool) → ((x : T) → p x ≡ true → q x ≡ true) → (xs : List T) → filter p (filter q xs) ≡ filter p xs
+pub filter_within : {T : Type 0} (p q : T → Bool) → ((x : T) → p x ≡ true → q x ≡ true) → (xs : List T) → filter p (filter q xs) ≡ filter p xs
 filter_within p q f [] = refl
 filter_within {T} p q f (x ∷ xs) = by_tests (p x) (q x) refl refl (filter_within p q f xs)
   where
@@ -74,7 +74,7 @@ filter_within {T} p q f (x ∷ xs) = by_tests (p x) (q x) refl refl (filter_with
     by_tests true false e g h = absurd (true≢false (sym (f x e) ∙ g))
     by_tests false false e g h = ap (filter p) (dropped q x xs g) ∙ (h ∙ sym (dropped p x xs e))
 
-filter_apart : {T : Type 0} (p q : T → Bool) → ((x : T) → q x ≡ true → p x ≡ false) → (xs : List T) → filter p (filter q xs) ≡ []
+pub filter_apart : {T : Type 0} (p q : T → Bool) → ((x : T) → q x ≡ true → p x ≡ false) → (xs : List T) → filter p (filter q xs) ≡ []
 filter_apart p q f xs = none_kept p (filter q xs) (each_map (λ x. q x ≡ true) (λ x. p x ≡ false) f (filter q xs) (each_kept q xs))
 
 -- Rows in order.

@@ -1,22 +1,41 @@
 //! The rows that a run can meet: those of its object, where rows are in printed form.
-ghost use Rattle.std.specs.Prelude.{◌≡◌, ◌∷◌, ◌++◌, [], true, IsTrue, IfOk, OnOk};
+ghost use Rattle.std.specs.Prelude.{◌≡◌, ◌∷◌, ◌++◌, [], true, nat_lt, IsTrue, IfOk, OnOk};
 ghost use Rattle.wg_rows.specs.Cut.{inside, gaps, put_all};
 ghost use Rattle.wg_rows.specs.Rows.{Apart};
 ghost use Rattle.std.specs.List.{flat_map};
-ghost use Rattle.wg_rows.specs.Runs.{PartRun, part_sort, cell_sort};
+ghost use Rattle.wg_rows.specs.Runs.{PartRun, part_sort, cell_sort, part_lo, part_hi, cell_lo, cell_hi};
 ghost use Rattle.wg_rows.specs.Uses.{AccessKind, Usages, same_set};
 
-use crate::near::cells_object;
-use crate::owners::rows_of;
 use std::alloc::Global;
 use wg_entry::NoMemory;
-use wg_rows::part_runs::run_object;
-use wg_rows::rows::{gaps, put_all};
+use wg_inplace::place::{near_run, place};
+use wg_rows::rows::{Run, gaps, put_all};
 use wg_trace::parts::{AccessKind, Cells, PartRun};
 use wg_trace::usages::Usages;
 
+/// The rows near a run of parts.
+#[tactic(auto, using(crate::proofs::Nearing::inside_parts, crate::proofs::Nearing::gaps_parts, crate::proofs::Nearing::parts_chained))]
+fn near_parts(rows: &[(PartRun, Usages)], run: PartRun) -> &[(PartRun, Usages)]
+    requires apart { Apart part_sort rows.now }
+    requires full { nat_lt (part_lo run) (part_hi run) ≡ true }
+    ensures inside { inside part_sort run result.now ≡ inside part_sort run rows.now }
+    ensures gaps { (v : Usages) → gaps part_sort ((run, v) ∷ []) result.now ≡ gaps part_sort ((run, v) ∷ []) rows.now }
+{
+    near_run(rows, place(rows, run), run)
+}
+
+/// The rows near a run of cells.
+#[tactic(auto, using(crate::proofs::Nearing::inside_cells, crate::proofs::Nearing::gaps_cells, crate::proofs::Nearing::cells_chained))]
+fn near_cells(rows: &[(Cells, AccessKind)], run: Cells) -> &[(Cells, AccessKind)]
+    requires apart { Apart cell_sort rows.now }
+    requires full { nat_lt (cell_lo run) (cell_hi run) ≡ true }
+    ensures inside { inside cell_sort run result.now ≡ inside cell_sort run rows.now }
+    ensures gaps { (v : AccessKind) → gaps cell_sort ((run, v) ∷ []) result.now ≡ gaps cell_sort ((run, v) ∷ []) rows.now }
+{
+    near_run(rows, place(rows, run), run)
+}
+
 /// The rows among which those of a run's parts are, if rows are in printed form, or else all rows.
-#[tactic(auto, using(crate::proofs::OfRuns::parts_ordered, crate::proofs::OfRuns::inside_parts, crate::proofs::OfRuns::gaps_parts))]
 pub fn about_parts(
     rows: &[(PartRun, Usages)],
     are_printed: bool,
@@ -26,14 +45,13 @@ pub fn about_parts(
     ensures inside { inside part_sort run result.now ≡ inside part_sort run rows.now }
     ensures gaps { (v : Usages) → gaps part_sort ((run, v) ∷ []) result.now ≡ gaps part_sort ((run, v) ∷ []) rows.now }
 {
-    if are_printed {
-        return rows_of(rows, run_object(run));
+    if are_printed && run.is_full() {
+        return near_parts(rows, run);
     }
     rows
 }
 
 /// The rows among which those of a run's cells are, if rows are in printed form, or else all rows.
-#[tactic(auto, using(crate::proofs::OfRuns::cells_ordered, crate::proofs::OfRuns::inside_cells, crate::proofs::OfRuns::gaps_cells))]
 pub fn about_cells(
     rows: &[(Cells, AccessKind)],
     are_printed: bool,
@@ -43,8 +61,8 @@ pub fn about_cells(
     ensures inside { inside cell_sort run result.now ≡ inside cell_sort run rows.now }
     ensures gaps { (v : AccessKind) → gaps cell_sort ((run, v) ∷ []) result.now ≡ gaps cell_sort ((run, v) ∷ []) rows.now }
 {
-    if are_printed {
-        return rows_of(rows, cells_object(run));
+    if are_printed && run.is_full() {
+        return near_cells(rows, run);
     }
     rows
 }

@@ -1,5 +1,5 @@
 //! The cells of one more noted step.
-ghost use Rattle.std.specs.Prelude.{◌≡◌, List, IfOk, OnOk, IsTrue};
+ghost use Rattle.std.specs.Prelude.{◌≡◌, List, [], IfOk, OnOk, IsTrue};
 ghost use Rattle.wg_rows.specs.Cut.{choose, put_all};
 ghost use Rattle.wg_rows.specs.Rows.{Apart};
 ghost use Rattle.wg_rows.specs.Runs.{cell_sort};
@@ -17,6 +17,7 @@ ghost use Rattle.wg_cbtrack.specs.Leaves.{
 ghost use Rattle.wg_cbtrack.specs.Next.{AreCells};
 
 use crate::about::about_cells;
+use crate::join::put_few;
 use std::alloc::Global;
 use wg_entry::NoMemory;
 use wg_rows::cell_runs::{cell_hi, cell_lo, reads, unsets, writes};
@@ -41,7 +42,7 @@ pub enum Pieces {
 }
 
 /// What is left of a cell that an access writes.
-fn left_kind(kind: AccessKind) -> AccessKind
+pub fn left_kind(kind: AccessKind) -> AccessKind
     ensures { result ≡ left_kind kind }
 {
     if unsets(kind) {
@@ -152,6 +153,54 @@ fn push_pieces(
     }
 }
 
+/// Pieces of the runs that accesses read, the last access first, which are yet to be put among rows: it is known
+/// whether what is left is in printed form.
+pub fn pieces_over(
+    alloc: Global,
+    pieces: Pieces,
+    rows: &[(Cells, AccessKind)],
+    leaves: &[(Cells, AccessKind)],
+    are_printed: bool,
+    accesses: &[(Cells, AccessKind)],
+) -> Result<Vec<(Cells, AccessKind)>, NoMemory>
+    requires { IsTrue are_printed → Apart cell_sort leaves.now }
+    ensures { IfOk result (λ v. put_all cell_sort same_kind v.items rows.now ≡ with_pieces (pieces_of pieces leaves.now) accesses.now rows.now) }
+{
+    let _ = rows;
+    let mut found = Vec::new(alloc);
+    let mut i = accesses.len();
+    while i > 0 {
+        i -= 1;
+        let access = accesses[i];
+        if reads(access.1) && cell_lo(access.0) < cell_hi(access.0) {
+            push_pieces(&mut found, pieces, leaves, are_printed, access.0)?;
+        }
+    }
+    Ok(found)
+}
+
+/// What accesses read of the cells that are left unset, which are in printed form: the accesses of the clear
+/// inside before them.
+pub fn clear_over(
+    alloc: Global,
+    leaves: &[(Cells, AccessKind)],
+    accesses: &[(Cells, AccessKind)],
+) -> Result<Vec<(Cells, AccessKind)>, NoMemory>
+    requires { Apart cell_sort leaves.now }
+    ensures { IfOk result (λ v. v.items ≡ with_pieces (unset_pieces leaves.now) accesses.now []) }
+{
+    let none = Vec::new(alloc);
+    let found = pieces_over(
+        alloc,
+        Pieces::Unset,
+        none.as_slice(),
+        leaves,
+        true,
+        accesses,
+    )?;
+    put_few(alloc, found)
+}
+
 /// Rows with pieces of the runs that accesses read, the last access first.
 #[tactic(auto, using(crate::proofs::OfRuns::cells_printed))]
 fn with_pieces(
@@ -164,15 +213,14 @@ fn with_pieces(
     ensures { IfOk result (λ v. v.items ≡ with_pieces (pieces_of pieces leaves.now) accesses.now rows.items) }
 {
     let are_printed = are_apart(leaves);
-    let mut found = Vec::new(alloc);
-    let mut i = accesses.len();
-    while i > 0 {
-        i -= 1;
-        let access = accesses[i];
-        if reads(access.1) && cell_lo(access.0) < cell_hi(access.0) {
-            push_pieces(&mut found, pieces, leaves, are_printed, access.0)?;
-        }
-    }
+    let found = pieces_over(
+        alloc,
+        pieces,
+        rows.as_slice(),
+        leaves,
+        are_printed,
+        accesses,
+    )?;
     put_all(alloc, rows, found.as_slice())
 }
 

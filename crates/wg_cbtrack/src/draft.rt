@@ -133,6 +133,24 @@ pub fn add_track(
     Ok(Draft { items, last, cells })
 }
 
+/// Adds one step, as what a command buffer of its own does: the clear of what it needs, and the step.
+pub fn add_alone(
+    last_rows: &[Items<(PartRun, Usages)>],
+    set_rows: &[Items<(CellRow, RunSet)>],
+    draft: Draft,
+    step: Step,
+) -> Result<Draft, NoMemory>
+    ensures { IfOk result (λ d. (f : List Item → List Item) →
+        HasAdded (record { last = last_rows.now; cells = set_rows.now }) draft f →
+        HasAdded (record { last = last_rows.now; cells = set_rows.now }) d (λ trace. add_group (f trace) (step ∷ []))) }
+{
+    let alloc = *draft.items.allocator();
+    let rows = unset_rows(alloc, set_rows, &draft.cells, step.accesses.as_slice())?;
+    let cleared = add_clear(last_rows, set_rows, draft, step.place, rows)?;
+    let added = add_step(last_rows, set_rows, cleared, step)?;
+    Ok(added)
+}
+
 /// Nothing is found yet. It takes no memory.
 pub fn begin(alloc: Global, last: &LastUse, cells: &CellState) -> Draft
     ensures items { result.items.items ≡ [] }

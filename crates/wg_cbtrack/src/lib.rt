@@ -5,15 +5,20 @@
 ghost use Rattle.wg_cbtrack.specs.Stands.{FreesKeep};
 
 mod about;
+mod alone;
 mod cells;
 mod draft;
+mod found;
 mod join;
 mod kept;
 mod near;
 mod noting;
 mod owners;
+mod placed;
 pub mod plan;
 mod seen;
+mod swift;
+mod told;
 pub mod track;
 pub mod tracker;
 

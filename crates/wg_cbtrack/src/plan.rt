@@ -1,12 +1,12 @@
 //! What command buffers are to add to a trace.
-ghost use Rattle.std.specs.Prelude.{◌≡◌, List, [], IfOk};
+ghost use Rattle.std.specs.Prelude.{◌≡◌, List, [], ◌∷◌, IfOk};
 ghost use Rattle.wg_orders.specs.Trace.{Item, steps_of, add_group};
 ghost use Rattle.wg_cbtrack.specs.Stands.{Stands, IsSound};
 ghost use Rattle.wg_cbtrack.specs.Adds.{now_of, HasAdded};
 ghost use Rattle.wg_cbtrack.specs.Group.{placed_all};
 ghost use Rattle.wg_cbtrack.specs.Plans.{Reaches};
 
-use crate::draft::{Draft, add_track, begin};
+use crate::draft::{Draft, add_alone, add_track, begin};
 use crate::track::CbTrack;
 use std::alloc::Global;
 use std::marker::Model;
@@ -17,7 +17,7 @@ use wg_init::{CellRow, CellState};
 use wg_num::RunSet;
 use wg_trace::items::Items;
 use wg_trace::parts::PartRun;
-use wg_trace::steps::{Item, StepPlace};
+use wg_trace::steps::{Item, Step, StepPlace};
 use wg_trace::usages::Usages;
 
 /// Adds what one command buffer of a tracker's steps adds, at a place.
@@ -87,6 +87,28 @@ impl Plan {
     {
         let Plan { place, draft, .. } = self;
         let draft = add_to(last.rows(), cells.rows(), draft, place, track)?;
+        let alloc = *draft.items.allocator();
+        let last_room = room_for(alloc, last.rows(), &draft.last)?;
+        let cells_room = room_for(alloc, cells.rows(), &draft.cells)?;
+        Ok(Plan {
+            place,
+            draft,
+            last_room,
+            cells_room,
+        })
+    }
+
+    /// Adds what one step does, as a command buffer of its own, after the trace and the items so far, and
+    /// takes the room that it needs. It leaves the states as they are; without memory there is no plan.
+    pub fn add_alone(self, step: Step, last: &LastUse, cells: &CellState) -> Result<Plan, NoMemory>
+        ensures place { IfOk result (λ p. p.place ≡ self.place) }
+        ensures added { IfOk result (λ p. (f : List Item → List Item) →
+            HasAdded (record { last = last.now; cells = cells.now }) self.draft f →
+            HasAdded (record { last = last.now; cells = cells.now }) p.draft (λ trace. add_group (f trace) (step ∷ []))) }
+        ensures reaches { IfOk result (λ p. Reaches p (record { last = last.now; cells = cells.now })) }
+    {
+        let Plan { place, draft, .. } = self;
+        let draft = add_alone(last.rows(), cells.rows(), draft, step)?;
         let alloc = *draft.items.allocator();
         let last_room = room_for(alloc, last.rows(), &draft.last)?;
         let cells_room = room_for(alloc, cells.rows(), &draft.cells)?;

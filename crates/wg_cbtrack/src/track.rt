@@ -8,13 +8,15 @@ ghost use Rattle.wg_orders.specs.Trace.{needs};
 ghost use Rattle.wg_cbtrack.specs.Group.{placed_all};
 ghost use Rattle.wg_cbtrack.specs.Items.{noted};
 ghost use Rattle.wg_cbtrack.specs.Leaves.{as_reads};
-ghost use Rattle.wg_cbtrack.specs.Track.{IsTrack};
+ghost use Rattle.wg_cbtrack.specs.Track.{IsTrack, Holds};
 ghost use Rattle.wg_cbtrack.specs.Seen.{AreStarts, AreEnds};
 
 use crate::draft::Track;
 use crate::kept::{Kept, Rows};
 use crate::near::{exchange_all, make_room};
 use crate::noting::{After, copy_of, step_after};
+use crate::placed::{find_placed, note_placed};
+use crate::swift::{find_swift, note_swift};
 use std::alloc::Global;
 use std::marker::Model;
 use wg_entry::NoMemory;
@@ -91,6 +93,30 @@ fn noted_of(alloc: Global, kept: &[Kept]) -> Result<Deeds, NoMemory>
     Ok(deeds)
 }
 
+/// Notes a step, whatever it changes.
+fn note_any(
+    alloc: Global,
+    kept: &mut Vec<Kept>,
+    rows: &mut Rows,
+    deed: &Deed,
+) -> Result<(), NoMemory>
+    requires holds { Holds (noted kept.old.items) kept.old.items rows.old }
+    ensures holds { Holds (noted kept.new.items) kept.new.items rows.new }
+    ensures noted { OnOk result (noted kept.new.items ≡ noted kept.old.items ++ deed.now ∷ []) }
+    ensures unchanged { OnErr result (kept.new.items ≡ kept.old.items) }
+{
+    let after = step_after(alloc, rows, deed)?;
+    let After {
+        kept: mut more,
+        objects,
+        near,
+    } = after;
+    make_room(rows, &near)?;
+    kept.append(&mut more)?;
+    exchange_all(rows, objects.as_slice(), &near);
+    Ok(())
+}
+
 impl CbTrack {
     /// Nothing is noted. It takes no memory.
     pub fn new(alloc: Global) -> CbTrack
@@ -153,20 +179,17 @@ impl CbTrack {
     }
 
     /// Notes a step.
-    pub fn note(&mut self, deed: &Deed) -> Result<(), NoMemory>
-        ensures noted { OnOk result (self.new ≡ self.old ++ deed.now ∷ []) }
+    pub fn note(&mut self, deed: Deed) -> Result<(), NoMemory>
+        ensures noted { OnOk result (self.new ≡ self.old ++ deed ∷ []) }
         ensures unchanged { OnErr result (self.new ≡ self.old) }
     {
-        let after = step_after(self.alloc, &self.rows, deed)?;
-        let After {
-            mut kept,
-            objects,
-            near,
-        } = after;
-        make_room(&mut self.rows, &near)?;
-        self.kept.append(&mut kept)?;
-        exchange_all(&mut self.rows, objects.as_slice(), &near);
-        Ok(())
+        if let Some(found) = find_swift(self.alloc, &self.rows, &deed)? {
+            return note_swift(&mut self.kept, &mut self.rows, deed, found);
+        }
+        if let Some(found) = find_placed(self.alloc, &self.rows, &deed)? {
+            return note_placed(&mut self.kept, &mut self.rows, deed, found);
+        }
+        note_any(self.alloc, &mut self.kept, &mut self.rows, &deed)
     }
 
     /// Takes the room that it takes to note a step, without noting it. Without memory the tracker comes

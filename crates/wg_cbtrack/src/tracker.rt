@@ -13,7 +13,7 @@ use std::marker::Model;
 use wg_bars::LastUse;
 use wg_entry::NoMemory;
 use wg_init::CellState;
-use wg_trace::steps::{Deed, Item, Step, StepPlace};
+use wg_trace::steps::{Item, Step, StepPlace};
 
 /// The last set with which each part was used, and the cells that are set. It stands for a trace
 /// where it keeps exactly those of the trace.
@@ -29,26 +29,6 @@ impl Model for Tracker {
     ghost Value = { TrackerValue };
 
     ghost view = { λ t. record { last = t.last; cells = t.cells } };
-}
-
-/// One step, as what a command buffer of its own does.
-fn alone(alloc: Global, step: Step) -> Result<CbTrack, NoMemory>
-    ensures { IfOk result (λ track. placed_all step.place track ≡ step ∷ []) }
-{
-    let Step {
-        name,
-        uses,
-        accesses,
-        ..
-    } = step;
-    let deed = Deed {
-        name,
-        uses,
-        accesses,
-    };
-    let mut track = CbTrack::new(alloc);
-    track.note(&deed)?;
-    Ok(track)
 }
 
 impl Tracker {
@@ -88,8 +68,8 @@ impl Tracker {
         ensures planned { IfOk result (λ p. (groups : List (List Step)) →
             IsPlanned self.now plan groups → IsPlanned self.now p (groups ++ (step ∷ []) ∷ [])) }
     {
-        let track = alone(alloc, step)?;
-        let more = self.add(plan, &track)?;
+        let _ = alloc;
+        let more = plan.add_alone(step, &self.last, &self.cells)?;
         Ok(more)
     }
 

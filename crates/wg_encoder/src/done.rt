@@ -48,7 +48,7 @@ impl Done {
     {
         let deed = deed_of(alloc, name, touches)?;
         let found = scope_clash(alloc, &deed, touches)?;
-        self.deeds.note(&deed)?;
+        self.deeds.note(deed)?;
         self.clash = first_part(self.clash, found);
         Ok(())
     }
@@ -70,7 +70,7 @@ impl Done {
         let Some(deed) = encoder_deed(alloc, command)? else {
             return Ok(());
         };
-        self.deeds.note(&deed)?;
+        self.deeds.note(deed)?;
         Ok(())
     }
 }

@@ -35,7 +35,7 @@ fn note(
         uses,
         accesses,
     };
-    track.note(&deed)
+    track.note(deed)
 }
 
 /// Notes a dispatch that stores in buffer 0, and then a copy of what it stored to buffer 1.
