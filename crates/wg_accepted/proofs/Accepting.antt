@@ -13,7 +13,7 @@ use Rattle.wg_history.specs.Traces.{Trace}
 use Rattle.wg_accepted.proofs.Agreeing.{verdict_is_none}
 use Rattle.wg_shaped.specs.Reports.{report_of}
 use Rattle.wg_small.proofs.Texts.{reads_back_by_length}
-use Rattle.wg_play.specs.Play.{setup_of}
+use Rattle.wg_play.specs.Play.{script_setup}
 use Rattle.wg_accepted.specs.Accepted.{ReportsAreAccepted}
 use Rattle.wg_accepted.proofs.Granted.{limits_are_granted}
 
@@ -32,5 +32,5 @@ answered setup history text read taking TooLarge answers has = absurd has
 pub reports_are_accepted : ReportsAreAccepted
 reports_are_accepted bytes script history e run few =
     let granted = limits_are_granted bytes script e in
-    let read : trace_in (report_of (setup_of script) history) ≡ Ok (Trace (setup_of script) history) = reads_back_by_length (setup_of script) history run granted.0 granted.1 (omega (arith, few)) in
-    record { read = read; agrees = λ taking checked answers has. answered (setup_of script) history (report_of (setup_of script) history) read taking checked answers has }
+    let read : trace_in (report_of (script_setup script) history) ≡ Ok (Trace (script_setup script) history) = reads_back_by_length (script_setup script) history run granted.0 granted.1 (omega (arith, few)) in
+    record { read = read; agrees = λ taking checked answers has. answered (script_setup script) history (report_of (script_setup script) history) read taking checked answers has }

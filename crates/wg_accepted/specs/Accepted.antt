@@ -13,7 +13,7 @@ use Rattle.wg_history.specs.Entries.{Entry}
 use Rattle.wg_history.specs.Answers.{Run}
 use Rattle.wg_history.specs.Traces.{Trace}
 use Rattle.wg_shaped.specs.Reports.{report_of}
-use Rattle.wg_play.specs.Play.{setup_of}
+use Rattle.wg_play.specs.Play.{script_setup}
 
 -- The device of a script that is read has no limit better than the best, and those that no script changes as they are by default.
 abbrev pub LimitsAreGranted : Type 0
@@ -30,6 +30,6 @@ abbrev pub ReportsAreAccepted : Type 0
 ReportsAreAccepted =
     (bytes : List ℕ) (script : Script) (history : List Entry)
     → script_of bytes ≡ Ok script
-    → Run (setup_of script) history
-    → length (report_of (setup_of script) history) ≤ limit
-    → IsAccepted (report_of (setup_of script) history) (Trace (setup_of script) history)
+    → Run (script_setup script) history
+    → length (report_of (script_setup script) history) ≤ limit
+    → IsAccepted (report_of (script_setup script) history) (Trace (script_setup script) history)

@@ -6,8 +6,8 @@ use Rattle.wg_types.specs.declared.commands.CommandOf.{CommandOf}
 use Rattle.wg_types.specs.declared.commands.On.{On}
 use Rattle.wg_types.specs.declared.requests.RequestOf.{RequestOf}
 use Rattle.wg_told.specs.declared.replies.ToldReply.{ToldReply}
-use Rattle.wg_c.specs.Inners.{InnerValue, IsAsBefore}
-use Rattle.wg_c.specs.Exports.{Over, IsShut, IsRefused, AsksOpen, Asks, RecordsOpen, Records}
+use Rattle.wg_c.specs.Inners.{InnerValue, NothingHasChanged}
+use Rattle.wg_c.specs.Exports.{Over, IsShut, IsNotMade, AsksOpen, Asks, RecordsOpen, Records}
 
 pub is_there : (i : Option InnerValue) → is_none i ≡ false → is_some i ≡ true
 is_there None e = cc
@@ -27,7 +27,7 @@ over_open (Some c) (Some d) closed opened a b e f h =
     let p : a ≡ c = cc in let q : b ≡ d = cc in
     subst (λ (y : InnerValue). opened c y) q (subst (λ (x : InnerValue). opened x b) p h)
 
-unchanged : (a : InnerValue) → IsAsBefore a a
+unchanged : (a : InnerValue) → NothingHasChanged a a
 unchanged a = record { setup = refl; desk = record { history = refl; seats = refl }; items = refl; told = refl; settled = refl }
 
 pub asks_shut : (asked : Option (RequestOf ℕ)) (who : ℕ) (old new : Option InnerValue) (before : ToldReply)

@@ -18,7 +18,7 @@ use Rattle.wg_desk.specs.Seats.{found_at, is_late_at, recorded_at}
 use Rattle.wg_desk.specs.Sent.{event_sent, seats_after}
 use Rattle.wg_told.specs.declared.replies.ToldReply.{ToldReply}
 use Rattle.wg_told.specs.Replies.{reply_told, kept_told}
-use Rattle.wg_c.specs.Inners.{InnerValue, AreWaiting, answer_to, HasDone, HasAsked, HasComeLate, HasKept, HasRecorded, late_event, pass_begun}
+use Rattle.wg_c.specs.Inners.{InnerValue, AreWaiting, answer_to, HasDone, HasAsked, HasComeLate, HasKept, HasRecorded, late_event, pass_number}
 
 -- an event that was sent
 done_by : (old new : InnerValue) (who : ℕ) (event : Event) (reply : Reply)
@@ -55,14 +55,14 @@ pub came_late : (old new : InnerValue) (who encoder : ℕ) (on : On) (command : 
     → new.desk.setup ≡ old.desk.setup → HasSent old.desk new.desk who (late_event old encoder) reply
     → HasGrown old.desk new.desk old.items new.items → new.desk.seats ≡ old.desk.seats
     → new.told ≡ old.told → new.settled ≡ old.settled ++ reply.settled
-    → out ≡ reply_told reply (length old.desk.history) (pass_begun old encoder command)
+    → out ≡ reply_told reply (length old.desk.history) (pass_number old encoder command)
     → HasRecorded old new who encoder on command out
 came_late old new who encoder on command reply out late setup sent grown seats still settled out_is =
     let e : reply ≡ answer_to old (late_event old encoder) = sent.replied in
     let h : HasComeLate old new who encoder command out = record {
       done = done_by old new who (late_event old encoder) reply setup sent grown still settled;
       seats = seats;
-      out_is = subst (λ (r : Reply). out ≡ reply_told r (length old.desk.history) (pass_begun old encoder command)) e out_is;
+      out_is = subst (λ (r : Reply). out ≡ reply_told r (length old.desk.history) (pass_number old encoder command)) e out_is;
     } in
     subst (λ (b : Bool). MatchBool b (HasComeLate old new who encoder command out) (HasKept old new encoder on command out)) late h
 
@@ -70,7 +70,7 @@ pub was_kept : (old new : InnerValue) (who encoder : ℕ) (on : On) (command : C
     → false ≡ is_late_at old.desk.seats encoder on
     → new.desk.setup ≡ old.desk.setup → new.desk.history ≡ old.desk.history
     → new.desk.seats ≡ recorded_at old.desk.seats encoder on (map_command (found_at old.desk.seats) command)
-    → new.items ≡ old.items → new.told ≡ old.told → new.settled ≡ old.settled → out ≡ kept_told (pass_begun old encoder command)
+    → new.items ≡ old.items → new.told ≡ old.told → new.settled ≡ old.settled → out ≡ kept_told (pass_number old encoder command)
     → HasRecorded old new who encoder on command out
 was_kept old new who encoder on command out late setup history seats items still settled out_is =
     let h : HasKept old new encoder on command out = record { setup = setup; history = history; seats = seats; items = items; still = still; settled = settled; out_is = out_is } in

@@ -13,7 +13,7 @@ use Rattle.wg_told.specs.declared.items.ToldItem.{ToldItem}
 use Rattle.wg_told.specs.declared.items.ToldUse.{ToldUse}
 use Rattle.wg_told.specs.declared.items.ToldAccess.{ToldAccess}
 use Rattle.wg_told.specs.Items.{item_told, use_told, access_told, uses_of, accesses_of}
-use Rattle.wg_c.specs.Inners.{InnerValue, IsOpened, IsAsBefore, HasAsked, HasRecorded, HasToldNext, last_of}
+use Rattle.wg_c.specs.Inners.{InnerValue, IsOpened, NothingHasChanged, HasAsked, HasRecorded, HasToldNext, last_of}
 
 -- what a call does to a device that is closed, and to one that is open
 abbrev pub Over : Option InnerValue → Option InnerValue → Type 0 → (InnerValue → InnerValue → Type 0) → Type 0
@@ -25,9 +25,9 @@ abbrev pub IsShut : {A : Type 0} → Option InnerValue → A → A → ℕ → T
 IsShut new before after status = (status ≡ 3) × (new ≡ None) × (after ≡ before)
 
 -- A call was not made: why, and that nothing has changed.
-pub record IsRefused (cause : Type 0) (old new : InnerValue) (before after : ToldReply) : Type 0 where
+pub record IsNotMade (cause : Type 0) (old new : InnerValue) (before after : ToldReply) : Type 0 where
   pub because : cause
-  pub same : IsAsBefore old new
+  pub same : NothingHasChanged old new
   pub out : after ≡ before
 
 -- Calls.
@@ -50,7 +50,7 @@ IsAskCause asked old status =
 -- On an open device: the status is OK where the desk has made the call, and else nothing has changed.
 abbrev pub AsksOpen : Option (RequestOf ℕ) → ℕ → ToldReply → ToldReply → ℕ → InnerValue → InnerValue → Type 0
 AsksOpen asked who before after status old new =
-    MatchBool (nat_eq status 0) (IsAsked asked who old new after) (IsRefused (IsAskCause asked old status) old new before after)
+    MatchBool (nat_eq status 0) (IsAsked asked who old new after) (IsNotMade (IsAskCause asked old status) old new before after)
 
 -- What a call of a device does, open or not.
 abbrev pub Asks : Option (RequestOf ℕ) → ℕ → Option InnerValue → Option InnerValue → ToldReply → ToldReply → ℕ → Type 0
@@ -78,7 +78,7 @@ IsRecordCause asked encoder on old status =
 -- What a command does on a device that is open.
 abbrev pub RecordsOpen : Option (CommandOf ℕ) → ℕ → ℕ → On → ToldReply → ToldReply → ℕ → InnerValue → InnerValue → Type 0
 RecordsOpen asked who encoder on before after status old new =
-    MatchBool (nat_eq status 0) (IsRecorded asked who encoder on old new after) (IsRefused (IsRecordCause asked encoder on old status) old new before after)
+    MatchBool (nat_eq status 0) (IsRecorded asked who encoder on old new after) (IsNotMade (IsRecordCause asked encoder on old status) old new before after)
 
 -- What a command does, on a device that is open or not.
 abbrev pub Records : Option (CommandOf ℕ) → ℕ → ℕ → On → Option InnerValue → Option InnerValue → ToldReply → ToldReply → ℕ → Type 0
@@ -124,8 +124,8 @@ abbrev pub NextItem : Option InnerValue → Option InnerValue → ToldItem → T
 NextItem old new before after status = Over old new (IsShut new before after status) (TellsItem before after status)
 
 -- a part of the item that was told last is told, if it has that
-abbrev pub Tells : {A : Type 0} → (InnerValue → Option A) → A → A → ℕ → InnerValue → InnerValue → Type 0
-Tells found before after status old new =
+abbrev pub TellsPart : {A : Type 0} → (InnerValue → Option A) → A → A → ℕ → InnerValue → InnerValue → Type 0
+TellsPart found before after status old new =
     MatchOption (found old) ((status ≡ 6) × (new ≡ old) × (after ≡ before)) (λ told. (status ≡ 0) × (new ≡ old) × (after ≡ told))
 
 -- the use of a number of the item that was told last, as it is told, if it has one
@@ -138,11 +138,11 @@ access_at at old = option_map access_told (option_and_then (λ item. slice_get (
 
 -- What a call for a use of the last item tells.
 abbrev pub ItemUse : ℕ → Option InnerValue → Option InnerValue → ToldUse → ToldUse → ℕ → Type 0
-ItemUse at old new before after status = Over old new (IsShut new before after status) (Tells (use_at at) before after status)
+ItemUse at old new before after status = Over old new (IsShut new before after status) (TellsPart (use_at at) before after status)
 
 -- What a call for an access of the last item tells.
 abbrev pub ItemAccess : ℕ → Option InnerValue → Option InnerValue → ToldAccess → ToldAccess → ℕ → Type 0
-ItemAccess at old new before after status = Over old new (IsShut new before after status) (Tells (access_at at) before after status)
+ItemAccess at old new before after status = Over old new (IsShut new before after status) (TellsPart (access_at at) before after status)
 
 -- The next settlement was told, or none is left.
 abbrev pub TellsSettlement : ToldSettlement → ToldSettlement → ℕ → InnerValue → InnerValue → Type 0

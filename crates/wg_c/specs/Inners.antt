@@ -46,7 +46,7 @@ pub record IsOpened (new : InnerValue) (budget serial : ℕ) (limits : Limits) :
   pub settled : new.settled ≡ []
 
 -- nothing has changed
-pub record IsAsBefore (old new : InnerValue) : Type 0 where
+pub record NothingHasChanged (old new : InnerValue) : Type 0 where
   pub setup : new.desk.setup ≡ old.desk.setup
   pub desk : IsUnchanged old.desk new.desk
   pub items : new.items ≡ old.items
@@ -73,8 +73,8 @@ pub record HasAsked (old new : InnerValue) (who : ℕ) (request : RequestOf ℕ)
   pub out_is : out ≡ reply_told (answer_to old (event_sent old.desk.seats request)) (length old.desk.history) 0
 
 -- the number of the pass that a command begins
-abbrev pub pass_begun : InnerValue → ℕ → CommandOf ℕ → ℕ
-pass_begun old encoder command = if is_begin command then passes_at old.desk.seats encoder else 0
+abbrev pub pass_number : InnerValue → ℕ → CommandOf ℕ → ℕ
+pass_number old encoder command = if is_begin command then passes_at old.desk.seats encoder else 0
 
 -- the event of a command that comes too late
 abbrev pub late_event : InnerValue → ℕ → Event
@@ -84,7 +84,7 @@ late_event old encoder = Late (found_at old.desk.seats encoder).reference
 pub record HasComeLate (old new : InnerValue) (who encoder : ℕ) (command : CommandOf ℕ) (out : ToldReply) : Type 0 where
   pub done : HasDone old new who (late_event old encoder)
   pub seats : new.desk.seats ≡ old.desk.seats
-  pub out_is : out ≡ reply_told (answer_to old (late_event old encoder)) (length old.desk.history) (pass_begun old encoder command)
+  pub out_is : out ≡ reply_told (answer_to old (late_event old encoder)) (length old.desk.history) (pass_number old encoder command)
 
 -- A command was kept by its recorder, and nothing else changed.
 pub record HasKept (old new : InnerValue) (encoder : ℕ) (on : On) (command : CommandOf ℕ) (out : ToldReply) : Type 0 where
@@ -94,7 +94,7 @@ pub record HasKept (old new : InnerValue) (encoder : ℕ) (on : On) (command : C
   pub items : new.items ≡ old.items
   pub still : new.told ≡ old.told
   pub settled : new.settled ≡ old.settled
-  pub out_is : out ≡ kept_told (pass_begun old encoder command)
+  pub out_is : out ≡ kept_told (pass_number old encoder command)
 
 -- A command came late, which is an event, or was kept.
 abbrev pub HasRecorded : InnerValue → InnerValue → ℕ → ℕ → On → CommandOf ℕ → ToldReply → Type 0

@@ -5,7 +5,7 @@ ghost use Rattle.wg_types.specs.Requests.{named};
 ghost use Rattle.wg_desk.specs.Seats.{any_missing, handle_at, is_unbegun, passes_at};
 ghost use Rattle.wg_told.specs.Replies.{settlement_told};
 ghost use Rattle.wg_told.specs.Items.{item_told, use_told, access_told, uses_of, accesses_of};
-ghost use Rattle.wg_c.specs.Inners.{IsOpened, HasAsked, HasRecorded, IsAsBefore, IsCause, HasToldNext, last_of};
+ghost use Rattle.wg_c.specs.Inners.{IsOpened, HasAsked, HasRecorded, NothingHasChanged, IsCause, HasToldNext, last_of};
 
 use crate::waiting::Waiting;
 use std::alloc::Global;
@@ -86,7 +86,7 @@ impl Inner {
     pub fn ask(&mut self, who: u32, request: &RequestOf<u64>) -> Result<ToldReply, DeskError>
         ensures done { IfOk result (λ told. HasAsked self.old self.new who request.now told) }
         ensures cause { IfErr result (λ error. IsCause error (any_missing self.old.desk.seats (named request.now)) false) }
-        ensures unchanged { OnErr result (IsAsBefore self.old self.new) }
+        ensures unchanged { OnErr result (NothingHasChanged self.old self.new) }
     {
         if self.waiting.reserve().is_err() {
             return Err(DeskError::NoMemory);
@@ -125,7 +125,7 @@ impl Inner {
         ensures cause { IfErr result (λ error. IsCause error
             (is_none (handle_at self.old.desk.seats encoder) || any_missing self.old.desk.seats (command_named command.now))
             (is_unbegun self.old.desk.seats encoder on)) }
-        ensures unchanged { OnErr result (IsAsBefore self.old self.new) }
+        ensures unchanged { OnErr result (NothingHasChanged self.old self.new) }
     {
         if self.waiting.reserve().is_err() {
             return Err(DeskError::NoMemory);

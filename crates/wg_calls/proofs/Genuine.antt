@@ -56,7 +56,7 @@ use Rattle.wg_history.proofs.Holders.{genuine_below}
 use Rattle.wg_history.proofs.Reached.{genuine_knows}
 use Rattle.wg_calls.specs.Calls.{reference_of, event_asked, info_asked, finish_event, finished_info, handle_of, handle_made, view_asked}
 use Rattle.wg_calls.specs.Genuine.{StaysGenuine}
-use Rattle.wg_calls.proofs.Infos.{Knows as Tells, info_is_made}
+use Rattle.wg_calls.proofs.Infos.{KnowsHandle, info_is_made}
 
 -- a handle that is genuine stays so
 pub genuine_more : (setup : Setup) (entry : Entry) (past : Past) (handle : HandleValue) → is_genuine setup past handle ≡ true → is_genuine setup (entry ∷ past) handle ≡ true
@@ -161,7 +161,7 @@ same_true false true h e = absurd (true≢false (sym h))
 same_true false false h e = absurd (true≢false (sym e))
 
 -- A handle of it tells what is known of it.
-told : (setup : Setup) (entry : Entry) (past : Past) (used : HandleValue × Wanted) → IsGenuineIfOwn setup (entry ∷ past) used.0 → Stands setup past used → Tells (known_in past) used
+told : (setup : Setup) (entry : Entry) (past : Past) (used : HandleValue × Wanted) → IsGenuineIfOwn setup (entry ∷ past) used.0 → Stands setup past used → KnowsHandle (known_in past) used
 told setup entry past used if_own stands =
     let n : ℕ = used.0.reference.number in
     let genuine : is_genuine setup (entry ∷ past) used.0 ≡ true = if_own stands.0 in
@@ -172,7 +172,7 @@ told setup entry past used if_own stands =
     sym (info_stays past entry n stands.1) ∙ (genuine_knows setup (entry ∷ past) used.0 genuine valid).known
 
 all_told : (setup : Setup) (entry : Entry) (past : Past) (useds : List (HandleValue × Wanted)) → All (λ (used : HandleValue × Wanted). IsGenuineIfOwn setup (entry ∷ past) used.0) useds
-    → All (Stands setup past) useds → All (Tells (known_in past)) useds
+    → All (Stands setup past) useds → All (KnowsHandle (known_in past)) useds
 all_told setup entry past useds if_own stands k d lt = told setup entry past (slice_index_or useds k d) (if_own k d lt) (stands k d lt)
 
 -- the object of a handle, with what is wanted of it

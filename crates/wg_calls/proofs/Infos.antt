@@ -19,59 +19,59 @@ use Rattle.wg_calls.specs.Calls.{reference_of, known_by}
 use Rattle.wg_calls.specs.Infos.{InfoIsMade}
 
 -- what is known of the reference of a handle is what this knows
-abbrev pub Knows : (ObjRef → Option Info) → HandleValue × Wanted → Type 0
-Knows known used = known (reference_of used.0) ≡ known_by used.0
+abbrev pub KnowsHandle : (ObjRef → Option Info) → HandleValue × Wanted → Type 0
+KnowsHandle known used = known (reference_of used.0) ≡ known_by used.0
 
 references : (handles : List HandleValue) → map reference_of handles ≡ map (λ r. r) (map reference_of handles)
 references [] = refl
 references (handle ∷ handles) = ap (λ rest. reference_of handle ∷ rest) (references handles)
 
-group_layouts : (known : ObjRef → Option Info) (handles : List HandleValue) → All (Knows known) (all_wanted wanted.GroupLayout handles)
+group_layouts : (known : ObjRef → Option Info) (handles : List HandleValue) → All (KnowsHandle known) (all_wanted wanted.GroupLayout handles)
     → map (λ handle. known_group_layout (known_by handle)) handles ≡ map (λ r. known_group_layout (known r)) (map reference_of handles)
 group_layouts known [] all = refl
 group_layouts known (handle ∷ handles) all =
     ap₂ (λ x xs. x ∷ xs)
-    (ap (λ i. known_group_layout i) (sym (All-head (Knows known) (handle, wanted.GroupLayout) (all_wanted wanted.GroupLayout handles) all)))
-    (group_layouts known handles (All-tail (Knows known) (handle, wanted.GroupLayout) (all_wanted wanted.GroupLayout handles) all))
+    (ap (λ i. known_group_layout i) (sym (All-head (KnowsHandle known) (handle, wanted.GroupLayout) (all_wanted wanted.GroupLayout handles) all)))
+    (group_layouts known handles (All-tail (KnowsHandle known) (handle, wanted.GroupLayout) (all_wanted wanted.GroupLayout handles) all))
 
-bound : (known : ObjRef → Option Info) (resource : ResourceOf HandleValue) → Knows known (resource_named resource)
+bound : (known : ObjRef → Option Info) (resource : ResourceOf HandleValue) → KnowsHandle known (resource_named resource)
     → bound_resource reference_of known_by resource ≡ bound_resource (λ r. r) known (map_resource reference_of resource)
 bound known (Buffer buffer offset size) e = rw e refl
 bound known (View view) e = rw e refl
 bound known (Sampler sampler) e = rw e refl
 
-bounds : (known : ObjRef → Option Info) (entries : List (GroupEntryOf HandleValue)) → All (Knows known) (entries_named entries)
+bounds : (known : ObjRef → Option Info) (entries : List (GroupEntryOf HandleValue)) → All (KnowsHandle known) (entries_named entries)
     → map (bound_entry reference_of known_by) entries ≡ map (bound_entry (λ r. r) known) (map (map_entry reference_of) entries)
 bounds known [] all = refl
 bounds known (entry ∷ entries) all =
     ap₂ (λ resource rest. record { binding = entry.binding; resource = resource } ∷ rest)
-    (bound known entry.resource (All-head (Knows known) (resource_named entry.resource) (entries_named entries) all))
-    (bounds known entries (All-tail (Knows known) (resource_named entry.resource) (entries_named entries) all))
+    (bound known entry.resource (All-head (KnowsHandle known) (resource_named entry.resource) (entries_named entries) all))
+    (bounds known entries (All-tail (KnowsHandle known) (resource_named entry.resource) (entries_named entries) all))
 
 pub info_is_made : InfoIsMade
 info_is_made known (CreateBuffer made) all = refl
 info_is_made known (CreateTexture made) all = refl
 info_is_made known (CreateView texture asked) all =
-    let e : known (reference_of texture) ≡ known_by texture = All-head (Knows known) (texture, wanted.Texture) [] all in
+    let e : known (reference_of texture) ≡ known_by texture = All-head (KnowsHandle known) (texture, wanted.Texture) [] all in
     rw e refl
 info_is_made known (CreateSampler made) all = refl
 info_is_made known (CreateBindGroupLayout made) all = refl
 info_is_made known (CreatePipelineLayout layouts) all =
     ap₂ (λ named infos. Some (info.PipelineLayout (record { layouts = named; layouts_info = infos }))) (references layouts) (group_layouts known layouts all)
 info_is_made known (CreateBindGroup layout entries) all =
-    let e : known (reference_of layout) ≡ known_by layout = All-head (Knows known) (layout, wanted.GroupLayout) (entries_named entries) all in
+    let e : known (reference_of layout) ≡ known_by layout = All-head (KnowsHandle known) (layout, wanted.GroupLayout) (entries_named entries) all in
     ap₂ (λ found bound. Some (info.Group (record { layout = reference_of layout; layout_info = known_group_layout found; entries = bound }))) (sym e)
-    (bounds known entries (All-tail (Knows known) (layout, wanted.GroupLayout) (entries_named entries) all))
+    (bounds known entries (All-tail (KnowsHandle known) (layout, wanted.GroupLayout) (entries_named entries) all))
 info_is_made known (CreateComputePipeline None iface) all = refl
 info_is_made known (CreateComputePipeline (Some layout) iface) all =
-    let e : known (reference_of layout) ≡ known_by layout = All-head (Knows known) (layout, wanted.PipelineLayout) [] all in
+    let e : known (reference_of layout) ≡ known_by layout = All-head (KnowsHandle known) (layout, wanted.PipelineLayout) [] all in
     rw e refl
 info_is_made known (CreateRenderPipeline None desc) all = refl
 info_is_made known (CreateRenderPipeline (Some layout) desc) all =
-    let e : known (reference_of layout) ≡ known_by layout = All-head (Knows known) (layout, wanted.PipelineLayout) [] all in
+    let e : known (reference_of layout) ≡ known_by layout = All-head (KnowsHandle known) (layout, wanted.PipelineLayout) [] all in
     rw e refl
 info_is_made known (GetBindGroupLayout pipeline index) all =
-    let e : known (reference_of pipeline) ≡ known_by pipeline = All-head (Knows known) (pipeline, wanted.Pipeline) [] all in
+    let e : known (reference_of pipeline) ≡ known_by pipeline = All-head (KnowsHandle known) (pipeline, wanted.Pipeline) [] all in
     rw e refl
 info_is_made known (CreateQuerySet made) all = refl
 info_is_made known CreateEncoder all = refl

@@ -16,12 +16,12 @@ use Rattle.wg_history.specs.Traces.{trace_after}
 use Rattle.wg_script.specs.CallOf.{BoundCall}
 use Rattle.wg_script.specs.declared.calls.CallOf.TheVariants.{Ask}
 use Rattle.wg_play.specs.declared.objects.Object.{Object}
-use Rattle.wg_play.specs.Lanes.{Lane, next_event, settle, count_made, starts, starts_from, gathered}
+use Rattle.wg_play.specs.Lanes.{LaneState, next_event, settle, count_made, starts, starts_from, gathered}
 use Rattle.wg_play.specs.Turns.{taken, phase_by}
 use Rattle.wg_play.specs.Play.{after_, phases_by}
 use Rattle.wg_gen.specs.declared.draws.Spot.{Spot}
 use Rattle.wg_gen.specs.Generator.{spots, eight, creation, iterations, lane_of, lanes_from, ending, phases_of}
-use Rattle.wg_gen.specs.Counts.{Counts, is_issue, is_fault, is_free, counts_in}
+use Rattle.wg_gen.specs.Counts.{Tally, is_issue, is_fault, is_free, counts_in}
 use Rattle.wg_gen.specs.Alike.{counts_for, CountsAlike}
 use Rattle.wg_gen.proofs.Facts.{device, create_buffer, destroy, made, plain, entry_of, Calm, Ended}
 use Rattle.wg_gen.proofs.Spots.{spots_are, spots_length}
@@ -34,15 +34,15 @@ use Rattle.wg_gen.proofs.Going.{Way, turn, lane_number, all_through, phase_keeps
 -- ---- a phase of one lane
 
 -- a turn of the one lane
-record IsOne (past : Past) (lane : Lane) (t : Way) : Type 0 where
+record IsOne (past : Past) (lane : LaneState) (t : Way) : Type 0 where
   event : Event
   next : next_event lane ≡ Some event
   is : t ≡ record { past = entry_of 0 event (reply_to device past event) ∷ past; lanes = after_ device lane (reply_to device past event) ∷ [] }
 
-alone : Past → Lane → Way
+alone : Past → LaneState → Way
 alone past lane = record { past = past; lanes = lane ∷ [] }
 
-one_turn : (past : Past) (lane : Lane) (t : Way) (n : ℕ) → turn (alone past lane) n (lane_number (lane ∷ []) n) ≡ Some t → IsOne past lane t
+one_turn : (past : Past) (lane : LaneState) (t : Way) (n : ℕ) → turn (alone past lane) n (lane_number (lane ∷ []) n) ≡ Some t → IsOne past lane t
 unfolding alone
 one_turn past lane t zero e = by_event (next_event lane) refl e
   where
@@ -52,24 +52,24 @@ one_turn past lane t zero e = by_event (next_event lane) refl e
 one_turn past lane t (suc n) e = absurd (cc (e))
 
 -- the one lane of a phase takes its turn, whose event and reply are known
-known_turn : (s t : Way) (n : ℕ) (lane : Lane) (event : Event) (reply : Reply) → s.lanes ≡ lane ∷ [] → turn s n (lane_number s.lanes n) ≡ Some t
+known_turn : (s t : Way) (n : ℕ) (lane : LaneState) (event : Event) (reply : Reply) → s.lanes ≡ lane ∷ [] → turn s n (lane_number s.lanes n) ≡ Some t
     → next_event lane ≡ Some event → reply_to device s.past event ≡ reply → t ≡ record { past = entry_of 0 event reply ∷ s.past; lanes = after_ device lane reply ∷ [] }
 unfolding alone
 known_turn s t n lane event reply lanes turned next answer =
-    let one : IsOne s.past lane t = one_turn s.past lane t n (subst (λ (ls : List Lane). turn (record { past = s.past; lanes = ls }) n (lane_number ls n) ≡ Some t) lanes turned) in
+    let one : IsOne s.past lane t = one_turn s.past lane t n (subst (λ (ls : List LaneState). turn (record { past = s.past; lanes = ls }) n (lane_number ls n) ≡ Some t) lanes turned) in
     let same : one.event ≡ event = cc (sym one.next ∙ next) in
     one.is
     ∙ ap (λ (e : Event). record { past = entry_of 0 e (reply_to device s.past e) ∷ s.past; lanes = after_ device lane (reply_to device s.past e) ∷ [] }) same
     ∙ ap (λ (r : Reply). record { past = entry_of 0 event r ∷ s.past; lanes = after_ device lane r ∷ [] }) answer
 
 -- and a lane that has no event takes none
-no_turn : (s t : Way) (n : ℕ) (lane : Lane) → s.lanes ≡ lane ∷ [] → turn s n (lane_number s.lanes n) ≡ Some t → next_event lane ≡ None → ⊥
+no_turn : (s t : Way) (n : ℕ) (lane : LaneState) → s.lanes ≡ lane ∷ [] → turn s n (lane_number s.lanes n) ≡ Some t → next_event lane ≡ None → ⊥
 unfolding alone
 no_turn s t n lane lanes turned next =
-    let one : IsOne s.past lane t = one_turn s.past lane t n (subst (λ (ls : List Lane). turn (record { past = s.past; lanes = ls }) n (lane_number ls n) ≡ Some t) lanes turned) in
+    let one : IsOne s.past lane t = one_turn s.past lane t n (subst (λ (ls : List LaneState). turn (record { past = s.past; lanes = ls }) n (lane_number ls n) ≡ Some t) lanes turned) in
     absurd (cc (sym one.next ∙ next))
 
-one_through : (lane : Lane) → all_through (lane ∷ []) ≡ true → next_event lane ≡ None
+one_through : (lane : LaneState) → all_through (lane ∷ []) ≡ true → next_event lane ≡ None
 one_through lane end = by_found (next_event lane) end
   where
     by_found : (found : Option Event) → is_none found && true ≡ true → found ≡ None
@@ -107,7 +107,7 @@ creates_on s t by k (suc n) is turned =
         count_is = omega (arith, is.count_is);
         length_is = ap suc is.length_is;
         issued_is = is.issued_is;
-        lanes = ap (λ (lane : Lane). lane ∷ []) (creating_after k n (made s.past) answer);
+        lanes = ap (λ (lane : LaneState). lane ∷ []) (creating_after k n (made s.past) answer);
       };
     })
 
@@ -166,7 +166,7 @@ lanes_start past n lane (suc lanes) first is = (
 
 -- ---- the end
 
-abbrev completing : List Object → ℕ → ℕ → List BoundCall → Lane
+abbrev completing : List Object → ℕ → ℕ → List BoundCall → LaneState
 completing others first op left = record { sight = record { others = others; first = first; own = [] }; left = Ask (Complete op) None ∷ left }
 
 -- the device is told that all is complete, and then the buffers are destroyed
@@ -184,7 +184,7 @@ completes_on op before s t by others first some sees calm issued_is length_is la
     = known_turn s t by (completing others first (issued s.past) (destructions 0 8)) event plain start turned (complete_next others first (issued s.past) (destructions 0 8)) (complete_answer s.past calm le) in
     subst (IsEnding op before) (sym new)
     (destroys others first 0 8 sees refl (complete_ended s.past 0 calm le) issued_is (omega (arith, length_is))
-    (ap (λ (lane : Lane). lane ∷ []) (complete_after others first (issued s.past) (destructions 0 8) plain)))
+    (ap (λ (lane : LaneState). lane ∷ []) (complete_after others first (issued s.past) (destructions 0 8) plain)))
 
 destroys_on : (op before : ℕ) (s t : Way) (by : ℕ) (others : List Object) (first k n : ℕ) → SeesBuffers others first → k + n ≡ 8 → Ended k s.past → issued s.past ≡ op → length s.past ≡ before + suc k
     → s.lanes ≡ destroying others first k n ∷ [] → turn s by (lane_number s.lanes by) ≡ Some t → IsEnding op before t
@@ -195,7 +195,7 @@ destroys_on op before s t by others first k (suc n) sees all ended issued_is len
     = known_turn s t by (destroying others first k (suc n)) (destroy k) plain lanes turned (destroying_next others first k n sees lt) (destroy_answer k s.past ended lt) in
     subst (IsEnding op before) (sym new)
     (destroys others first (suc k) n sees (omega (arith, all)) (destroy_ended k s.past 0 ended lt) issued_is (omega (arith, length_is))
-    (ap (λ (lane : Lane). lane ∷ []) (destroying_after others first k n plain)))
+    (ap (λ (lane : LaneState). lane ∷ []) (destroying_after others first k n plain)))
 
 ending_on : (op before : ℕ) → 1 ≤ op → (s t : Way) (n : ℕ) → IsEnding op before s → turn s n (lane_number s.lanes n) ≡ Some t → IsEnding op before t
 ending_on op before some s t n (completes others first sees calm issued_is length_is lanes) turned = completes_on op before s t n others first some sees calm issued_is length_is lanes turned
@@ -220,7 +220,7 @@ ending_over op before s (destroys others first k (suc n) sees all ended issued_i
 -- ---- one phase after another
 
 -- what is gathered begins with what there was
-gathered_begins : (objects : List Object) (lanes : List Lane) → (more : List Object) × (gathered objects lanes ≡ objects ++ more)
+gathered_begins : (objects : List Object) (lanes : List LaneState) → (more : List Object) × (gathered objects lanes ≡ objects ++ more)
 gathered_begins objects [] = ([], sym (append-nil objects))
 gathered_begins objects (lane ∷ lanes) =
     let rest = gathered_begins (objects ++ (settle lane).sight.own) lanes in
@@ -331,7 +331,7 @@ some_past : (found : Option Past) (history : List Entry) → option_map reverse 
 some_past None history is = absurd (cc (is))
 some_past (Some past) history is = (past, refl, cc (is))
 
-counts_equal : (a b : Counts) → a.entries ≡ b.entries → a.ops ≡ b.ops → a.faults ≡ b.faults → a.frees ≡ b.frees → a ≡ b
+counts_equal : (a b : Tally) → a.entries ≡ b.entries → a.ops ≡ b.ops → a.faults ≡ b.faults → a.frees ≡ b.frees → a ≡ b
 counts_equal a b entries ops faults frees =
     ap (λ (k : ℕ). record { entries = k; ops = a.ops; faults = a.faults; frees = a.frees }) entries
     ∙ (ap (λ (k : ℕ). record { entries = b.entries; ops = k; faults = a.faults; frees = a.frees }) ops

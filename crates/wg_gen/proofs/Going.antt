@@ -10,7 +10,7 @@ use Rattle.wg_history.specs.Objects.{count}
 use Rattle.wg_history.specs.Operations.{issued}
 use Rattle.wg_history.specs.Answers.{reply_to}
 use Rattle.wg_play.specs.declared.objects.Object.{Object}
-use Rattle.wg_play.specs.Lanes.{Lane, next_event}
+use Rattle.wg_play.specs.Lanes.{LaneState, next_event}
 use Rattle.wg_play.specs.Turns.{Midway, lane_at, taken, turned, through, phase_by}
 use Rattle.wg_play.specs.Play.{after_}
 use Rattle.wg_gen.specs.declared.draws.Spot.{Spot}
@@ -25,13 +25,13 @@ use Rattle.wg_gen.proofs.Steps.{between_none, write_next, write_after, create_ne
 abbrev pub Way : Type 0
 Way = Midway next_event (after_ device)
 
-abbrev pub turn : Way → ℕ → Option Lane → Option Way
+abbrev pub turn : Way → ℕ → Option LaneState → Option Way
 turn s n found = turned next_event (after_ device) device s n found
 
-abbrev pub lane_number : List Lane → ℕ → Option Lane
+abbrev pub lane_number : List LaneState → ℕ → Option LaneState
 lane_number lanes n = lane_at next_event (after_ device) lanes n
 
-abbrev pub all_through : List Lane → Bool
+abbrev pub all_through : List LaneState → Bool
 all_through lanes = through next_event (after_ device) lanes
 
 abbrev pair : Way → List ℕ → Way × List ℕ
@@ -64,7 +64,7 @@ phase_keeps P step (n ∷ ns) s t rest holds is =
 
 -- a turn is of a lane that has a next event
 pub record IsTurn (s t : Way) (n : ℕ) : Type 0 where
-  pub lane : Lane
+  pub lane : LaneState
   pub event : Event
   pub at : lane_number s.lanes n ≡ Some lane
   pub next : next_event lane ≡ Some event
@@ -73,11 +73,11 @@ pub record IsTurn (s t : Way) (n : ℕ) : Type 0 where
 pub turn_is : (s t : Way) (n : ℕ) → turn s n (lane_number s.lanes n) ≡ Some t → IsTurn s t n
 turn_is s t n turned = by_lane (lane_number s.lanes n) refl turned
   where
-    by_event : (lane : Lane) → lane_number s.lanes n ≡ Some lane → (found : Option Event) → next_event lane ≡ found → taken next_event (after_ device) device s n lane found ≡ Some t → IsTurn s t n
+    by_event : (lane : LaneState) → lane_number s.lanes n ≡ Some lane → (found : Option Event) → next_event lane ≡ found → taken next_event (after_ device) device s n lane found ≡ Some t → IsTurn s t n
     by_event lane at None next e = absurd (cc (e))
     by_event lane at (Some event) next e = record { lane = lane; event = event; at = at; next = next; is = cc (sym e) }
 
-    by_lane : (found : Option Lane) → lane_number s.lanes n ≡ found → turn s n found ≡ Some t → IsTurn s t n
+    by_lane : (found : Option LaneState) → lane_number s.lanes n ≡ found → turn s n found ≡ Some t → IsTurn s t n
     by_lane None at e = absurd (cc (e))
     by_lane (Some lane) at e = by_event lane at (next_event lane) refl e
 
@@ -109,7 +109,7 @@ Has past who (written spot spots) = Unit {0}
 Has past who (opened n spot spots) = Encodes past who n
 Has past who (finished n m spots) = Submits past who m
 
-pub record IsAt (past : Past) (others : List Object) (who : ℕ) (lane : Lane) (entries ops : ℕ) : Type 0 where
+pub record IsAt (past : Past) (others : List Object) (who : ℕ) (lane : LaneState) (entries ops : ℕ) : Type 0 where
   pub first : ℕ
   pub before : List Object
   pub stage : Stage
@@ -121,7 +121,7 @@ pub record IsAt (past : Past) (others : List Object) (who : ℕ) (lane : Lane) (
   pub ops_are : ops ≡ ops_in stage
 
 -- the lanes from number `who` on, and how much is still to come of all
-abbrev pub AllAt : Past → List Object → ℕ → List Lane → ℕ → ℕ → Type 0
+abbrev pub AllAt : Past → List Object → ℕ → List LaneState → ℕ → ℕ → Type 0
 AllAt past others who [] entries ops = (entries ≡ 0) × (ops ≡ 0)
 AllAt past others who (lane ∷ lanes) entries ops =
     (e : ℕ) × (o : ℕ) × (es : ℕ) × (os : ℕ) × IsAt past others who lane e o × AllAt past others (suc who) lanes es os × (entries ≡ e + es) × (ops ≡ o + os)
@@ -129,7 +129,7 @@ AllAt past others who (lane ∷ lanes) entries ops =
 -- ---- a turn of the lane itself
 
 -- What a lane's entry leaves: the past is calm, and the entry is of the lane's own objects alone. Less is to come by it.
-pub record Steps (past : Past) (others : List Object) (who : ℕ) (lane : Lane) (entries ops : ℕ) (event : Event) (reply : Reply) : Type 0 where
+pub record Steps (past : Past) (others : List Object) (who : ℕ) (lane : LaneState) (entries ops : ℕ) (event : Event) (reply : Reply) : Type 0 where
   pub calm : Calm 8 (entry_of who event reply ∷ past)
   pub own : IsOwn past (entry_of who event reply)
   pub entries_left : ℕ
@@ -245,11 +245,11 @@ module _ (past : Past) (calm : Calm 8 past) (others : List Object) (who first : 
   stage_steps (finished n m spots) sent all has next =
       same_event (finished n m spots) sent (submit m) (queued past) (sym (submit_next others first before n m spots sees) ∙ next) (submit_answer past who m calm has) (submit_steps n m spots all has)
 
-lane_steps : (past : Past) (others : List Object) (who : ℕ) (lane : Lane) (entries ops : ℕ) (event : Event) → Calm 8 past → IsAt past others who lane entries ops → next_event lane ≡ Some event → Steps past others who lane entries ops event (reply_to device past event)
+lane_steps : (past : Past) (others : List Object) (who : ℕ) (lane : LaneState) (entries ops : ℕ) (event : Event) → Calm 8 past → IsAt past others who lane entries ops → next_event lane ≡ Some event → Steps past others who lane entries ops event (reply_to device past event)
 lane_steps past others who lane entries ops event calm at next =
     let here : Steps past others who (lane_in others at.first at.before at.stage) (entries_in at.stage) (ops_in at.stage) event (reply_to device past event)
     = stage_steps past calm others who at.first at.before at.sees at.stage event at.spots at.has (sym (ap next_event at.is) ∙ next) in
-    let by_lane = subst (λ (l : Lane). Steps past others who l (entries_in at.stage) (ops_in at.stage) event (reply_to device past event)) (sym at.is) here in
+    let by_lane = subst (λ (l : LaneState). Steps past others who l (entries_in at.stage) (ops_in at.stage) event (reply_to device past event)) (sym at.is) here in
     let by_entries = subst (λ (e : ℕ). Steps past others who lane e (ops_in at.stage) event (reply_to device past event)) (sym at.entries_are) by_lane in
     subst (λ (o : ℕ). Steps past others who lane entries o event (reply_to device past event)) (sym at.ops_are) by_entries
 
@@ -261,7 +261,7 @@ has_stays past entry who (written spot spots) has own other = tt
 has_stays past entry who (opened n spot spots) has own other = encodes_stays past entry who n has own other
 has_stays past entry who (finished n m spots) has own other = submits_stays past entry who m has own other
 
-at_stays : (past : Past) (entry : Entry) (others : List Object) (who : ℕ) (lane : Lane) (entries ops : ℕ) → IsAt past others who lane entries ops → IsOwn past entry → (entry.who ≡ who → ⊥) → IsAt (entry ∷ past) others who lane entries ops
+at_stays : (past : Past) (entry : Entry) (others : List Object) (who : ℕ) (lane : LaneState) (entries ops : ℕ) → IsAt past others who lane entries ops → IsOwn past entry → (entry.who ≡ who → ⊥) → IsAt (entry ∷ past) others who lane entries ops
 at_stays past entry others who lane entries ops at own other = record {
   first = at.first;
   before = at.before;
@@ -274,7 +274,7 @@ at_stays past entry others who lane entries ops at own other = record {
   ops_are = at.ops_are;
 }
 
-all_stay : (past : Past) (entry : Entry) (others : List Object) (who : ℕ) (lanes : List Lane) (entries ops : ℕ) → AllAt past others who lanes entries ops → IsOwn past entry → entry.who < who → AllAt (entry ∷ past) others who lanes entries ops
+all_stay : (past : Past) (entry : Entry) (others : List Object) (who : ℕ) (lanes : List LaneState) (entries ops : ℕ) → AllAt past others who lanes entries ops → IsOwn past entry → entry.who < who → AllAt (entry ∷ past) others who lanes entries ops
 all_stay past entry others who [] entries ops all own lt = all
 all_stay past entry others who (lane ∷ lanes) entries ops all own lt = (
   all.0,
@@ -290,7 +290,7 @@ all_stay past entry others who (lane ∷ lanes) entries ops all own lt = (
 -- ---- a turn
 
 -- what a turn leaves of the lanes from number `who` on
-pub record AllStep (past : Past) (others : List Object) (who : ℕ) (lanes : List Lane) (entries ops : ℕ) (entry : Entry) : Type 0 where
+pub record AllStep (past : Past) (others : List Object) (who : ℕ) (lanes : List LaneState) (entries ops : ℕ) (entry : Entry) : Type 0 where
   pub calm : Calm 8 (entry ∷ past)
   pub own : IsOwn past entry
   pub entries_left : ℕ
@@ -299,7 +299,7 @@ pub record AllStep (past : Past) (others : List Object) (who : ℕ) (lanes : Lis
   pub one : entries ≡ suc entries_left
   pub ops_are : ops + issued past ≡ ops_left + issued (entry ∷ past)
 
-all_step : (past : Past) (others : List Object) (who n : ℕ) (lanes : List Lane) (lane : Lane) (entries ops : ℕ) (event : Event) → Calm 8 past → AllAt past others who lanes entries ops
+all_step : (past : Past) (others : List Object) (who n : ℕ) (lanes : List LaneState) (lane : LaneState) (entries ops : ℕ) (event : Event) → Calm 8 past → AllAt past others who lanes entries ops
     → lane_number lanes n ≡ Some lane → next_event lane ≡ Some event
     → AllStep past others who (set lanes n (after_ device lane (reply_to device past event))) entries ops (entry_of (who + n) event (reply_to device past event))
 all_step past others who n [] lane entries ops event calm all at next = absurd (cc (at))
@@ -307,7 +307,7 @@ all_step past others who zero (other ∷ lanes) lane entries ops event calm all 
     let same : other ≡ lane = cc (at) in
     let here : who + 0 ≡ who = omega arith in
     let steps : Steps past others who lane all.0 all.1 event (reply_to device past event)
-    = lane_steps past others who lane all.0 all.1 event calm (subst (λ (l : Lane). IsAt past others who l all.0 all.1) same all.4) next in
+    = lane_steps past others who lane all.0 all.1 event calm (subst (λ (l : LaneState). IsAt past others who l all.0 all.1) same all.4) next in
     subst (λ (k : ℕ). AllStep past others who (after_ device lane (reply_to device past event) ∷ lanes) entries ops (entry_of k event (reply_to device past event))) (sym here) (record {
       calm = steps.calm;
       own = steps.own;
@@ -366,7 +366,7 @@ pub goes_on : (others : List Object) (entries ops : ℕ) (s t : Way) (n : ℕ) �
 goes_on others entries ops s t n goes turned =
     let is : IsTurn s t n = turn_is s t n turned in
     let entry : Entry = entry_of n is.event (reply_to device s.past is.event) in
-    let lanes : List Lane = set s.lanes n (after_ device is.lane (reply_to device s.past is.event)) in
+    let lanes : List LaneState = set s.lanes n (after_ device is.lane (reply_to device s.past is.event)) in
     let none : 0 + n ≡ n = omega arith in
     let steps : AllStep s.past others 0 lanes goes.entries_left goes.ops_left entry
     = subst (λ (k : ℕ). AllStep s.past others 0 lanes goes.entries_left goes.ops_left (entry_of k is.event (reply_to device s.past is.event))) none
@@ -389,7 +389,7 @@ stage_over others first before (written spot spots) sees all none = absurd (cc (
 stage_over others first before (opened n spot spots) sees all none = absurd (cc (sym (finish_next others first before n spot spots sees (All-head IsSpot spot spots all)) ∙ none))
 stage_over others first before (finished n m spots) sees all none = absurd (cc (sym (submit_next others first before n m spots sees) ∙ none))
 
-over : (past : Past) (others : List Object) (who : ℕ) (lane : Lane) (entries ops : ℕ) → IsAt past others who lane entries ops → next_event lane ≡ None → (entries ≡ 0) × (ops ≡ 0)
+over : (past : Past) (others : List Object) (who : ℕ) (lane : LaneState) (entries ops : ℕ) → IsAt past others who lane entries ops → next_event lane ≡ None → (entries ≡ 0) × (ops ≡ 0)
 over past others who lane entries ops at none =
     let end = stage_over others at.first at.before at.stage at.sees at.spots (sym (ap next_event at.is) ∙ none) in
     (at.entries_are ∙ end.0, at.ops_are ∙ end.1)
@@ -402,7 +402,7 @@ both_are : (a b : Bool) → a && b ≡ true → (a ≡ true) × (b ≡ true)
 both_are true b h = (refl, h)
 both_are false b h = absurd (cc (h))
 
-pub all_over : (past : Past) (others : List Object) (who : ℕ) (lanes : List Lane) (entries ops : ℕ) → AllAt past others who lanes entries ops → all_through lanes ≡ true → (entries ≡ 0) × (ops ≡ 0)
+pub all_over : (past : Past) (others : List Object) (who : ℕ) (lanes : List LaneState) (entries ops : ℕ) → AllAt past others who lanes entries ops → all_through lanes ≡ true → (entries ≡ 0) × (ops ≡ 0)
 all_over past others who [] entries ops all end = all
 all_over past others who (lane ∷ lanes) entries ops all end =
     let both = both_are (is_none (next_event lane)) (all_through lanes) end in

@@ -10,7 +10,7 @@ use Rattle.wg_script.specs.declared.calls.CallOf.TheVariants.{Record, Ask}
 use Rattle.wg_play.specs.declared.objects.Object.{Object}
 use Rattle.wg_play.specs.declared.objects.Object.TheVariants as object
 use Rattle.wg_play.specs.Objects.{handle_at}
-use Rattle.wg_play.specs.Lanes.{Lane}
+use Rattle.wg_play.specs.Lanes.{LaneState}
 use Rattle.wg_gen.specs.declared.draws.Spot.{Spot}
 use Rattle.wg_gen.specs.Generator.{iterations, creation, destruction}
 use Rattle.wg_gen.proofs.Facts.{ref, buffer_handle}
@@ -71,7 +71,7 @@ left_in_stage slot (opened n spot spots) =
 left_in_stage slot (finished n m spots) = Ask (Submit ((slot + 1) ∷ [])) None ∷ iterations (slot + 2) spots
 
 -- a lane whose first slot is this, which has made so much in the iterations before
-abbrev pub lane_in : List Object → ℕ → List Object → Stage → Lane
+abbrev pub lane_in : List Object → ℕ → List Object → Stage → LaneState
 lane_in others first before stage = record {
   sight = record { others = others; first = first; own = before ++ made_in_stage stage };
   left = left_in_stage (first + length before) stage;
@@ -98,8 +98,8 @@ abbrev pub buffers_below : ℕ → List Object
 buffers_below zero = []
 buffers_below (suc k) = buffers_below k ++ buffer k ∷ []
 
-abbrev pub creating : ℕ → ℕ → Lane
+abbrev pub creating : ℕ → ℕ → LaneState
 creating k n = record { sight = record { others = []; first = 0; own = buffers_below k }; left = creations k n }
 
-abbrev pub destroying : List Object → ℕ → ℕ → ℕ → Lane
+abbrev pub destroying : List Object → ℕ → ℕ → ℕ → LaneState
 destroying others first k n = record { sight = record { others = others; first = first; own = [] }; left = destructions k n }

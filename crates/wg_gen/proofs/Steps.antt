@@ -26,7 +26,7 @@ use Rattle.wg_play.specs.declared.objects.Object.TheVariants as object
 use Rattle.wg_play.specs.declared.objects.Stand.{Stand}
 use Rattle.wg_play.specs.Objects.{handle_in, handle_at, unknown, changed, recorder_at, with_recorder, stand_at, is_late_by, is_late_on, recorded_by, recorded_on, taken_on}
 use Rattle.wg_play.specs.Sights.{Sight, handle_in_sight}
-use Rattle.wg_play.specs.Lanes.{Lane, kept, command_seen, stand_seen, noted_on, finish_by, finish_known, handle_known, with_handle, settled, settle, next_at, next_event, after_at, after_reply}
+use Rattle.wg_play.specs.Lanes.{LaneState, kept, command_seen, stand_seen, noted_on, finish_by, finish_known, handle_known, with_handle, settled, settle, next_at, next_event, after_at, after_reply}
 use Rattle.wg_play.proofs.Slots.{with_tail, recorder_new, stand_encoder}
 use Rattle.wg_gen.specs.declared.draws.Spot.{Spot}
 use Rattle.wg_gen.specs.Generator.{iterations, buffer_info, eight, creation, destruction}
@@ -90,7 +90,7 @@ pub create_next : (others : List Object) (first : ℕ) (before : List Object) (s
 create_next others first before spot spots = refl
 
 -- a lane that sees this, with these calls left
-abbrev lane_with : List BoundCall → Sight → Lane
+abbrev lane_with : List BoundCall → Sight → LaneState
 lane_with left sight = record { sight = sight; left = left }
 
 -- what is left once an encoder with this slot is open
@@ -148,7 +148,7 @@ finish_next others first before n spot spots sees is =
     let own : List Object = before ++ keeper n spot ∷ [] in
     let seen : HandleValue = handle_in_sight (sight_with others first own) (first + length before) in
     let without : Event = event.Finish seen.reference (record { device = seen.reference.device; targets = None; commands = [] }) in
-    ap (λ (lane : Lane). next_at lane) (open_settled others first before n spot spots sees is)
+    ap (λ (lane : LaneState). next_at lane) (open_settled others first before n spot spots sees is)
     ∙ ap (λ (place : ℕ). Some (finish_by (recorder_at own place) without)) (place_back first (length before))
     ∙ ap (λ (r : Option RecorderValue). Some (finish_by r without)) (recorder_new before (keeper n spot))
 
@@ -160,8 +160,8 @@ finish_after others first before n spot spots m reply sees is made =
     let left : List BoundCall = Ask (Submit ((slot + 1) ∷ [])) None ∷ iterations (slot + 2) spots in
     let take : RecorderValue → RecorderValue = λ r. record r { targets = targets_left r.targets; commands = []; takes = after_take r.takes } in
     let known : Option RecorderValue → Option Info = λ r. finish_known r (Some info.CommandBuffer) in
-    let after : ℕ → Option Info → Answer → Lane = λ place k a. lane_with left (with_handle (sight_with others first (taken_on own place)) (handle_known 1 k a)) in
-    ap (λ (lane : Lane). after_at 1 lane reply) (open_settled others first before n spot spots sees is)
+    let after : ℕ → Option Info → Answer → LaneState = λ place k a. lane_with left (with_handle (sight_with others first (taken_on own place)) (handle_known 1 k a)) in
+    ap (λ (lane : LaneState). after_at 1 lane reply) (open_settled others first before n spot spots sees is)
     ∙ ap (λ (place : ℕ). after place (known (recorder_at own place)) reply.answer) (place_back first (length before))
     ∙ ap (λ (r : Option RecorderValue). after (length before) (known r) reply.answer) (recorder_new before (keeper n spot))
     ∙ ap (λ (a : Answer). after (length before) (Some info.CommandBuffer) a) made

@@ -21,9 +21,9 @@ is_free (Free object sort) = true
 is_free _ = false
 
 -- whether an item is a barrier
-abbrev pub is_bar : Item → Bool
-is_bar (Bar parts from to) = true
-is_bar _ = false
+abbrev pub is_barrier : Item → Bool
+is_barrier (Bar parts from to) = true
+is_barrier _ = false
 
 -- whether an item is a clear
 abbrev pub is_clear_step : Item → Bool
@@ -31,16 +31,16 @@ is_clear_step (StepItem step) = is_clear step
 is_clear_step _ = false
 
 -- what is counted: the entries of a history, the operations that were issued, the faults, and the releases
-pub record Counts : Type 0 where
+pub record Tally : Type 0 where
   pub entries : ℕ
   pub ops : ℕ
   pub faults : ℕ
   pub frees : ℕ
 
 -- what is counted of a history and its trace: entries, operations, faults and releases
-abbrev pub counts_of : List Entry → List Item → Counts
+abbrev pub counts_of : List Entry → List Item → Tally
 counts_of history trace = record { entries = length history; ops = count_by is_issue history; faults = count_by is_fault history; frees = count_by is_free trace }
 
 -- what is counted of a history on a device that was opened so
-abbrev pub counts_in : Setup → List Entry → Counts
+abbrev pub counts_in : Setup → List Entry → Tally
 counts_in setup history = counts_of history (Trace setup history)

@@ -33,7 +33,7 @@ use Rattle.wg_history.specs.Loss.{is_lost, error_scopes, Awaited, mapping, work,
 use Rattle.wg_history.specs.Rules.{unmaps, settles_mapped, mapped_now, mapped_made, waits_of, mapped_at, is_destroyed, is_busy, map_async_list, map_async_rule, any_used, listed_rules, together_rules, submit_list, submit_rule, write_buffer_list, write_buffer_rule, write_texture_list, write_texture_rule}
 use Rattle.wg_history.specs.FirstRules.{first_rule}
 use Rattle.wg_history.specs.Answers.{at_once, settle_all, kept_how, is_over, is_kept, is_taken, either, settled_in, reply_to, IsRun}
-use Rattle.wg_history.specs.MapLaws.{MapsAreSingle, PendingIsUnmapped, AreRecorded, IsLast, MapsWaitForLast}
+use Rattle.wg_history.specs.MapLaws.{MapsAreSingle, PendingIsUnmapped, AreRecorded, IsLastUse, MapsWaitForLast}
 use Rattle.wg_history.proofs.Runs.{newest, others}
 use Rattle.wg_history.proofs.Tests.{not_true, was_not, any_grows, met_after, met_before, none_either}
 use Rattle.wg_history.proofs.AfterUse.{no_op}
@@ -438,10 +438,10 @@ none_astray setup (entry ∷ older) n run kept =
     by_pending false idle before =
         none_either (is_map_of n) (is_map_of n) (λ (w : Wait). is_astray (last_use (entry ∷ older) n) n w.awaited) (λ w e. or_left (is_map_of n w) (is_map_of n w) (astray_of (last_use (entry ∷ older) n) n w.awaited e)) (awaiting older) idle idle
 
-all_last : (past : Past) (ws : List Wait) → ((n : ℕ) → list_any (λ (w : Wait). is_astray (last_use past n) n w.awaited) ws ≡ false) → All (λ (wait : Wait). IsLast past wait.awaited) ws
-all_last past [] none = All-nil (λ (wait : Wait). IsLast past wait.awaited)
+all_last : (past : Past) (ws : List Wait) → ((n : ℕ) → list_any (λ (w : Wait). is_astray (last_use past n) n w.awaited) ws ≡ false) → All (λ (wait : Wait). IsLastUse past wait.awaited) ws
+all_last past [] none = All-nil (λ (wait : Wait). IsLastUse past wait.awaited)
 all_last past (w ∷ ws) none =
-    All-cons (λ (wait : Wait). IsLast past wait.awaited) w ws
+    All-cons (λ (wait : Wait). IsLastUse past wait.awaited) w ws
     (one w.awaited (λ n. or_first (is_astray (last_use past n) n w.awaited) _ (none n)))
     (all_last past ws (λ n. was_not (is_astray (last_use past n) n w.awaited) _ (none n)))
   where
@@ -449,7 +449,7 @@ all_last past (w ∷ ws) none =
     by_same last used true e same = eqb-true last used e
     by_same last used false e same = absurd (true≢false same)
 
-    one : (awaited : Awaited) → ((n : ℕ) → is_astray (last_use past n) n awaited ≡ false) → IsLast past awaited
+    one : (awaited : Awaited) → ((n : ℕ) → is_astray (last_use past n) n awaited ≡ false) → IsLastUse past awaited
     one (mapping buffer last m) spared = by_same last (last_use past buffer) (last == last_use past buffer) refl (sym (ap (λ b. b && not (last == last_use past buffer)) (eq-eqb buffer buffer refl)) ∙ spared buffer)
     one (work ops) spared = tt
 

@@ -38,7 +38,7 @@ use Rattle.wg_history.proofs.Tests.{not_true, was_not, neither}
 use Rattle.wg_history.proofs.Makers.{made_met}
 use Rattle.wg_history.proofs.Viewing.{is_kind_at, kind_later, is_texture_at, own_known, view_texture}
 use Rattle.wg_history.proofs.Reached.{genuine_knows, group_views, double_not}
-use Rattle.wg_history.proofs.Walking.{AllFit, EachFits, bundle_fits, recording_fits}
+use Rattle.wg_history.proofs.Walking.{HandlesFit, EachFits, bundle_fits, recording_fits}
 use Rattle.wg_history.proofs.BundleTouches.{Word, texture_word, query_word, numbers_in, reached_by, reached_of, bundle_uses}
 
 -- the one number of a list
@@ -137,7 +137,7 @@ object_queries setup past n bundles handle wanted.Bundle genuine fits among = bu
 object_queries setup past n bundles handle _ genuine fits among = absurd (true≢false (sym among))
 
 -- So are those that commands reach.
-objects_tell : (setup : Setup) (past : Past) (reached : Wanted → HandleValue → List ℕ) (kind : Info → Bool) (encoder : ℕ) (objects : List (HandleValue × Wanted)) (n : ℕ) → Tells setup past reached kind n → AllFit objects
+objects_tell : (setup : Setup) (past : Past) (reached : Wanted → HandleValue → List ℕ) (kind : Info → Bool) (encoder : ℕ) (objects : List (HandleValue × Wanted)) (n : ℕ) → Tells setup past reached kind n → HandlesFit objects
     → list_any (is_barred setup past encoder) objects ≡ false → list_any (names_by reached (λ r. r == n)) objects ≡ true → is_kind_at kind past n ≡ true
 objects_tell setup past reached kind encoder [] n tells fit spared among = absurd (true≢false (sym among))
 objects_tell setup past reached kind encoder (object ∷ objects) n tells fit spared among = elim (or_cases (names_by reached (λ r. r == n) object) (list_any (names_by reached (λ r. r == n)) objects) among) [

@@ -31,19 +31,19 @@ use Rattle.wg_history.specs.MapLaws.{StandsOn, AllStand}
 use Rattle.wg_history.proofs.Tests.{met_before}
 
 -- An object that is named is of the kind that is wanted, as far as its handle tells.
-abbrev pub Fits : HandleValue × Wanted → Type 0
-Fits object = admits object.1 (kind_of object.0.info) ≡ true
+abbrev pub HandleFits : HandleValue × Wanted → Type 0
+HandleFits object = admits object.1 (kind_of object.0.info) ≡ true
 
-abbrev pub AllFit : List (HandleValue × Wanted) → Type 0
-AllFit [] = Unit {0}
-AllFit (object ∷ objects) = Fits object × AllFit objects
+abbrev pub HandlesFit : List (HandleValue × Wanted) → Type 0
+HandlesFit [] = Unit {0}
+HandlesFit (object ∷ objects) = HandleFits object × HandlesFit objects
 
 abbrev pub EachFits : Kept → Type 0
 EachFits [] = Unit {0}
-EachFits (kept ∷ older) = AllFit (named kept.1) × EachFits older
+EachFits (kept ∷ older) = HandlesFit (named kept.1) × EachFits older
 
 -- on the encoder
-named_fit : (device : ℕ) (objects : List (HandleValue × Wanted)) → AreMet (common_rules device objects) → AllFit objects
+named_fit : (device : ℕ) (objects : List (HandleValue × Wanted)) → AreMet (common_rules device objects) → HandlesFit objects
 named_fit device [] met = tt
 named_fit device (object ∷ objects) met =
     ((and_parts (object.0.reference.device == device) _ met.0).1, named_fit device objects met.1.1)
@@ -69,7 +69,7 @@ fits_within place pipelines wanted.Pipeline k e = pipelines k e
 fits_within place pipelines _ k e = e
 
 placed_fit : (device : ℕ) (place : Kind) → ArePipelines place → (objects : List (HandleValue × Wanted))
-    → AreMet (common_rules device (map (λ (object : HandleValue × Wanted). (object.0, within place object.1)) objects)) → AllFit objects
+    → AreMet (common_rules device (map (λ (object : HandleValue × Wanted). (object.0, within place object.1)) objects)) → HandlesFit objects
 placed_fit device place pipelines [] met = tt
 placed_fit device place pipelines (object ∷ objects) met =
     (fits_within place pipelines object.1 (kind_of object.0.info) (and_parts (object.0.reference.device == device) _ met.0).1, placed_fit device place pipelines objects met.1.1)
@@ -154,7 +154,7 @@ takes : (device : ℕ) (older : Kept) (on : On) → verdict device older ≡ Non
 takes device older Encoder none stands = tt
 takes device older (Pass pass) none stands = stands_open device older none pass stands.0 stands.1
 
-rule_fits : (device : ℕ) (begin : RenderBegin) (by : Bracket) (earlier : List Command) (command : Command) → begins_pass_by by ≡ true → rule_by device begin by earlier command ≡ None → AllFit (named command)
+rule_fits : (device : ℕ) (begin : RenderBegin) (by : Bracket) (earlier : List Command) (command : Command) → begins_pass_by by ≡ true → rule_by device begin by earlier command ≡ None → HandlesFit (named command)
 rule_fits device begin brackets.BeginComputePass earlier command b e =
     placed_fit device kind.ComputePass compute_pipelines (named command) (met_none (common_rules device (named_on kind.ComputePass command)) (both_none (first_unmet (common_rules device (named_on kind.ComputePass command))) (first_unmet (compute_rules (settings earlier) command)) e).0)
 rule_fits device begin brackets.BeginRenderPass earlier command b e =
@@ -165,12 +165,12 @@ rule_fits device begin brackets.PopGroup earlier command b e = absurd (true≢fa
 rule_fits device begin brackets.Neither earlier command b e = absurd (true≢false (sym b))
 
 fits_next : (device : ℕ) (opened : Option PassSoFar) (number depth : ℕ) (on : On) (command : Command) → IsBegun opened → TakesOn opened on → given device opened depth on command ≡ None
-    → open_rule device (open_after opened number on command) ≡ None → AllFit (named command) × (open_rule device opened ≡ None)
+    → open_rule device (open_after opened number on command) ≡ None → HandlesFit (named command) × (open_rule device opened ≡ None)
 fits_next device (Some pass) number depth Encoder command was on_open none rule = absurd (cc)
 fits_next device None number depth Encoder command was on_open none rule = by_begin (is_begin command) none rule
   where
     by_begin : (b : Bool) → (if b then None else first_unmet (command_rules device depth command)) ≡ None → open_rule device (if b then Some (record { number = number; begin = command; earlier = [] }) else None) ≡ None
-        → AllFit (named command) × (open_rule device None ≡ None)
+        → HandlesFit (named command) × (open_rule device None ≡ None)
     by_begin true gives rule = (named_fit device (named command) (met_none (common_rules device (named command)) (both_none (first_unmet (common_rules device (named command))) (first_unmet (begun_rules command)) rule).0), refl)
     by_begin false gives rule = (named_fit device (named command) (met_before (common_rules device (named command)) (own_rules command ++ debug_rules depth command) (met_none (command_rules device depth command) gives)), refl)
 fits_next device None number depth (Pass q) command was on_open none rule = absurd (true≢false (sym on_open))
@@ -181,13 +181,13 @@ fits_next device (Some pass) number depth (Pass q) command was on_open none rule
     taken true gives rule = gives
     taken false gives rule = rule
 
-    parted : pass_rule device pass.begin (command ∷ pass.earlier) ≡ None → AllFit (named command) × (pass_rule device pass.begin pass.earlier ≡ None)
+    parted : pass_rule device pass.begin (command ∷ pass.earlier) ≡ None → HandlesFit (named command) × (pass_rule device pass.begin pass.earlier ≡ None)
     parted e =
         let parts = both_none (pass_rule device pass.begin pass.earlier) (rule_in device pass.begin pass.earlier command) e in
         (rule_fits device (begin_of pass.begin) (bracket pass.begin) pass.earlier command was parts.1, parts.0)
 
     by_open : (b : Bool) → b ≡ true → (if b then (if is_end command then pass_rule device pass.begin (command ∷ pass.earlier) else None) else None) ≡ None
-        → open_rule device (if b then pass_after (Some pass) command else Some pass) ≡ None → AllFit (named command) × (open_rule device (Some pass) ≡ None)
+        → open_rule device (if b then pass_after (Some pass) command else Some pass) ≡ None → HandlesFit (named command) × (open_rule device (Some pass) ≡ None)
     by_open true is gives rule = parted (taken (is_end command) gives rule)
     by_open false is gives rule = absurd (true≢false (sym is))
 

@@ -34,13 +34,13 @@ AreRecorded [] = Unit {0}
 AreRecorded (entry ∷ older) = AllStand (reverse (recorded_by entry.event)) × AreRecorded older
 
 -- The number that a pending map waits for is that of the last operation which uses its buffer.
-abbrev pub IsLast : Past → Awaited → Type 0
-IsLast past (mapping buffer last m) = last ≡ last_use past buffer
-IsLast past (work ops) = Unit {0}
+abbrev pub IsLastUse : Past → Awaited → Type 0
+IsLastUse past (mapping buffer last m) = last ≡ last_use past buffer
+IsLastUse past (work ops) = Unit {0}
 
 -- In a run of recordings that recorders kept, a map waits for the last operation that uses its buffer: commands that are
 -- accepted use no buffer as a texture or a query set, so no submit or write that meets its rules uses a buffer while a map of
 -- it is pending.
 abbrev pub MapsWaitForLast : Type 0
 MapsWaitForLast = (setup : Setup) (history : List Entry) → Run setup history → AreRecorded (reverse history)
-    → All (λ (wait : Wait). IsLast (reverse history) wait.awaited) (awaiting (reverse history))
+    → All (λ (wait : Wait). IsLastUse (reverse history) wait.awaited) (awaiting (reverse history))

@@ -8,12 +8,12 @@ use Rattle.wg_history.specs.declared.events.Setup.{Setup}
 use Rattle.wg_history.specs.Entries.{Entry, Past}
 use Rattle.wg_history.specs.Answers.{IsRun, Run, reply_to}
 use Rattle.wg_script.specs.CallOf.{BoundCall}
-use Rattle.wg_play.specs.Turns.{made_by, callers_of, Gives, after_all, AllGive, all_after, through, Midway, lane_at, taken, turned, phase_by}
+use Rattle.wg_play.specs.Turns.{entries_of_caller, callers_of, GivesEvents, after_all, AllGive, all_after, through, Midway, lane_at, taken, turned, phase_by}
 use Rattle.wg_play.specs.declared.objects.Object.{Object}
 use Rattle.wg_play.specs.Lanes.{starts, gathered, next_event}
 use Rattle.wg_play.specs.Play.{after_, phases_by, Play, Interleaves}
 use Rattle.wg_play.specs.Played.{PlayInterleaves}
-use Rattle.wg_play.proofs.Turning.{same_caller, other_caller, Answered, onto, none_after, length_set}
+use Rattle.wg_play.proofs.Turning.{same_caller, other_caller, RepliesAreRight, onto, none_after, length_set}
 use Rattle.wg_play.proofs.Phases.{onto_back, onto_more, callers_more, starts_length}
 
 none_is : {X : Type 0} (found : Option X) → is_none found ≡ true → found ≡ None
@@ -32,14 +32,14 @@ module _ {W : Type 0} (next : W → Option Event) (after : W → Reply → W) wh
   others_give : (k : ℕ) (us : List W) (e : Entry) (es : List Entry) → e.who < k → AllGive next after k us es → AllGive next after k us (e ∷ es)
   others_give k [] e es gt h = tt
   others_give k (u ∷ us) e es gt h =
-      let there : made_by k (e ∷ es) ≡ made_by k es = other_caller k e es (λ q. absurd (omega (arith, gt, q))) in
+      let there : entries_of_caller k (e ∷ es) ≡ entries_of_caller k es = other_caller k e es (λ q. absurd (omega (arith, gt, q))) in
       let more : e.who < suc k = omega (arith, gt) in
-      (subst (Gives next after u) (sym there) h.0, others_give (suc k) us e es more h.1)
+      (subst (GivesEvents next after u) (sym there) h.0, others_give (suc k) us e es more h.1)
 
   others_after : (k : ℕ) (us : List W) (e : Entry) (es : List Entry) → e.who < k → all_after next after k us es ≡ all_after next after k us (e ∷ es)
   others_after k [] e es gt = refl
   others_after k (u ∷ us) e es gt =
-      let there : made_by k (e ∷ es) ≡ made_by k es = other_caller k e es (λ q. absurd (omega (arith, gt, q))) in
+      let there : entries_of_caller k (e ∷ es) ≡ entries_of_caller k es = other_caller k e es (λ q. absurd (omega (arith, gt, q))) in
       let more : e.who < suc k = omega (arith, gt) in
       ap₂ (λ (x : W) xs. x ∷ xs) (ap (after_all next after u) (sym there)) (others_after (suc k) us e es more)
 
@@ -50,19 +50,19 @@ module _ {W : Type 0} (next : W → Option Event) (after : W → Reply → W) wh
   gives_first m zero (u ∷ ws) w e es is at has all =
       let same : u ≡ w = cc (at) in
       let who : e.who ≡ m = omega (arith, is) in
-      let here : made_by m (e ∷ es) ≡ e ∷ made_by m es = same_caller m e es who in
+      let here : entries_of_caller m (e ∷ es) ≡ e ∷ entries_of_caller m es = same_caller m e es who in
       let gt : e.who < suc m = omega (arith, who) in (
-        subst (Gives next after u) (sym here) (
+        subst (GivesEvents next after u) (sym here) (
           ap next same ∙ has,
-          subst (λ v. Gives next after (after v e.reply) (made_by m es))
+          subst (λ v. GivesEvents next after (after v e.reply) (entries_of_caller m es))
               (sym same) all.0,
         ),
         others_give (suc m) ws e es gt all.1,
       )
   gives_first m (suc n) (u ∷ ws) w e es is at has all =
-      let there : made_by m (e ∷ es) ≡ made_by m es = other_caller m e es (λ q. absurd (omega (arith, is, q))) in
+      let there : entries_of_caller m (e ∷ es) ≡ entries_of_caller m es = other_caller m e es (λ q. absurd (omega (arith, is, q))) in
       let who : e.who ≡ suc m + n = omega (arith, is) in
-      (subst (Gives next after u) (sym there) all.0, gives_first (suc m) n ws w e es who at has all.1)
+      (subst (GivesEvents next after u) (sym there) all.0, gives_first (suc m) n ws w e es who at has all.1)
 
   pub after_first : (m n : ℕ) (ws : List W) (w : W) (e : Entry) (es : List Entry) → e.who ≡ m + n → lane_at next after ws n ≡ Some w
       → all_after next after m (set ws n (after w e.reply)) es ≡ all_after next after m ws (e ∷ es)
@@ -70,12 +70,12 @@ module _ {W : Type 0} (next : W → Option Event) (after : W → Reply → W) wh
   after_first m zero (u ∷ ws) w e es is at =
       let same : u ≡ w = cc (at) in
       let who : e.who ≡ m = omega (arith, is) in
-      let here : made_by m (e ∷ es) ≡ e ∷ made_by m es = same_caller m e es who in
+      let here : entries_of_caller m (e ∷ es) ≡ e ∷ entries_of_caller m es = same_caller m e es who in
       let gt : e.who < suc m = omega (arith, who) in
-      ap₂ (λ (x : W) xs. x ∷ xs) (ap (λ (v : W). after_all next after (after v e.reply) (made_by m es)) (sym same) ∙ ap (after_all next after u)
+      ap₂ (λ (x : W) xs. x ∷ xs) (ap (λ (v : W). after_all next after (after v e.reply) (entries_of_caller m es)) (sym same) ∙ ap (after_all next after u)
       (sym here)) (others_after (suc m) ws e es gt)
   after_first m (suc n) (u ∷ ws) w e es is at =
-      let there : made_by m (e ∷ es) ≡ made_by m es = other_caller m e es (λ q. absurd (omega (arith, is, q))) in
+      let there : entries_of_caller m (e ∷ es) ≡ entries_of_caller m es = other_caller m e es (λ q. absurd (omega (arith, is, q))) in
       let who : e.who ≡ suc m + n = omega (arith, is) in
       ap₂ (λ (x : W) xs. x ∷ xs) (ap (after_all next after u) (sym there)) (after_first (suc m) n ws w e es who at)
 
@@ -92,9 +92,9 @@ module _ {W : Type 0} (next : W → Option Event) (after : W → Reply → W) wh
       pub callers : numbers ≡ callers_of part ++ left
       pub past : end.past ≡ onto start.past part
       pub lanes : end.lanes ≡ all_after next after 0 start.lanes part
-      pub answered : Answered setup start.past part
+      pub answered : RepliesAreRight setup start.past part
       pub give : AllGive next after 0 start.lanes part
-      pub few : (n : ℕ) → length start.lanes ≤ n → made_by n part ≡ []
+      pub few : (n : ℕ) → length start.lanes ≤ n → entries_of_caller n part ≡ []
 
     abbrev Left : Type 0
     Left = Midway next after × List ℕ
@@ -168,12 +168,12 @@ module _ {W : Type 0} (next : W → Option Event) (after : W → Reply → W) wh
         (through next after start.lanes) refl e
 
 module _ (setup : Setup) where
-  pub answered_more : (part rest : List Entry) (past : Past) → Answered setup past part → Answered setup (onto past part) rest
-      → Answered setup past (part ++ rest)
+  pub answered_more : (part rest : List Entry) (past : Past) → RepliesAreRight setup past part → RepliesAreRight setup (onto past part) rest
+      → RepliesAreRight setup past (part ++ rest)
   answered_more [] rest past a b = b
   answered_more (e ∷ part) rest past a b = (a.0, answered_more part rest (e ∷ past) a.1 b)
 
-  run_onto : (log : List Entry) (past : Past) → IsRun setup past → Answered setup past log → IsRun setup (onto past log)
+  run_onto : (log : List Entry) (past : Past) → IsRun setup past → RepliesAreRight setup past log → IsRun setup (onto past log)
   run_onto [] past run a = run
   run_onto (e ∷ log) past run a = run_onto log (e ∷ past) (ap₂ (λ (r : Reply) (rs : List Reply). r ∷ rs) a.0 run) a.1
 
@@ -183,7 +183,7 @@ module _ (setup : Setup) where
     pub log : List Entry
     pub callers : numbers ≡ callers_of log
     pub end_is : end ≡ onto past log
-    pub answered : Answered setup past log
+    pub answered : RepliesAreRight setup past log
     pub lanes : Interleaves setup phases objects log
 
   abbrev Ends : Type 0
@@ -205,7 +205,7 @@ module _ (setup : Setup) where
         log = one.part ++ rest.log;
         callers = one.callers ∙ (ap (λ (l : List ℕ). callers_of one.part ++ l) rest.callers ∙ sym (callers_more one.part rest.log));
         end_is = rest.end_is ∙ (ap (λ (p : Past). onto p rest.log) one.past ∙ sym (onto_more one.part rest.log past));
-        answered = answered_more one.part rest.log past one.answered (subst (λ (p : Past). Answered setup p rest.log) one.past rest.answered);
+        answered = answered_more one.part rest.log past one.answered (subst (λ (p : Past). RepliesAreRight setup p rest.log) one.past rest.answered);
         lanes = (
           one.part,
           rest.log,
@@ -231,7 +231,7 @@ module _ (setup : Setup) where
   -- a history that is played is a run, in which each phase's lanes give their entries
   pub record PlayBack (phases : List (List (List BoundCall))) (numbers : List ℕ) (history : List Entry) : Type 0 where
     pub callers : callers_of history ≡ numbers
-    pub answered : Answered setup [] history
+    pub answered : RepliesAreRight setup [] history
     pub lanes : Interleaves setup phases [] history
 
   pub play_back : (phases : List (List (List BoundCall))) (numbers : List ℕ) (history : List Entry) → Play setup phases numbers ≡ Some history
@@ -243,11 +243,11 @@ module _ (setup : Setup) where
       let same : back.log ≡ history = sym (reverse-reverse back.log) ∙ (ap reverse (sym turned_is) ∙ (ap reverse (sym back.end_is) ∙ p.2)) in
       record {
         callers = ap callers_of (sym same) ∙ sym back.callers;
-        answered = subst (Answered setup []) same back.answered;
+        answered = subst (RepliesAreRight setup []) same back.answered;
         lanes = subst (Interleaves setup phases []) same back.lanes;
       }
 
-  pub run_of : (history : List Entry) → Answered setup [] history → Run setup history
+  pub run_of : (history : List Entry) → RepliesAreRight setup [] history → Run setup history
   run_of history answered =
       let turned_is : onto [] history ≡ reverse history = onto_back history [] ∙ append-nil (reverse history) in
       subst (IsRun setup) turned_is (run_onto history [] refl answered)

@@ -16,7 +16,7 @@ use Rattle.wg_history.specs.Entries.{effects_of, Entry, Past}
 use Rattle.wg_history.specs.Objects.{is_making, is_making_form, count}
 use Rattle.wg_history.specs.Answers.{is_taken, answer_by, IsRun}
 use Rattle.wg_history.proofs.Runs.{newest, others}
-use Rattle.wg_play.specs.Turns.{made_by}
+use Rattle.wg_play.specs.Turns.{entries_of_caller}
 use Rattle.wg_play.specs.Played.{PlayedCall, PlayedPhase, entries_in, IsInterleaved}
 use Rattle.wg_play.proofs.Turning.{same_caller, other_caller}
 use Rattle.wg_play.proofs.Givers.{entries_of}
@@ -52,28 +52,28 @@ times_reverse p (x ∷ xs) =
 
 -- ---- what is in a list
 
-abbrev pub IsIn : {X : Type 0} → X → List X → Type 0
-IsIn x [] = ⊥
-IsIn x (y ∷ ys) = (y ≡ x) ⊎ IsIn x ys
+abbrev pub IsMember : {X : Type 0} → X → List X → Type 0
+IsMember x [] = ⊥
+IsMember x (y ∷ ys) = (y ≡ x) ⊎ IsMember x ys
 
-at_in : {X : Type 0} (xs : List X) (x : X) (k : ℕ) → k < length xs → get_or xs k x ≡ x → IsIn x xs
+at_in : {X : Type 0} (xs : List X) (x : X) (k : ℕ) → k < length xs → get_or xs k x ≡ x → IsMember x xs
 at_in [] x k less is = absurd (omega (arith, less))
 at_in (y ∷ xs) x zero less is = inl is
 at_in (y ∷ xs) x (suc k) less is = inr (at_in xs x k (omega (arith, less)) is)
 
-pub is_in : {X : Type 0} (xs : List X) (x : X) → Contains xs x → IsIn x xs
+pub is_in : {X : Type 0} (xs : List X) (x : X) → Contains xs x → IsMember x xs
 is_in xs x there = at_in xs x there.0 there.1 there.2
 
-pub in_left : {X : Type 0} (xs ys : List X) (x : X) → IsIn x xs → IsIn x (xs ++ ys)
+pub in_left : {X : Type 0} (xs ys : List X) (x : X) → IsMember x xs → IsMember x (xs ++ ys)
 in_left [] ys x there = absurd there
 in_left (y ∷ xs) ys x (inl here) = inl here
 in_left (y ∷ xs) ys x (inr there) = inr (in_left xs ys x there)
 
-pub in_right : {X : Type 0} (xs ys : List X) (x : X) → IsIn x ys → IsIn x (xs ++ ys)
+pub in_right : {X : Type 0} (xs ys : List X) (x : X) → IsMember x ys → IsMember x (xs ++ ys)
 in_right [] ys x there = there
 in_right (y ∷ xs) ys x there = inr (in_right xs ys x there)
 
-pub in_either : {X : Type 0} (xs ys : List X) (x : X) → IsIn x (xs ++ ys) → IsIn x xs ⊎ IsIn x ys
+pub in_either : {X : Type 0} (xs ys : List X) (x : X) → IsMember x (xs ++ ys) → IsMember x xs ⊎ IsMember x ys
 in_either [] ys x there = inr there
 in_either (y ∷ xs) ys x (inl here) = inl (inl here)
 in_either (y ∷ xs) ys x (inr there) = elim (in_either xs ys x there) [ inl left ↦ inl (inr left) | inr right ↦ inr right ]
@@ -85,13 +85,13 @@ grows false n m le = le
 counted : {X : Type 0} (p : X → Bool) (y x : X) (n m : ℕ) → y ≡ x → p x ≡ true → m ≤ n → suc m ≤ (if p y then suc n else n)
 counted p y x n m same passes le = subst (λ (b : Bool). suc m ≤ (if b then suc n else n)) (sym (ap p same ∙ passes)) (omega (arith, le))
 
-once : {X : Type 0} (p : X → Bool) (xs : List X) (x : X) → IsIn x xs → p x ≡ true → 1 ≤ times p xs
+once : {X : Type 0} (p : X → Bool) (xs : List X) (x : X) → IsMember x xs → p x ≡ true → 1 ≤ times p xs
 once p [] x there passes = absurd there
 once p (y ∷ xs) x (inl here) passes = counted p y x (times p xs) 0 here passes (omega arith)
 once p (y ∷ xs) x (inr there) passes = grows (p y) (times p xs) 1 (once p xs x there passes)
 
 -- two that are not the same pass twice
-pub twice : {X : Type 0} (p : X → Bool) (xs : List X) (a b : X) → (a ≡ b → ⊥) → IsIn a xs → IsIn b xs → p a ≡ true → p b ≡ true → 2 ≤ times p xs
+pub twice : {X : Type 0} (p : X → Bool) (xs : List X) (a b : X) → (a ≡ b → ⊥) → IsMember a xs → IsMember b xs → p a ≡ true → p b ≡ true → 2 ≤ times p xs
 twice p [] a b differ in_a in_b one two = absurd in_a
 twice p (y ∷ xs) a b differ (inl a_is) (inl b_is) one two = absurd (differ (sym a_is ∙ b_is))
 twice p (y ∷ xs) a b differ (inl a_is) (inr in_b) one two = counted p y a (times p xs) 1 a_is one (once p xs b in_b two)
@@ -129,20 +129,20 @@ abbrev without : ℕ → List Entry → List Entry
 without k [] = []
 without k (e ∷ es) = if e.who == k then without k es else e ∷ without k es
 
-split : (p : Entry → Bool) (k : ℕ) (es : List Entry) → times p es ≡ times p (made_by k es) + times p (without k es)
+split : (p : Entry → Bool) (k : ℕ) (es : List Entry) → times p es ≡ times p (entries_of_caller k es) + times p (without k es)
 split p k [] = refl
 split p k (e ∷ es) = by_who (e.who == k) (split p k es)
   where
-    by_who : (b : Bool) → times p es ≡ times p (made_by k es) + times p (without k es)
-        → times p (e ∷ es) ≡ times p (cond b (e ∷ made_by k es) (made_by k es)) + times p (if b then without k es else e ∷ without k es)
-    by_who true rest = more_left (p e) (times p es) (times p (made_by k es)) (times p (without k es)) rest
-    by_who false rest = more_right (p e) (times p es) (times p (made_by k es)) (times p (without k es)) rest
+    by_who : (b : Bool) → times p es ≡ times p (entries_of_caller k es) + times p (without k es)
+        → times p (e ∷ es) ≡ times p (cond b (e ∷ entries_of_caller k es) (entries_of_caller k es)) + times p (if b then without k es else e ∷ without k es)
+    by_who true rest = more_left (p e) (times p es) (times p (entries_of_caller k es)) (times p (without k es)) rest
+    by_who false rest = more_right (p e) (times p es) (times p (entries_of_caller k es)) (times p (without k es)) rest
 
-made_without : (m k : ℕ) (es : List Entry) → (m ≡ k → ⊥) → made_by m (without k es) ≡ made_by m es
+made_without : (m k : ℕ) (es : List Entry) → (m ≡ k → ⊥) → entries_of_caller m (without k es) ≡ entries_of_caller m es
 made_without m k [] differ = refl
 made_without m k (e ∷ es) differ = by_who (e.who == k) refl (made_without m k es differ)
   where
-    by_who : (b : Bool) → (e.who == k) ≡ b → made_by m (without k es) ≡ made_by m es → made_by m (if b then without k es else e ∷ without k es) ≡ made_by m (e ∷ es)
+    by_who : (b : Bool) → (e.who == k) ≡ b → entries_of_caller m (without k es) ≡ entries_of_caller m es → entries_of_caller m (if b then without k es else e ∷ without k es) ≡ entries_of_caller m (e ∷ es)
     by_who true is rest =
         let who : e.who ≡ k = grind (arith, nat_tests, is) in
         rest ∙ sym (other_caller m e es (λ q. differ (sym q ∙ who)))
@@ -173,35 +173,35 @@ abbrev pub all_calls : List PlayedPhase → List PlayedCall
 all_calls plays = flat_map (λ (phase : PlayedPhase). lane_calls phase.lanes) plays
 
 abbrev AreOwn : ℕ → List (List PlayedCall) → List Entry → Type 0
-AreOwn k lanes part = (i : ℕ) → made_by (k + i) part ≡ entries_in (get_or lanes i [])
+AreOwn k lanes part = (i : ℕ) → entries_of_caller (k + i) part ≡ entries_in (get_or lanes i [])
 
 nobody : (n k : ℕ) (part : List Entry) → AreOwn k [] part → AllFrom k part → 0 ≡ times (entry_makes n) part
 nobody n k [] own from = refl
 nobody n k (e ∷ part) own from =
     let low : k ≤ e.who = from.0 in
     let who : k + (e.who - k) ≡ e.who = omega (arith, low) in
-    let none : made_by e.who (e ∷ part) ≡ [] = subst (λ m. made_by m (e ∷ part) ≡ []) who (own (e.who - k)) in
+    let none : entries_of_caller e.who (e ∷ part) ≡ [] = subst (λ m. entries_of_caller m (e ∷ part) ≡ []) who (own (e.who - k)) in
     absurd (cc (sym (same_caller e.who e part refl) ∙ none))
 
 lanes_times : (n k : ℕ) (lanes : List (List PlayedCall)) (part : List Entry) → AreOwn k lanes part → AllFrom k part → times (call_makes n) (lane_calls lanes) ≡ times (entry_makes n) part
 lanes_times n k [] part own from = nobody n k part own from
 lanes_times n k (calls ∷ lanes) part own from =
     let zero_is : k + 0 ≡ k = omega arith in
-    let mine : made_by k part ≡ entries_in calls = subst (λ m. made_by m part ≡ entries_in calls) zero_is (own 0) in
-    let here : times (call_makes n) calls ≡ times (entry_makes n) (made_by k part) = lane_times n calls ∙ ap (times (entry_makes n)) (sym mine) in
+    let mine : entries_of_caller k part ≡ entries_in calls = subst (λ m. entries_of_caller m part ≡ entries_in calls) zero_is (own 0) in
+    let here : times (call_makes n) calls ≡ times (entry_makes n) (entries_of_caller k part) = lane_times n calls ∙ ap (times (entry_makes n)) (sym mine) in
     let rest : times (call_makes n) (lane_calls lanes) ≡ times (entry_makes n) (without k part)
     = lanes_times n (k + 1) lanes (without k part)
     (λ i. let other : (k + 1) + i ≡ k → ⊥ = λ q. omega (arith, q) in
     let next : (k + 1) + i ≡ k + suc i = omega arith in
-    made_without ((k + 1) + i) k part other ∙ (ap (λ m. made_by m part) next ∙ own (suc i)))
+    made_without ((k + 1) + i) k part other ∙ (ap (λ m. entries_of_caller m part) next ∙ own (suc i)))
     (from_next k part from) in
     let both : times (call_makes n) (calls ++ lane_calls lanes) ≡ times (call_makes n) calls + times (call_makes n) (lane_calls lanes) = times_append (call_makes n) calls (lane_calls lanes) in
-    let whole : times (entry_makes n) part ≡ times (entry_makes n) (made_by k part) + times (entry_makes n) (without k part) = split (entry_makes n) k part in
+    let whole : times (entry_makes n) part ≡ times (entry_makes n) (entries_of_caller k part) + times (entry_makes n) (without k part) = split (entry_makes n) k part in
     omega (arith, both, here, rest, whole)
 
 phase_times : (n : ℕ) (phase : PlayedPhase) → IsInterleaved phase → times (call_makes n) (lane_calls phase.lanes) ≡ times (entry_makes n) phase.entries
 phase_times n phase own =
-    lanes_times n 0 phase.lanes phase.entries (λ i. let zero_is : 0 + i ≡ i = omega arith in ap (λ m. made_by m phase.entries) zero_is ∙ own i) (from_zero phase.entries)
+    lanes_times n 0 phase.lanes phase.entries (λ i. let zero_is : 0 + i ≡ i = omega arith in ap (λ m. entries_of_caller m phase.entries) zero_is ∙ own i) (from_zero phase.entries)
 
 all_times : (n : ℕ) (plays : List PlayedPhase) → All IsInterleaved plays → times (call_makes n) (all_calls plays) ≡ times (entry_makes n) (entries_of plays)
 all_times n [] all = refl
@@ -253,7 +253,7 @@ made_once setup n (entry ∷ older) run =
 
 -- So of two calls that have made the same number, one is the other.
 pub made_by_one : (setup : Setup) (plays : List PlayedPhase) (n : ℕ) (a b : PlayedCall) → All IsInterleaved plays → IsRun setup (reverse (entries_of plays)) → (a ≡ b → ⊥)
-    → IsIn a (all_calls plays) → IsIn b (all_calls plays) → call_makes n a ≡ true → call_makes n b ≡ true → ⊥
+    → IsMember a (all_calls plays) → IsMember b (all_calls plays) → call_makes n a ≡ true → call_makes n b ≡ true → ⊥
 made_by_one setup plays n a b all run differ in_a in_b one two =
     let least : 2 ≤ times (call_makes n) (all_calls plays) = twice (call_makes n) (all_calls plays) a b differ in_a in_b one two in
     let same : times (call_makes n) (all_calls plays) ≡ times (entry_makes n) (entries_of plays) = all_times n plays all in

@@ -30,7 +30,7 @@ use Rattle.wg_play.specs.Canvases.{canvas_at, redrawn, with_canvas, given_by, ac
 use Rattle.wg_play.specs.Objects.{changed, with_recorder, recorded_by, recorded_on, begun_by, object_of}
 use Rattle.wg_play.specs.Sights.{Sight, place_in}
 use Rattle.wg_play.specs.Lanes.{canvas_asks, new_canvas, drawn, command_seen, stand_seen, handle_kept, count_made, gathered}
-use Rattle.wg_play.specs.Late.{Answered, IsAnswered, no_answer, after_call, after_calls}
+use Rattle.wg_play.specs.Late.{Answered, IsAnsweredCall, no_answer, after_call, after_calls}
 use Rattle.wg_play.specs.Found.{ended_from}
 use Rattle.wg_play.specs.Played.{PlayedCall, calls_in, with_answer, answered_lanes, IsDrawnAs, with_sights, lanes_sights, current_seen}
 use Rattle.wg_play.proofs.Slots.{own_at, other_at, at_append, at_new}
@@ -170,7 +170,7 @@ module _ (setup : Setup) where
   lane_shown (call ∷ calls) before sight was runs from =
       let after : Sight = after_call setup.serial sight (with_answer call) in
       let end : Sight = after_calls setup.serial after (map with_answer calls) in
-      let answered : IsAnswered (with_answer call) = call_answered setup sight call runs.0 in
+      let answered : IsAnsweredCall (with_answer call) = call_answered setup sight call runs.0 in
       let first_is : after.first ≡ sight.first = same_first setup.serial sight call.0 (with_answer call).1 in
       let length_is : length after.own ≡ length sight.own + length (made_by call.0) = call_length setup.serial sight call.0 (with_answer call).1 answered in
       let grown : (sight.first + length sight.own) + length (made_by call.0) ≡ after.first + length after.own = omega (arith, first_is, length_is) in

@@ -17,7 +17,7 @@ use Rattle.wg_play.specs.declared.objects.Object.TheVariants as object
 use Rattle.wg_play.specs.declared.objects.Stand.{Stand}
 use Rattle.wg_play.specs.Sights.{Sight, place_in}
 use Rattle.wg_play.specs.Lanes.{stand_seen}
-use Rattle.wg_play.specs.Late.{Answered, IsAnswered, after_call, after_calls, begun_as, encoder_of}
+use Rattle.wg_play.specs.Late.{Answered, IsAnsweredCall, after_call, after_calls, begun_as, encoder_of}
 use Rattle.wg_play.specs.Found.{has_recorder}
 use Rattle.wg_play.specs.Played.{PlayedCall, calls_in, with_answer}
 use Rattle.wg_play.proofs.Slots.{stand_encoder, stand_pass}
@@ -111,7 +111,7 @@ sight_with serial others first calls = after_calls serial (begin_at others first
 
 lane_stands : (serial : ℕ) (others : List Object) (first : ℕ) (visible : Slots) (calls : List PlayedCall) (rest : List BoundCall)
     → LaneIsBound visible [] (calls_in calls ++ rest)
-    → AreFrom first (slots_of (made_in (calls_in calls))) → All IsAnswered (map with_answer calls)
+    → AreFrom first (slots_of (made_in (calls_in calls))) → All IsAnsweredCall (map with_answer calls)
     → Stands (sight_with serial others first calls).first (sight_with serial others first calls).own (calls_in calls)
 lane_stands serial others first visible calls rest bound numbers answered =
     let sight : Sight = sight_with serial others first calls in
@@ -199,7 +199,7 @@ begun_at serial others first front call visible e slot command k is begins bound
 pub encoder_is : (serial : ℕ) (others : List Object) (first : ℕ) (visible : Slots) (before : List PlayedCall) (on : ℕ) (command : CommandOf ℕ)
     (made : Option ℕ) (after : List BoundCall)
     → LaneIsBound visible [] (calls_in before ++ Record on command made ∷ after) → AreFrom first (slots_of (made_in (calls_in before)))
-    → All IsAnswered (map with_answer before)
+    → All IsAnsweredCall (map with_answer before)
     → first + (stand_seen (sight_with serial others first before) on).encoder ≡ encoder_of (calls_in before) on
 encoder_is serial others first visible before on command made after bound numbers answered =
     let sight : Sight = sight_with serial others first before in
@@ -236,9 +236,9 @@ encoder_is serial others first visible before on command made after bound number
           = subst (λ (cs : List BoundCall). LaneIsBound visible [] cs)
           (ap (λ (cs : List BoundCall). cs ++ Record on command made ∷ after) calls ∙ append_assoc (calls_in front) (call.0 ∷ calls_in back)
           (Record on command made ∷ after)) bound in
-          let all_answered : All IsAnswered (map with_answer (front ++ call ∷ back))
-          = subst (λ (cs : List PlayedCall). All IsAnswered (map with_answer cs)) split.2 answered in
-          let front_answered : All IsAnswered (map with_answer front) = all_before IsAnswered front (call ∷ back) all_answered in
+          let all_answered : All IsAnsweredCall (map with_answer (front ++ call ∷ back))
+          = subst (λ (cs : List PlayedCall). All IsAnsweredCall (map with_answer cs)) split.2 answered in
+          let front_answered : All IsAnsweredCall (map with_answer front) = all_before IsAnsweredCall front (call ∷ back) all_answered in
           let stands = lane_stands serial others first visible front
           (call.0 ∷ (calls_in back ++ Record on command made ∷ after)) lane once.numbers front_answered in
           let bound_there = call_in visible [] (calls_in front) call.0 (calls_in back ++ Record on command made ∷ after) lane in

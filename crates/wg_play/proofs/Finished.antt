@@ -26,7 +26,7 @@ use Rattle.wg_calls.specs.Encoders.{ended_by}
 use Rattle.wg_play.specs.Objects.{recorder_at}
 use Rattle.wg_play.specs.Sights.{Sight, place_in}
 use Rattle.wg_play.specs.Found.{is_pass, has_recorder, StandsAt}
-use Rattle.wg_play.specs.Late.{Answered, Answers, IsAnswered, after_call, after_calls, finishes}
+use Rattle.wg_play.specs.Late.{Answered, IsAnswerTo, IsAnsweredCall, after_call, after_calls, finishes}
 use Rattle.wg_play.proofs.Following.{same_first, MakesAs}
 use Rattle.wg_play.proofs.Holding.{call_stands, call_makes}
 use Rattle.wg_play.proofs.Lateness.{or_false, Owns, call_keeps, call_leaves}
@@ -125,7 +125,7 @@ pass_after serial sight before call answer place owns was =
 
 -- no call has finished the encoder that is made
 encoder_first : (serial : ℕ) (sight : Sight) (made : Slots) (before : List BoundCall) (call : BoundCall) (answer : Answer) (slot : ℕ) (k : Kind) → has_recorder k ≡ true → Stands sight.first sight.own before
-    → CallIsBound made (made_in before) call → Answers call answer → slot ≡ sight.first + length sight.own → made_of call ≡ Some (slot, k)
+    → CallIsBound made (made_in before) call → IsAnswerTo call answer → slot ≡ sight.first + length sight.own → made_of call ≡ Some (slot, k)
     → IsEncoder sight.first (after_call serial sight (call, answer)).own (before ++ call ∷ []) (slot - sight.first) k
 encoder_first serial sight made before call answer slot k p was bound answered here makes =
     let own : List Object = (after_call serial sight (call, answer)).own in
@@ -196,7 +196,7 @@ above_more [] (Some x) first old from above here = let e : x.0 ≡ old = here x 
 above_more (x ∷ made) found first old from above here =
     All-cons (IsAbove first) x (made ++ option_to_list found) (All-head (IsAbove first) x made above) (above_more made found first old from (All-tail (IsAbove first) x made above) here)
 
-one_more : (serial : ℕ) (sight : Sight) (made : Slots) (before : List BoundCall) (call : BoundCall) (answer : Answer) → Stands sight.first sight.own before → CallIsBound made (made_in before) call → Answers call answer
+one_more : (serial : ℕ) (sight : Sight) (made : Slots) (before : List BoundCall) (call : BoundCall) (answer : Answer) → Stands sight.first sight.own before → CallIsBound made (made_in before) call → IsAnswerTo call answer
     → ((m : ℕ × Kind) → made_of call ≡ Some m → m.0 ≡ sight.first + length sight.own) → Stands sight.first (after_call serial sight (call, answer)).own (before ++ call ∷ [])
 one_more serial sight made before call answer was bound answered here =
     let own : List Object = (after_call serial sight (call, answer)).own in
@@ -226,13 +226,13 @@ one_more serial sight made before call answer was bound answered here =
 
 -- ---- calls one after another
 
-pub all_after : (serial : ℕ) (made : Slots) (calls : List Answered) (before : List BoundCall) (sight : Sight) → Stands sight.first sight.own before → All IsAnswered calls
+pub all_after : (serial : ℕ) (made : Slots) (calls : List Answered) (before : List BoundCall) (sight : Sight) → Stands sight.first sight.own before → All IsAnsweredCall calls
     → LaneIsBound made (made_in before) (map (λ call. call.0) calls) → AreFrom (sight.first + length sight.own) (slots_of (made_in (map (λ call. call.0) calls)))
     → Stands (after_calls serial sight calls).first (after_calls serial sight calls).own (before ++ map (λ call. call.0) calls)
 all_after serial made [] before sight was answered bound from = subst (λ cs. Stands sight.first sight.own cs) (sym (append-nil before)) was
 all_after serial made (call ∷ calls) before sight was answered bound from =
     let after : Sight = after_call serial sight call in
-    let here : IsAnswered call = All-head IsAnswered call calls answered in
+    let here : IsAnsweredCall call = All-head IsAnsweredCall call calls answered in
     let rest : List BoundCall = map (λ (c : Answered). c.0) calls in
     let first_is : after.first ≡ sight.first = same_first serial sight call.0 call.1 in
     let length_is : length after.own ≡ length sight.own + length (made_by call.0) = call_length serial sight call.0 call.1 here in
@@ -241,6 +241,6 @@ all_after serial made (call ∷ calls) before sight was answered bound from =
     (all_after serial (made ++ made_by call.0) calls (before ++ call.0 ∷ []) after
     (subst (λ n. Stands n after.own (before ++ call.0 ∷ [])) (sym first_is)
     (one_more serial sight made before call.0 call.1 was bound.0 here (first_from (sight.first + length sight.own) (made_of call.0) (made_in rest) from)))
-    (All-tail IsAnswered call calls answered)
+    (All-tail IsAnsweredCall call calls answered)
     (subst (λ ms. LaneIsBound (made ++ made_by call.0) ms rest) (sym (made_more before call.0)) bound.1)
     (subst (λ n. AreFrom n (slots_of (made_in rest))) grown (from_back (sight.first + length sight.own) (made_by call.0) (made_in rest) from)))

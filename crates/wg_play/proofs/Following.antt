@@ -28,7 +28,7 @@ use Rattle.wg_calls.specs.Encoders.{ended_by}
 use Rattle.wg_play.specs.Objects.{recorder_at, is_late_on, taken_on, object_of}
 use Rattle.wg_play.specs.Sights.{Sight, place_in, handle_in_sight}
 use Rattle.wg_play.specs.Lanes.{canvas_asks, drawn, command_seen, stand_seen, noted_on, finish_known, request_seen, info_sent, with_handle, handle_known, handle_kept}
-use Rattle.wg_play.specs.Late.{Answers, is_made, after_call}
+use Rattle.wg_play.specs.Late.{IsAnswerTo, is_made, after_call}
 use Rattle.wg_play.proofs.Drawn.{drawn_first, drawn_others}
 use Rattle.wg_play.proofs.Ended.{is_finish}
 
@@ -148,14 +148,14 @@ some_sent sight request = by_ended (ended_by request) refl
     ]
 
 -- there is a handle just where the call makes something that has a slot
-abbrev pub Fits : Option HandleValue → Option (ℕ × Kind) → Type 0
-Fits None None = Unit {0}
-Fits None (Some made) = ⊥
-Fits (Some handle) None = ⊥
-Fits (Some handle) (Some made) = Unit {0}
+abbrev pub FitsSlot : Option HandleValue → Option (ℕ × Kind) → Type 0
+FitsSlot None None = Unit {0}
+FitsSlot None (Some made) = ⊥
+FitsSlot (Some handle) None = ⊥
+FitsSlot (Some handle) (Some made) = Unit {0}
 
 fits_known : (serial : ℕ) (known : Option Info) (answer : Answer) (made : Option ℕ) (found : Option Kind) → is_some known ≡ is_some found → (is_some (made_as made found) ≡ true → is_made answer ≡ true)
-    → Fits (option_and_then (λ slot. handle_known serial known answer) made) (made_as made found)
+    → FitsSlot (option_and_then (λ slot. handle_known serial known answer) made) (made_as made found)
 fits_known serial known answer None found e answered = tt
 fits_known serial None answer (Some slot) None e answered = tt
 fits_known serial None answer (Some slot) (Some k) e answered = absurd (cc (e))
@@ -166,8 +166,8 @@ fits_known serial (Some x) Promised (Some slot) (Some k) e answered = absurd (cc
 fits_known serial (Some x) Plain (Some slot) (Some k) e answered = absurd (cc (answered refl))
 fits_known serial (Some x) BadCompletion (Some slot) (Some k) e answered = absurd (cc (answered refl))
 
-pub handle_fits : (serial : ℕ) (sight : Sight) (request : RequestOf ℕ) (made : Option ℕ) (answer : Answer) → Answers (Ask request made) answer
-    → Fits (handle_kept serial sight request made answer) (made_of (Ask request made))
+pub handle_fits : (serial : ℕ) (sight : Sight) (request : RequestOf ℕ) (made : Option ℕ) (answer : Answer) → IsAnswerTo (Ask request made) answer
+    → FitsSlot (handle_kept serial sight request made answer) (made_of (Ask request made))
 handle_fits serial sight request made answer answered =
     fits_known serial (info_sent sight request) answer made (kind_made request) (some_sent sight request) answered
 
@@ -205,7 +205,7 @@ pub handle_kind : (serial : ℕ) (sight : Sight) (request : RequestOf ℕ) (made
     → (handle : HandleValue) → handle_kept serial sight request made answer ≡ Some handle → kind_of handle.info ≡ k
 handle_kind serial sight request made answer slot k fit makes handle is = kind_known serial (info_sent sight request) answer made (kind_made request) handle slot k fit is makes
 
-pub fits_length : (objects : List Object) (handle : Option HandleValue) (made : Option (ℕ × Kind)) → Fits handle made → length (with_kept objects handle) ≡ length objects + length (option_to_list made)
+pub fits_length : (objects : List Object) (handle : Option HandleValue) (made : Option (ℕ × Kind)) → FitsSlot handle made → length (with_kept objects handle) ≡ length objects + length (option_to_list made)
 fits_length objects None None fits = omega arith
 fits_length objects None (Some made) fits = absurd fits
 fits_length objects (Some handle) None fits = absurd fits

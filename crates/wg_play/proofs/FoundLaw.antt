@@ -22,8 +22,8 @@ use Rattle.wg_play.specs.Objects.{handle_in, handle_at, reference_at, recorder_a
 use Rattle.wg_play.specs.declared.objects.Stand.{Stand}
 use Rattle.wg_play.specs.Sights.{Sight, place_in}
 use Rattle.wg_play.specs.Lanes.{gathered}
-use Rattle.wg_play.specs.Late.{Answered, IsAnswered, after_calls, slots_before}
-use Rattle.wg_play.specs.Found.{has_recorder, IsOpenFor, StandsAt, Holds, IsSeen, IsSeenAs, CallIsFound, BoundIsFound, GatheredIsHeld, ended_from, phase_of}
+use Rattle.wg_play.specs.Late.{Answered, IsAnsweredCall, after_calls, slots_before}
+use Rattle.wg_play.specs.Found.{has_recorder, IsOpenFor, StandsAt, SlotsStand, SlotIsSeen, IsSeenAs, CallIsFound, BoundIsFound, GatheredIsHeld, ended_from, phase_of}
 use Rattle.wg_play.proofs.Following.{same_others}
 use Rattle.wg_play.proofs.Numbered.{all_at, all_configured, lane_set, set_in, set_front, Slots, AreFrom, slots_of, from_zero, from_front, from_back, phase_at, lane_in, lane_from, call_in, lane_front}
 use Rattle.wg_play.proofs.Sending.{finish_own, open_at, sends_as}
@@ -71,7 +71,7 @@ pub others_after : (serial : ℕ) (calls : List Answered) (sight : Sight) → (a
 others_after serial [] sight = refl
 others_after serial (call ∷ calls) sight = others_after serial calls _ ∙ same_others serial sight call.0 call.1
 
-seen_other : (sight : Sight) (slot : ℕ) (kind : Kind) → slot < sight.first → StandsAt sight.others slot kind → IsSeen sight slot kind
+seen_other : (sight : Sight) (slot : ℕ) (kind : Kind) → slot < sight.first → StandsAt sight.others slot kind → SlotIsSeen sight slot kind
 seen_other sight slot kind less was =
     let is : nat_lt slot sight.first ≡ true = grind (arith, nat_tests, less) in
     record {
@@ -81,7 +81,7 @@ seen_other sight slot kind less was =
       of = was.of;
     }
 
-seen_own : (sight : Sight) (slot : ℕ) (kind : Kind) → sight.first ≤ slot → StandsAt sight.own (place_in sight slot) kind → IsSeen sight slot kind
+seen_own : (sight : Sight) (slot : ℕ) (kind : Kind) → sight.first ≤ slot → StandsAt sight.own (place_in sight slot) kind → SlotIsSeen sight slot kind
 seen_own sight slot kind from was =
     let is : nat_lt slot sight.first ≡ false = grind (arith, nat_tests, from) in
     record {
@@ -92,7 +92,7 @@ seen_own sight slot kind from was =
     }
 
 abbrev pub SeesAll : Sight → Slots → Type 0
-SeesAll sight made = (slot : ℕ) (kind : Kind) → Contains made (slot, kind) → IsSeen sight slot kind
+SeesAll sight made = (slot : ℕ) (kind : Kind) → Contains made (slot, kind) → SlotIsSeen sight slot kind
 
 abbrev OwnsAll : Sight → Slots → Type 0
 OwnsAll sight ours = (slot : ℕ) (kind : Kind) → Contains ours (slot, kind) → StandsAt sight.own (place_in sight slot) kind
@@ -147,7 +147,7 @@ pub record SeesBefore (earlier : List (List (List BoundCall))) (before : List Bo
 
 pub sees_before : (earlier later : List (List (List BoundCall))) (lanes_before lanes_after : List (List BoundCall)) (answered : List Answered) (call : BoundCall) (after : List BoundCall)
     → IsBound (earlier ++ (lanes_before ++ (map (λ (c : Answered). c.0) answered ++ call ∷ after) ∷ lanes_after) ∷ later)
-    → All IsAnswered answered → (serial : ℕ) (others : List Object) → Holds others (flat_map (flat_map made_in) earlier)
+    → All IsAnsweredCall answered → (serial : ℕ) (others : List Object) → SlotsStand others (flat_map (flat_map made_in) earlier)
     → SeesBefore earlier (map (λ (c : Answered). c.0) answered) (after_calls serial (record { others = others; first = slots_before earlier lanes_before; own = [] }) answered) call
 sees_before earlier later lanes_before lanes_after answered call after bound all serial others holds =
     let before : List BoundCall = map (λ (c : Answered). c.0) answered in
@@ -203,7 +203,7 @@ at_behind (x ∷ objects) more (suc n) le =
 stands_behind : (objects more : List Object) (slot : ℕ) (kind : Kind) → length objects ≤ slot → StandsAt more (slot - length objects) kind → StandsAt (objects ++ more) slot kind
 stands_behind objects more slot kind le was = record { what = was.what; is = at_behind objects more slot le ∙ was.is; of = was.of }
 
-lane_held : (objects own : List Object) (made ours : Slots) → Holds objects made → HoldsFrom (length objects) own ours → AreFrom (length objects) (slots_of ours) → Holds (objects ++ own) (made ++ ours)
+lane_held : (objects own : List Object) (made ours : Slots) → SlotsStand objects made → HoldsFrom (length objects) own ours → AreFrom (length objects) (slots_of ours) → SlotsStand (objects ++ own) (made ++ ours)
 lane_held objects own made ours was held from =
     let a : length (objects ++ own) ≡ length objects + length own = length-append objects own in
     let b : length (made ++ ours) ≡ length made + length ours = length-append made ours in
@@ -217,9 +217,9 @@ lane_held objects own made ours was held from =
       ];
     }
 
-gathered_held : (serial : ℕ) (others : List Object) (visible : Slots) (lanes : List (List Answered)) (objects : List Object) (made : Slots) → Holds objects made → All (All IsAnswered) lanes
-    → All (LaneIsBound visible []) (phase_of lanes) → All (LaneIsSet []) (phase_of lanes) → AreFrom (length objects) (slots_of (flat_map made_in (phase_of lanes))) → Holds (gathered objects (ended_from serial others (length objects) lanes)) (made ++ flat_map made_in (phase_of lanes))
-gathered_held serial others visible [] objects made was all bound set from = subst (Holds objects) (sym (append-nil made)) was
+gathered_held : (serial : ℕ) (others : List Object) (visible : Slots) (lanes : List (List Answered)) (objects : List Object) (made : Slots) → SlotsStand objects made → All (All IsAnsweredCall) lanes
+    → All (LaneIsBound visible []) (phase_of lanes) → All (LaneIsSet []) (phase_of lanes) → AreFrom (length objects) (slots_of (flat_map made_in (phase_of lanes))) → SlotsStand (gathered objects (ended_from serial others (length objects) lanes)) (made ++ flat_map made_in (phase_of lanes))
+gathered_held serial others visible [] objects made was all bound set from = subst (SlotsStand objects) (sym (append-nil made)) was
 gathered_held serial others visible (calls ∷ lanes) objects made was all bound set from =
     let first : ℕ = length objects in
     let start : Sight = record { others = others; first = first; own = [] } in
@@ -230,18 +230,18 @@ gathered_held serial others visible (calls ∷ lanes) objects made was all bound
     let zero_is : first ≡ first + 0 = omega arith in
     let bound_calls : List BoundCall = map (λ (c : Answered). c.0) calls in
     let there : HoldsSet sight.first sight.own ours (all_configured bound_calls)
-    = all_held serial visible calls [] [] start (none_set first) (All-head (All IsAnswered) calls lanes all) (All-head (LaneIsBound visible []) bound_calls (phase_of lanes) bound)
+    = all_held serial visible calls [] [] start (none_set first) (All-head (All IsAnsweredCall) calls lanes all) (All-head (LaneIsBound visible []) bound_calls (phase_of lanes) bound)
     (All-head (LaneIsSet []) bound_calls (phase_of lanes) set) (subst (λ n. AreFrom n (slots_of ours)) zero_is numbers) in
     let held : HoldsFrom first sight.own ours = subst (λ n. HoldsFrom n sight.own ours) (first_after serial calls start) there.held in
     let more : length (objects ++ sight.own) ≡ length objects + length sight.own = length-append objects sight.own in
     let count : length sight.own ≡ length ours = held.count in
     let next : length (objects ++ sight.own) ≡ first + length ours = omega (arith, more, count) in
-    let end : Holds (gathered (objects ++ sight.own) (ended_from serial others (length (objects ++ sight.own)) lanes)) ((made ++ ours) ++ rest)
-    = gathered_held serial others visible lanes (objects ++ sight.own) (made ++ ours) (lane_held objects sight.own made ours was held numbers) (All-tail (All IsAnswered) calls lanes all)
+    let end : SlotsStand (gathered (objects ++ sight.own) (ended_from serial others (length (objects ++ sight.own)) lanes)) ((made ++ ours) ++ rest)
+    = gathered_held serial others visible lanes (objects ++ sight.own) (made ++ ours) (lane_held objects sight.own made ours was held numbers) (All-tail (All IsAnsweredCall) calls lanes all)
     (All-tail (LaneIsBound visible []) bound_calls (phase_of lanes) bound) (All-tail (LaneIsSet []) bound_calls (phase_of lanes) set)
     (subst (λ n. AreFrom n (slots_of rest)) (sym next) (from_back first ours rest from)) in
-    subst (λ n. Holds (gathered (objects ++ sight.own) (ended_from serial others n lanes)) (made ++ (ours ++ rest))) next
-    (subst (Holds (gathered (objects ++ sight.own) (ended_from serial others (length (objects ++ sight.own)) lanes))) (append_assoc made ours rest) end)
+    subst (λ n. SlotsStand (gathered (objects ++ sight.own) (ended_from serial others n lanes)) (made ++ (ours ++ rest))) next
+    (subst (SlotsStand (gathered (objects ++ sight.own) (ended_from serial others (length (objects ++ sight.own)) lanes))) (append_assoc made ours rest) end)
 
 pub gathered_is_held : GatheredIsHeld
 gathered_is_held earlier later lanes bound all serial others holds =
@@ -255,5 +255,5 @@ gathered_is_held earlier later lanes bound all serial others holds =
     let numbers : AreFrom (length others) (slots_of here) = subst (λ n. AreFrom n (slots_of here)) first (from_front (0 + length before) here rest (from_back 0 before (here ++ rest) from)) in
     let end : before ++ here ≡ flat_map (flat_map made_in) (earlier ++ phase_of lanes ∷ [])
     = ap (λ ms. before ++ ms) (sym (append-nil here)) ∙ sym (flat_map-append (flat_map made_in) earlier (phase_of lanes ∷ [])) in
-    subst (Holds (gathered others (ended_from serial others (length others) lanes))) end (gathered_held serial others before lanes others before holds all (phase_at [] earlier later (phase_of lanes) bound.used)
+    subst (SlotsStand (gathered others (ended_from serial others (length others) lanes))) end (gathered_held serial others before lanes others before holds all (phase_at [] earlier later (phase_of lanes) bound.used)
     (all_at (All (LaneIsSet [])) earlier later (phase_of lanes) bound.set) numbers)

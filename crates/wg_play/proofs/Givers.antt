@@ -5,7 +5,7 @@ use Rattle.std.specs.List.{flat_map}
 use Rattle.std.proofs.lemmas.List.Elements.{All-head, All-tail, filter-append}
 use Rattle.wg_history.specs.Entries.{Entry}
 use Rattle.wg_script.specs.CallOf.{BoundCall}
-use Rattle.wg_play.specs.Turns.{made_by}
+use Rattle.wg_play.specs.Turns.{entries_of_caller}
 use Rattle.wg_play.specs.Played.{PlayedCall, PlayedPhase, entries_in, IsInterleaved}
 use Rattle.wg_play.specs.Presented.{GivenAt}
 use Rattle.wg_play.proofs.Turning.{same_caller}
@@ -111,12 +111,12 @@ in_lanes (calls ∷ lanes) (suc n) front entry back e =
     }
 
 in_phase : (phase : PlayedPhase) → IsInterleaved phase → (front : List Entry) (entry : Entry) (back : List Entry) → phase.entries ≡ front ++ entry ∷ back
-    → InLanes phase.lanes entry.who (made_by entry.who front) entry
+    → InLanes phase.lanes entry.who (entries_of_caller entry.who front) entry
 in_phase phase own front entry back e =
     let n : ℕ = entry.who in
-    let parts : made_by n phase.entries ≡ made_by n front ++ entry ∷ made_by n back
-    = ap (made_by n) e ∙ (filter-append (λ (x : Entry). x.who == n) front (entry ∷ back) ∙ ap (λ es. made_by n front ++ es) (same_caller n entry back refl)) in
-    in_lanes phase.lanes n (made_by n front) entry (made_by n back) (sym (own n) ∙ parts)
+    let parts : entries_of_caller n phase.entries ≡ entries_of_caller n front ++ entry ∷ entries_of_caller n back
+    = ap (entries_of_caller n) e ∙ (filter-append (λ (x : Entry). x.who == n) front (entry ∷ back) ∙ ap (λ es. entries_of_caller n front ++ es) (same_caller n entry back refl)) in
+    in_lanes phase.lanes n (entries_of_caller n front) entry (entries_of_caller n back) (sym (own n) ∙ parts)
 
 -- ---- in a history
 
@@ -146,7 +146,7 @@ given_at (phase ∷ plays) all front entry back e = elim (cut phase.entries (ent
           first = front;
           last = here.rest;
           entries_are = here.is;
-          own = subst (λ n. made_by n front ≡ entries_in lane.before) (sym lane.number) (sym lane.own);
+          own = subst (λ n. entries_of_caller n front ≡ entries_in lane.before) (sym lane.number) (sym lane.own);
           front_is = refl;
         };
       }

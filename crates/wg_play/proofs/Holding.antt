@@ -40,17 +40,17 @@ use Rattle.wg_names.specs.Bound.{made_by, made_in, IsFound, CallIsBound, LaneIsB
 use Rattle.wg_play.specs.declared.objects.Object.{Object}
 use Rattle.wg_play.specs.declared.objects.Object.TheVariants as object
 use Rattle.wg_play.specs.declared.objects.Stand.{Stand}
-use Rattle.wg_play.specs.Canvases.{canvas_in, canvas_at, redrawn, asked_at, given_by, acted_at, shown_at}
+use Rattle.wg_play.specs.Canvases.{canvas_in, canvas_at, redrawn, canvas_asked, given_by, acted_at, shown_at}
 use Rattle.wg_calls.specs.Encoders.{is_begun, ended_by}
 use Rattle.wg_play.specs.Objects.{changed, with_recorder, recorded_by, recorded_on, passes_at, begun_by, object_of}
 use Rattle.wg_play.specs.Sights.{Sight, place_in, handle_in_sight}
 use Rattle.wg_play.specs.Lanes.{canvas_asks, new_canvas, drawn, command_seen, stand_seen, handle_kept}
-use Rattle.wg_play.specs.Late.{Answered, is_made, Answers, IsAnswered, after_call, after_calls}
+use Rattle.wg_play.specs.Late.{Answered, is_made, IsAnswerTo, IsAnsweredCall, after_call, after_calls}
 use Rattle.wg_play.specs.Found.{is_pass, has_recorder, recorder_kind, IsShown, IsOf, StandsAt, IsSeenSet, CanvasIsSeen}
 use Rattle.wg_play.proofs.Slots.{own_at, other_at, at_append, at_new, length_with}
 use Rattle.wg_play.proofs.Redrawn.{redrawn_own, redrawn_other, redrawn_length, own_canvas, other_canvas, canvas_append, recorder_canvas, acted_set, configured_set}
 use Rattle.wg_play.proofs.Drawn.{acted_has}
-use Rattle.wg_play.proofs.Following.{ended_on, with_kept, after_record, after_ask, after_canvas, same_first, Fits, handle_fits, MakesAs, same_kind, handle_kind}
+use Rattle.wg_play.proofs.Following.{ended_on, with_kept, after_record, after_ask, after_canvas, same_first, FitsSlot, handle_fits, MakesAs, same_kind, handle_kind}
 use Rattle.wg_play.proofs.Lateness.{ended_length}
 use Rattle.wg_play.proofs.Making.{call_length, begun_mapped, opens}
 use Rattle.wg_play.proofs.Places.{is_canvas}
@@ -185,7 +185,7 @@ drawn_stands : (serial : ℕ) (sight : Sight) (call : CanvasOf ℕ) (made : Opti
 drawn_stands serial sight (Create width height) made answer place k was = stands_append sight.own (new_canvas width height made) place k was
 drawn_stands serial sight (OnCanvas canvas call) made answer place k was =
     let at : ℕ = place_in sight canvas in
-    let given : Option HandleValue = given_by serial (asked_at sight.own at call) answer in
+    let given : Option HandleValue = given_by serial (canvas_asked sight.own at call) answer in
     let objects : List Object = acted_at sight.own at call given in
     stands_append objects (shown_at objects at call made) place k
     (acted_stands call given (place_gives serial (canvas_at sight.own at) call answer) sight.own at place k was)
@@ -232,7 +232,7 @@ of_handle handle k same = (
   },
 )
 
-new_object : (objects : List Object) (handle : Option HandleValue) (slot : ℕ) (k : Kind) → Fits handle (Some (slot, k)) → ((h : HandleValue) → handle ≡ Some h → kind_of h.info ≡ k)
+new_object : (objects : List Object) (handle : Option HandleValue) (slot : ℕ) (k : Kind) → FitsSlot handle (Some (slot, k)) → ((h : HandleValue) → handle ≡ Some h → kind_of h.info ≡ k)
     → StandsAt (with_kept objects handle) (length objects) k
 new_object objects None slot k fits kind = absurd fits
 new_object objects (Some handle) slot k fits kind = record { what = object_of handle; is = at_new objects (object_of handle); of = of_handle handle k (kind handle refl) }
@@ -264,7 +264,7 @@ canvas_shown serial canvas answer set has made =
     (stage_shown serial canvas answer canvas.stage set has made)
 
 current_shown : (serial : ℕ) (sight : Sight) (canvas : ℕ) (answer : Answer) → IsSeenSet sight canvas Current → is_made answer ≡ true
-    → let at = place_in sight canvas in IsShown (option_and_then texture_of (canvas_at (acted_at sight.own at Current (given_by serial (asked_at sight.own at Current) answer)) at))
+    → let at = place_in sight canvas in IsShown (option_and_then texture_of (canvas_at (acted_at sight.own at Current (given_by serial (canvas_asked sight.own at Current) answer)) at))
 current_shown serial sight canvas answer seen made =
     let at : ℕ = place_in sight canvas in
     let given : Option CanvasValue → Option HandleValue = λ found. given_by serial (option_and_then (λ c. act_asked c Current) found) answer in
@@ -273,7 +273,7 @@ current_shown serial sight canvas answer seen made =
     (subst (λ (found : Option CanvasValue). IsShown (option_and_then texture_of (option_map (λ c. acted c Current (given found)) found))) (sym seen.is)
     (canvas_shown serial seen.found answer (seen.set refl) seen.texture made))
 
-drawn_makes : (serial : ℕ) (sight : Sight) (call : CanvasOf ℕ) (made : Option ℕ) (answer : Answer) (slot : ℕ) (k : Kind) → Answers (Canvas call made) answer → CanvasIsSeen sight call
+drawn_makes : (serial : ℕ) (sight : Sight) (call : CanvasOf ℕ) (made : Option ℕ) (answer : Answer) (slot : ℕ) (k : Kind) → IsAnswerTo (Canvas call made) answer → CanvasIsSeen sight call
     → made_of (Canvas call made) ≡ Some (slot, k) → StandsAt (drawn sight call made (given_by serial (canvas_asks sight call) answer)).own (length sight.own) k
 drawn_makes serial sight call None answer slot k answered seen e = absurd (cc (e))
 drawn_makes serial sight (Create width height) (Some name) answer slot k answered seen e =
@@ -283,7 +283,7 @@ drawn_makes serial sight (Create width height) (Some name) answer slot k answere
 drawn_makes serial sight (OnCanvas canvas (Configure format usage)) (Some name) answer slot k answered seen e = absurd (cc (e))
 drawn_makes serial sight (OnCanvas canvas Current) (Some name) answer slot k answered seen e =
     let at : ℕ = place_in sight canvas in
-    let given : Option HandleValue = given_by serial (asked_at sight.own at Current) answer in
+    let given : Option HandleValue = given_by serial (canvas_asked sight.own at Current) answer in
     let objects : List Object = acted_at sight.own at Current given in
     let new : Object = object.Shown (option_and_then texture_of (canvas_at objects at)) in
     let same : Some kinds.CanvasTexture ≡ Some k = same_kind name slot (Some kinds.CanvasTexture) k e in
@@ -296,7 +296,7 @@ drawn_makes serial sight (OnCanvas canvas Current) (Some name) answer slot k ans
 drawn_makes serial sight (OnCanvas canvas Present) (Some name) answer slot k answered seen e = absurd (cc (e))
 
 -- it stands at the next place
-pub call_makes : (serial : ℕ) (sight : Sight) (call : BoundCall) (answer : Answer) (slot : ℕ) (k : Kind) → Answers call answer → MakesAs sight call → made_of call ≡ Some (slot, k)
+pub call_makes : (serial : ℕ) (sight : Sight) (call : BoundCall) (answer : Answer) (slot : ℕ) (k : Kind) → IsAnswerTo call answer → MakesAs sight call → made_of call ≡ Some (slot, k)
     → StandsAt (after_call serial sight (call, answer)).own (length sight.own) k
 call_makes serial sight (Record on command None) answer slot k answered fit e = absurd (cc)
 call_makes serial sight (Record on command (Some made)) answer slot k answered fit e =
@@ -305,7 +305,7 @@ call_makes serial sight (Record on command (Some made)) answer slot k answered f
     subst (λ (s : Sight). StandsAt s.own (length sight.own) k) (sym (after_record serial sight on command (Some made) answer)) (new_pass sight (stand_seen sight on) found made k begins)
 call_makes serial sight (Ask request made) answer slot k answered fit e =
     let handle : Option HandleValue = handle_kept serial sight request made answer in
-    let fits : Fits handle (Some (slot, k)) = subst (Fits handle) e (handle_fits serial sight request made answer answered) in
+    let fits : FitsSlot handle (Some (slot, k)) = subst (FitsSlot handle) e (handle_fits serial sight request made answer answered) in
     subst (λ (s : Sight). StandsAt s.own (length sight.own) k) (sym (after_ask serial sight request made answer))
     (subst (λ n. StandsAt (with_kept (ended_on sight (ended_by request)) handle) n k) (ended_length sight (ended_by request))
     (new_object (ended_on sight (ended_by request)) handle slot k fits (handle_kind serial sight request made answer slot k fit e)))
@@ -485,7 +485,7 @@ one_set serial sight made ours done call answer own sets bound canvas there = el
   | inr new ↦ call_sets serial sight made ours call answer own bound canvas new
 ]
 
-one_held : (serial : ℕ) (sight : Sight) (made : Slots) (before : List BoundCall) (done : List ℕ) (call : BoundCall) (answer : Answer) → HoldsFrom sight.first sight.own (made_in before) → AreSet sight.first sight.own done → Answers call answer
+one_held : (serial : ℕ) (sight : Sight) (made : Slots) (before : List BoundCall) (done : List ℕ) (call : BoundCall) (answer : Answer) → HoldsFrom sight.first sight.own (made_in before) → AreSet sight.first sight.own done → IsAnswerTo call answer
     → CallIsBound made (made_in before) call → CallIsSet done call → ((m : ℕ × Kind) → made_of call ≡ Some m → m.0 ≡ sight.first + length sight.own)
     → HoldsFrom sight.first (after_call serial sight (call, answer)).own (made_in (before ++ call ∷ []))
 one_held serial sight made before done call answer was sets answered bound set here =
@@ -514,7 +514,7 @@ pub record HoldsSet (first : ℕ) (own : List Object) (made : Slots) (done : Lis
 pub none_set : (first : ℕ) → HoldsSet first [] [] []
 none_set first = record { held = none_held first; sets = λ canvas there. absurd (no_more canvas there) }
 
-pub all_held : (serial : ℕ) (made : Slots) (calls : List Answered) (before : List BoundCall) (done : List ℕ) (sight : Sight) → HoldsSet sight.first sight.own (made_in before) done → All IsAnswered calls
+pub all_held : (serial : ℕ) (made : Slots) (calls : List Answered) (before : List BoundCall) (done : List ℕ) (sight : Sight) → HoldsSet sight.first sight.own (made_in before) done → All IsAnsweredCall calls
     → LaneIsBound made (made_in before) (map (λ call. call.0) calls) → LaneIsSet done (map (λ call. call.0) calls)
     → AreFrom (sight.first + length sight.own) (slots_of (made_in (map (λ call. call.0) calls)))
     → HoldsSet (after_calls serial sight calls).first (after_calls serial sight calls).own (made_in (before ++ map (λ call. call.0) calls)) (done ++ all_configured (map (λ call. call.0) calls))
@@ -524,7 +524,7 @@ all_held serial made [] before done sight was answered bound set from =
 all_held serial made (call ∷ calls) before done sight was answered bound set from =
     let after : Sight = after_call serial sight call in
     let end : Sight = after_calls serial after calls in
-    let here : IsAnswered call = All-head IsAnswered call calls answered in
+    let here : IsAnsweredCall call = All-head IsAnsweredCall call calls answered in
     let rest : List BoundCall = map (λ (c : Answered). c.0) calls in
     let first_is : after.first ≡ sight.first = same_first serial sight call.0 call.1 in
     let length_is : length after.own ≡ length sight.own + length (made_by call.0) = call_length serial sight call.0 call.1 here in
@@ -538,7 +538,7 @@ all_held serial made (call ∷ calls) before done sight was answered bound set f
     (subst (λ (cs : List BoundCall). HoldsSet end.first end.own (made_in cs) ((done ++ configured_by call.0) ++ all_configured rest)) (append_assoc before (call.0 ∷ []) rest)
     (all_held serial (made ++ made_by call.0) calls (before ++ call.0 ∷ []) (done ++ configured_by call.0) after
     (subst (λ n. HoldsSet n after.own (made_in (before ++ call.0 ∷ [])) (done ++ configured_by call.0)) (sym first_is) one)
-    (All-tail IsAnswered call calls answered)
+    (All-tail IsAnsweredCall call calls answered)
     (subst (λ ms. LaneIsBound (made ++ made_by call.0) ms rest) (sym (made_more before call.0)) bound.1)
     set.1
     (subst (λ n. AreFrom n (slots_of (made_in rest))) grown (from_back (sight.first + length sight.own) (made_by call.0) (made_in rest) from))))

@@ -47,24 +47,24 @@ use Rattle.wg_calls.specs.Encoders.{ended_by}
 use Rattle.wg_play.specs.Objects.{unknown, handle_at, with_recorder, recorder_at, object_of}
 use Rattle.wg_play.specs.Sights.{Sight, place_in, handle_in_sight}
 use Rattle.wg_play.specs.Lanes.{canvas_asks, drawn, command_seen, stand_seen, noted_on, kept, finish_by, finish_known, request_seen, event_sent, info_sent, event_of, handle_known, handle_kept, answered_by, settled}
-use Rattle.wg_play.specs.Kept.{IsKeptIn, IsKept, AreKept, SeesGenuine}
+use Rattle.wg_play.specs.Kept.{TextureIsGenuine, HandleIsGenuine, HandlesAreGenuine, SeesGenuine}
 use Rattle.wg_play.proofs.Drawn.{recorder_has, noted_has, drawn_others, drawn_has}
 use Rattle.wg_play.proofs.Following.{ended_on, with_kept, after_ask}
 
 -- ---- a past goes on
 
-texture_more : (setup : Setup) (entry : Entry) (past : Past) (texture : Option HandleValue) → IsKeptIn setup past texture → IsKeptIn setup (entry ∷ past) texture
+texture_more : (setup : Setup) (entry : Entry) (past : Past) (texture : Option HandleValue) → TextureIsGenuine setup past texture → TextureIsGenuine setup (entry ∷ past) texture
 texture_more setup entry past None genuine = tt
 texture_more setup entry past (Some texture) genuine = genuine_more setup entry past texture genuine
 
-object_more : (setup : Setup) (entry : Entry) (past : Past) (o : Object) → IsKept setup past o → IsKept setup (entry ∷ past) o
+object_more : (setup : Setup) (entry : Entry) (past : Past) (o : Object) → HandleIsGenuine setup past o → HandleIsGenuine setup (entry ∷ past) o
 object_more setup entry past (object.Made handle recorder) genuine = genuine_more setup entry past handle genuine
 object_more setup entry past (object.Pass encoder number) genuine = tt
 object_more setup entry past (object.Canvas canvas) genuine = texture_more setup entry past (texture_of canvas) genuine
 object_more setup entry past (object.Shown texture) genuine = texture_more setup entry past texture genuine
 
-pub objects_more : (setup : Setup) (entry : Entry) (past : Past) (objects : List Object) → AreKept setup past objects → AreKept setup (entry ∷ past) objects
-objects_more setup entry past objects all = All-weaker (IsKept setup past) (IsKept setup (entry ∷ past)) (object_more setup entry past) objects all
+pub objects_more : (setup : Setup) (entry : Entry) (past : Past) (objects : List Object) → HandlesAreGenuine setup past objects → HandlesAreGenuine setup (entry ∷ past) objects
+objects_more setup entry past objects all = All-weaker (HandleIsGenuine setup past) (HandleIsGenuine setup (entry ∷ past)) (object_more setup entry past) objects all
 
 pub sees_more : (setup : Setup) (entry : Entry) (past : Past) (sight : Sight) → SeesGenuine setup past sight → SeesGenuine setup (entry ∷ past) sight
 sees_more setup entry past sight sees = (objects_more setup entry past sight.others sees.0, objects_more setup entry past sight.own sees.1)
@@ -73,11 +73,11 @@ module _ (setup : Setup) (past : Past) where
   -- ---- recording calls
 
   -- a change of a recorder changes no handle
-  pub objects_changed : (change : RecorderValue → RecorderValue) (objects : List Object) (place : ℕ) → AreKept setup past objects → AreKept setup past (with_recorder objects place change)
-  objects_changed change objects place all = recorder_has (λ handle. is_genuine setup past handle ≡ true) (IsKeptIn setup past) tt change objects place all
+  pub objects_changed : (change : RecorderValue → RecorderValue) (objects : List Object) (place : ℕ) → HandlesAreGenuine setup past objects → HandlesAreGenuine setup past (with_recorder objects place change)
+  objects_changed change objects place all = recorder_has (λ handle. is_genuine setup past handle ≡ true) (TextureIsGenuine setup past) tt change objects place all
 
   noted_sees : (sight : Sight) (stand : Stand) (command : Command) (made : Option ℕ) → SeesGenuine setup past sight → SeesGenuine setup past (noted_on sight stand command made)
-  noted_sees sight stand command made sees = (sees.0, noted_has (λ handle. is_genuine setup past handle ≡ true) (IsKeptIn setup past) tt sight.own stand command made sees.1)
+  noted_sees sight stand command made sees = (sees.0, noted_has (λ handle. is_genuine setup past handle ≡ true) (TextureIsGenuine setup past) tt sight.own stand command made sees.1)
 
   unless_late : (late : Bool) (noted after : Sight) → SeesGenuine setup past noted → (if late then None else Some noted) ≡ Some after → SeesGenuine setup past after
   unless_late true noted after sees e = absurd (cc (e))
@@ -85,10 +85,10 @@ module _ (setup : Setup) (past : Past) where
 
   -- ---- calls of canvases
 
-  pub drawn_sees : (sight : Sight) (call : CanvasOf ℕ) (made : Option ℕ) (given : Option HandleValue) → IsKeptIn setup past given → SeesGenuine setup past sight → SeesGenuine setup past (drawn sight call made given)
+  pub drawn_sees : (sight : Sight) (call : CanvasOf ℕ) (made : Option ℕ) (given : Option HandleValue) → TextureIsGenuine setup past given → SeesGenuine setup past sight → SeesGenuine setup past (drawn sight call made given)
   drawn_sees sight call made given new sees = (
-    subst (AreKept setup past) (sym (drawn_others sight call made given)) sees.0,
-    drawn_has (λ handle. is_genuine setup past handle ≡ true) (IsKeptIn setup past) tt sight call made given new sees.1,
+    subst (HandlesAreGenuine setup past) (sym (drawn_others sight call made given)) sees.0,
+    drawn_has (λ handle. is_genuine setup past handle ≡ true) (TextureIsGenuine setup past) tt sight call made given new sees.1,
   )
 
   unless_asked : (asked : Option (RequestOf HandleValue)) (new after : Sight) → SeesGenuine setup past new → option_map_or (λ (request : RequestOf HandleValue). None) asked (Some new) ≡ Some after → SeesGenuine setup past after
@@ -117,14 +117,14 @@ module _ (setup : Setup) (past : Past) where
   unknown_if_own : setup.serial ≢ 0 → IsGenuineIfOwn setup past unknown
   unknown_if_own some own = absurd (some (sym (eqb-true 0 setup.serial own)))
 
-  at_if_own : setup.serial ≢ 0 → (objects : List Object) (place : ℕ) → AreKept setup past objects → IsGenuineIfOwn setup past (handle_at objects place)
+  at_if_own : setup.serial ≢ 0 → (objects : List Object) (place : ℕ) → HandlesAreGenuine setup past objects → IsGenuineIfOwn setup past (handle_at objects place)
   at_if_own some [] place all own = unknown_if_own some own
-  at_if_own some (object.Made handle recorder ∷ os) zero all own = All-head (IsKept setup past) (object.Made handle recorder) os all
+  at_if_own some (object.Made handle recorder ∷ os) zero all own = All-head (HandleIsGenuine setup past) (object.Made handle recorder) os all
   at_if_own some (object.Pass encoder number ∷ os) zero all own = unknown_if_own some own
   at_if_own some (object.Canvas canvas ∷ os) zero all own = unknown_if_own some own
   at_if_own some (object.Shown None ∷ os) zero all own = unknown_if_own some own
-  at_if_own some (object.Shown (Some texture) ∷ os) zero all own = All-head (IsKept setup past) (object.Shown (Some texture)) os all
-  at_if_own some (o ∷ os) (suc place) all own = at_if_own some os place (All-tail (IsKept setup past) o os all) own
+  at_if_own some (object.Shown (Some texture) ∷ os) zero all own = All-head (HandleIsGenuine setup past) (object.Shown (Some texture)) os all
+  at_if_own some (o ∷ os) (suc place) all own = at_if_own some os place (All-tail (HandleIsGenuine setup past) o os all) own
 
   seen_if_own : setup.serial ≢ 0 → (sight : Sight) (slot : ℕ) → SeesGenuine setup past sight → IsGenuineIfOwn setup past (handle_in_sight sight slot)
   seen_if_own some sight slot sees = by_slot (nat_lt slot sight.first)
@@ -255,13 +255,13 @@ made_is_genuine setup some entry past sight request handle sees asked replied e 
       (sym (ap (λ (o : Option Info). handle_known setup.serial o entry.reply.answer) end.makes) ∙ e)
 ]
 
-kept_if_made : (setup : Setup) (past : Past) (objects : List Object) (handle : Option HandleValue) → AreKept setup past objects → ((h : HandleValue) → handle ≡ Some h → is_genuine setup past h ≡ true)
-    → AreKept setup past (with_kept objects handle)
+kept_if_made : (setup : Setup) (past : Past) (objects : List Object) (handle : Option HandleValue) → HandlesAreGenuine setup past objects → ((h : HandleValue) → handle ≡ Some h → is_genuine setup past h ≡ true)
+    → HandlesAreGenuine setup past (with_kept objects handle)
 kept_if_made setup past objects None all genuine = all
 kept_if_made setup past objects (Some h) all genuine =
-    All-append (IsKept setup past) objects (object_of h ∷ []) all (All-cons (IsKept setup past) (object_of h) [] (genuine h refl) (All-nil (IsKept setup past)))
+    All-append (HandleIsGenuine setup past) objects (object_of h ∷ []) all (All-cons (HandleIsGenuine setup past) (object_of h) [] (genuine h refl) (All-nil (HandleIsGenuine setup past)))
 
-ended_kept : (setup : Setup) (past : Past) (sight : Sight) (ended : Option ℕ) → AreKept setup past sight.own → AreKept setup past (ended_on sight ended)
+ended_kept : (setup : Setup) (past : Past) (sight : Sight) (ended : Option ℕ) → HandlesAreGenuine setup past sight.own → HandlesAreGenuine setup past (ended_on sight ended)
 ended_kept setup past sight None all = all
 ended_kept setup past sight (Some encoder) all =
     objects_changed setup past taken_out sight.own (place_in sight encoder) all
@@ -273,11 +273,11 @@ slot_made (Some slot) found handle e = e
 -- What the device makes for a canvas is genuine once it is made.
 
 given_handle : (setup : Setup) (entry : Entry) (past : Past) (known : TextureInfo) → entry.event ≡ event_asked (CreateTexture known) → entry.reply ≡ reply_to setup past entry.event
-    → (found : Option HandleValue) → handle_made setup.serial (CreateTexture known) entry.reply.answer ≡ found → IsKeptIn setup (entry ∷ past) found
+    → (found : Option HandleValue) → handle_made setup.serial (CreateTexture known) entry.reply.answer ≡ found → TextureIsGenuine setup (entry ∷ past) found
 given_handle setup entry past known asked replied None e = tt
 given_handle setup entry past known asked replied (Some handle) e = genuine_if_own setup entry past (CreateTexture known) handle asked replied (All-nil (UsedIfOwn setup (entry ∷ past))) e
 
-given_expiry : (setup : Setup) (past : Past) (texture : Option HandleValue) (answer : Answer) → IsKeptIn setup past (given_by setup.serial (option_map Destroy texture) answer)
+given_expiry : (setup : Setup) (past : Past) (texture : Option HandleValue) (answer : Answer) → TextureIsGenuine setup past (given_by setup.serial (option_map Destroy texture) answer)
 given_expiry setup past None answer = tt
 given_expiry setup past (Some texture) answer = tt
 
@@ -285,14 +285,14 @@ abbrev event_if : Option (RequestOf HandleValue) → Event
 event_if asked = option_map_or event_asked asked (Late unknown.reference)
 
 given_stage : (setup : Setup) (entry : Entry) (past : Past) (canvas : CanvasValue) (stage : Stage) → entry.event ≡ event_if (stage_asked canvas stage) → entry.reply ≡ reply_to setup past entry.event
-    → IsKeptIn setup (entry ∷ past) (given_by setup.serial (stage_asked canvas stage) entry.reply.answer)
+    → TextureIsGenuine setup (entry ∷ past) (given_by setup.serial (stage_asked canvas stage) entry.reply.answer)
 given_stage setup entry past canvas Unset asked replied = tt
 given_stage setup entry past canvas (Empty setting) asked replied =
     given_handle setup entry past (info_of canvas setting) asked replied (handle_made setup.serial (CreateTexture (info_of canvas setting)) entry.reply.answer) refl
 given_stage setup entry past canvas (Filled setting texture) asked replied = tt
 
 given_act : (setup : Setup) (entry : Entry) (past : Past) (canvas : CanvasValue) (call : CanvasCall) → entry.event ≡ event_if (act_asked canvas call) → entry.reply ≡ reply_to setup past entry.event
-    → IsKeptIn setup (entry ∷ past) (given_by setup.serial (act_asked canvas call) entry.reply.answer)
+    → TextureIsGenuine setup (entry ∷ past) (given_by setup.serial (act_asked canvas call) entry.reply.answer)
 given_act setup entry past canvas (Configure format usage) asked replied = given_expiry setup (entry ∷ past) (texture_of canvas) entry.reply.answer
 given_act setup entry past canvas Current asked replied = given_stage setup entry past canvas canvas.stage asked replied
 given_act setup entry past canvas Present asked replied = given_expiry setup (entry ∷ past) (texture_of canvas) entry.reply.answer
@@ -301,12 +301,12 @@ abbrev asked_of : CanvasCall → Option CanvasValue → Option (RequestOf Handle
 asked_of call found = option_and_then (λ canvas. act_asked canvas call) found
 
 given_found : (setup : Setup) (entry : Entry) (past : Past) (found : Option CanvasValue) (call : CanvasCall) → entry.event ≡ event_if (asked_of call found) → entry.reply ≡ reply_to setup past entry.event
-    → IsKeptIn setup (entry ∷ past) (given_by setup.serial (asked_of call found) entry.reply.answer)
+    → TextureIsGenuine setup (entry ∷ past) (given_by setup.serial (asked_of call found) entry.reply.answer)
 given_found setup entry past None call asked replied = tt
 given_found setup entry past (Some canvas) call asked replied = given_act setup entry past canvas call asked replied
 
 pub given_genuine : (setup : Setup) (entry : Entry) (past : Past) (sight : Sight) (call : CanvasOf ℕ) (made : Option ℕ) → entry.event ≡ event_of sight (Canvas call made) → entry.reply ≡ reply_to setup past entry.event
-    → IsKeptIn setup (entry ∷ past) (given_by setup.serial (canvas_asks sight call) entry.reply.answer)
+    → TextureIsGenuine setup (entry ∷ past) (given_by setup.serial (canvas_asks sight call) entry.reply.answer)
 given_genuine setup entry past sight (Create width height) made asked replied = tt
 given_genuine setup entry past sight (On canvas call) made asked replied = given_found setup entry past (canvas_at sight.own (place_in sight canvas)) call asked replied
 

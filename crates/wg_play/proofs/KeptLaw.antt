@@ -9,33 +9,33 @@ use Rattle.wg_history.specs.Answers.{reply_to}
 use Rattle.wg_script.specs.CallOf.{BoundCall}
 use Rattle.wg_play.specs.declared.objects.Object.{Object}
 use Rattle.wg_play.specs.Sights.{Sight}
-use Rattle.wg_play.specs.Lanes.{Lane, next_of, next_event, after_of, settle, count_made, starts_from}
+use Rattle.wg_play.specs.Lanes.{LaneState, next_of, next_event, after_of, settle, count_made, starts_from}
 use Rattle.wg_play.specs.Turns.{Midway, lane_at, taken, turned}
 use Rattle.wg_play.specs.Play.{after_}
-use Rattle.wg_play.specs.Kept.{IsKept, AreKept, SeesGenuine, LanesSee, StartsGenuine, TurnsGenuine, GathersGenuine}
+use Rattle.wg_play.specs.Kept.{HandleIsGenuine, HandlesAreGenuine, SeesGenuine, LanesSee, StartsGenuine, TurnsGenuine, GathersGenuine}
 use Rattle.wg_play.proofs.Keeping.{sees_more, settled_sees, answered_sees}
 
 -- what one lane sees
-abbrev LaneSees : Setup → Past → Lane → Type 0
+abbrev LaneSees : Setup → Past → LaneState → Type 0
 LaneSees setup past lane = SeesGenuine setup past lane.sight
 
 -- ---- a phase begins
 
-from_sees : (setup : Setup) (past : Past) (objects : List Object) (first : ℕ) (lanes : List (List BoundCall)) → AreKept setup past objects → LanesSee setup past (starts_from objects first lanes)
+from_sees : (setup : Setup) (past : Past) (objects : List Object) (first : ℕ) (lanes : List (List BoundCall)) → HandlesAreGenuine setup past objects → LanesSee setup past (starts_from objects first lanes)
 from_sees setup past objects first [] all = All-nil (LaneSees setup past)
 from_sees setup past objects first (calls ∷ lanes) all =
     All-cons (LaneSees setup past) (record { sight = record { others = objects; first = first; own = [] }; left = calls }) (starts_from objects (first + count_made calls) lanes)
-    (all, All-nil (IsKept setup past)) (from_sees setup past objects (first + count_made calls) lanes all)
+    (all, All-nil (HandleIsGenuine setup past)) (from_sees setup past objects (first + count_made calls) lanes all)
 
 pub starts_genuine : StartsGenuine
 starts_genuine setup past objects lanes all = from_sees setup past objects (length objects) lanes all
 
 -- ---- a turn
 
-lanes_more : (setup : Setup) (entry : Entry) (past : Past) (lanes : List Lane) → LanesSee setup past lanes → LanesSee setup (entry ∷ past) lanes
+lanes_more : (setup : Setup) (entry : Entry) (past : Past) (lanes : List LaneState) → LanesSee setup past lanes → LanesSee setup (entry ∷ past) lanes
 lanes_more setup entry past lanes all = All-weaker (LaneSees setup past) (LaneSees setup (entry ∷ past)) (λ lane sees. sees_more setup entry past lane.sight sees) lanes all
 
-lane_sees : (setup : Setup) (past : Past) (lanes : List Lane) (n : ℕ) (w : Lane) → LanesSee setup past lanes → lane_at next_event (after_ setup) lanes n ≡ Some w → LaneSees setup past w
+lane_sees : (setup : Setup) (past : Past) (lanes : List LaneState) (n : ℕ) (w : LaneState) → LanesSee setup past lanes → lane_at next_event (after_ setup) lanes n ≡ Some w → LaneSees setup past w
 lane_sees setup past [] n w all at = absurd (cc (at))
 lane_sees setup past (lane ∷ lanes) zero w all at = let same : lane ≡ w = cc (at) in subst (LaneSees setup past) same (All-head (LaneSees setup past) lane lanes all)
 lane_sees setup past (lane ∷ lanes) (suc n) w all at = lane_sees setup past lanes n w (All-tail (LaneSees setup past) lane lanes all) at
@@ -46,7 +46,7 @@ after_sees : (setup : Setup) → setup.serial ≢ 0 → (entry : Entry) (past : 
 after_sees setup some entry past sight [] sees next replied = absurd (cc (next))
 after_sees setup some entry past sight (call ∷ calls) sees next replied = answered_sees setup some entry past sight call sees (cc (next)) replied
 
-taken_sees : (setup : Setup) → setup.serial ≢ 0 → (before after : Midway next_event (after_ setup)) (n : ℕ) (w : Lane) (found : Option Event) → LaneSees setup before.past w
+taken_sees : (setup : Setup) → setup.serial ≢ 0 → (before after : Midway next_event (after_ setup)) (n : ℕ) (w : LaneState) (found : Option Event) → LaneSees setup before.past w
     → next_event w ≡ found → taken next_event (after_ setup) setup before n w found ≡ Some after → LanesSee setup before.past before.lanes → LanesSee setup after.past after.lanes
 taken_sees setup some before after n w None sees next e all = absurd (cc (e))
 taken_sees setup some before after n w (Some event) sees next e all =
@@ -62,7 +62,7 @@ taken_sees setup some before after n w (Some event) sees next e all =
 pub turns_genuine : TurnsGenuine
 turns_genuine setup some before after n e all = by_lane (lane_at next_event (after_ setup) before.lanes n) (λ w at. lane_sees setup before.past before.lanes n w all at) e
   where
-    by_lane : (found : Option Lane) → ((w : Lane) → found ≡ Some w → LaneSees setup before.past w) → turned next_event (after_ setup) setup before n found ≡ Some after → LanesSee setup after.past after.lanes
+    by_lane : (found : Option LaneState) → ((w : LaneState) → found ≡ Some w → LaneSees setup before.past w) → turned next_event (after_ setup) setup before n found ≡ Some after → LanesSee setup after.past after.lanes
     by_lane None sees turn = absurd (cc (turn))
     by_lane (Some w) sees turn = taken_sees setup some before after n w (next_event w) (sees w refl) refl turn all
 
@@ -73,4 +73,4 @@ gathers_genuine setup past objects [] kept all = kept
 gathers_genuine setup past objects (lane ∷ lanes) kept all =
     let own : List Object = (settle lane).sight.own in
     let sees : SeesGenuine setup past (settle lane).sight = settled_sees setup past lane.sight lane.left (All-head (LaneSees setup past) lane lanes all) in
-    gathers_genuine setup past (objects ++ own) lanes (All-append (IsKept setup past) objects own kept sees.1) (All-tail (LaneSees setup past) lane lanes all)
+    gathers_genuine setup past (objects ++ own) lanes (All-append (HandleIsGenuine setup past) objects own kept sees.1) (All-tail (LaneSees setup past) lane lanes all)

@@ -20,7 +20,7 @@ use Rattle.wg_calls.specs.Encoders.{is_begun}
 use Rattle.wg_play.specs.Objects.{recorder_at, stand_at, is_late_by, is_late_on}
 use Rattle.wg_play.specs.Sights.{Sight}
 use Rattle.wg_play.specs.Lanes.{stand_seen}
-use Rattle.wg_play.specs.Late.{Answered, after_calls, slots_before, finishes, pass_ended, has_pass_ended, LateIsFinished}
+use Rattle.wg_play.specs.Late.{Answered, after_calls, slots_before, finishes, stands_on_ended, has_pass_ended, LateIsFinished}
 use Rattle.wg_play.proofs.Slots.{stand_encoder, stand_pass}
 use Rattle.wg_play.proofs.Following.{same_first}
 use Rattle.wg_play.proofs.Places.{stands_on}
@@ -28,7 +28,7 @@ use Rattle.wg_play.proofs.Numbered.{Slots, AreFrom, slots_of, from_front, lane_i
 use Rattle.wg_play.proofs.Finished.{IsEncoder, IsPass, Stands, no_calls, all_after}
 
 -- an end of the encoder and an end of the pass are both found in the recorder
-late_of : (on : On) (r : RecorderValue) (finished : Bool) → has_taken r ≡ finished → is_begun on r.passes ≡ true → is_late_by on r ≡ finished || pass_ended on (Some r)
+late_of : (on : On) (r : RecorderValue) (finished : Bool) → has_taken r ≡ finished → is_begun on r.passes ≡ true → is_late_by on r ≡ finished || stands_on_ended on (Some r)
 late_of Encoder r finished taken begun = ap (λ b. b || false) taken
 late_of (Pass number) r finished taken begun = ap₂ (λ a b. not a || (b || ended_within r.targets r.commands number)) begun taken
 
@@ -40,7 +40,7 @@ late_by : (first : ℕ) (own : List Object) (before : List BoundCall) (stand : S
 late_by first own before stand r is taken begun =
     ap (λ found. option_map_or (is_late_by stand.on) found true) is
     ∙ (late_of stand.on r (list_any (finishes (first + stand.encoder)) before) taken begun
-    ∙ ap (λ found. list_any (finishes (first + stand.encoder)) before || pass_ended stand.on found) (sym is))
+    ∙ ap (λ found. list_any (finishes (first + stand.encoder)) before || stands_on_ended stand.on found) (sym is))
 
 late_encoder : (first : ℕ) (own : List Object) (before : List BoundCall) (place : ℕ) (k : Kind) → IsEncoder first own before place k → LateAt first own before (stand_at own place)
 late_encoder first own before place k at =

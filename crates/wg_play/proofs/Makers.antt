@@ -33,18 +33,18 @@ use Rattle.wg_names.specs.Bound.{made_by, made_in}
 use Rattle.wg_play.specs.declared.objects.Object.{Object}
 use Rattle.wg_play.specs.declared.objects.Object.TheVariants as object
 use Rattle.wg_play.specs.declared.objects.Stand.{Stand}
-use Rattle.wg_play.specs.Canvases.{canvas_at, redrawn, with_canvas, asked_at, given_by, acted_at, shown_at}
+use Rattle.wg_play.specs.Canvases.{canvas_at, redrawn, with_canvas, canvas_asked, given_by, acted_at, shown_at}
 use Rattle.wg_calls.specs.Encoders.{ended_by}
 use Rattle.wg_play.specs.Objects.{unknown, handle_in, changed, with_recorder, recorded_by, recorded_on, begun_by, object_of}
 use Rattle.wg_play.specs.Sights.{Sight, place_in}
 use Rattle.wg_play.specs.Lanes.{kept, canvas_asks, new_canvas, drawn, command_seen, stand_seen, info_sent, handle_known, handle_kept, count_made, gathered}
-use Rattle.wg_play.specs.Late.{is_made, Answers, Answered, IsAnswered, after_call, after_calls}
+use Rattle.wg_play.specs.Late.{is_made, IsAnswerTo, Answered, IsAnsweredCall, after_call, after_calls}
 use Rattle.wg_play.specs.Found.{ended_from, phase_of}
 use Rattle.wg_play.specs.Played.{PlayedCall, calls_in, with_answer, answered_lanes}
 use Rattle.wg_play.proofs.Slots.{own_at, other_at, at_append, at_new}
 use Rattle.wg_play.proofs.Passage.{event_answered}
 use Rattle.wg_play.proofs.Redrawn.{own_canvas, redrawn_own, redrawn_other, redrawn_length, redrawn_handle}
-use Rattle.wg_play.proofs.Following.{ended_on, with_kept, after_record, after_ask, after_canvas, same_first, Fits, handle_fits}
+use Rattle.wg_play.proofs.Following.{ended_on, with_kept, after_record, after_ask, after_canvas, same_first, FitsSlot, handle_fits}
 use Rattle.wg_play.proofs.Lateness.{ended_length}
 use Rattle.wg_play.proofs.Making.{call_length}
 use Rattle.wg_play.proofs.Numbered.{only, Slots, AreFrom, slots_of, first_from, from_front, from_back}
@@ -99,14 +99,14 @@ made_among (call ∷ plays) m there = elim (Contains-append_cases (made_by call.
       record { maker = rest.maker; is_there = Contains-append_right (call ∷ []) plays rest.maker rest.is_there; makes = rest.makes }
 ]
 
-pub lane_length : (serial : ℕ) (calls : List PlayedCall) (sight : Sight) → All IsAnswered (map with_answer calls)
+pub lane_length : (serial : ℕ) (calls : List PlayedCall) (sight : Sight) → All IsAnsweredCall (map with_answer calls)
     → length (after_calls serial sight (map with_answer calls)).own ≡ length sight.own + length (made_in (calls_in calls))
 lane_length serial [] sight all = omega arith
 lane_length serial (call ∷ calls) sight all =
     let after : Sight = after_call serial sight (with_answer call) in
     let one : length after.own ≡ length sight.own + length (made_by call.0)
-    = call_length serial sight call.0 (with_answer call).1 (All-head IsAnswered (with_answer call) (map with_answer calls) all) in
-    let rest = lane_length serial calls after (All-tail IsAnswered (with_answer call) (map with_answer calls) all) in
+    = call_length serial sight call.0 (with_answer call).1 (All-head IsAnsweredCall (with_answer call) (map with_answer calls) all) in
+    let rest = lane_length serial calls after (All-tail IsAnsweredCall (with_answer call) (map with_answer calls) all) in
     let both : length (made_by call.0 ++ made_in (calls_in calls)) ≡ length (made_by call.0) + length (made_in (calls_in calls))
     = length-append (made_by call.0) (made_in (calls_in calls)) in
     omega (arith, one, rest, both)
@@ -209,20 +209,20 @@ canvas_from serial new (Some canvas) answer unkept made =
     subst (λ (stage : Stage). IsAnswer serial answer (unwrap_or (texture_at stage) unknown)) (sym (stage_filled canvas (given_by serial (texture_asked canvas) answer)))
     (stage_from serial new canvas answer canvas.stage unkept made)
 
-shown_from : (serial : ℕ) (sight new : Sight) (place : ℕ) (answer : Answer) → kept_if new (asked_at sight.own place Current) ≡ None → is_made answer ≡ true
-    → IsAnswer serial answer (unwrap_or (option_and_then texture_of (canvas_at (acted_at sight.own place Current (given_by serial (asked_at sight.own place Current) answer)) place)) unknown)
+shown_from : (serial : ℕ) (sight new : Sight) (place : ℕ) (answer : Answer) → kept_if new (canvas_asked sight.own place Current) ≡ None → is_made answer ≡ true
+    → IsAnswer serial answer (unwrap_or (option_and_then texture_of (canvas_at (acted_at sight.own place Current (given_by serial (canvas_asked sight.own place Current) answer)) place)) unknown)
 shown_from serial sight new place answer unkept made =
     subst (λ (found : Option CanvasValue). IsAnswer serial answer (unwrap_or (option_and_then texture_of found) unknown))
-    (sym (own_canvas (λ c. acted c Current (given_by serial (asked_at sight.own place Current) answer)) sight.own place))
+    (sym (own_canvas (λ c. acted c Current (given_by serial (canvas_asked sight.own place Current) answer)) sight.own place))
     (canvas_from serial new (canvas_at sight.own place) answer unkept made)
 
 -- where a call became an entry, it was not kept, and the entry was answered as it must be
 SentAs : Sight → BoundCall → Option Entry → Type 0
-SentAs sight call found = (entry : Entry) → found ≡ Some entry → (kept sight call ≡ None) × Answers call entry.reply.answer
+SentAs sight call found = (entry : Entry) → found ≡ Some entry → (kept sight call ≡ None) × IsAnswerTo call entry.reply.answer
 
 current_from : (serial : ℕ) (sight : Sight) (canvas name : ℕ) (found : Option Entry) → SentAs sight (Canvas (On canvas Current) (Some name)) found
     → IsFromCanvas serial (unwrap_or (option_and_then texture_of (canvas_at (acted_at sight.own (place_in sight canvas) Current
-    (given_by serial (asked_at sight.own (place_in sight canvas) Current) (with_answer (Canvas (On canvas Current) (Some name), found)).1)) (place_in sight canvas))) unknown) (On canvas Current) found
+    (given_by serial (canvas_asked sight.own (place_in sight canvas) Current) (with_answer (Canvas (On canvas Current) (Some name), found)).1)) (place_in sight canvas))) unknown) (On canvas Current) found
 unfolding SentAs
 current_from serial sight canvas name None sent = tt
 current_from serial sight canvas name (Some entry) sent =
@@ -240,7 +240,7 @@ drawn_new serial sight (Create width height) (Some name) found slot k sent e =
 drawn_new serial sight (On canvas (Configure format usage)) (Some name) found slot k sent e = absurd (cc (e))
 drawn_new serial sight (On canvas Current) (Some name) found slot k sent e =
     let at : ℕ = place_in sight canvas in
-    let given : Option HandleValue = given_by serial (asked_at sight.own at Current) (with_answer (Canvas (On canvas Current) (Some name), found)).1 in
+    let given : Option HandleValue = given_by serial (canvas_asked sight.own at Current) (with_answer (Canvas (On canvas Current) (Some name), found)).1 in
     let objects : List Object = acted_at sight.own at Current given in
     let new : Object = object.Shown (option_and_then texture_of (canvas_at objects at)) in
     let count : length objects ≡ length sight.own = redrawn_length (λ c. acted c Current given) sight.own at in
@@ -285,7 +285,7 @@ kept_from serial known answer None handle e = absurd (cc (e))
 kept_from serial None answer (Some slot) handle e = absurd (cc (e))
 kept_from serial (Some x) answer (Some slot) handle e = handle_from serial x answer handle e
 
-new_made : (serial : ℕ) (objects : List Object) (handle : Option HandleValue) (slot : ℕ) (k : Kind) (maker : PlayedCall) → Fits handle (Some (slot, k))
+new_made : (serial : ℕ) (objects : List Object) (handle : Option HandleValue) (slot : ℕ) (k : Kind) (maker : PlayedCall) → FitsSlot handle (Some (slot, k))
     → ((h : HandleValue) → handle ≡ Some h → IsFrom serial h maker.0 maker.1) → IsMadeAt serial (with_kept objects handle) (length objects) maker
 new_made serial objects None slot k maker fits from = absurd fits
 new_made serial objects (Some handle) slot k maker fits from =
@@ -296,7 +296,7 @@ module _ (setup : Setup) where
   unfolding SentAs
   sent_as sight call None runs = λ entry e. absurd (cc (e))
   sent_as sight call (Some x) runs = λ entry e. (let same : x ≡ entry = cc (e) in
-      (runs.0, subst (λ (y : Entry). Answers call y.reply.answer) same (event_answered setup sight call x runs.0 runs.1 runs.2)))
+      (runs.0, subst (λ (y : Entry). IsAnswerTo call y.reply.answer) same (event_answered setup sight call x runs.0 runs.1 runs.2)))
 
   -- and what a call has made stands at the next place
   call_new : (sight : Sight) (call : BoundCall) (found : Option Entry) (slot : ℕ) (k : Kind) → RunsAs setup sight call found → made_of call ≡ Some (slot, k)
@@ -308,7 +308,7 @@ module _ (setup : Setup) where
   call_new sight (Ask request made) (Some entry) slot k runs e =
       let answer : Answer = entry.reply.answer in
       let handle : Option HandleValue = handle_kept setup.serial sight request made answer in
-      let fits : Fits handle (Some (slot, k)) = subst (Fits handle) e
+      let fits : FitsSlot handle (Some (slot, k)) = subst (FitsSlot handle) e
       (handle_fits setup.serial sight request made answer (call_answered setup sight (Ask request made, Some entry) runs)) in
       subst (λ (s : Sight). IsMadeAt setup.serial s.own (length sight.own) (Ask request made, Some entry))
       (sym (after_ask setup.serial sight request made answer))
@@ -350,7 +350,7 @@ module _ (setup : Setup) where
   lane_made (call ∷ calls) before sight was runs from =
       let after : Sight = after_call setup.serial sight (with_answer call) in
       let end : Sight = after_calls setup.serial after (map with_answer calls) in
-      let answered : IsAnswered (with_answer call) = call_answered setup sight call runs.0 in
+      let answered : IsAnsweredCall (with_answer call) = call_answered setup sight call runs.0 in
       let first_is : after.first ≡ sight.first = same_first setup.serial sight call.0 (with_answer call).1 in
       let length_is : length after.own ≡ length sight.own + length (made_by call.0) = call_length setup.serial sight call.0 (with_answer call).1 answered in
       let grown : (sight.first + length sight.own) + length (made_by call.0) ≡ after.first + length after.own = omega (arith, first_is, length_is) in
@@ -373,10 +373,10 @@ module _ (setup : Setup) where
   AllRun others first (calls ∷ lanes) = Runs setup (start_at others first) calls × AllRun others (first + count_made (calls_in calls)) lanes
 
   pub all_answered : (others : List Object) (first : ℕ) (lanes : List (List PlayedCall)) → AllRun others first lanes
-      → All (All IsAnswered) (answered_lanes lanes)
-  all_answered others first [] runs = All-nil (All IsAnswered)
+      → All (All IsAnsweredCall) (answered_lanes lanes)
+  all_answered others first [] runs = All-nil (All IsAnsweredCall)
   all_answered others first (calls ∷ lanes) runs =
-      All-cons (All IsAnswered) (map with_answer calls) (answered_lanes lanes) (lane_answered setup calls (start_at others first) runs.0)
+      All-cons (All IsAnsweredCall) (map with_answer calls) (answered_lanes lanes) (lane_answered setup calls (start_at others first) runs.0)
       (all_answered others (first + count_made (calls_in calls)) lanes runs.1)
 
   -- what calls have made stands at their slots

@@ -41,10 +41,10 @@ use Rattle.wg_play.specs.Objects.{recorder_at, with_recorder, recorded_by, recor
 use Rattle.wg_play.specs.Sights.{Sight, place_in, handle_in_sight}
 use Rattle.wg_play.specs.Lanes.{canvas_asks, new_canvas, drawn, command_seen, stand_seen, handle_kept}
 use Rattle.wg_play.specs.Found.{is_pass, has_recorder, recorder_kind}
-use Rattle.wg_play.specs.Late.{Answers, after_call}
+use Rattle.wg_play.specs.Late.{IsAnswerTo, after_call}
 use Rattle.wg_play.proofs.Slots.{own_recorder, length_with, at_new, recorder_new, recorder_append, stand_encoder}
 use Rattle.wg_play.proofs.Redrawn.{redrawn_length}
-use Rattle.wg_play.proofs.Following.{ended_on, with_kept, after_record, after_ask, after_canvas, Fits, handle_fits, fits_length, MakesAs, same_kind, handle_kind}
+use Rattle.wg_play.proofs.Following.{ended_on, with_kept, after_record, after_ask, after_canvas, FitsSlot, handle_fits, fits_length, MakesAs, same_kind, handle_kind}
 use Rattle.wg_play.proofs.Lateness.{ended_length}
 use Rattle.wg_play.proofs.Places.{bracket_mapped, begins_by}
 
@@ -79,7 +79,7 @@ drawn_length sight (On canvas call) made given =
     length-append objects (shown_at objects at call made)
     ∙ ap₂ (λ (m n : ℕ). m + n) (redrawn_length (λ found. acted found call given) sight.own at) (shown_length call made (option_and_then texture_of (canvas_at objects at)))
 
-pub call_length : (serial : ℕ) (sight : Sight) (call : BoundCall) (answer : Answer) → Answers call answer
+pub call_length : (serial : ℕ) (sight : Sight) (call : BoundCall) (answer : Answer) → IsAnswerTo call answer
     → length (after_call serial sight (call, answer)).own ≡ length sight.own + length (made_by call)
 call_length serial sight (Record on command made) answer answered =
     let stand : Stand = stand_seen sight on in
@@ -131,7 +131,7 @@ opens reference (info.Queries known) e = absurd (cc)
 opens reference info.CommandBuffer e = absurd (cc)
 opens reference (info.Bundle known) e = absurd (cc)
 
-encoder_new : (objects : List Object) (handle : Option HandleValue) (on : ℕ) (k : Kind) → has_recorder k ≡ true → Fits handle (Some (on, k)) → ((h : HandleValue) → handle ≡ Some h → kind_of h.info ≡ k)
+encoder_new : (objects : List Object) (handle : Option HandleValue) (on : ℕ) (k : Kind) → has_recorder k ≡ true → FitsSlot handle (Some (on, k)) → ((h : HandleValue) → handle ≡ Some h → kind_of h.info ≡ k)
     → Fresh (with_kept objects handle) (length objects)
 encoder_new objects None on k p fits kind = absurd fits
 encoder_new objects (Some handle) on k p fits kind =
@@ -171,13 +171,13 @@ canvas_no_encoder call made on k p e = not_either has_recorder k refl refl (make
 canvas_no_pass : (call : CanvasOf ℕ) (made : Option ℕ) (on : ℕ) (k : Kind) → is_pass k ≡ true → made_of (Canvas call made) ≡ Some (on, k) → ⊥
 canvas_no_pass call made on k p e = not_either is_pass k refl refl (makes_canvas call made on k e) p
 
-pub encoder_made : (serial : ℕ) (sight : Sight) (call : BoundCall) (answer : Answer) (on : ℕ) (k : Kind) → has_recorder k ≡ true → Answers call answer → MakesAs sight call → made_of call ≡ Some (on, k)
+pub encoder_made : (serial : ℕ) (sight : Sight) (call : BoundCall) (answer : Answer) (on : ℕ) (k : Kind) → has_recorder k ≡ true → IsAnswerTo call answer → MakesAs sight call → made_of call ≡ Some (on, k)
     → Fresh (after_call serial sight (call, answer)).own (length sight.own)
 encoder_made serial sight (Record stand command None) answer on k p answered fit e = absurd (cc)
 encoder_made serial sight (Record stand command (Some slot)) answer on k p answered fit e = absurd (no_encoder (bracket command) slot on k p e)
 encoder_made serial sight (Ask request made) answer on k p answered fit e =
     let handle : Option HandleValue = handle_kept serial sight request made answer in
-    let fits : Fits handle (Some (on, k)) = subst (Fits handle) e (handle_fits serial sight request made answer answered) in
+    let fits : FitsSlot handle (Some (on, k)) = subst (FitsSlot handle) e (handle_fits serial sight request made answer answered) in
     subst (λ (s : Sight). Fresh s.own (length sight.own)) (sym (after_ask serial sight request made answer))
     (subst (λ n. Fresh (with_kept (ended_on sight (ended_by request)) handle) n) (ended_length sight (ended_by request))
     (encoder_new (ended_on sight (ended_by request)) handle on k p fits (handle_kind serial sight request made answer on k fit e)))

@@ -6,7 +6,7 @@ use Rattle.wg_history.specs.declared.events.Event.{Event}
 use Rattle.wg_trace.specs.declared.replies.Reply.{Reply}
 use Rattle.wg_history.specs.declared.events.Setup.{Setup}
 use Rattle.wg_script.specs.CallOf.{BoundCall}
-use Rattle.wg_play.specs.Turns.{made_by, AllGive, all_after}
+use Rattle.wg_play.specs.Turns.{entries_of_caller, AllGive, all_after}
 use Rattle.wg_play.specs.declared.objects.Object.{Object}
 use Rattle.wg_play.specs.Lanes.{starts, gathered, next_event}
 use Rattle.wg_play.specs.Play.{after_, PlaysTo, Interleaves}
@@ -17,15 +17,15 @@ after_same [] ys zs e = e
 after_same (x ∷ xs) ys zs e = after_same xs ys zs (cc (e))
 
 -- the entries of caller n that a part has, where its own entries grew by these
-pub part_of : (n : ℕ) (front part old new es : List Entry) → made_by n front ≡ old → made_by n (front ++ part) ≡ new → new ≡ old ++ es → made_by n part ≡ es
+pub part_of : (n : ℕ) (front part old new es : List Entry) → entries_of_caller n front ≡ old → entries_of_caller n (front ++ part) ≡ new → new ≡ old ++ es → entries_of_caller n part ≡ es
 part_of n front part old new es before now grown =
-    after_same old (made_by n part) es
-    (ap (λ o. o ++ made_by n part) (sym before) ∙ (sym (filter-append (λ e. e.who == n) front part) ∙ (now ∙ grown)))
+    after_same old (entries_of_caller n part) es
+    (ap (λ o. o ++ entries_of_caller n part) (sym before) ∙ (sym (filter-append (λ e. e.who == n) front part) ∙ (now ∙ grown)))
 
 module _ (setup : Setup) where
   -- one phase more
   pub plays_more : (phases : List (List (List BoundCall))) (phase : List (List BoundCall)) (objects mid : List Object) (log part : List Entry) → PlaysTo setup phases objects log mid
-      → AllGive next_event (after_ setup) 0 (starts mid phase) part → ((n : ℕ) → length phase ≤ n → made_by n part ≡ [])
+      → AllGive next_event (after_ setup) 0 (starts mid phase) part → ((n : ℕ) → length phase ≤ n → entries_of_caller n part ≡ [])
       → PlaysTo setup (phases ++ phase ∷ []) objects (log ++ part) (gathered mid (all_after next_event (after_ setup) 0 (starts mid phase) part))
   plays_more [] phase objects mid log part h all few =
       let same = sym h.1 in

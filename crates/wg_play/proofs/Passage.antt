@@ -35,11 +35,11 @@ use Rattle.wg_names.specs.Uses.{made_as, made_of}
 use Rattle.wg_play.specs.Canvases.{canvas_at}
 use Rattle.wg_play.specs.Objects.{unknown, recorder_at}
 use Rattle.wg_play.specs.Sights.{Sight, place_in}
-use Rattle.wg_play.specs.Lanes.{Lane, drawn, kept, finish_by, event_sent, event_of, answered_by, settled, settle, next_at, next_event, after_at}
-use Rattle.wg_play.specs.Late.{Answers, no_answer, IsAnswered, is_made, after_call, after_calls}
+use Rattle.wg_play.specs.Lanes.{LaneState, drawn, kept, finish_by, event_sent, event_of, answered_by, settled, settle, next_at, next_event, after_at}
+use Rattle.wg_play.specs.Late.{IsAnswerTo, no_answer, IsAnsweredCall, is_made, after_call, after_calls}
 use Rattle.wg_play.specs.Play.{after_}
 use Rattle.wg_play.specs.Through.{IsReplied, GoesThrough, LanesGoThrough}
-use Rattle.wg_play.specs.Turns.{Gives, after_all}
+use Rattle.wg_play.specs.Turns.{GivesEvents, after_all}
 
 -- ---- an event that makes an object is answered that it was made
 
@@ -126,7 +126,7 @@ canvas_makes sight (On canvas Present) (Some slot) unkept some = absurd (cc (som
 replied_made : (setup : Setup) (entry : Entry) → IsReplied setup entry → form_of entry.event ≡ Making → is_made entry.reply.answer ≡ true
 replied_made setup entry replied form = ap (λ (r : Reply). is_made r.answer) replied.is ∙ made_reply setup replied.past entry.event form
 
-pub event_answered : (setup : Setup) (sight : Sight) (call : BoundCall) (entry : Entry) → kept sight call ≡ None → event_of sight call ≡ entry.event → IsReplied setup entry → Answers call entry.reply.answer
+pub event_answered : (setup : Setup) (sight : Sight) (call : BoundCall) (entry : Entry) → kept sight call ≡ None → event_of sight call ≡ entry.event → IsReplied setup entry → IsAnswerTo call entry.reply.answer
 event_answered setup sight (Record on command made) entry unkept is replied = tt
 event_answered setup sight (Canvas call made) entry unkept is replied = λ some. replied_made setup entry replied (ap form_of (sym is) ∙ canvas_makes sight call made unkept some)
 event_answered setup sight (Ask request made) entry unkept is replied = λ some.
@@ -134,7 +134,7 @@ event_answered setup sight (Ask request made) entry unkept is replied = λ some.
     replied_made setup entry replied (ap form_of (sym is) ∙ sent_makes sight request kind.0 kind.1)
 
 -- a call that is kept has no answer, so that any will do
-pub kept_answered : (call : BoundCall) → Answers call no_answer
+pub kept_answered : (call : BoundCall) → IsAnswerTo call no_answer
 kept_answered (Record on command made) = tt
 kept_answered (Ask request made) = λ some. refl
 kept_answered (Canvas call made) = λ some. refl
@@ -142,24 +142,24 @@ kept_answered (Canvas call made) = λ some. refl
 -- ---- a lane that keeps its next calls
 
 module _ (setup : Setup) where
-  abbrev pub GivesAll : Lane → List Entry → Type 0
-  GivesAll lane entries = Gives next_event (after_ setup) lane entries
+  abbrev pub GivesAll : LaneState → List Entry → Type 0
+  GivesAll lane entries = GivesEvents next_event (after_ setup) lane entries
 
-  abbrev pub end_of : Lane → List Entry → Lane
+  abbrev pub end_of : LaneState → List Entry → LaneState
   end_of lane entries = settle (after_all next_event (after_ setup) lane entries)
 
-  pub gives_same : (v w : Lane) → settle v ≡ settle w → (entries : List Entry) → GivesAll v entries → GivesAll w entries
+  pub gives_same : (v w : LaneState) → settle v ≡ settle w → (entries : List Entry) → GivesAll v entries → GivesAll w entries
   gives_same v w same [] gives = ap next_at (sym same) ∙ gives
   gives_same v w same (e ∷ entries) gives =
-      (ap next_at (sym same) ∙ gives.0, subst (λ (l : Lane). GivesAll l entries) (ap (λ (l : Lane). after_at setup.serial l e.reply) same) gives.1)
+      (ap next_at (sym same) ∙ gives.0, subst (λ (l : LaneState). GivesAll l entries) (ap (λ (l : LaneState). after_at setup.serial l e.reply) same) gives.1)
 
-  pub end_same : (v w : Lane) → settle v ≡ settle w → (entries : List Entry) → end_of v entries ≡ end_of w entries
+  pub end_same : (v w : LaneState) → settle v ≡ settle w → (entries : List Entry) → end_of v entries ≡ end_of w entries
   end_same v w same [] = same
-  end_same v w same (e ∷ entries) = ap (λ (l : Lane). end_of l entries) (ap (λ (l : Lane). after_at setup.serial l e.reply) same)
+  end_same v w same (e ∷ entries) = ap (λ (l : LaneState). end_of l entries) (ap (λ (l : LaneState). after_at setup.serial l e.reply) same)
 
   -- ---- one call
 
-  abbrev lane_of : Sight → List BoundCall → Lane
+  abbrev lane_of : Sight → List BoundCall → LaneState
   lane_of sight calls = record { sight = sight; left = calls }
 
   abbrev Goes : List BoundCall → Type 0
@@ -181,7 +181,7 @@ module _ (setup : Setup) where
       record {
         calls = (call, no_answer) ∷ more.calls;
         are = ap (λ cs. call ∷ cs) more.are;
-        answered = All-cons IsAnswered (call, no_answer) more.calls (kept_answered call) more.answered;
+        answered = All-cons IsAnsweredCall (call, no_answer) more.calls (kept_answered call) more.answered;
         end = end_same (lane_of sight (call ∷ calls)) (lane_of after calls) same entries ∙ (more.end ∙ ap (λ (s : Sight). lane_of (after_calls setup.serial s more.calls) []) (sym here));
       }
   by_call call calls goes sight None is [] replied gives = absurd (cc (ap next_at (sym (settled_by sight call calls None is)) ∙ gives))
@@ -189,17 +189,17 @@ module _ (setup : Setup) where
       let same = settled_by sight call calls None is in
       let event : event_of sight call ≡ e.event = cc (ap next_at (sym same) ∙ gives.0) in
       let after : Sight = answered_by setup.serial sight call e.reply.answer in
-      let more = goes after entries (All-tail (IsReplied setup) e entries replied) (subst (λ (l : Lane). GivesAll (after_at setup.serial l e.reply) entries) same gives.1) in
+      let more = goes after entries (All-tail (IsReplied setup) e entries replied) (subst (λ (l : LaneState). GivesAll (after_at setup.serial l e.reply) entries) same gives.1) in
       let here = after_is sight call e.reply.answer None is in
       record {
         calls = (call, e.reply.answer) ∷ more.calls;
         are = ap (λ cs. call ∷ cs) more.are;
-        answered = All-cons IsAnswered (call, e.reply.answer) more.calls (event_answered setup sight call e is event (All-head (IsReplied setup) e entries replied)) more.answered;
-        end = ap (λ (l : Lane). end_of (after_at setup.serial l e.reply) entries) same ∙ (more.end ∙ ap (λ (s : Sight). lane_of (after_calls setup.serial s more.calls) []) (sym here));
+        answered = All-cons IsAnsweredCall (call, e.reply.answer) more.calls (event_answered setup sight call e is event (All-head (IsReplied setup) e entries replied)) more.answered;
+        end = ap (λ (l : LaneState). end_of (after_at setup.serial l e.reply) entries) same ∙ (more.end ∙ ap (λ (s : Sight). lane_of (after_calls setup.serial s more.calls) []) (sym here));
       }
 
   goes_through : (calls : List BoundCall) → Goes calls
-  goes_through [] sight [] replied gives = record { calls = []; are = refl; answered = All-nil IsAnswered; end = refl }
+  goes_through [] sight [] replied gives = record { calls = []; are = refl; answered = All-nil IsAnsweredCall; end = refl }
   goes_through [] sight (e ∷ entries) replied gives = absurd (cc (gives.0))
   goes_through (call ∷ calls) sight entries replied gives = by_call call calls (goes_through calls) sight (kept sight call) refl entries replied gives
 

@@ -10,7 +10,7 @@ use Rattle.wg_play.specs.Turns.{callers_of, Midway}
 use Rattle.wg_play.specs.declared.objects.Object.{Object}
 use Rattle.wg_play.specs.Lanes.{starts_from, starts, count_made, gathered, next_event}
 use Rattle.wg_play.specs.Play.{after_, phases_by, Play, Interleaves}
-use Rattle.wg_play.proofs.Turning.{Answered, onto, phase_is}
+use Rattle.wg_play.proofs.Turning.{RepliesAreRight, onto, phase_is}
 
 pub onto_back : (part : List Entry) (past : Past) → onto past part ≡ reverse part ++ past
 onto_back [] past = refl
@@ -30,11 +30,11 @@ module _ (setup : Setup) where
   run_before [] past run = run
   run_before (e ∷ log) past run = cc (run_before log (e ∷ past) run)
 
-  pub answered_of : (log : List Entry) (past : Past) → IsRun setup (onto past log) → Answered setup past log
+  pub answered_of : (log : List Entry) (past : Past) → IsRun setup (onto past log) → RepliesAreRight setup past log
   answered_of [] past run = tt
   answered_of (e ∷ log) past run = (cc (run_before log (e ∷ past) run), answered_of log (e ∷ past) run)
 
-  pub answered_parts : (part rest : List Entry) (past : Past) → Answered setup past (part ++ rest) → Answered setup past part × Answered setup (onto past part) rest
+  pub answered_parts : (part rest : List Entry) (past : Past) → RepliesAreRight setup past (part ++ rest) → RepliesAreRight setup past part × RepliesAreRight setup (onto past part) rest
   answered_parts [] rest past h = (tt, h)
   answered_parts (e ∷ part) rest past h = let more = answered_parts part rest (e ∷ past) h.1 in ((h.0, more.0), more.1)
 
@@ -46,11 +46,11 @@ module _ (setup : Setup) where
   starts_length objects phase = from_length objects (length objects) phase
 
   pub phases_are : (phases : List (List (List BoundCall))) (objects : List Object) (log : List Entry) (past : Past)
-      → Interleaves setup phases objects log → Answered setup past log → phases_by setup phases objects (callers_of log) past ≡ Some (onto past log)
+      → Interleaves setup phases objects log → RepliesAreRight setup past log → phases_by setup phases objects (callers_of log) past ≡ Some (onto past log)
   phases_are [] objects log past is run = rw is refl
   phases_are (phase ∷ phases) objects log past h run =
       let part = h.0 in let rest = h.1 in let whole : log ≡ part ++ rest = h.2 in
-      let runs = answered_parts part rest past (subst (Answered setup past) whole run) in
+      let runs = answered_parts part rest past (subst (RepliesAreRight setup past) whole run) in
       let one = phase_is next_event (after_ setup) setup part (starts objects phase) past (callers_of rest) h.3 (λ n le. h.4 n (omega (arith, le, starts_length objects phase))) runs.0 in
       let more = phases_are phases _ rest (onto past part) h.5 runs.1 in
       rw whole (rw (callers_more part rest) (ap (option_and_then (λ (p : Midway next_event (after_ setup) × List ℕ). phases_by setup phases (gathered objects p.0.lanes) p.1 p.0.past)) one ∙ (more ∙ ap Some (sym (onto_more part rest past)))))

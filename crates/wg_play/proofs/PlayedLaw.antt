@@ -28,12 +28,12 @@ use Rattle.wg_play.specs.declared.objects.Object.{Object}
 use Rattle.wg_play.specs.declared.objects.Object.TheVariants as object
 use Rattle.wg_play.specs.Objects.{unknown, handle_in, handle_at, is_late_on}
 use Rattle.wg_play.specs.Sights.{Sight, place_in, handle_in_sight}
-use Rattle.wg_play.specs.Lanes.{Lane, settle, stand_seen, starts, next_event, count_made}
-use Rattle.wg_play.specs.Turns.{made_by as entries_by, after_all}
+use Rattle.wg_play.specs.Lanes.{LaneState, settle, stand_seen, starts, next_event, count_made}
+use Rattle.wg_play.specs.Turns.{entries_of_caller, after_all}
 use Rattle.wg_play.specs.Play.{after_}
-use Rattle.wg_play.specs.Late.{Answered as AnsweredCall, IsAnswered, after_calls, slots_before, finishes, has_pass_ended}
-use Rattle.wg_play.specs.Found.{IsShown, IsOf, Holds, object_in_sight, IsSeen, phase_of}
-use Rattle.wg_play.specs.Kept.{IsKept, AreKept, SeesGenuine, LanesSee}
+use Rattle.wg_play.specs.Late.{Answered as AnsweredCall, IsAnsweredCall, after_calls, slots_before, finishes, has_pass_ended}
+use Rattle.wg_play.specs.Found.{IsShown, IsOf, SlotsStand, object_in_sight, SlotIsSeen, phase_of}
+use Rattle.wg_play.specs.Kept.{HandleIsGenuine, HandlesAreGenuine, SeesGenuine, LanesSee}
 use Rattle.wg_play.specs.Played.{PlayedCall, PlayedPhase, calls_in, entries_in, lanes_in, with_answer, answered_lanes, objects_next, objects_after, sight_after, seen_calls, with_sights, lanes_sights, phases_sights, seen_with, current_seen, ShowsCurrent, is_late_after, IsPlayedAs, IsOfCanvas, IsOfCall, StandsForMade, past_at, IsMoment, IsPlayedAt, PlayGoesThrough}
 use Rattle.wg_play.proofs.Turning.{onto}
 use Rattle.wg_play.proofs.Phases.{onto_back, onto_more}
@@ -93,7 +93,7 @@ module _ (setup : Setup) (some : setup.serial ≢ 0) where
   ShowsGenuine past call handle = (asked : CanvasOf ℕ) (made : Option ℕ) → call ≡ Canvas asked made → IsShownSo past handle asked
 
   of_object : (past : Past) (what : Object) (call : BoundCall) (found : Option Entry) → IsFrom setup.serial (handle_in what) call found
-      → IsKept setup past what → ShowsGenuine past call (handle_in what) → IsOfCall setup past (handle_in what) call found
+      → HandleIsGenuine setup past what → ShowsGenuine past call (handle_in what) → IsOfCall setup past (handle_in what) call found
   of_object past what (Record on command made) found from kept shows = tt
   of_object past what (Canvas call made) found from kept shows = of_canvas past (handle_in what) call found from (shows call made refl)
   of_object past what (Ask request made) None from kept shows = absurd from
@@ -103,29 +103,29 @@ module _ (setup : Setup) (some : setup.serial ≢ 0) where
   of_object past (object.Shown None) (Ask request made) (Some entry) from kept shows = absurd (some (sym from.0))
   of_object past (object.Shown (Some texture)) (Ask request made) (Some entry) from kept shows = record { device = from.0; answer = from.1; genuine = kept }
 
-  of_place : (past : Past) (objects : List Object) (place : ℕ) (maker : PlayedCall) → AreKept setup past objects
+  of_place : (past : Past) (objects : List Object) (place : ℕ) (maker : PlayedCall) → HandlesAreGenuine setup past objects
       → IsMadeAt setup.serial objects place maker → ShowsGenuine past maker.0 (handle_at objects place) → IsOfCall setup past (handle_at objects place) maker.0 maker.1
   of_place past objects place maker kept made shows =
       let same : handle_at objects place ≡ handle_in made.what = ap (λ (o : Option Object). option_map_or handle_in o unknown) made.is in
       subst (λ (h : HandleValue). IsOfCall setup past h maker.0 maker.1) (sym same)
-      (of_object past made.what maker.0 maker.1 made.of (kept_here (IsKept setup past) objects place made.what kept made.is)
+      (of_object past made.what maker.0 maker.1 made.of (kept_here (HandleIsGenuine setup past) objects place made.what kept made.is)
       (subst (ShowsGenuine past maker.0) same shows))
 
   -- a slot of the kind of a canvas's texture stands for one that is genuine
 
-  shown_genuine : (past : Past) (what : Object) → IsOf kinds.CanvasTexture what → IsKept setup past what → is_genuine setup past (handle_in what) ≡ true
+  shown_genuine : (past : Past) (what : Object) → IsOf kinds.CanvasTexture what → HandleIsGenuine setup past what → is_genuine setup past (handle_in what) ≡ true
   shown_genuine past (object.Made handle recorder) of kept = kept
   shown_genuine past (object.Pass encoder number) of kept = absurd (cc (of))
   shown_genuine past (object.Canvas canvas) of kept = absurd (cc (of.0))
   shown_genuine past (object.Shown None) of kept = absurd of.1
   shown_genuine past (object.Shown (Some texture)) of kept = kept
 
-  kept_seen : (past : Past) (sight : Sight) (slot : ℕ) (what : Object) → SeesGenuine setup past sight → object_in_sight sight slot ≡ Some what → IsKept setup past what
+  kept_seen : (past : Past) (sight : Sight) (slot : ℕ) (what : Object) → SeesGenuine setup past sight → object_in_sight sight slot ≡ Some what → HandleIsGenuine setup past what
   kept_seen past sight slot what sees is = by_slot (nat_lt slot sight.first) is
     where
-      by_slot : (b : Bool) → (if b then slice_get sight.others slot else slice_get sight.own (place_in sight slot)) ≡ Some what → IsKept setup past what
-      by_slot true e = kept_here (IsKept setup past) sight.others slot what sees.0 e
-      by_slot false e = kept_here (IsKept setup past) sight.own (place_in sight slot) what sees.1 e
+      by_slot : (b : Bool) → (if b then slice_get sight.others slot else slice_get sight.own (place_in sight slot)) ≡ Some what → HandleIsGenuine setup past what
+      by_slot true e = kept_here (HandleIsGenuine setup past) sight.others slot what sees.0 e
+      by_slot false e = kept_here (HandleIsGenuine setup past) sight.own (place_in sight slot) what sees.1 e
 
   abbrev SlotsShow : Past → Sight → Slots → Type 0
   SlotsShow past sight made = (slot : ℕ) → Contains made (slot, kinds.CanvasTexture) → is_genuine setup past (handle_in_sight sight slot) ≡ true
@@ -201,7 +201,7 @@ module _ (setup : Setup) (some : setup.serial ≢ 0) where
   -- ---- what stands before each phase
 
   record StandsAll (objects : List Object) (phases : List PlayedPhase) (seen : List (Sight × PlayedCall)) : Type 0 where
-    held : Holds objects (slots_in phases)
+    held : SlotsStand objects (slots_in phases)
     made : MadeAll setup objects (calls_of phases)
     shown : ShownAll objects seen
 
@@ -233,7 +233,7 @@ module _ (setup : Setup) (some : setup.serial ≢ 0) where
       = flat_map-append (λ (p : PlayedPhase). flat_map (λ (cs : List PlayedCall). cs) p.lanes) done (phase ∷ []) ∙ ap
       (λ (cs : List PlayedCall). calls_of done ++ cs) (append-nil (flat_map (λ (cs : List PlayedCall). cs) phase.lanes)) in
       record {
-        held = subst (λ (ps : List (List (List BoundCall))). Holds (objects_next setup.serial objects phase.lanes) (flat_map (flat_map made_in) ps))
+        held = subst (λ (ps : List (List (List BoundCall))). SlotsStand (objects_next setup.serial objects phase.lanes) (flat_map (flat_map made_in) ps))
             (ap (λ (ls : List (List BoundCall)). front ++ ls ∷ []) same ∙ sym one) held;
         made = subst (MadeAll setup (objects_next setup.serial objects phase.lanes)) (sym end)
             (lanes_joined setup objects phase.lanes objects (calls_of done) was.made runs numbers);
@@ -289,7 +289,7 @@ module _ (setup : Setup) (some : setup.serial ≢ 0) where
 
   late_at : (earlier later : List PlayedPhase) (lanes_before lanes_after : List (List PlayedCall)) (before after : List PlayedCall) (on : ℕ)
       (command : CommandOf ℕ) (made : Option ℕ)
-      → BoundAt earlier later lanes_before lanes_after (calls_in before ++ Record on command made ∷ calls_in after) → All IsAnswered (map with_answer before)
+      → BoundAt earlier later lanes_before lanes_after (calls_in before ++ Record on command made ∷ calls_in after) → All IsAnsweredCall (map with_answer before)
       → let sight = sight_after setup.serial earlier lanes_before before in is_late_on sight.own (stand_seen sight on)
       ≡ is_late_after sight (calls_in before) on
   late_at earlier later lanes_before lanes_after before after on command made bound answered =
@@ -314,8 +314,8 @@ module _ (setup : Setup) (some : setup.serial ≢ 0) where
 
   verb_at : (earlier later : List PlayedPhase) (lanes_before lanes_after : List (List PlayedCall)) (before after : List PlayedCall)
       (request : RequestOf ℕ) (made : Option ℕ)
-      → BoundAt earlier later lanes_before lanes_after (calls_in before ++ Ask request made ∷ calls_in after) → All IsAnswered (map with_answer before)
-      → Holds (objects_after setup.serial [] earlier) (slots_in earlier) → HasVerb (sight_after setup.serial earlier lanes_before before) request
+      → BoundAt earlier later lanes_before lanes_after (calls_in before ++ Ask request made ∷ calls_in after) → All IsAnsweredCall (map with_answer before)
+      → SlotsStand (objects_after setup.serial [] earlier) (slots_in earlier) → HasVerb (sight_after setup.serial earlier lanes_before before) request
   verb_at earlier later lanes_before lanes_after before after request made bound answered holds =
       let call : BoundCall = Ask request made in
       let found = bound_is_found (map lanes_in earlier) (map lanes_in later) (map calls_in lanes_before) (map calls_in lanes_after)
@@ -344,15 +344,15 @@ module _ (setup : Setup) (some : setup.serial ≢ 0) where
       (here.genuine front moment.back moment.whole)) in
       let count : length (map calls_in lanes_before) ≡ length lanes_before = lanes_length lanes_before in
       let number : 0 + length (map calls_in lanes_before) ≡ length lanes_before = omega (arith, count) in
-      let own : entries_by (0 + length (map calls_in lanes_before)) front ≡ entries_in before = ap (λ n. entries_by n front) number ∙ moment.own in
-      let lane : Lane = after_all next_event (after_ setup) (lane_with start calls) (entries_in before) in
+      let own : entries_of_caller (0 + length (map calls_in lanes_before)) front ≡ entries_in before = ap (λ n. entries_of_caller n front) number ∙ moment.own in
+      let lane : LaneState = after_all next_event (after_ setup) (lane_with start calls) (entries_in before) in
       let there : SeesGenuine setup past lane.sight
       = subst (λ (es : List Entry). SeesGenuine setup past (after_all next_event (after_ setup) (lane_with start calls) es).sight) own
       (subst (λ n. SeesGenuine setup past (after_all next_event (after_ setup) (lane_with (start_at setup others n) calls)
-      (entries_by (0 + length (map calls_in lanes_before)) front)).sight) first_is sees) in
+      (entries_of_caller (0 + length (map calls_in lanes_before)) front)).sight) first_is sees) in
       let same : settle lane ≡ settle (lane_with sight left) = goes_to setup before left start runs in
       let at : SeesGenuine setup past sight = settled_back setup past left sight
-      (subst (λ (l : Lane). SeesGenuine setup past l.sight) same (settled_sees setup past lane.sight lane.left there)) in
+      (subst (λ (l : LaneState). SeesGenuine setup past l.sight) same (settled_sees setup past lane.sight lane.left there)) in
       let log : List Entry = entries_of setup some earlier ++ front in
       let past_is : past ≡ reverse log = sym (onto_more (entries_of setup some earlier) front []) ∙ (onto_back log [] ∙ append-nil (reverse log)) in
       subst (λ (p : Past). SeesGenuine setup p sight) past_is at
@@ -360,7 +360,7 @@ module _ (setup : Setup) (some : setup.serial ≢ 0) where
   -- each name that the call uses stands for what was made as that
   names_at : (earlier later : List PlayedPhase) (lanes_before lanes_after : List (List PlayedCall)) (before after : List PlayedCall) (call : PlayedCall)
       → BoundAt earlier later lanes_before lanes_after (calls_in before ++ call.0 ∷ calls_in after)
-      → Holds (objects_after setup.serial [] earlier) (slots_in earlier) → MadeAll setup (objects_after setup.serial [] earlier) (calls_of earlier)
+      → SlotsStand (objects_after setup.serial [] earlier) (slots_in earlier) → MadeAll setup (objects_after setup.serial [] earlier) (calls_of earlier)
       → Runs setup (start_at setup (objects_after setup.serial [] earlier) (slots_before (map lanes_in earlier) (map calls_in lanes_before))) before
       → (past : Past) → SeesGenuine setup past (sight_after setup.serial earlier lanes_before before)
       → All (StandsForMade setup past (sight_after setup.serial earlier lanes_before before) (seen_calls earlier before)) (uses_of call.0)
@@ -388,7 +388,7 @@ module _ (setup : Setup) (some : setup.serial ≢ 0) where
       let short : length (made_in (calls_in (calls_of earlier))) ≤ sight.first = omega (arith, first_is, count) in
       let others_is : sight.others ≡ others = others_after setup.serial (map with_answer before) start in
       let zero_is : first ≡ first + 0 = omega arith in
-      let answered : All IsAnswered (map with_answer before) = lane_answered setup before start runs in
+      let answered : All IsAnsweredCall (map with_answer before) = lane_answered setup before start runs in
       let seen : SeesAll sight (slots_in earlier ++ ours)
       = subst (λ (cs : List BoundCall). SeesAll sight (slots_in earlier ++ made_in cs)) (lane_same before)
       (sees_before (map lanes_in earlier) (map lanes_in later) (map calls_in lanes_before) (map calls_in lanes_after) (map with_answer before) call.0 (calls_in after)
@@ -410,7 +410,7 @@ module _ (setup : Setup) (some : setup.serial ≢ 0) where
   shown_known None is = absurd is
   shown_known (Some texture) is = refl
 
-  shown_in_sight : (sight : Sight) (name : ℕ) (texture : Option HandleValue) → IsSeen sight name kinds.CanvasTexture
+  shown_in_sight : (sight : Sight) (name : ℕ) (texture : Option HandleValue) → SlotIsSeen sight name kinds.CanvasTexture
       → object_in_sight sight name ≡ Some (object.Shown texture) → texture ≡ Some (handle_in_sight sight name)
   shown_in_sight sight name texture found is =
       let same : object.Shown texture ≡ found.what = cc (is, found.is) in
@@ -451,7 +451,7 @@ module _ (setup : Setup) (some : setup.serial ≢ 0) where
 
   current_at : (earlier later : List PlayedPhase) (lanes_before lanes_after : List (List PlayedCall)) (before after : List PlayedCall) (call : PlayedCall)
       → BoundAt earlier later lanes_before lanes_after (calls_in before ++ call.0 ∷ calls_in after)
-      → Holds (objects_after setup.serial [] earlier) (slots_in earlier) → ShownAll (objects_after setup.serial [] earlier) (phases_sights setup.serial [] earlier)
+      → SlotsStand (objects_after setup.serial [] earlier) (slots_in earlier) → ShownAll (objects_after setup.serial [] earlier) (phases_sights setup.serial [] earlier)
       → Runs setup (start_at setup (objects_after setup.serial [] earlier) (slots_before (map lanes_in earlier) (map calls_in lanes_before))) before
       → ShowsCurrent (sight_after setup.serial earlier lanes_before before) (seen_with setup.serial earlier lanes_before before)
   current_at earlier later lanes_before lanes_after before after call bound holds shown runs =
@@ -544,7 +544,7 @@ module _ (setup : Setup) (some : setup.serial ≢ 0) where
 pub play_goes_through : PlayGoesThrough
 play_goes_through setup some phases numbers history bound e =
     let back = play_back setup phases numbers history e in
-    let run = script_runs setup some phases [] [] history (All-nil (IsKept setup [])) back.lanes back.answered in
+    let run = script_runs setup some phases [] [] history (All-nil (HandleIsGenuine setup [])) back.lanes back.answered in
     let bound_plays : IsBound (map lanes_in run.plays) = subst IsBound (sym run.calls) bound in
     let turned : onto [] history ≡ reverse history = onto_back history [] ∙ append-nil (reverse history) in
     record {
@@ -556,5 +556,5 @@ play_goes_through setup some phases numbers history bound e =
           played_at setup some earlier later phase lanes_before lanes_after before after call lanes_are
           (subst (λ (ps : List PlayedPhase). IsBound (map lanes_in ps)) is bound_plays)
           (subst (λ (ps : List PlayedPhase). PhasesRun setup some ps [] []) is run.run);
-      kept = subst (λ (p : Past). AreKept setup p (objects_after setup.serial [] run.plays)) turned run.kept;
+      kept = subst (λ (p : Past). HandlesAreGenuine setup p (objects_after setup.serial [] run.plays)) turned run.kept;
     }

@@ -10,15 +10,15 @@ use Rattle.wg_script.specs.CallOf.{BoundCall}
 use Rattle.wg_names.specs.Bound.{made_in}
 use Rattle.wg_play.specs.declared.objects.Object.{Object}
 use Rattle.wg_play.specs.Sights.{Sight}
-use Rattle.wg_play.specs.Lanes.{Lane, next_event, count_made, starts_from, starts, gathered}
-use Rattle.wg_play.specs.Turns.{made_by, AllGive, all_after, after_all}
+use Rattle.wg_play.specs.Lanes.{LaneState, next_event, count_made, starts_from, starts, gathered}
+use Rattle.wg_play.specs.Turns.{entries_of_caller, AllGive, all_after, after_all}
 use Rattle.wg_play.specs.Play.{after_, Interleaves}
-use Rattle.wg_play.specs.Late.{Answered as AnsweredCall, after_calls}
+use Rattle.wg_play.specs.Late.{Answered, after_calls}
 use Rattle.wg_play.specs.Found.{ended_from}
 use Rattle.wg_play.specs.Through.{IsReplied}
-use Rattle.wg_play.specs.Kept.{AreKept, SeesGenuine, LanesSee}
+use Rattle.wg_play.specs.Kept.{HandlesAreGenuine, SeesGenuine, LanesSee}
 use Rattle.wg_play.specs.Played.{PlayedCall, PlayedPhase, calls_in, entries_in, lanes_in, IsInterleaved, with_answer, answered_lanes, objects_next, objects_after}
-use Rattle.wg_play.proofs.Turning.{Answered, onto, not_past, first_gives, fewer, none_after, length_set, turn_is}
+use Rattle.wg_play.proofs.Turning.{RepliesAreRight, onto, not_past, first_gives, fewer, none_after, length_set, turn_is}
 use Rattle.wg_play.proofs.Phases.{onto_more, answered_parts, starts_length}
 use Rattle.wg_play.proofs.Passage.{end_of}
 use Rattle.wg_play.proofs.Keeping.{objects_more}
@@ -36,28 +36,28 @@ lanes_length (calls ∷ lanes) = ap suc (lanes_length lanes)
 -- the entries of lane n and of those after it
 abbrev AreOwn : ℕ → List (List PlayedCall) → List Entry → Type 0
 AreOwn n [] part = Unit {0}
-AreOwn n (calls ∷ lanes) part = (made_by n part ≡ entries_in calls) × AreOwn (suc n) lanes part
+AreOwn n (calls ∷ lanes) part = (entries_of_caller n part ≡ entries_in calls) × AreOwn (suc n) lanes part
 
-own_at : (n : ℕ) (lanes : List (List PlayedCall)) (part : List Entry) → AreOwn n lanes part → ((k : ℕ) → n + length lanes ≤ k → made_by k part ≡ [])
-    → (i : ℕ) → made_by (n + i) part ≡ entries_in (get_or lanes i [])
+own_at : (n : ℕ) (lanes : List (List PlayedCall)) (part : List Entry) → AreOwn n lanes part → ((k : ℕ) → n + length lanes ≤ k → entries_of_caller k part ≡ [])
+    → (i : ℕ) → entries_of_caller (n + i) part ≡ entries_in (get_or lanes i [])
 own_at n [] part own few i = few (n + i) (omega arith)
-own_at n (calls ∷ lanes) part own few zero = let here : n + 0 ≡ n = omega arith in subst (λ k. made_by k part ≡ entries_in calls) (sym here) own.0
+own_at n (calls ∷ lanes) part own few zero = let here : n + 0 ≡ n = omega arith in subst (λ k. entries_of_caller k part ≡ entries_in calls) (sym here) own.0
 own_at n (calls ∷ lanes) part own few (suc i) =
     let there : suc n + i ≡ n + suc i = omega arith in
-    subst (λ k. made_by k part ≡ entries_in (get_or lanes i [])) there (own_at (suc n) lanes part own.1 (λ k le. few k (omega (arith, le))) i)
+    subst (λ k. entries_of_caller k part ≡ entries_in (get_or lanes i [])) there (own_at (suc n) lanes part own.1 (λ k le. few k (omega (arith, le))) i)
 
 length-made : (calls : List BoundCall) (lanes : List (List BoundCall))
     → length (flat_map made_in (calls ∷ lanes)) ≡ length (made_in calls) + length (flat_map made_in lanes)
 length-made calls lanes = length-append (made_in calls) (flat_map made_in lanes)
 
 module _ (setup : Setup) where
-  abbrev LaneSees : Past → Lane → Type 0
+  abbrev LaneSees : Past → LaneState → Type 0
   LaneSees past lane = SeesGenuine setup past lane.sight
 
-  abbrev GiveAll : ℕ → List Lane → List Entry → Type 0
+  abbrev GiveAll : ℕ → List LaneState → List Entry → Type 0
   GiveAll n ws part = AllGive next_event (after_ setup) n ws part
 
-  abbrev pub after_part : ℕ → List Lane → List Entry → List Lane
+  abbrev pub after_part : ℕ → List LaneState → List Entry → List LaneState
   after_part n ws part = all_after next_event (after_ setup) n ws part
 
   -- ---- the lanes of a phase
@@ -83,11 +83,11 @@ module _ (setup : Setup) where
   lanes_run others [] first n part replied give = record { plays = []; are = refl; own = tt; runs = tt; end = λ objects. refl }
   lanes_run others (calls ∷ lanes) first n part replied give =
       let start : Sight = start_at setup others first in
-      let own : List Entry = made_by n part in
+      let own : List Entry = entries_of_caller n part in
       let one = lane_runs setup calls start own (All-filter (λ (e : Entry). e.who == n) (IsReplied setup) part replied) give.0 in
       let rest = lanes_run others lanes (first + count_made calls) (suc n) part replied give.1 in
       let sight : Sight = after_calls setup.serial start (map with_answer one.plays) in
-      let made_is : count_made calls ≡ count_made (map (λ (c : AnsweredCall). c.0) (map with_answer one.plays))
+      let made_is : count_made calls ≡ count_made (map (λ (c : Answered). c.0) (map with_answer one.plays))
       = ap (λ (cs : List BoundCall). count_made cs) (sym (lane_same one.plays ∙ one.are)) in
       record {
         plays = one.plays ∷ rest.plays;
@@ -95,32 +95,32 @@ module _ (setup : Setup) where
         own = (sym one.own, rest.own);
         runs = (one.runs, subst (λ (cs : List BoundCall). AllRun setup others (first + count_made cs) rest.plays) (sym one.are) rest.runs);
         end = λ objects.
-            ap (λ (l : Lane). gathered (objects ++ l.sight.own) (after_part (suc n) (starts_from others (first + count_made calls) lanes) part))
+            ap (λ (l : LaneState). gathered (objects ++ l.sight.own) (after_part (suc n) (starts_from others (first + count_made calls) lanes) part))
             (lane_end start calls own one)
             ∙ (rest.end (objects ++ sight.own) ∙ ap (λ m. gathered (objects ++ sight.own)
             (ended_from setup.serial others (first + m) (answered_lanes rest.plays))) made_is);
       }
 
-  all_replied : (part : List Entry) (past : Past) → Answered setup past part → All (IsReplied setup) part
+  all_replied : (part : List Entry) (past : Past) → RepliesAreRight setup past part → All (IsReplied setup) part
   all_replied [] past answered = All-nil (IsReplied setup)
   all_replied (e ∷ part) past answered = All-cons (IsReplied setup) e part (record { past = past; is = answered.0 }) (all_replied part (e ∷ past) answered.1)
 
-  kept_onto : (part : List Entry) (past : Past) (objects : List Object) → AreKept setup past objects → AreKept setup (onto past part) objects
+  kept_onto : (part : List Entry) (past : Past) (objects : List Object) → HandlesAreGenuine setup past objects → HandlesAreGenuine setup (onto past part) objects
   kept_onto [] past objects kept = kept
   kept_onto (e ∷ part) past objects kept = kept_onto part (e ∷ past) objects (objects_more setup e past objects kept)
 
   module _ (some : setup.serial ≢ 0) where
     -- what the lanes see at a moment of a phase is genuine in its past
-    sees_at : (front back : List Entry) (ws : List Lane) (past : Past) → GiveAll 0 ws (front ++ back)
-        → ((n : ℕ) → length ws ≤ n → made_by n (front ++ back) ≡ []) → Answered setup past (front ++ back)
+    sees_at : (front back : List Entry) (ws : List LaneState) (past : Past) → GiveAll 0 ws (front ++ back)
+        → ((n : ℕ) → length ws ≤ n → entries_of_caller n (front ++ back) ≡ []) → RepliesAreRight setup past (front ++ back)
         → LanesSee setup past ws → LanesSee setup (onto past front) (after_part 0 ws front)
     sees_at [] back ws past give few answered sees = subst (LanesSee setup past) (sym (none_after next_event (after_ setup) 0 ws)) sees
     sees_at (e ∷ front) back ws past give few answered sees =
         let less : e.who < length ws = not_past e (front ++ back) (length ws) (few e.who) in
         let who : e.who ≡ 0 + e.who = omega arith in
         let one = first_gives next_event (after_ setup) 0 e.who ws e (front ++ back) who less give in
-        let w : Lane = one.0 in
-        let next : List Lane = set ws e.who (after_ setup w e.reply) in
+        let w : LaneState = one.0 in
+        let next : List LaneState = set ws e.who (after_ setup w e.reply) in
         let turn = turn_is next_event (after_ setup) setup past ws e w one.1 one.2 answered.0 in
         let seen : LanesSee setup (e ∷ past) next = turns_genuine setup some (record { past = past; lanes = ws })
         (record { past = e ∷ past; lanes = next }) e.who turn sees in
@@ -154,29 +154,29 @@ module _ (setup : Setup) where
       pub calls : map lanes_in plays ≡ phases
       pub entries : entries_of plays ≡ log
       pub run : PhasesRun plays objects past
-      pub kept : AreKept setup (onto past log) (objects_after setup.serial objects plays)
+      pub kept : HandlesAreGenuine setup (onto past log) (objects_after setup.serial objects plays)
 
-    pub script_runs : (phases : List (List (List BoundCall))) (objects : List Object) (past : Past) (log : List Entry) → AreKept setup past objects
-        → Interleaves setup phases objects log → Answered setup past log
+    pub script_runs : (phases : List (List (List BoundCall))) (objects : List Object) (past : Past) (log : List Entry) → HandlesAreGenuine setup past objects
+        → Interleaves setup phases objects log → RepliesAreRight setup past log
         → ScriptRuns phases objects past log
     script_runs [] objects past log kept is answered =
-        record { plays = []; calls = refl; entries = sym is; run = tt; kept = subst (λ (l : List Entry). AreKept setup (onto past l) objects) (sym is) kept }
+        record { plays = []; calls = refl; entries = sym is; run = tt; kept = subst (λ (l : List Entry). HandlesAreGenuine setup (onto past l) objects) (sym is) kept }
     script_runs (phase ∷ phases) objects past log kept h answered =
         let part : List Entry = h.0 in
         let rest : List Entry = h.1 in
         let whole : log ≡ part ++ rest = h.2 in
-        let parts = answered_parts setup part rest past (subst (Answered setup past) whole answered) in
+        let parts = answered_parts setup part rest past (subst (RepliesAreRight setup past) whole answered) in
         let lanes = lanes_run objects phase (length objects) 0 part (all_replied part past parts.0) h.3 in
-        let ws : List Lane = starts objects phase in
+        let ws : List LaneState = starts objects phase in
         let played : PlayedPhase = record { entries = part; lanes = lanes.plays } in
-        let few : (n : ℕ) → length ws ≤ n → made_by n part ≡ [] = λ n le. h.4 n (omega (arith, le, starts_length setup objects phase)) in
+        let few : (n : ℕ) → length ws ≤ n → entries_of_caller n part ≡ [] = λ n le. h.4 n (omega (arith, le, starts_length setup objects phase)) in
         let sees : LanesSee setup past ws = starts_genuine setup past objects phase kept in
         let at : (front back : List Entry) → part ≡ front ++ back → LanesSee setup (onto past front) (after_part 0 ws front)
-        = λ front back is. sees_at front back ws past (subst (GiveAll 0 ws) is h.3) (λ n le. subst (λ (p : List Entry). made_by n p ≡ []) is (few n le))
-        (subst (Answered setup past) is parts.0) sees in
+        = λ front back is. sees_at front back ws past (subst (GiveAll 0 ws) is h.3) (λ n le. subst (λ (p : List Entry). entries_of_caller n p ≡ []) is (few n le))
+        (subst (RepliesAreRight setup past) is parts.0) sees in
         let end : LanesSee setup (onto past part) (after_part 0 ws part) = at part [] (sym (append-nil part)) in
-        let next : AreKept setup (onto past part) (objects_next setup.serial objects played.lanes)
-        = subst (AreKept setup (onto past part)) (lanes.end objects)
+        let next : HandlesAreGenuine setup (onto past part) (objects_next setup.serial objects played.lanes)
+        = subst (HandlesAreGenuine setup (onto past part)) (lanes.end objects)
         (gathers_genuine setup (onto past part) objects (after_part 0 ws part) (kept_onto part past objects kept) end) in
         let tail = script_runs phases (objects_next setup.serial objects played.lanes) (onto past part) rest next
         (subst (λ (os : List Object). Interleaves setup phases os rest) (lanes.end objects) h.5) parts.1 in
@@ -189,14 +189,14 @@ module _ (setup : Setup) where
             record {
               runs = lanes.runs;
               own = λ n. (let zero_is : 0 + n ≡ n = omega arith in
-                  subst (λ k. made_by k part ≡ entries_in (get_or lanes.plays n [])) zero_is
+                  subst (λ k. entries_of_caller k part ≡ entries_in (get_or lanes.plays n [])) zero_is
                   (own_at 0 lanes.plays part lanes.own (λ k le. h.4 k (omega (arith, le, same))) n));
               genuine = λ front back is. subst (λ (ls : List (List BoundCall)). LanesSee setup (onto past front) (after_part 0 (starts objects ls) front))
                   (sym lanes.are) (at front back is);
             },
             tail.run,
           );
-          kept = subst (λ (p : Past). AreKept setup p (objects_after setup.serial (objects_next setup.serial objects played.lanes) tail.plays))
+          kept = subst (λ (p : Past). HandlesAreGenuine setup p (objects_after setup.serial (objects_next setup.serial objects played.lanes) tail.plays))
               (sym (onto_more part rest past) ∙ ap (onto past) (sym whole)) tail.kept;
         }
 
@@ -234,23 +234,23 @@ module _ (setup : Setup) where
       (past : Past) (front : List Entry)
       → LanesSee setup past (after_part n (starts_from others first (before ++ calls ∷ after)) front)
       → SeesGenuine setup past (after_all next_event (after_ setup) (lane_with (start_at setup others (first + length (flat_map made_in before))) calls)
-      (made_by (n + length before) front)).sight
+      (entries_of_caller (n + length before) front)).sight
   lane_sees_at [] calls after others first n past front sees =
       let slot : first ≡ first + 0 = omega arith in
       let number : n ≡ n + 0 = omega arith in
       subst (λ k. SeesGenuine setup past (after_all next_event (after_ setup) (lane_with (start_at setup others (first + 0)) calls)
-      (made_by k front)).sight) number
-      (subst (λ k. SeesGenuine setup past (after_all next_event (after_ setup) (lane_with (start_at setup others k) calls) (made_by n front)).sight) slot
-      (All-head (LaneSees past) (after_all next_event (after_ setup) (lane_with (start_at setup others first) calls) (made_by n front))
+      (entries_of_caller k front)).sight) number
+      (subst (λ k. SeesGenuine setup past (after_all next_event (after_ setup) (lane_with (start_at setup others k) calls) (entries_of_caller n front)).sight) slot
+      (All-head (LaneSees past) (after_all next_event (after_ setup) (lane_with (start_at setup others first) calls) (entries_of_caller n front))
       (after_part (suc n) (starts_from others (first + count_made calls) after) front) sees))
   lane_sees_at (lane ∷ before) calls after others first n past front sees =
       let count = length-made lane before in
       let slot : (first + count_made lane) + length (flat_map made_in before) ≡ first + length (flat_map made_in (lane ∷ before)) = omega (arith, count) in
       let number : suc n + length before ≡ n + length (lane ∷ before) = omega arith in
       subst (λ k. SeesGenuine setup past (after_all next_event (after_ setup)
-      (lane_with (start_at setup others (first + length (flat_map made_in (lane ∷ before)))) calls) (made_by k front)).sight) number
+      (lane_with (start_at setup others (first + length (flat_map made_in (lane ∷ before)))) calls) (entries_of_caller k front)).sight) number
       (subst (λ k. SeesGenuine setup past (after_all next_event (after_ setup) (lane_with (start_at setup others k) calls)
-      (made_by (suc n + length before) front)).sight) slot
+      (entries_of_caller (suc n + length before) front)).sight) slot
       (lane_sees_at before calls after others (first + count_made lane) (suc n) past front
-      (All-tail (LaneSees past) (after_all next_event (after_ setup) (lane_with (start_at setup others first) lane) (made_by n front))
+      (All-tail (LaneSees past) (after_all next_event (after_ setup) (lane_with (start_at setup others first) lane) (entries_of_caller n front))
       (after_part (suc n) (starts_from others (first + count_made lane) (before ++ calls ∷ after)) front) sees)))

@@ -48,7 +48,7 @@ use Rattle.wg_play.specs.Sights.{Sight, place_in, handle_in_sight}
 use Rattle.wg_play.specs.Lanes.{canvas_asks, request_seen, event_sent}
 use Rattle.wg_play.specs.Late.{slots_before}
 use Rattle.wg_play.specs.Found.{is_pass}
-use Rattle.wg_play.specs.Kept.{IsKeptIn}
+use Rattle.wg_play.specs.Kept.{TextureIsGenuine}
 use Rattle.wg_play.specs.Played.{PlayedCall, PlayedPhase, calls_in, lanes_in, IsInterleaved, objects_after, sight_after, seen_calls, IsDrawnAs, IsOfCall, StandsForMade, IsMoment, SeesMade, IsPlayedAt, EachIsPlayed}
 use Rattle.wg_play.specs.Presented.{HasExpired, GivenAt, PresentsExpire}
 use Rattle.wg_play.proofs.Drawn.{canvas_has}
@@ -58,24 +58,24 @@ use Rattle.wg_play.proofs.Holding.{pass_kind}
 use Rattle.wg_play.proofs.Turning.{onto}
 use Rattle.wg_play.proofs.Phases.{onto_back, onto_more, run_before, answered_of, answered_parts}
 use Rattle.wg_play.proofs.Givers.{entries_of, given_at}
-use Rattle.wg_play.proofs.Counting.{IsIn, is_in, in_left, in_right, in_either, makes as makes_n, call_makes, lane_calls, all_calls, made_by_one}
+use Rattle.wg_play.proofs.Counting.{IsMember, is_in, in_left, in_right, in_either, makes as makes_n, call_makes, lane_calls, all_calls, made_by_one}
 use Rattle.wg_play.proofs.Shown.{Any, IsGivenBy, GivenIf, Shows, drawn_so, lane_shows}
 
 -- ---- calls among all calls
 
-in_lane : (lanes_before : List (List PlayedCall)) (calls : List PlayedCall) (lanes_after : List (List PlayedCall)) (call : PlayedCall) → IsIn call calls → IsIn call (lane_calls (lanes_before ++ calls ∷ lanes_after))
+in_lane : (lanes_before : List (List PlayedCall)) (calls : List PlayedCall) (lanes_after : List (List PlayedCall)) (call : PlayedCall) → IsMember call calls → IsMember call (lane_calls (lanes_before ++ calls ∷ lanes_after))
 in_lane lanes_before calls lanes_after call there =
-    subst (λ (cs : List PlayedCall). IsIn call cs) (sym (flat_map-append (λ (cs : List PlayedCall). cs) lanes_before (calls ∷ lanes_after)))
+    subst (λ (cs : List PlayedCall). IsMember call cs) (sym (flat_map-append (λ (cs : List PlayedCall). cs) lanes_before (calls ∷ lanes_after)))
     (in_right (lane_calls lanes_before) (calls ++ lane_calls lanes_after) call (in_left calls (lane_calls lanes_after) call there))
 
-in_phases : (earlier : List PlayedPhase) (phase : PlayedPhase) (later : List PlayedPhase) (call : PlayedCall) → IsIn call (lane_calls phase.lanes) → IsIn call (all_calls (earlier ++ phase ∷ later))
+in_phases : (earlier : List PlayedPhase) (phase : PlayedPhase) (later : List PlayedPhase) (call : PlayedCall) → IsMember call (lane_calls phase.lanes) → IsMember call (all_calls (earlier ++ phase ∷ later))
 in_phases earlier phase later call there =
-    subst (λ (cs : List PlayedCall). IsIn call cs) (sym (flat_map-append (λ (p : PlayedPhase). lane_calls p.lanes) earlier (phase ∷ later)))
+    subst (λ (cs : List PlayedCall). IsMember call cs) (sym (flat_map-append (λ (p : PlayedPhase). lane_calls p.lanes) earlier (phase ∷ later)))
     (in_right (all_calls earlier) (lane_calls phase.lanes ++ all_calls later) call (in_left (lane_calls phase.lanes) (all_calls later) call there))
 
-in_earlier : (earlier more : List PlayedPhase) (call : PlayedCall) → IsIn call (all_calls earlier) → IsIn call (all_calls (earlier ++ more))
+in_earlier : (earlier more : List PlayedPhase) (call : PlayedCall) → IsMember call (all_calls earlier) → IsMember call (all_calls (earlier ++ more))
 in_earlier earlier more call there =
-    subst (λ (cs : List PlayedCall). IsIn call cs) (sym (flat_map-append (λ (p : PlayedPhase). lane_calls p.lanes) earlier more)) (in_left (all_calls earlier) (all_calls more) call there)
+    subst (λ (cs : List PlayedCall). IsMember call cs) (sym (flat_map-append (λ (p : PlayedPhase). lane_calls p.lanes) earlier more)) (in_left (all_calls earlier) (all_calls more) call there)
 
 -- ---- which event a call of a canvas is
 
@@ -151,11 +151,11 @@ record AskedFor (all : List PlayedCall) (n : ℕ) : Type 0 where
   request : RequestOf ℕ
   made : Option ℕ
   entry : Entry
-  there : IsIn {X = PlayedCall} (Ask request made, Some entry) all
+  there : IsMember {X = PlayedCall} (Ask request made, Some entry) all
   makes : call_makes n (Ask request made, Some entry) ≡ true
 
 object_asked : (setup : Setup) (past : Past) (all : List PlayedCall) (handle : HandleValue) (call : BoundCall) (found : Option Entry) (slot : ℕ) (k : Kind) → made_of call ≡ Some (slot, k) → admits wanted.Object k ≡ true
-    → IsOfCall setup past handle call found → IsIn {X = PlayedCall} (call, found) all → AskedFor all handle.reference.number
+    → IsOfCall setup past handle call found → IsMember {X = PlayedCall} (call, found) all → AskedFor all handle.reference.number
 object_asked setup past all handle (Record on command None) found slot k makes fits of there = absurd (cc (makes))
 object_asked setup past all handle (Record on command (Some name)) found slot k makes fits of there =
     absurd (object_no_pass k fits (pass_kind (bracket command) k (same_made name slot (kind_begun command) k makes)))
@@ -229,12 +229,12 @@ module _ (setup : Setup) (plays : List PlayedPhase) (each : EachIsPlayed setup p
       subst (λ (es : List Entry). SeesMade setup (reverse es) (sight_at at) (seen_calls at.earlier at.before) call) (sym at.front_is) ((played front entry call at).sees at.first moment)
 
   -- what is seen at a call is among all calls
-  seen_in : (front : List Entry) (entry : Entry) (call : BoundCall) (at : GivenAt plays front entry call) (maker : PlayedCall) → IsIn maker (seen_calls at.earlier at.before) → IsIn maker (all_calls plays)
+  seen_in : (front : List Entry) (entry : Entry) (call : BoundCall) (at : GivenAt plays front entry call) (maker : PlayedCall) → IsMember maker (seen_calls at.earlier at.before) → IsMember maker (all_calls plays)
   seen_in front entry call at maker there =
       let lane : List PlayedCall = at.before ++ (call, Some entry) ∷ at.after in
-      subst (λ (ps : List PlayedPhase). IsIn maker (all_calls ps)) (sym at.plays_are) (elim (in_either (all_calls at.earlier) at.before maker there) [
+      subst (λ (ps : List PlayedPhase). IsMember maker (all_calls ps)) (sym at.plays_are) (elim (in_either (all_calls at.earlier) at.before maker there) [
         | inl other ↦ in_earlier at.earlier (at.phase ∷ at.later) maker other
-        | inr own ↦ in_phases at.earlier at.phase at.later maker (subst (λ (ls : List (List PlayedCall)). IsIn maker (lane_calls ls)) (sym at.lanes_are)
+        | inr own ↦ in_phases at.earlier at.phase at.later maker (subst (λ (ls : List (List PlayedCall)). IsMember maker (lane_calls ls)) (sym at.lanes_are)
             (in_lane at.lanes_before lane at.lanes_after maker (in_left at.before ((call, Some entry) ∷ at.after) maker own)))
       ])
 
@@ -275,7 +275,7 @@ module _ (setup : Setup) (plays : List PlayedPhase) (each : EachIsPlayed setup p
             (each at.earlier at.later at.phase at.lanes_before at.lanes_after done (rest ++ calls) next at.plays_are
             (at.lanes_are ∙ ap (λ (cs : List PlayedCall). at.lanes_before ++ cs ∷ at.lanes_after) lane)).how;
         there = λ done next rest is. seen_in front entry call at next (in_right (all_calls at.earlier) at.before next
-            (subst (λ (cs : List PlayedCall). IsIn next cs) (sym is) (in_right done (next ∷ rest) next (inl refl))));
+            (subst (λ (cs : List PlayedCall). IsMember next cs) (sym is) (in_right done (next ∷ rest) next (inl refl))));
       })
 
   module _ (all : All IsInterleaved plays) (run : Run setup (entries_of plays)) where
@@ -357,7 +357,7 @@ presents_expire setup phases history run through front back entry call made text
     let destroys = canvas_destroys sight call texture (ap (λ (e : Event). Some e) (sym event) ∙ how) in
     let handle : HandleValue = destroys.handle in
     let genuine : is_genuine setup (reverse front) handle ≡ true
-    = subst (IsKeptIn setup (reverse front)) destroys.is (canvas_has (λ h. is_genuine setup (reverse front) h ≡ true) (IsKeptIn setup (reverse front)) tt sight.own destroys.place
+    = subst (TextureIsGenuine setup (reverse front)) destroys.is (canvas_has (λ h. is_genuine setup (reverse front) h ≡ true) (TextureIsGenuine setup (reverse front)) tt sight.own destroys.place
     (sees setup plays each front entry (Canvas call made) at).genuine.1) in
     let given : IsGivenBy (all_calls plays) handle
     = subst (GivenIf (all_calls plays)) destroys.is (canvas_has Any (GivenIf (all_calls plays)) tt sight.own destroys.place (canvas_shown setup plays each front entry (Canvas call made) at)) in

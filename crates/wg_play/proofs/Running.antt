@@ -22,16 +22,16 @@ use Rattle.wg_play.specs.declared.objects.Object.TheVariants as object
 use Rattle.wg_play.specs.declared.objects.Stand.{Stand}
 use Rattle.wg_play.specs.Objects.{unknown, changed, with_recorder, recorded_by, recorded_on, begun_by, is_late_on}
 use Rattle.wg_play.specs.Sights.{Sight}
-use Rattle.wg_play.specs.Lanes.{Lane, canvas_asks, drawn, kept, settled, settle, next_at, answered_by, after_at, event_of, event_sent, request_seen, noted_on, command_seen, stand_seen}
-use Rattle.wg_play.specs.Late.{no_answer, IsAnswered, after_call, after_calls}
+use Rattle.wg_play.specs.Lanes.{LaneState, canvas_asks, drawn, kept, settled, settle, next_at, answered_by, after_at, event_of, event_sent, request_seen, noted_on, command_seen, stand_seen}
+use Rattle.wg_play.specs.Late.{no_answer, IsAnsweredCall, after_call, after_calls}
 use Rattle.wg_play.specs.Through.{IsReplied}
-use Rattle.wg_play.specs.Kept.{IsKeptIn, IsKept, AreKept, SeesGenuine}
+use Rattle.wg_play.specs.Kept.{TextureIsGenuine, HandleIsGenuine, HandlesAreGenuine, SeesGenuine}
 use Rattle.wg_play.specs.Played.{IsDrawnAs, PlayedCall, calls_in, entries_in, with_answer, is_late_after, IsRecordedAs, IsPlayedAs}
 use Rattle.wg_play.proofs.Slots.{with_tail}
 use Rattle.wg_play.proofs.Drawn.{drawn_others, all_front, drawn_had}
 use Rattle.wg_play.proofs.Passage.{event_answered, kept_answered, GivesAll, end_of, gives_same, end_same, settled_by, after_is}
 
-abbrev pub lane_with : Sight → List BoundCall → Lane
+abbrev pub lane_with : Sight → List BoundCall → LaneState
 lane_with sight calls = record { sight = sight; left = calls }
 
 -- the event of a call of the device has the verb of that
@@ -80,7 +80,7 @@ module _ (setup : Setup) where
       let after : Sight = answered_by setup.serial sight call e.reply.answer in
       let here : after_call setup.serial sight (call, e.reply.answer) ≡ after = after_is setup sight call e.reply.answer None is in
       let more = goes after entries (All-tail (IsReplied setup) e entries replied)
-      (subst (λ (l : Lane). GivesAll setup (after_at setup.serial l e.reply) entries) same gives.1) in
+      (subst (λ (l : LaneState). GivesAll setup (after_at setup.serial l e.reply) entries) same gives.1) in
       record {
         plays = (call, Some e) ∷ more.plays;
         are = ap (λ cs. call ∷ cs) more.are;
@@ -115,7 +115,7 @@ module _ (setup : Setup) where
       let after : Sight = after_call setup.serial sight (call, e.reply.answer) in
       let calls : List BoundCall = calls_in before ++ more in
       let is : after ≡ answered_by setup.serial sight call e.reply.answer = after_is setup sight call e.reply.answer None here.0 in
-      ap (λ (l : Lane). end_of setup (after_at setup.serial l e.reply) (entries_in before)) (settled_by setup sight call calls None here.0)
+      ap (λ (l : LaneState). end_of setup (after_at setup.serial l e.reply) (entries_in before)) (settled_by setup sight call calls None here.0)
       ∙ (ap (λ (s : Sight). end_of setup (lane_with s calls) (entries_in before)) (sym is) ∙ goes after runs)
 
   pub goes_to : (before : List PlayedCall) (more : List BoundCall) → GoesTo before more
@@ -133,17 +133,17 @@ module _ (setup : Setup) where
 
   -- ---- its calls are answered
 
-  one_answered : (sight : Sight) (call : BoundCall) (found : Option Entry) → RunsAs sight call found → IsAnswered (with_answer (call, found))
+  one_answered : (sight : Sight) (call : BoundCall) (found : Option Entry) → RunsAs sight call found → IsAnsweredCall (with_answer (call, found))
   one_answered sight call None runs = kept_answered call
   one_answered sight call (Some e) runs = event_answered setup sight call e runs.0 runs.1 runs.2
 
-  pub call_answered : (sight : Sight) (call : PlayedCall) → RunsAs sight call.0 call.1 → IsAnswered (with_answer call)
+  pub call_answered : (sight : Sight) (call : PlayedCall) → RunsAs sight call.0 call.1 → IsAnsweredCall (with_answer call)
   call_answered sight call runs = one_answered sight call.0 call.1 runs
 
-  pub lane_answered : (calls : List PlayedCall) (sight : Sight) → Runs sight calls → All IsAnswered (map with_answer calls)
-  lane_answered [] sight runs = All-nil IsAnswered
+  pub lane_answered : (calls : List PlayedCall) (sight : Sight) → Runs sight calls → All IsAnsweredCall (map with_answer calls)
+  lane_answered [] sight runs = All-nil IsAnsweredCall
   lane_answered (call ∷ calls) sight runs =
-      All-cons IsAnswered (with_answer call) (map with_answer calls) (call_answered sight call runs.0)
+      All-cons IsAnsweredCall (with_answer call) (map with_answer calls) (call_answered sight call runs.0)
       (lane_answered calls (after_call setup.serial sight (with_answer call)) runs.1)
 
   -- ---- how a call was played
@@ -196,29 +196,29 @@ module _ (setup : Setup) where
   -- ---- what is genuine once calls are kept was so before
 
   module _ (past : Past) where
-    object_back : (change : RecorderValue → RecorderValue) (o : Object) → IsKept setup past (changed o change) → IsKept setup past o
+    object_back : (change : RecorderValue → RecorderValue) (o : Object) → HandleIsGenuine setup past (changed o change) → HandleIsGenuine setup past o
     object_back change (object.Made handle recorder) genuine = genuine
     object_back change (object.Pass encoder number) genuine = tt
     object_back change (object.Canvas canvas) genuine = genuine
     object_back change (object.Shown texture) genuine = genuine
 
-    objects_back : (change : RecorderValue → RecorderValue) (objects : List Object) (place : ℕ) → AreKept setup past (with_recorder objects place change)
-        → AreKept setup past objects
+    objects_back : (change : RecorderValue → RecorderValue) (objects : List Object) (place : ℕ) → HandlesAreGenuine setup past (with_recorder objects place change)
+        → HandlesAreGenuine setup past objects
     objects_back change [] place all = all
     objects_back change (o ∷ os) zero all =
-        All-cons (IsKept setup past) o os (object_back change o (All-head (IsKept setup past) (changed o change) os all))
-        (All-tail (IsKept setup past) (changed o change) os all)
+        All-cons (HandleIsGenuine setup past) o os (object_back change o (All-head (HandleIsGenuine setup past) (changed o change) os all))
+        (All-tail (HandleIsGenuine setup past) (changed o change) os all)
     objects_back change (o ∷ os) (suc place) all =
-        let there : AreKept setup past (o ∷ with_recorder os place change) = subst (AreKept setup past) (with_tail o os place change) all in
-        All-cons (IsKept setup past) o os (All-head (IsKept setup past) o (with_recorder os place change) there)
-        (objects_back change os place (All-tail (IsKept setup past) o (with_recorder os place change) there))
+        let there : HandlesAreGenuine setup past (o ∷ with_recorder os place change) = subst (HandlesAreGenuine setup past) (with_tail o os place change) all in
+        All-cons (HandleIsGenuine setup past) o os (All-head (HandleIsGenuine setup past) o (with_recorder os place change) there)
+        (objects_back change os place (All-tail (HandleIsGenuine setup past) o (with_recorder os place change) there))
 
     noted_back : (sight : Sight) (stand : Stand) (command : Command) (made : Option ℕ) → SeesGenuine setup past (noted_on sight stand command made)
         → SeesGenuine setup past sight
     noted_back sight stand command made sees = (
       sees.0,
       objects_back (recorded_by stand.on command) sight.own stand.encoder
-          (all_front (IsKept setup past) (recorded_on sight.own stand command) (begun_by sight.own stand.encoder command made) sees.1),
+          (all_front (HandleIsGenuine setup past) (recorded_on sight.own stand command) (begun_by sight.own stand.encoder command made) sees.1),
     )
 
     by_late : (late : Bool) (sight noted after : Sight) → (SeesGenuine setup past noted → SeesGenuine setup past sight)
@@ -237,8 +237,8 @@ module _ (setup : Setup) where
         let same : kept_if (drawn sight call made None) None ≡ Some after = ap (kept_if (drawn sight call made None)) (sym asks) ∙ e in
         let is : drawn sight call made None ≡ after = cc (same) in
         let there : SeesGenuine setup past (drawn sight call made None) = subst (SeesGenuine setup past) (sym is) sees in (
-          subst (AreKept setup past) (drawn_others sight call made None) there.0,
-          drawn_had (λ handle. is_genuine setup past handle ≡ true) (IsKeptIn setup past) tt sight call made asks there.1,
+          subst (HandlesAreGenuine setup past) (drawn_others sight call made None) there.0,
+          drawn_had (λ handle. is_genuine setup past handle ≡ true) (TextureIsGenuine setup past) tt sight call made asks there.1,
         )
 
     call_back : (sight : Sight) (call : BoundCall) (calls : List BoundCall)

@@ -21,20 +21,20 @@ use Rattle.wg_play.specs.Objects.{object_of}
 use Rattle.wg_play.specs.Sights.{Sight, place_in}
 use Rattle.wg_play.specs.Lanes.{canvas_asks, command_seen, stand_seen, handle_kept}
 use Rattle.wg_play.specs.Late.{after_call, after_calls}
-use Rattle.wg_play.specs.Kept.{Each}
+use Rattle.wg_play.specs.Kept.{EachHandle}
 use Rattle.wg_play.specs.Played.{PlayedCall, with_answer, IsDrawnAs, IsPlayedAs}
 use Rattle.wg_play.proofs.Drawn.{recorder_has, noted_has, drawn_has}
 use Rattle.wg_play.proofs.Following.{ended_on, with_kept, after_record, after_ask, after_canvas}
 use Rattle.wg_play.proofs.Holding.{IsTexture, canvas_gives}
 use Rattle.wg_play.proofs.Makers.{IsAnswer, handle_from}
-use Rattle.wg_play.proofs.Counting.{IsIn}
+use Rattle.wg_play.proofs.Counting.{IsMember}
 
 -- one of these calls, which is of a canvas, has made a texture by its entry
 pub record IsGivenBy (all : List PlayedCall) (texture : HandleValue) : Type 0 where
   pub call : CanvasOf ℕ
   pub made : Option ℕ
   pub entry : Entry
-  pub there : IsIn {X = PlayedCall} (Canvas call made, Some entry) all
+  pub there : IsMember {X = PlayedCall} (Canvas call made, Some entry) all
   pub answer : entry.reply.answer ≡ Made texture.reference.number texture.valid
   pub kind : kind_of texture.info ≡ kinds.Texture
 
@@ -46,7 +46,7 @@ abbrev pub Any : HandleValue → Type 0
 Any handle = Unit {0}
 
 abbrev pub Shows : List PlayedCall → List Object → Type 0
-Shows all objects = All (Each Any (GivenIf all)) objects
+Shows all objects = All (EachHandle Any (GivenIf all)) objects
 
 -- ---- what the device makes for a canvas
 
@@ -62,7 +62,7 @@ none_asked : (all : List PlayedCall) (serial : ℕ) (asked : Option (RequestOf H
 none_asked all serial None answer e = tt
 none_asked all serial (Some request) answer e = absurd (cc (e))
 
-by_entry : (all : List PlayedCall) (serial : ℕ) (sight : Sight) (call : CanvasOf ℕ) (made : Option ℕ) (entry : Entry) → IsIn {X = PlayedCall} (Canvas call made, Some entry) all
+by_entry : (all : List PlayedCall) (serial : ℕ) (sight : Sight) (call : CanvasOf ℕ) (made : Option ℕ) (entry : Entry) → IsMember {X = PlayedCall} (Canvas call made, Some entry) all
     → (found : Option HandleValue) → given_by serial (canvas_asks sight call) entry.reply.answer ≡ found → GivenIf all found
 by_entry all serial sight call made entry there None e = tt
 by_entry all serial sight call made entry there (Some texture) e = record {
@@ -74,7 +74,7 @@ by_entry all serial sight call made entry there (Some texture) e = record {
   kind = subst IsTexture e (canvas_gives serial sight call entry.reply.answer);
 }
 
-given_if : (all : List PlayedCall) (serial : ℕ) (sight : Sight) (call : CanvasOf ℕ) (made : Option ℕ) (found : Option Entry) → IsIn {X = PlayedCall} (Canvas call made, found) all → IsDrawnAs sight call found
+given_if : (all : List PlayedCall) (serial : ℕ) (sight : Sight) (call : CanvasOf ℕ) (made : Option ℕ) (found : Option Entry) → IsMember {X = PlayedCall} (Canvas call made, found) all → IsDrawnAs sight call found
     → GivenIf all (given_by serial (canvas_asks sight call) (with_answer (Canvas call made, found)).1)
 given_if all serial sight call made None there drawn = none_asked all serial (canvas_asks sight call) (with_answer (Canvas call made, None)).1 drawn
 given_if all serial sight call made (Some entry) there drawn = by_entry all serial sight call made entry there (given_by serial (canvas_asks sight call) entry.reply.answer) refl
@@ -99,9 +99,9 @@ ended_shows all sight (Some encoder) shows = recorder_has Any (GivenIf all) tt t
 kept_shows : (all : List PlayedCall) (objects : List Object) (handle : Option HandleValue) → Shows all objects → Shows all (with_kept objects handle)
 kept_shows all objects None shows = shows
 kept_shows all objects (Some handle) shows =
-    All-append (Each Any (GivenIf all)) objects (object_of handle ∷ []) shows (All-cons (Each Any (GivenIf all)) (object_of handle) [] tt (All-nil (Each Any (GivenIf all))))
+    All-append (EachHandle Any (GivenIf all)) objects (object_of handle ∷ []) shows (All-cons (EachHandle Any (GivenIf all)) (object_of handle) [] tt (All-nil (EachHandle Any (GivenIf all))))
 
-call_shows : (all : List PlayedCall) (serial : ℕ) (sight : Sight) (call : BoundCall) (found : Option Entry) → IsIn {X = PlayedCall} (call, found) all → DrawnAs sight call found → Shows all sight.own
+call_shows : (all : List PlayedCall) (serial : ℕ) (sight : Sight) (call : BoundCall) (found : Option Entry) → IsMember {X = PlayedCall} (call, found) all → DrawnAs sight call found → Shows all sight.own
     → Shows all (after_call serial sight (with_answer (call, found))).own
 call_shows all serial sight (Record on command made) found there drawn shows =
     subst (λ (s : Sight). Shows all s.own) (sym (after_record serial sight on command made (with_answer (Record on command made, found)).1))
@@ -126,7 +126,7 @@ sight_more serial start (first ∷ calls) call = sight_more serial (after_call s
 -- calls of these, each of which was played as what it is
 pub record AreDrawn (all : List PlayedCall) (serial : ℕ) (start : Sight) (calls : List PlayedCall) : Type 0 where
   pub drawn : (front : List PlayedCall) (call : PlayedCall) (back : List PlayedCall) → calls ≡ front ++ call ∷ back → DrawnAs (sight_with serial start front) call.0 call.1
-  pub there : (front : List PlayedCall) (call : PlayedCall) (back : List PlayedCall) → calls ≡ front ++ call ∷ back → IsIn call all
+  pub there : (front : List PlayedCall) (call : PlayedCall) (back : List PlayedCall) → calls ≡ front ++ call ∷ back → IsMember call all
 
 all_show : (all : List PlayedCall) (serial : ℕ) (start : Sight) (calls : List PlayedCall) → AreDrawn all serial start calls → (done rest : List PlayedCall) → calls ≡ done ++ rest
     → Shows all (sight_with serial start done).own → Shows all (sight_with serial start calls).own
@@ -141,4 +141,4 @@ all_show all serial start calls are done (call ∷ rest) is shows =
 pub lane_shows : (all : List PlayedCall) (serial : ℕ) (others : List Object) (first : ℕ) (calls : List PlayedCall) → AreDrawn all serial (record { others = others; first = first; own = [] }) calls
     → Shows all (sight_with serial (record { others = others; first = first; own = [] }) calls).own
 lane_shows all serial others first calls are =
-    all_show all serial (record { others = others; first = first; own = [] }) calls are [] calls refl (All-nil (Each Any (GivenIf all)))
+    all_show all serial (record { others = others; first = first; own = [] }) calls are [] calls refl (All-nil (EachHandle Any (GivenIf all)))

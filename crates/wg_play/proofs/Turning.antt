@@ -7,18 +7,18 @@ use Rattle.wg_history.specs.declared.events.Setup.{Setup}
 use Rattle.wg_history.specs.Entries.{Entry}
 use Rattle.wg_history.specs.Entries.{Past}
 use Rattle.wg_history.specs.Answers.{reply_to}
-use Rattle.wg_play.specs.Turns.{made_by, callers_of, Gives, after_all, AllGive, all_after, through, lane_at, taken, turned, phase_by}
+use Rattle.wg_play.specs.Turns.{entries_of_caller, callers_of, GivesEvents, after_all, AllGive, all_after, through, lane_at, taken, turned, phase_by}
 
-pub same_caller : (n : ℕ) (e : Entry) (es : List Entry) → e.who ≡ n → made_by n (e ∷ es) ≡ e ∷ made_by n es
-same_caller n e es is = let yes : eqb e.who n ≡ true = grind (arith, nat_tests) in ap (λ b. cond b (e ∷ made_by n es) (made_by n es)) yes
+pub same_caller : (n : ℕ) (e : Entry) (es : List Entry) → e.who ≡ n → entries_of_caller n (e ∷ es) ≡ e ∷ entries_of_caller n es
+same_caller n e es is = let yes : eqb e.who n ≡ true = grind (arith, nat_tests) in ap (λ b. cond b (e ∷ entries_of_caller n es) (entries_of_caller n es)) yes
 
-pub other_caller : (n : ℕ) (e : Entry) (es : List Entry) → e.who ≢ n → made_by n (e ∷ es) ≡ made_by n es
-other_caller n e es ne = let no : eqb e.who n ≡ false = grind (arith, nat_tests) in ap (λ b. cond b (e ∷ made_by n es) (made_by n es)) no
+pub other_caller : (n : ℕ) (e : Entry) (es : List Entry) → e.who ≢ n → entries_of_caller n (e ∷ es) ≡ entries_of_caller n es
+other_caller n e es ne = let no : eqb e.who n ≡ false = grind (arith, nat_tests) in ap (λ b. cond b (e ∷ entries_of_caller n es) (entries_of_caller n es)) no
 
 -- the replies of these entries are right after this past
-abbrev pub Answered : Setup → Past → List Entry → Type 0
-Answered setup past [] = Unit {0}
-Answered setup past (e ∷ es) = (e.reply ≡ reply_to setup past e.event) × Answered setup (e ∷ past) es
+abbrev pub RepliesAreRight : Setup → Past → List Entry → Type 0
+RepliesAreRight setup past [] = Unit {0}
+RepliesAreRight setup past (e ∷ es) = (e.reply ≡ reply_to setup past e.event) × RepliesAreRight setup (e ∷ past) es
 
 -- the past after these entries
 abbrev pub onto : Past → List Entry → Past
@@ -26,15 +26,15 @@ onto past [] = past
 onto past (e ∷ es) = onto (e ∷ past) es
 
 -- a caller who has an entry is one of the lanes
-pub not_past : (e : Entry) (es : List Entry) (k : ℕ) → (k ≤ e.who → made_by e.who (e ∷ es) ≡ []) → e.who < k
+pub not_past : (e : Entry) (es : List Entry) (k : ℕ) → (k ≤ e.who → entries_of_caller e.who (e ∷ es) ≡ []) → e.who < k
 not_past e es k f = pick (ltb e.who k) refl where
   pick : (t : Bool) → ltb e.who k ≡ t → e.who < k
   pick true q = grind (arith, nat_tests)
   pick false q = let le : k ≤ e.who = grind (arith, nat_tests) in absurd (cc (sym (same_caller e.who e es refl) ∙ f le))
 
-pub fewer : (n : ℕ) (e : Entry) (es : List Entry) → made_by n (e ∷ es) ≡ [] → made_by n es ≡ []
+pub fewer : (n : ℕ) (e : Entry) (es : List Entry) → entries_of_caller n (e ∷ es) ≡ [] → entries_of_caller n es ≡ []
 fewer n e es h = pick (eqb e.who n) h where
-  pick : (t : Bool) → cond t (e ∷ made_by n es) (made_by n es) ≡ [] → made_by n es ≡ []
+  pick : (t : Bool) → cond t (e ∷ entries_of_caller n es) (entries_of_caller n es) ≡ [] → entries_of_caller n es ≡ []
   pick true q = absurd (cc (q))
   pick false q = q
 
@@ -44,19 +44,19 @@ module _ {W : Type 0} (next : W → Option Event) (after : W → Reply → W) wh
       → (w : W) × (lane_at next after ws n ≡ Some w) × (next w ≡ Some e.event) × AllGive next after m (set ws n (after w e.reply)) es × (all_after next after m (set ws n (after w e.reply)) es ≡ all_after next after m ws (e ∷ es))
   first_gives m n [] e es is lt all = absurd (omega arith)
   first_gives m zero (w ∷ ws) e es is lt all =
-      let here : made_by m (e ∷ es) ≡ e ∷ made_by m es = same_caller m e es (omega arith) in
-      let gives : Gives next after w (e ∷ made_by m es) = subst (Gives next after w) here all.0 in
+      let here : entries_of_caller m (e ∷ es) ≡ e ∷ entries_of_caller m es = same_caller m e es (omega arith) in
+      let gives : GivesEvents next after w (e ∷ entries_of_caller m es) = subst (GivesEvents next after w) here all.0 in
       let rest = others (suc m) ws (omega arith) all.1 in
       (w, refl, gives.0, (gives.1, rest.0), cc (ap (after_all next after w) here, rest.1)) where
         others : (k : ℕ) (us : List W) → e.who < k → AllGive next after k us (e ∷ es) → AllGive next after k us es × (all_after next after k us es ≡ all_after next after k us (e ∷ es))
         others k [] gt h = (tt, refl)
-        others k (u ∷ us) gt h = let there : made_by k (e ∷ es) ≡ made_by k es = other_caller k e es (λ q. absurd (omega arith)) in
+        others k (u ∷ us) gt h = let there : entries_of_caller k (e ∷ es) ≡ entries_of_caller k es = other_caller k e es (λ q. absurd (omega arith)) in
             let rest = others (suc k) us (omega arith) h.1 in
-            ((subst (Gives next after u) there h.0, rest.0), cc (ap (after_all next after u) there, rest.1))
+            ((subst (GivesEvents next after u) there h.0, rest.0), cc (ap (after_all next after u) there, rest.1))
   first_gives m (suc n) (w ∷ ws) e es is lt all =
-      let there : made_by m (e ∷ es) ≡ made_by m es = other_caller m e es (λ q. absurd (omega arith)) in
+      let there : entries_of_caller m (e ∷ es) ≡ entries_of_caller m es = other_caller m e es (λ q. absurd (omega arith)) in
       let rest = first_gives (suc m) n ws e es (omega arith) (omega arith) all.1 in
-      (rest.0, rest.1, rest.2, (subst (Gives next after w) there all.0, rest.3), cc (ap (after_all next after w) there, rest.4))
+      (rest.0, rest.1, rest.2, (subst (GivesEvents next after w) there all.0, rest.3), cc (ap (after_all next after w) there, rest.4))
 
   -- lanes that give nothing are through
   pub all_through : (n : ℕ) (ws : List W) → AllGive next after n ws [] → through next after ws ≡ true
@@ -91,7 +91,7 @@ module _ {W : Type 0} (next : W → Option Event) (after : W → Reply → W) wh
         ∙ ap (λ (r : Reply). Some (record { past = record { who = e.who; event = e.event; reply = r } ∷ past; lanes = set ws e.who (after w r) })) (sym reply)
 
     pub phase_is : (part : List Entry) (ws : List W) (past : Past) (ns : List ℕ)
-        → AllGive next after 0 ws part → ((n : ℕ) → length ws ≤ n → made_by n part ≡ []) → Answered setup past part
+        → AllGive next after 0 ws part → ((n : ℕ) → length ws ≤ n → entries_of_caller n part ≡ []) → RepliesAreRight setup past part
         → phase_by next after setup (callers_of part ++ ns) (record { past = past; lanes = ws }) ≡ Some (record { past = onto past part; lanes = all_after next after 0 ws part }, ns)
     phase_is [] ws past [] all few run = rw (all_through 0 ws all) (rw (none_after 0 ws) refl)
     phase_is [] ws past (n ∷ ns) all few run = rw (all_through 0 ws all) (rw (none_after 0 ws) refl)

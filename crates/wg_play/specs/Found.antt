@@ -32,8 +32,8 @@ use Rattle.wg_play.specs.Canvases.{canvas_at}
 use Rattle.wg_calls.specs.Encoders.{ended_by}
 use Rattle.wg_play.specs.Objects.{handle_in, reference_at, recorder_at}
 use Rattle.wg_play.specs.Sights.{Sight, place_in, handle_in_sight}
-use Rattle.wg_play.specs.Lanes.{Lane, stand_seen, request_seen, event_sent, info_sent, count_made, gathered}
-use Rattle.wg_play.specs.Late.{Answered, IsAnswered, after_calls, slots_before}
+use Rattle.wg_play.specs.Lanes.{LaneState, stand_seen, request_seen, event_sent, info_sent, count_made, gathered}
+use Rattle.wg_play.specs.Late.{Answered, IsAnsweredCall, after_calls, slots_before}
 
 -- ---- an object of a kind
 
@@ -115,7 +115,7 @@ pub record StandsAt (objects : List Object) (place : ℕ) (kind : Kind) : Type 0
   pub of : IsOf kind what
 
 -- There is an object for each slot that was made, and each slot stands for something of the kind that was made.
-pub record Holds (objects : List Object) (made : Made ℕ) : Type 0 where
+pub record SlotsStand (objects : List Object) (made : Made ℕ) : Type 0 where
   pub count : length objects ≡ length made
   pub stands : (slot : ℕ) (kind : Kind) → Contains made (slot, kind) → StandsAt objects slot kind
 
@@ -126,7 +126,7 @@ abbrev pub object_in_sight : Sight → ℕ → Option Object
 object_in_sight sight slot = if nat_lt slot sight.first then slice_get sight.others slot else slice_get sight.own (place_in sight slot)
 
 -- a slot stands for something of a kind, and its handle is of that
-pub record IsSeen (sight : Sight) (slot : ℕ) (kind : Kind) : Type 0 where
+pub record SlotIsSeen (sight : Sight) (slot : ℕ) (kind : Kind) : Type 0 where
   pub what : Object
   pub is : object_in_sight sight slot ≡ Some what
   pub handle : handle_in_sight sight slot ≡ handle_in what
@@ -138,7 +138,7 @@ pub record IsSeenAs (sight : Sight) (made : Made ℕ) (key : ℕ × Wanted) : Ty
   pub kind : Kind
   pub was_made : Contains made (key.0, kind)
   pub fits : admits key.1 kind ≡ true
-  pub seen : IsSeen sight key.0 kind
+  pub seen : SlotIsSeen sight key.0 kind
   pub own : wants_own key.1 ≡ true → StandsAt sight.own (place_in sight key.0) kind
 
 -- A recording call stands on an encoder or a pass of the lane's own, which takes the command, and its encoder has a recorder, which
@@ -183,13 +183,13 @@ CallIsFound sight made (Canvas call slot) = CanvasIsSeen sight call
 abbrev pub BoundIsFound : Type 0
 BoundIsFound = (earlier later : List (List (List BoundCall))) (lanes_before lanes_after : List (List BoundCall)) (before : List Answered) (call : BoundCall) (after : List BoundCall)
     → IsBound (earlier ++ (lanes_before ++ (map (λ c. c.0) before ++ call ∷ after) ∷ lanes_after) ∷ later)
-    → All IsAnswered before
-    → (serial : ℕ) (others : List Object) → Holds others (flat_map (flat_map made_in) earlier)
+    → All IsAnsweredCall before
+    → (serial : ℕ) (others : List Object) → SlotsStand others (flat_map (flat_map made_in) earlier)
     → CallIsFound (after_calls serial (record { others = others; first = slots_before earlier lanes_before; own = [] }) before)
     (flat_map (flat_map made_in) earlier ++ made_in (map (λ c. c.0) before)) call
 
 -- the lanes of a phase after all their calls, from the lane on whose first slot is this
-abbrev pub ended_from : ℕ → List Object → ℕ → List (List Answered) → List Lane
+abbrev pub ended_from : ℕ → List Object → ℕ → List (List Answered) → List LaneState
 ended_from serial others first [] = []
 ended_from serial others first (calls ∷ lanes) =
     record { sight = after_calls serial (record { others = others; first = first; own = [] }) calls; left = [] }
@@ -203,6 +203,6 @@ phase_of lanes = map (λ calls. map (λ c. c.0) calls) lanes
 abbrev pub GatheredIsHeld : Type 0
 GatheredIsHeld = (earlier later : List (List (List BoundCall))) (lanes : List (List Answered))
     → IsBound (earlier ++ phase_of lanes ∷ later)
-    → All (All IsAnswered) lanes
-    → (serial : ℕ) (others : List Object) → Holds others (flat_map (flat_map made_in) earlier)
-    → Holds (gathered others (ended_from serial others (length others) lanes)) (flat_map (flat_map made_in) (earlier ++ phase_of lanes ∷ []))
+    → All (All IsAnsweredCall) lanes
+    → (serial : ℕ) (others : List Object) → SlotsStand others (flat_map (flat_map made_in) earlier)
+    → SlotsStand (gathered others (ended_from serial others (length others) lanes)) (flat_map (flat_map made_in) (earlier ++ phase_of lanes ∷ []))

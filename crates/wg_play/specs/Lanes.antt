@@ -23,7 +23,7 @@ use Rattle.wg_calls.specs.Calls.{event_asked, info_asked, finish_of, known_of_fi
 use Rattle.wg_play.specs.declared.objects.Object.{Object}
 use Rattle.wg_play.specs.declared.objects.Object.TheVariants as object
 use Rattle.wg_play.specs.declared.objects.Stand.{Stand}
-use Rattle.wg_play.specs.Canvases.{asked_at, given_by, acted_at, shown_at}
+use Rattle.wg_play.specs.Canvases.{canvas_asked, given_by, acted_at, shown_at}
 use Rattle.wg_calls.specs.Encoders.{ended_by}
 use Rattle.wg_play.specs.Objects.{unknown, reference_at, recorder_at, stand_at, is_late_on, recorded_on, begun_by, taken_on, object_of}
 use Rattle.wg_play.specs.Sights.{Sight, place_in, handle_in_sight, with_more}
@@ -48,7 +48,7 @@ noted_on sight stand command made = record sight { own = recorded_on sight.own s
 -- what a call of a canvas asks of the device, if it asks something; a new canvas asks nothing
 abbrev pub canvas_asks : Sight → CanvasOf ℕ → Option (RequestOf HandleValue)
 canvas_asks sight (Create width height) = None
-canvas_asks sight (On canvas call) = asked_at sight.own (place_in sight canvas) call
+canvas_asks sight (On canvas call) = canvas_asked sight.own (place_in sight canvas) call
 
 -- a new canvas as an object, if a call gives it a name
 abbrev pub new_canvas : ℕ → ℕ → Option ℕ → List Object
@@ -134,17 +134,17 @@ answered_by serial sight (Canvas call made) answer = drawn sight call made (give
 -- ---- lanes
 
 -- a lane on its way: what it sees, and the calls that are left
-pub record Lane : Type 0 where
+pub record LaneState : Type 0 where
   pub sight : Sight
   pub left : List BoundCall
 
 -- the lane at its next event, with the calls before it kept that are none
-abbrev pub settled : Sight → List BoundCall → Lane
+abbrev pub settled : Sight → List BoundCall → LaneState
 settled sight [] = record { sight = sight; left = [] }
 settled sight (call ∷ calls) = option_map_or (λ after. settled after calls) (kept sight call) (record { sight = sight; left = call ∷ calls })
 
 -- a lane after the calls at its front that ask the device nothing
-abbrev pub settle : Lane → Lane
+abbrev pub settle : LaneState → LaneState
 settle lane = settled lane.sight lane.left
 
 -- the event that a lane asks for next, by its calls
@@ -153,24 +153,24 @@ next_of sight [] = None
 next_of sight (call ∷ calls) = Some (event_of sight call)
 
 -- the event that a lane asks for next, if it has one
-abbrev pub next_at : Lane → Option Event
+abbrev pub next_at : LaneState → Option Event
 next_at lane = next_of lane.sight lane.left
 
 -- the next event of a lane, if there is one
-abbrev pub next_event : Lane → Option Event
+abbrev pub next_event : LaneState → Option Event
 next_event lane = next_at (settle lane)
 
 -- a lane after its next call was replied to so, by its calls
-abbrev pub after_of : ℕ → Sight → Reply → List BoundCall → Lane
+abbrev pub after_of : ℕ → Sight → Reply → List BoundCall → LaneState
 after_of serial sight reply [] = record { sight = sight; left = [] }
 after_of serial sight reply (call ∷ calls) = record { sight = answered_by serial sight call reply.answer; left = calls }
 
 -- a lane after its next call was replied to so
-abbrev pub after_at : ℕ → Lane → Reply → Lane
+abbrev pub after_at : ℕ → LaneState → Reply → LaneState
 after_at serial lane reply = after_of serial lane.sight reply lane.left
 
 -- the lane once its next event was replied to
-abbrev pub after_reply : ℕ → Lane → Reply → Lane
+abbrev pub after_reply : ℕ → LaneState → Reply → LaneState
 after_reply serial lane reply = after_at serial (settle lane) reply
 
 -- ---- phases
@@ -180,15 +180,15 @@ abbrev pub count_made : List BoundCall → ℕ
 count_made calls = length (made_in calls)
 
 -- the lanes of a phase as it begins, from the lane on whose first slot is this
-abbrev pub starts_from : List Object → ℕ → List (List BoundCall) → List Lane
+abbrev pub starts_from : List Object → ℕ → List (List BoundCall) → List LaneState
 starts_from others first [] = []
 starts_from others first (calls ∷ lanes) = record { sight = record { others = others; first = first; own = [] }; left = calls } ∷ starts_from others (first + count_made calls) lanes
 
 -- the lanes of a phase before their first calls
-abbrev pub starts : List Object → List (List BoundCall) → List Lane
+abbrev pub starts : List Object → List (List BoundCall) → List LaneState
 starts objects lanes = starts_from objects (length objects) lanes
 
 -- what there is once a phase is through: what was there, and what each lane has made
-abbrev pub gathered : List Object → List Lane → List Object
+abbrev pub gathered : List Object → List LaneState → List Object
 gathered objects [] = objects
 gathered objects (lane ∷ lanes) = gathered (objects ++ (settle lane).sight.own) lanes

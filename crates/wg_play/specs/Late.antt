@@ -37,18 +37,18 @@ is_made BadCompletion = false
 
 -- A call that makes something which has a slot is answered that this was made, valid or not, as a call of the device is that makes
 -- something, and a currentTexture where it is an event. Every other answer may be any.
-abbrev pub Answers : BoundCall → Answer → Type 0
-Answers (Record on command made) answer = Unit {0}
-Answers (Ask request made) answer = is_some (made_of (Ask request made)) ≡ true → is_made answer ≡ true
-Answers (Canvas call made) answer = is_some (made_of (Canvas call made)) ≡ true → is_made answer ≡ true
+abbrev pub IsAnswerTo : BoundCall → Answer → Type 0
+IsAnswerTo (Record on command made) answer = Unit {0}
+IsAnswerTo (Ask request made) answer = is_some (made_of (Ask request made)) ≡ true → is_made answer ≡ true
+IsAnswerTo (Canvas call made) answer = is_some (made_of (Canvas call made)) ≡ true → is_made answer ≡ true
 
 -- the answer of a call that was kept, which has none, so that any will do
 abbrev pub no_answer : Answer
 no_answer = Made 0 false
 
 -- A call that makes something which has a slot was answered so that something was made; any other call may be answered anyhow.
-abbrev pub IsAnswered : Answered → Type 0
-IsAnswered call = Answers call.0 call.1
+abbrev pub IsAnsweredCall : Answered → Type 0
+IsAnsweredCall call = IsAnswerTo call.0 call.1
 
 -- what the lane sees after a call: it is kept, or it is an event and is answered
 abbrev pub after_call : ℕ → Sight → Answered → Sight
@@ -87,13 +87,13 @@ encoder_of [] slot = slot
 encoder_of (call ∷ calls) slot = unwrap_or (begun_as slot call) (encoder_of calls slot)
 
 -- whether the pass on which a recording call stands has ended, by the walk over what its encoder's recorder has kept
-abbrev pub pass_ended : On → Option RecorderValue → Bool
-pass_ended Encoder recorder = false
-pass_ended (Pass number) recorder = option_map_or (λ kept. ended_within kept.targets kept.commands number) recorder false
+abbrev pub stands_on_ended : On → Option RecorderValue → Bool
+stands_on_ended Encoder recorder = false
+stands_on_ended (Pass number) recorder = option_map_or (λ kept. ended_within kept.targets kept.commands number) recorder false
 
 -- whether the pass has ended on which a recording call stands
 abbrev pub has_pass_ended : List Object → Stand → Bool
-has_pass_ended objects stand = pass_ended stand.on (recorder_at objects stand.encoder)
+has_pass_ended objects stand = stands_on_ended stand.on (recorder_at objects stand.encoder)
 
 -- Whatever earlier phases have made, and whatever the answers of the device were: in a lane of a script whose names are bound, a
 -- recording call is late exactly where a call before it in its lane finishes its encoder, whose slot is at that place from the
@@ -101,7 +101,7 @@ has_pass_ended objects stand = pass_ended stand.on (recorder_at objects stand.en
 abbrev pub LateIsFinished : Type 0
 LateIsFinished = (earlier later : List (List (List BoundCall))) (lanes_before lanes_after : List (List BoundCall)) (before : List Answered) (after : List BoundCall) (on : ℕ) (command : CommandOf ℕ) (made : Option ℕ)
     → IsBound (earlier ++ (lanes_before ++ (map (λ call. call.0) before ++ Record on command made ∷ after) ∷ lanes_after) ∷ later)
-    → All IsAnswered before
+    → All IsAnsweredCall before
     → (serial : ℕ) (others : List Object)
     → let first = slots_before earlier lanes_before in
     let sight = after_calls serial (record { others = others; first = first; own = [] }) before in

@@ -7,16 +7,16 @@ use Rattle.wg_history.specs.Entries.{Entry, Past}
 use Rattle.wg_script.specs.CallOf.{BoundCall}
 use Rattle.wg_script.specs.declared.draft.Script.{Script}
 use Rattle.wg_play.specs.declared.objects.Object.{Object}
-use Rattle.wg_play.specs.Lanes.{Lane, next_event, after_reply, starts, gathered}
-use Rattle.wg_play.specs.Turns.{made_by, AllGive, all_after, phase_by}
+use Rattle.wg_play.specs.Lanes.{LaneState, next_event, after_reply, starts, gathered}
+use Rattle.wg_play.specs.Turns.{entries_of_caller, AllGive, all_after, phase_by}
 
 -- what a device of a budget and limits is opened with: the serial 1, and these
 abbrev pub setup_with : ℕ → Limits → Setup
 setup_with budget limits = record { serial = 1; budget = budget; limits = limits }
 
 -- what the device of a script is opened with
-abbrev pub setup_of : Script → Setup
-setup_of script = setup_with script.budget script.limits
+abbrev pub script_setup : Script → Setup
+script_setup script = setup_with script.budget script.limits
 
 -- the most lanes that a phase has, or n where that is more
 abbrev pub most_lanes : ℕ → List (List (List BoundCall)) → ℕ
@@ -28,7 +28,7 @@ abbrev pub callers_for : List (List (List BoundCall)) → ℕ
 callers_for phases = most_lanes 1 phases
 
 module _ (setup : Setup) where
-  abbrev pub after_ : Lane → Reply → Lane
+  abbrev pub after_ : LaneState → Reply → LaneState
   after_ = after_reply setup.serial
 
   -- the phases from here on, by these numbers
@@ -48,12 +48,12 @@ module _ (setup : Setup) where
   abbrev pub Interleaves : List (List (List BoundCall)) → List Object → List Entry → Type 0
   Interleaves [] objects log = log ≡ []
   Interleaves (phase ∷ phases) objects log = (part : List Entry) × (rest : List Entry) × (log ≡ part ++ rest) ×
-      AllGive next_event after_ 0 (starts objects phase) part × ((n : ℕ) → length phase ≤ n → made_by n part ≡ []) ×
+      AllGive next_event after_ 0 (starts objects phase) part × ((n : ℕ) → length phase ≤ n → entries_of_caller n part ≡ []) ×
       Interleaves phases (gathered objects (all_after next_event after_ 0 (starts objects phase) part)) rest
 
   -- the same, and what there is at the end
   abbrev pub PlaysTo : List (List (List BoundCall)) → List Object → List Entry → List Object → Type 0
   PlaysTo [] objects log end = (log ≡ []) × (objects ≡ end)
   PlaysTo (phase ∷ phases) objects log end = (part : List Entry) × (rest : List Entry) × (log ≡ part ++ rest) ×
-      AllGive next_event after_ 0 (starts objects phase) part × ((n : ℕ) → length phase ≤ n → made_by n part ≡ []) ×
+      AllGive next_event after_ 0 (starts objects phase) part × ((n : ℕ) → length phase ≤ n → entries_of_caller n part ≡ []) ×
       PlaysTo phases (gathered objects (all_after next_event after_ 0 (starts objects phase) part)) rest end

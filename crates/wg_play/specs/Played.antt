@@ -27,10 +27,10 @@ use Rattle.wg_play.specs.Canvases.{canvas_at}
 use Rattle.wg_play.specs.Objects.{reference_at}
 use Rattle.wg_play.specs.Sights.{Sight, place_in, handle_in_sight}
 use Rattle.wg_play.specs.Lanes.{stand_seen, canvas_asks, request_seen, event_sent, count_made, gathered}
-use Rattle.wg_play.specs.Turns.{made_by, callers_of}
+use Rattle.wg_play.specs.Turns.{entries_of_caller, callers_of}
 use Rattle.wg_play.specs.Late.{Answered, no_answer, after_call, after_calls, slots_before, finishes, encoder_of, has_pass_ended}
 use Rattle.wg_play.specs.Found.{ended_from}
-use Rattle.wg_play.specs.Kept.{AreKept, SeesGenuine}
+use Rattle.wg_play.specs.Kept.{HandlesAreGenuine, SeesGenuine}
 use Rattle.wg_play.specs.Play.{Play, Interleaves}
 
 -- ---- calls as they were played
@@ -58,7 +58,7 @@ lanes_in phase = map calls_in phase.lanes
 
 -- In a phase the entries of each number are those of its lane's calls, in order; a number that no lane has is nobody's.
 abbrev pub IsInterleaved : PlayedPhase → Type 0
-IsInterleaved phase = (n : ℕ) → made_by n phase.entries ≡ entries_in (get_or phase.lanes n [])
+IsInterleaved phase = (n : ℕ) → entries_of_caller n phase.entries ≡ entries_in (get_or phase.lanes n [])
 
 -- ---- what a lane sees at a call
 
@@ -190,7 +190,7 @@ past_at earlier front = reverse (flat_map (λ phase. phase.entries) earlier ++ f
 pub record IsMoment (phase : PlayedPhase) (n : ℕ) (before : List PlayedCall) (front : List Entry) : Type 0 where
   pub back : List Entry
   pub whole : phase.entries ≡ front ++ back
-  pub own : made_by n front ≡ entries_in before
+  pub own : entries_of_caller n front ≡ entries_in before
 
 -- all that a lane sees is genuine, and each name that a call uses stands for what was made as that
 pub record SeesMade (setup : Setup) (past : Past) (sight : Sight) (seen : List PlayedCall) (call : BoundCall) : Type 0 where
@@ -223,7 +223,7 @@ pub record IsPlayedThrough (setup : Setup) (phases : List (List (List BoundCall)
   pub entries : flat_map (λ phase. phase.entries) plays ≡ history
   pub lanes : All IsInterleaved plays
   pub each : EachIsPlayed setup plays
-  pub kept : AreKept setup (reverse history) (objects_after setup.serial [] plays)
+  pub kept : HandlesAreGenuine setup (reverse history) (objects_after setup.serial [] plays)
 
 -- ---- the laws
 

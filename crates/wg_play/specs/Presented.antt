@@ -18,11 +18,11 @@ use Rattle.wg_history.specs.Traces.{Trace}
 use Rattle.wg_expiry.specs.Expiry.{submit_before, write_before, is_over}
 use Rattle.wg_script.specs.CallOf.{BoundCall}
 use Rattle.wg_script.specs.declared.calls.CallOf.TheVariants.{Canvas}
-use Rattle.wg_play.specs.Turns.{made_by}
+use Rattle.wg_play.specs.Turns.{entries_of_caller}
 use Rattle.wg_play.specs.Played.{PlayedCall, PlayedPhase, entries_in, IsPlayedThrough}
 
 -- The entry after a past is answered Plain; and its fault is of this rule where the device is not lost and no rule before it is unmet.
-pub record IsRefused (past : Past) (entry : Entry) (rule : ℕ) (before : List Rule) : Type 0 where
+pub record IsRefusedBy (past : Past) (entry : Entry) (rule : ℕ) (before : List Rule) : Type 0 where
   pub plain : entry.reply.answer ≡ Plain
   pub fault : is_lost past ≡ false → first_unmet before ≡ None → entry.reply.fault ≡ Some (fault_of past rule)
 
@@ -33,10 +33,10 @@ pub record IsRefused (past : Past) (entry : Entry) (rule : ℕ) (before : List R
 pub record HasExpired (setup : Setup) (front back : List Entry) (texture : ObjRef) : Type 0 where
   pub submits : (between rest : List Entry) (entry : Entry) (buffers : List ObjRef) → back ≡ between ++ entry ∷ rest → entry.event ≡ Submit buffers
       → submit_uses (reverse (front ++ between)) buffers texture.number ≡ true
-      → IsRefused (reverse (front ++ between)) entry SUBMITTED_OBJECTS_ARE_NOT_DESTROYED (submit_before setup (reverse (front ++ between)) buffers)
+      → IsRefusedBy (reverse (front ++ between)) entry SUBMITTED_OBJECTS_ARE_NOT_DESTROYED (submit_before setup (reverse (front ++ between)) buffers)
   pub writes : (between rest : List Entry) (entry : Entry) (target : ObjRef) (spot : TextureSpot) (layout : DataLayout) (size : List ℕ) (data_size : ℕ)
       → back ≡ between ++ entry ∷ rest → entry.event ≡ WriteTexture target spot layout size data_size → target.number ≡ texture.number
-      → IsRefused (reverse (front ++ between)) entry WRITTEN_TEXTURE_IS_NOT_DESTROYED
+      → IsRefusedBy (reverse (front ++ between)) entry WRITTEN_TEXTURE_IS_NOT_DESTROYED
       (write_before setup (reverse (front ++ between)) target spot layout size data_size)
   pub released : (before rest : List Entry) → front ++ back ≡ before ++ rest
       → count_by (releases_object texture.number) (Trace setup before) ≡ (if is_over setup (reverse before) texture.number then 1 else 0)
@@ -55,7 +55,7 @@ pub record GivenAt (plays : List PlayedPhase) (front : List Entry) (entry : Entr
   pub first : List Entry
   pub last : List Entry
   pub entries_are : phase.entries ≡ first ++ entry ∷ last
-  pub own : made_by (length lanes_before) first ≡ entries_in before
+  pub own : entries_of_caller (length lanes_before) first ≡ entries_in before
   pub front_is : front ≡ flat_map (λ (p : PlayedPhase). p.entries) earlier ++ first
 
 -- In a history that calls gave which were played so: where a call of a canvas became the destroy of its texture, as a present does

@@ -20,7 +20,7 @@ use Rattle.wg_play.specs.declared.objects.Stand.{Stand}
 use Rattle.wg_play.specs.Objects.{reference_at, is_late_on}
 use Rattle.wg_play.specs.Sights.{Sight}
 use Rattle.wg_play.specs.Lanes.{command_seen, stand_seen, noted_on, kept, event_sent, info_sent, handle_known, taken_by, with_handle}
-use Rattle.wg_player.specs.Moves.{HasAsked, HasPlayed}
+use Rattle.wg_player.specs.Moves.{PassHasAsked, HasPlayed}
 
 -- ---- recording calls
 
@@ -75,7 +75,7 @@ kept_on serial sight after on command made stand found own stands commands keeps
 -- ---- calls of the device
 
 pub asked_as : (serial : ℕ) (lock : Lock) (old new : DevicePass) (sent : Event) (known : Option Info) (handle : Option HandleValue) (reply : Reply)
-    → IsAct lock old new sent reply → handle ≡ handle_known serial known reply.answer → HasAsked serial sent known handle (own_of old) (own_of new)
+    → IsAct lock old new sent reply → handle ≡ handle_known serial known reply.answer → PassHasAsked serial sent known handle (own_of old) (own_of new)
 asked_as serial lock old new sent known handle reply act is = record {
   entry = entry (number_of old) sent reply;
   grown = act.own;
@@ -85,7 +85,7 @@ asked_as serial lock old new sent known handle reply act is = record {
 
 -- a call of the device, with what it made under a slot
 pub sent_made : (serial : ℕ) (sight taken after : Sight) (request : RequestOf ℕ) (slot : ℕ) (handle : Option HandleValue) (own own_after : List Entry)
-    → HasAsked serial (event_sent sight request) (info_sent sight request) handle own own_after → taken ≡ taken_by sight (Ask request None) → after ≡ with_handle taken handle
+    → PassHasAsked serial (event_sent sight request) (info_sent sight request) handle own own_after → taken ≡ taken_by sight (Ask request None) → after ≡ with_handle taken handle
     → HasPlayed serial sight after (Ask request (Some slot)) own own_after
 sent_made serial sight taken after request slot handle own own_after asked took is = inl (record {
   entry = asked.entry;
@@ -97,7 +97,7 @@ sent_made serial sight taken after request slot handle own own_after asked took 
 
 -- and with none
 pub sent_plain : (serial : ℕ) (sight after : Sight) (request : RequestOf ℕ) (handle : Option HandleValue) (own own_after : List Entry)
-    → HasAsked serial (event_sent sight request) (info_sent sight request) handle own own_after → after ≡ taken_by sight (Ask request None)
+    → PassHasAsked serial (event_sent sight request) (info_sent sight request) handle own own_after → after ≡ taken_by sight (Ask request None)
     → HasPlayed serial sight after (Ask request None) own own_after
 sent_plain serial sight after request handle own own_after asked took = inl (record {
   entry = asked.entry;

@@ -19,7 +19,7 @@ use Rattle.wg_canvas.specs.Canvases.{CanvasValue, texture_of, info_of, asked_at 
 use Rattle.wg_canvas.specs.declared.canvas.Stage.{Stage}
 use Rattle.wg_canvas.specs.declared.canvas.Stage.TheVariants.{Unset, Empty, Filled}
 use Rattle.wg_calls.specs.Calls.{event_asked, info_asked, handle_made}
-use Rattle.wg_play.specs.Canvases.{canvas_in, redrawn, asked_at, acted_at, given_by, shown_at}
+use Rattle.wg_play.specs.Canvases.{canvas_in, redrawn, canvas_asked, acted_at, given_by, shown_at}
 use Rattle.wg_play.specs.declared.objects.Object.{Object}
 use Rattle.wg_play.specs.declared.objects.Object.TheVariants as object
 use Rattle.wg_history.specs.Entries.{Entry}
@@ -106,7 +106,7 @@ module _ (serial : ℕ) (made made_after : List Entry) where
   undrawn (object.Canvas canvas) call none same = absurd (cc)
 
   pub undrawn_past : (objects : List Object) (place : ℕ) (call : CanvasCall) → length objects ≤ place → made_after ≡ made
-      → HasDrawn serial (asked_at objects place call) made made_after (λ given. objects ≡ acted_at objects place call given)
+      → HasDrawn serial (canvas_asked objects place call) made made_after (λ given. objects ≡ acted_at objects place call given)
   undrawn_past objects place call past same =
       let none : slice_get objects place ≡ None = slice_get_past objects place past in
       let after = λ (given : Option HandleValue) (what : Option Object). option_map_or (λ x. slice_set objects place (redrawn x (λ c. acted c call given))) what objects in
@@ -118,7 +118,7 @@ module _ (serial : ℕ) (made made_after : List Entry) where
 
   pub drawn_at : (objects : List Object) (place : ℕ) (what changed : Object) (call : CanvasCall) → slice_get objects place ≡ Some what
       → HasDrawn serial (option_and_then (λ c. act_asked c call) (canvas_in what)) made made_after (λ given. changed ≡ redrawn what (λ c. acted c call given))
-      → HasDrawn serial (asked_at objects place call) made made_after (λ given. slice_set objects place changed ≡ acted_at objects place call given)
+      → HasDrawn serial (canvas_asked objects place call) made made_after (λ given. slice_set objects place changed ≡ acted_at objects place call given)
   drawn_at objects place what changed call is was =
       let after = λ (given : Option HandleValue) (found : Option Object). option_map_or (λ x. slice_set objects place (redrawn x (λ c. acted c call given))) found objects in
       record {
@@ -146,7 +146,7 @@ module _ (serial : ℕ) (sight after : Sight) (own own_after : List Entry) where
 
   -- a call that asks something of a canvas
   pub drawn_played : (objects : List Object) (canvas : ℕ) (call : CanvasCall) (made : Option ℕ)
-      → HasDrawn serial (asked_at sight.own (place_in sight canvas) call) own own_after (λ given. objects ≡ acted_at sight.own (place_in sight canvas) call given)
+      → HasDrawn serial (canvas_asked sight.own (place_in sight canvas) call) own own_after (λ given. objects ≡ acted_at sight.own (place_in sight canvas) call given)
       → after ≡ with_more (with_own sight objects) (shown_at objects (place_in sight canvas) call made)
       → HasPlayed serial sight after (Canvas (On canvas call) made) own own_after
   drawn_played objects canvas call made was is =

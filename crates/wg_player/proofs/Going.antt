@@ -6,31 +6,31 @@ use Rattle.wg_history.specs.Entries.{Entry}
 use Rattle.wg_turn.specs.Passes.{own_of}
 use Rattle.wg_device.specs.Fronts.{Lock, DevicePass, HasCalled, front_in}
 use Rattle.wg_script.specs.CallOf.{BoundCall}
-use Rattle.wg_play.specs.Turns.{Gives, after_all}
+use Rattle.wg_play.specs.Turns.{GivesEvents, after_all}
 use Rattle.wg_play.specs.Sights.{Sight}
-use Rattle.wg_play.specs.Lanes.{Lane, kept, settled, settle, next_at, next_event, after_at, after_reply}
-use Rattle.wg_player.specs.Moves.{Goes, HasSent, HasKept, HasPlayed, Moves, lane_at}
+use Rattle.wg_play.specs.Lanes.{LaneState, kept, settled, settle, next_at, next_event, after_at, after_reply}
+use Rattle.wg_player.specs.Moves.{Goes, PassHasSent, PassHasKept, HasPlayed, PassMoves, lane_at}
 
 pub drop_at : {X : Type 0} (xs : List X) (i : ℕ) (x : X) → i < length xs → x ≡ get_or xs i x → drop i xs ≡ x ∷ drop (i + 1) xs
 drop_at [] i x lt is = absurd (omega (arith, lt))
 drop_at (y ∷ ys) zero x lt is = ap (λ z. z ∷ ys) (sym is)
 drop_at (y ∷ ys) (suc i) x lt is = let e : suc i + 1 ≡ suc (i + 1) = omega arith in rw e (drop_at ys i x (omega arith) is)
 
-goes_on : (serial : ℕ) (w v : Lane) (es : List Entry) (e : Entry) → Goes serial w es v → next_event v ≡ Some e.event → Goes serial w (es ++ e ∷ []) (after_reply serial v e.reply)
-goes_on serial w v [] e is next = (ap next_at is ∙ next, ap (λ (u : Lane). settle (after_at serial u e.reply)) is)
+goes_on : (serial : ℕ) (w v : LaneState) (es : List Entry) (e : Entry) → Goes serial w es v → next_event v ≡ Some e.event → Goes serial w (es ++ e ∷ []) (after_reply serial v e.reply)
+goes_on serial w v [] e is next = (ap next_at is ∙ next, ap (λ (u : LaneState). settle (after_at serial u e.reply)) is)
 goes_on serial w v (d ∷ es) e goes next = (goes.0, goes_on serial (after_reply serial w d.reply) v es e goes.1 next)
 
 -- a lane that settles as another stands for it
-goes_as : (serial : ℕ) (w v u : Lane) (es : List Entry) → Goes serial w es v → settle v ≡ settle u → Goes serial w es u
+goes_as : (serial : ℕ) (w v u : LaneState) (es : List Entry) → Goes serial w es v → settle v ≡ settle u → Goes serial w es u
 goes_as serial w v u [] is same = is ∙ same
 goes_as serial w v u (e ∷ es) goes same = (goes.0, goes_as serial (after_reply serial w e.reply) v u es goes.1 same)
 
 -- a lane that goes to its end gives these entries
-pub goes_gives : (serial : ℕ) (w v : Lane) (es : List Entry) → Goes serial w es v → next_event v ≡ None → Gives next_event (after_reply serial) w es
+pub goes_gives : (serial : ℕ) (w v : LaneState) (es : List Entry) → Goes serial w es v → next_event v ≡ None → GivesEvents next_event (after_reply serial) w es
 goes_gives serial w v [] is end = ap next_at is ∙ end
 goes_gives serial w v (e ∷ es) goes end = (goes.0, goes_gives serial (after_reply serial w e.reply) v es goes.1 end)
 
-pub goes_after : (serial : ℕ) (w v : Lane) (es : List Entry) → Goes serial w es v → settle (after_all next_event (after_reply serial) w es) ≡ settle v
+pub goes_after : (serial : ℕ) (w v : LaneState) (es : List Entry) → Goes serial w es v → settle (after_all next_event (after_reply serial) w es) ≡ settle v
 goes_after serial w v [] is = is
 goes_after serial w v (e ∷ es) goes = goes_after serial (after_reply serial w e.reply) v es goes.1
 
@@ -45,20 +45,20 @@ prefix_then xs ys zs p q = (p.0 ++ q.0, sym (append_assoc xs p.0 q.0) ∙ (ap (�
 prefix_self : {A : Type 0} (xs : List A) → IsPrefix xs xs
 prefix_self xs = ([], append-nil xs)
 
-pub moves_none : (serial : ℕ) (lock : Lock) (lane : Lane) (pass : DevicePass) → Moves serial lock lane lane pass pass
+pub moves_none : (serial : ℕ) (lock : Lock) (lane : LaneState) (pass : DevicePass) → PassMoves serial lock lane lane pass pass
 moves_none serial lock lane pass = record { entries = []; grown = sym (append-nil (own_of pass)); seen = prefix_self (front_in lock pass); number = refl; of = λ o. o; sound = λ s. s; goes = refl }
 
 -- one call more, that was sent
-moves_sent : (serial : ℕ) (lock : Lock) (lane : Lane) (sight sight_after : Sight) (call : BoundCall) (left : List BoundCall) (first old new : DevicePass)
-    → Moves serial lock lane (record { sight = sight; left = call ∷ left }) first old
-    → HasSent serial sight sight_after call (own_of old) (own_of new) → HasCalled lock old new
-    → Moves serial lock lane (record { sight = sight_after; left = left }) first new
+moves_sent : (serial : ℕ) (lock : Lock) (lane : LaneState) (sight sight_after : Sight) (call : BoundCall) (left : List BoundCall) (first old new : DevicePass)
+    → PassMoves serial lock lane (record { sight = sight; left = call ∷ left }) first old
+    → PassHasSent serial sight sight_after call (own_of old) (own_of new) → HasCalled lock old new
+    → PassMoves serial lock lane (record { sight = sight_after; left = left }) first new
 moves_sent serial lock lane sight sight_after call left first old new m p called =
-    let here : Lane = record { sight = sight; left = call ∷ left } in
+    let here : LaneState = record { sight = sight; left = call ∷ left } in
     let settles : settle here ≡ here = settled_on sight call left None p.sent in
     let next : next_event here ≡ Some p.entry.event = ap next_at settles ∙ ap Some (sym p.event) in
     let after : after_reply serial here p.entry.reply ≡ record { sight = sight_after; left = left } =
-    ap (λ (u : Lane). after_at serial u p.entry.reply) settles ∙ ap (λ (s : Sight). record { sight = s; left = left }) (sym p.sees) in
+    ap (λ (u : LaneState). after_at serial u p.entry.reply) settles ∙ ap (λ (s : Sight). record { sight = s; left = left }) (sym p.sees) in
     record {
       entries = m.entries ++ p.entry ∷ [];
       grown = p.grown ∙ (ap (λ l. l ++ p.entry ∷ []) m.grown ∙ append_assoc (own_of first) m.entries (p.entry ∷ []));
@@ -70,10 +70,10 @@ moves_sent serial lock lane sight sight_after call left first old new m p called
     }
 
 -- one call more, that was kept
-moves_kept : (serial : ℕ) (lock : Lock) (lane : Lane) (sight sight_after : Sight) (call : BoundCall) (left : List BoundCall) (first old new : DevicePass)
-    → Moves serial lock lane (record { sight = sight; left = call ∷ left }) first old
-    → HasKept sight sight_after call (own_of old) (own_of new) → HasCalled lock old new
-    → Moves serial lock lane (record { sight = sight_after; left = left }) first new
+moves_kept : (serial : ℕ) (lock : Lock) (lane : LaneState) (sight sight_after : Sight) (call : BoundCall) (left : List BoundCall) (first old new : DevicePass)
+    → PassMoves serial lock lane (record { sight = sight; left = call ∷ left }) first old
+    → PassHasKept sight sight_after call (own_of old) (own_of new) → HasCalled lock old new
+    → PassMoves serial lock lane (record { sight = sight_after; left = left }) first new
 moves_kept serial lock lane sight sight_after call left first old new m p called = record {
   entries = m.entries;
   grown = p.same ∙ m.grown;
@@ -85,13 +85,13 @@ moves_kept serial lock lane sight sight_after call left first old new m p called
 }
 
 -- one call more of a list of calls
-pub moves_at : (serial : ℕ) (lock : Lock) (lane : Lane) (sight sight_after : Sight) (calls : List BoundCall) (i : ℕ) (call : BoundCall) (first old new : DevicePass)
-    → Moves serial lock lane (lane_at sight calls i) first old
+pub moves_at : (serial : ℕ) (lock : Lock) (lane : LaneState) (sight sight_after : Sight) (calls : List BoundCall) (i : ℕ) (call : BoundCall) (first old new : DevicePass)
+    → PassMoves serial lock lane (lane_at sight calls i) first old
     → HasPlayed serial sight sight_after call (own_of old) (own_of new) → HasCalled lock old new
     → i < length calls → call ≡ get_or calls i call
-    → Moves serial lock lane (lane_at sight_after calls (i + 1)) first new
+    → PassMoves serial lock lane (lane_at sight_after calls (i + 1)) first new
 moves_at serial lock lane sight sight_after calls i call first old new m p called lt is =
-    let here : Moves serial lock lane (record { sight = sight; left = call ∷ drop (i + 1) calls }) first old
-    = subst (λ (left : List BoundCall). Moves serial lock lane (record { sight = sight; left = left }) first old) (drop_at calls i call lt is) m in
+    let here : PassMoves serial lock lane (record { sight = sight; left = call ∷ drop (i + 1) calls }) first old
+    = subst (λ (left : List BoundCall). PassMoves serial lock lane (record { sight = sight; left = left }) first old) (drop_at calls i call lt is) m in
     ⊎_elim (λ h. moves_sent serial lock lane sight sight_after call (drop (i + 1) calls) first old new here h called)
     (λ h. moves_kept serial lock lane sight sight_after call (drop (i + 1) calls) first old new here h called) p

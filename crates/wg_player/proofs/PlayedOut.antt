@@ -9,25 +9,25 @@ use Rattle.wg_core.specs.Cores.{CoreValue}
 use Rattle.wg_script.specs.CallOf.{BoundCall}
 use Rattle.wg_turn.specs.Passes.{AreFresh, AreSound, AreInOrder, FrontsAre, IsWhole, opened_with}
 use Rattle.wg_device.specs.Fronts.{Lock, DevicePass, setup_of, history_of}
-use Rattle.wg_play.specs.Turns.{made_by, callers_of}
+use Rattle.wg_play.specs.Turns.{entries_of_caller, callers_of}
 use Rattle.wg_play.specs.declared.objects.Object.{Object}
 use Rattle.wg_play.specs.Play.{most_lanes, Play, PlaysTo}
 use Rattle.wg_play.proofs.Turning.{same_caller, fewer}
 use Rattle.wg_play.proofs.Unique.{one_zero}
 use Rattle.wg_play.proofs.Backward.{play_interleaves}
 use Rattle.wg_play.proofs.PlayedLaw.{play_goes_through}
-use Rattle.wg_player.specs.Moves.{AllAt}
+use Rattle.wg_player.specs.Moves.{AllPassesAt}
 use Rattle.wg_player.specs.Whole.{IsPlayedOut}
 use Rattle.wg_player.proofs.Going.{drop_at}
 use Rattle.wg_player.proofs.Closing.{headline}
 
 -- passes as they are handed out are all where a phase can begin
-pub at_opening : (lock : Lock) (n : ℕ) (ps : List DevicePass) → AreFresh lock n ps → FrontsAre history_of lock ps [] → AreSound history_of (λ c. c.setup) Run lock ps → AllAt lock n ps []
+pub at_opening : (lock : Lock) (n : ℕ) (ps : List DevicePass) → AreFresh lock n ps → FrontsAre history_of lock ps [] → AreSound history_of (λ c. c.setup) Run lock ps → AllPassesAt lock n ps []
 at_opening lock n [] fresh fronts sound = tt
 at_opening lock n (p ∷ ps) fresh fronts sound = (fresh.0.1, fresh.0.0, fronts.0, sound.0, at_opening lock (suc n) ps fresh.1 fronts.1 sound.1)
 
 -- and where they have all met they can be given back
-pub in_order : (lock : Lock) (n : ℕ) (ps : List DevicePass) (front : List Entry) → AllAt lock n ps front → AreInOrder lock n ps
+pub in_order : (lock : Lock) (n : ℕ) (ps : List DevicePass) (front : List Entry) → AllPassesAt lock n ps front → AreInOrder lock n ps
 in_order lock n [] front at = tt
 in_order lock n (p ∷ ps) front at = (at.1, at.0, in_order lock (suc n) ps front at.4)
 
@@ -54,7 +54,7 @@ most_all n m (lanes ∷ phases) le =
     All-cons (λ lanes. length lanes ≤ m) lanes phases (omega (arith, step, more, le)) (most_all (if nat_lt n (length lanes) then length lanes else n) m phases le)
 
 -- where nobody has entries but caller 0, all callers are 0
-pub all_zero : (log : List Entry) → ((n : ℕ) → 1 ≤ n → made_by n log ≡ []) → callers_of log ≡ map (λ e. 0) log
+pub all_zero : (log : List Entry) → ((n : ℕ) → 1 ≤ n → entries_of_caller n log ≡ []) → callers_of log ≡ map (λ e. 0) log
 all_zero [] none = refl
 all_zero (e ∷ log) none =
     let rest = all_zero log (λ n le. fewer n e log (none n le)) in
@@ -65,14 +65,14 @@ all_zero (e ∷ log) none =
 
 pub played_out : (lock : Lock) (setup : Setup) (phases : List (List (List BoundCall))) (ps : List DevicePass) (front : List Entry) (end : List Object) (state : CoreValue) (entries : ℕ)
     → setup.serial ≢ 0 → setup_of lock ≡ setup → (opened_with lock).history ≡ [] → 0 < length ps → length ps ≡ lock.callers
-    → AllAt lock 0 ps front → PlaysTo (setup_of lock) phases [] front end
+    → AllPassesAt lock 0 ps front → PlaysTo (setup_of lock) phases [] front end
     → IsWhole history_of lock ps state entries → Run (setup_of lock) state.history
     → IsPlayedOut setup phases (length ps) state entries
 played_out lock setup phases ps front end state entries serial is empty some all at plays whole run =
     let both = headline lock ps state entries front phases end empty some all whole at plays run in
     let log_is : state.history ≡ whole.log = whole.history_is ∙ ap (λ (h : List Entry). h ++ whole.log) empty in
     let play : Play setup phases (callers_of state.history) ≡ Some state.history = subst (λ (s : Setup). Play s phases (callers_of state.history) ≡ Some state.history) is both.0 in
-    let zero : length ps ≡ 1 → callers_of state.history ≡ map (λ e. 0) state.history = λ one. all_zero state.history (λ n le. ap (made_by n) log_is ∙ whole.no_others n (omega (arith, one))) in
+    let zero : length ps ≡ 1 → callers_of state.history ≡ map (λ e. 0) state.history = λ one. all_zero state.history (λ n le. ap (entries_of_caller n) log_is ∙ whole.no_others n (omega (arith, one))) in
     record {
       play = play;
       entries_are = both.1;

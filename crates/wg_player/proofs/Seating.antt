@@ -11,8 +11,8 @@ use Rattle.wg_play.specs.declared.objects.Object.{Object}
 use Rattle.wg_play.specs.Sights.{Sight, sight_of}
 use Rattle.wg_player.specs.declared.lane.LaneRun.{LaneRun}
 use Rattle.wg_device.specs.Fronts.{setup_of}
-use Rattle.wg_player.specs.Moves.{Moves, lane_at, AllAt, ArePassesOf, AreSoundIn, HaveAllMet}
-use Rattle.wg_player.specs.Seats.{calls_of, first_of, sight_at, sight_with, IsSeated, AreSeated, HaveRun, HasRun, HasRunPhase}
+use Rattle.wg_player.specs.Moves.{PassMoves, lane_at, AllPassesAt, ArePassesOf, AreSoundIn, HaveAllMet}
+use Rattle.wg_player.specs.Seats.{calls_of, first_of, sight_at, sight_with, BodyIsSeated, BodiesAreSeated, HaveRun, HasRun, HasRunPhase}
 
 pub map_back : {A B : Type 0} (f : A → B) (whole ps ps_after : List B) (old left : List A) (b : A) → whole ≡ ps ++ map f (reverse old) → old ≡ left ++ b ∷ [] → ps_after ≡ ps ++ f b ∷ [] → whole ≡ ps_after ++ map f (reverse left)
 map_back f whole ps ps_after old left b w is more =
@@ -57,31 +57,31 @@ module _ {A : Type 0} (R : A → A → Type 0) where
 
 module _ {G : Type 0} (device : Device) (lanes : List (List BoundCall)) (others : List Object) where
   -- what a body sees once it has run
-  sees_after : (p : DevicePass) (b c : LaneRun G) → IsSeated device lanes others p b → HasRun b c → sight_of c.seen ≡ sight_with others lanes p.number c.seen.own.items
+  sees_after : (p : DevicePass) (b c : LaneRun G) → BodyIsSeated device lanes others p b → HasRun b c → sight_of c.seen ≡ sight_with others lanes p.number c.seen.own.items
   sees_after p b c s r =
       let before : c.seen.others.now ≡ others = ap (λ x. x.now) r.2.0 ∙ ap (λ (x : Sight). x.others) s.3 in
       let slot : c.seen.first ≡ first_of (length others) lanes p.number = r.2.1 ∙ ap (λ (x : Sight). x.first) s.3 in
       ap (λ (o : List Object). record { others = o; first = c.seen.first; own = c.seen.own.items }) before
       ∙ ap (λ (f : ℕ). record { others = others; first = f; own = c.seen.own.items }) slot
 
-  ran_one : (p : DevicePass) (b c : LaneRun G) → IsSeated device lanes others p b → HasRun b c → c.through ≡ true
-      → Moves (setup_of device.lock).serial device.lock (lane_at (sight_at others lanes p.number) (calls_of lanes p.number) 0) (lane_at (sight_with others lanes p.number c.seen.own.items) (calls_of lanes p.number) (length (calls_of lanes p.number))) p c.pass
+  ran_one : (p : DevicePass) (b c : LaneRun G) → BodyIsSeated device lanes others p b → HasRun b c → c.through ≡ true
+      → PassMoves (setup_of device.lock).serial device.lock (lane_at (sight_at others lanes p.number) (calls_of lanes p.number) 0) (lane_at (sight_with others lanes p.number c.seen.own.items) (calls_of lanes p.number) (length (calls_of lanes p.number))) p c.pass
   ran_one p b c s r through =
       let m = r.3 through in
-      subst (λ (x : Sight). Moves (setup_of device.lock).serial device.lock (lane_at (sight_at others lanes p.number) (calls_of lanes p.number) 0) (lane_at x (calls_of lanes p.number) (length (calls_of lanes p.number))) p c.pass) (sees_after p b c s r)
-      (subst (λ (x : Sight). Moves (setup_of device.lock).serial device.lock (lane_at x (calls_of lanes p.number) 0) (lane_at (sight_of c.seen) (calls_of lanes p.number) (length (calls_of lanes p.number))) p c.pass) s.3
-      (subst (λ (cs : List BoundCall). Moves (setup_of device.lock).serial device.lock (lane_at (sight_of b.seen) cs 0) (lane_at (sight_of c.seen) cs (length cs)) p c.pass) s.2
-      (subst (λ (d : Device). Moves (setup_of d.lock).serial d.lock (lane_at (sight_of b.seen) b.calls.now 0) (lane_at (sight_of c.seen) b.calls.now (length b.calls.now)) p c.pass) s.1
-      (subst (λ (q : DevicePass). Moves (setup_of b.device.now.lock).serial b.device.now.lock (lane_at (sight_of b.seen) b.calls.now 0) (lane_at (sight_of c.seen) b.calls.now (length b.calls.now)) q c.pass) s.0 m))))
+      subst (λ (x : Sight). PassMoves (setup_of device.lock).serial device.lock (lane_at (sight_at others lanes p.number) (calls_of lanes p.number) 0) (lane_at x (calls_of lanes p.number) (length (calls_of lanes p.number))) p c.pass) (sees_after p b c s r)
+      (subst (λ (x : Sight). PassMoves (setup_of device.lock).serial device.lock (lane_at x (calls_of lanes p.number) 0) (lane_at (sight_of c.seen) (calls_of lanes p.number) (length (calls_of lanes p.number))) p c.pass) s.3
+      (subst (λ (cs : List BoundCall). PassMoves (setup_of device.lock).serial device.lock (lane_at (sight_of b.seen) cs 0) (lane_at (sight_of c.seen) cs (length cs)) p c.pass) s.2
+      (subst (λ (d : Device). PassMoves (setup_of d.lock).serial d.lock (lane_at (sight_of b.seen) b.calls.now 0) (lane_at (sight_of c.seen) b.calls.now (length b.calls.now)) p c.pass) s.1
+      (subst (λ (q : DevicePass). PassMoves (setup_of b.device.now.lock).serial b.device.now.lock (lane_at (sight_of b.seen) b.calls.now 0) (lane_at (sight_of c.seen) b.calls.now (length b.calls.now)) q c.pass) s.0 m))))
 
-  have_run : (ps : List DevicePass) (bs cs : List (LaneRun G)) → AreSeated device lanes others ps bs → Paired HasRun bs cs → All (λ c. c.through ≡ true) cs
+  have_run : (ps : List DevicePass) (bs cs : List (LaneRun G)) → BodiesAreSeated device lanes others ps bs → Paired HasRun bs cs → All (λ c. c.through ≡ true) cs
       → HaveRun device.lock lanes others ps (map (λ c. (c.pass, c.seen.own.items)) cs)
   have_run [] bs cs s r t = let none = subst (λ l. Paired HasRun l cs) s r in ap (map (λ c. (c.pass, c.seen.own.items))) none
   have_run (p ∷ ps) [] cs s r t = absurd s
   have_run (p ∷ ps) (b ∷ bs) [] s r t = absurd r
   have_run (p ∷ ps) (b ∷ bs) (c ∷ cs) s r t = (ran_one p b c s.0 r.0 (All-head (λ (x : LaneRun G). x.through ≡ true) c cs t), have_run ps bs cs s.1 r.1 (All-tail (λ (x : LaneRun G). x.through ≡ true) c cs t))
 
-  pub all_ran : (ps : List DevicePass) (bs cs : List (LaneRun G)) → AreSeated device lanes others ps (reverse bs) → length cs ≡ length bs
+  pub all_ran : (ps : List DevicePass) (bs cs : List (LaneRun G)) → BodiesAreSeated device lanes others ps (reverse bs) → length cs ≡ length bs
       → ((i : ℕ) (b : LaneRun G) → slice_get bs i ≡ Some b → (c : LaneRun G) × (slice_get cs i ≡ Some c) × HasRun b c) → All (λ c. c.through ≡ true) (reverse cs)
       → HaveRun device.lock lanes others ps (map (λ c. (c.pass, c.seen.own.items)) (reverse cs))
   all_ran ps bs cs s same f t = have_run ps (reverse bs) (reverse cs) s (paired_back HasRun bs cs (paired_of HasRun bs cs same f)) t
@@ -95,7 +95,7 @@ seconds [] = refl
 seconds (c ∷ cs) = ap (λ l. c.seen.own.items ++ l) (seconds cs)
 
 module _ {G : Type 0} (device : Device) (lanes : List (List BoundCall)) (objects : List Object) (front : List Entry) (ps : List DevicePass) (bs cs : List (LaneRun G)) (mids : List DevicePass) where
-  pub phase_ready : AllAt device.lock 0 ps front → HaveRun device.lock lanes objects ps (map (λ c. (c.pass, c.seen.own.items)) (reverse cs)) → mids ≡ map (λ c. c.pass) (reverse cs)
+  pub phase_ready : AllPassesAt device.lock 0 ps front → HaveRun device.lock lanes objects ps (map (λ c. (c.pass, c.seen.own.items)) (reverse cs)) → mids ≡ map (λ c. c.pass) (reverse cs)
       → ArePassesOf device.lock mids × AreSoundIn device.lock mids
   phase_ready at ran is =
       let both = can_meet device.lock 0 lanes objects front ps (map (λ (c : LaneRun G). (c.pass, c.seen.own.items)) (reverse cs)) at ran in

@@ -8,13 +8,13 @@ use Rattle.wg_calls.specs.Calls.{event_asked, info_asked}
 use Rattle.wg_history.specs.Entries.{Entry}
 use Rattle.wg_turn.specs.Passes.{own_of, calls_of}
 use Rattle.wg_device.specs.Fronts.{Lock, DevicePass, setup_of, front_in, CanCall, HasCalled}
-use Rattle.wg_player.specs.Moves.{HasAsked}
+use Rattle.wg_player.specs.Moves.{PassHasAsked}
 
 -- Where the call asked something of the device, the pass made one entry, of that, and this is the texture that was made for it, if one
 -- was; where it asked nothing, the pass made no entry, and nothing was made.
 abbrev pub HasAskedIf : ℕ → Option (RequestOf HandleValue) → Option HandleValue → List Entry → List Entry → Type 0
 HasAskedIf serial None given made made_after = (made_after ≡ made) × (given ≡ None)
-HasAskedIf serial (Some request) given made made_after = HasAsked serial (event_asked request) (info_asked request) given made made_after
+HasAskedIf serial (Some request) given made made_after = PassHasAsked serial (event_asked request) (info_asked request) given made made_after
 
 -- What a canvas asks was asked, if anything was, and what was made goes where it belongs.
 pub record HasDrawn (serial : ℕ) (asked : Option (RequestOf HandleValue)) (made made_after : List Entry) (goes : Option HandleValue → Type 0) : Type 0 where

@@ -10,15 +10,15 @@ use Rattle.wg_types.specs.declared.handles.Info.{Info}
 use Rattle.wg_script.specs.CallOf.{BoundCall}
 use Rattle.wg_play.specs.declared.seen.LaneSight.{LaneSight}
 use Rattle.wg_play.specs.Sights.{Sight, sight_of}
-use Rattle.wg_play.specs.Lanes.{Lane, handle_known, event_of, answered_by, kept, settle, next_event, after_reply}
+use Rattle.wg_play.specs.Lanes.{LaneState, handle_known, event_of, answered_by, kept, settle, next_event, after_reply}
 
 -- the entries are the lane's events in order, and take it to another
-abbrev pub Goes : ℕ → Lane → List Entry → Lane → Type 0
+abbrev pub Goes : ℕ → LaneState → List Entry → LaneState → Type 0
 Goes serial w [] v = settle w ≡ settle v
 Goes serial w (e ∷ es) v = (next_event w ≡ Some e.event) × Goes serial (after_reply serial w e.reply) es v
 
 -- A pass made one entry, of this event, and the handle is of what the device made, if it made something, of which so much is known.
-pub record HasAsked (serial : ℕ) (event : Event) (known : Option Info) (handle : Option HandleValue) (made made_after : List Entry) : Type 0 where
+pub record PassHasAsked (serial : ℕ) (event : Event) (known : Option Info) (handle : Option HandleValue) (made made_after : List Entry) : Type 0 where
   pub entry : Entry
   pub grown : made_after ≡ made ++ entry ∷ []
   pub event_is : entry.event ≡ event
@@ -26,10 +26,10 @@ pub record HasAsked (serial : ℕ) (event : Event) (known : Option Info) (handle
 
 -- An event was asked with a pass of a device, between two moments, and its handle is that of what it made.
 abbrev pub HasAskedBy : Lock → Event → Option Info → Option HandleValue → DevicePass → DevicePass → Type 0
-HasAskedBy lock event known handle old new = HasAsked (setup_of lock).serial event known handle (own_of old) (own_of new)
+HasAskedBy lock event known handle old new = PassHasAsked (setup_of lock).serial event known handle (own_of old) (own_of new)
 
 -- a pass made one entry, that of a call
-pub record HasSent (serial : ℕ) (sight sight_after : Sight) (call : BoundCall) (made made_after : List Entry) : Type 0 where
+pub record PassHasSent (serial : ℕ) (sight sight_after : Sight) (call : BoundCall) (made made_after : List Entry) : Type 0 where
   pub entry : Entry
   pub grown : made_after ≡ made ++ entry ∷ []
   pub event : entry.event ≡ event_of sight call
@@ -37,21 +37,21 @@ pub record HasSent (serial : ℕ) (sight sight_after : Sight) (call : BoundCall)
   pub sees : sight_after ≡ answered_by serial sight call entry.reply.answer
 
 -- a call was kept, by a recorder or by a canvas, and made no entry
-pub record HasKept (sight sight_after : Sight) (call : BoundCall) (made made_after : List Entry) : Type 0 where
+pub record PassHasKept (sight sight_after : Sight) (call : BoundCall) (made made_after : List Entry) : Type 0 where
   pub kept : kept sight call ≡ Some sight_after
   pub same : made_after ≡ made
 
 -- a call was played, as an event or as a call that is none
 abbrev pub HasPlayed : ℕ → Sight → Sight → BoundCall → List Entry → List Entry → Type 0
 HasPlayed serial sight sight_after call made made_after =
-    HasSent serial sight sight_after call made made_after ⊎ HasKept sight sight_after call made made_after
+    PassHasSent serial sight sight_after call made made_after ⊎ PassHasKept sight sight_after call made made_after
 
 -- A call was played with a pass of a device, by a lane that saw the one and then the other.
 abbrev pub HasPlayedBy : Lock → LaneSight → LaneSight → BoundCall → DevicePass → DevicePass → Type 0
 HasPlayedBy lock seen seen_after call old new = HasPlayed (setup_of lock).serial (sight_of seen) (sight_of seen_after) call (own_of old) (own_of new)
 
 -- From one moment to another a pass saw more, and its own entries grew by those that take the one lane to the other.
-pub record Moves (serial : ℕ) (lock : Lock) (lane lane_after : Lane) (old new : DevicePass) : Type 0 where
+pub record PassMoves (serial : ℕ) (lock : Lock) (lane lane_after : LaneState) (old new : DevicePass) : Type 0 where
   pub entries : List Entry
   pub grown : own_of new ≡ own_of old ++ entries
   pub seen : IsPrefix (front_in lock old) (front_in lock new)
@@ -61,13 +61,13 @@ pub record Moves (serial : ℕ) (lock : Lock) (lane lane_after : Lane) (old new 
   pub goes : Goes serial lane entries lane_after
 
 -- the lane of a body, k calls on
-abbrev pub lane_at : Sight → List BoundCall → ℕ → Lane
+abbrev pub lane_at : Sight → List BoundCall → ℕ → LaneState
 lane_at sight calls k = record { sight = sight; left = drop k calls }
 
 -- a pass went through all the calls of a lane
 abbrev pub MovesThrough : Lock → List BoundCall → Sight → Sight → DevicePass → DevicePass → Type 0
 MovesThrough lock calls sight sight_after old new =
-    Moves (setup_of lock).serial lock (lane_at sight calls 0) (lane_at sight_after calls (length calls)) old new
+    PassMoves (setup_of lock).serial lock (lane_at sight calls 0) (lane_at sight_after calls (length calls)) old new
 
 -- two passes have met
 pub record HaveMet (lock : Lock) (a b a_after b_after : DevicePass) : Type 0 where
@@ -79,10 +79,10 @@ pub record HaveMet (lock : Lock) (a b a_after b_after : DevicePass) : Type 0 whe
   pub begun_second : IsPrefix (front_in lock b) (front_in lock a_after)
 
 -- one pass met each of the others in turn
-abbrev pub Tells : Lock → DevicePass → List DevicePass → DevicePass → List DevicePass → Type 0
-Tells lock hub [] hub_after after = (hub_after ≡ hub) × (after ≡ [])
-Tells lock hub (p ∷ ps) hub_after after = (mid : DevicePass) × (q : DevicePass) × (rest : List DevicePass) × (after ≡ q ∷ rest)
-    × HaveMet lock hub p mid q × Tells lock mid ps hub_after rest
+abbrev pub MeetsEach : Lock → DevicePass → List DevicePass → DevicePass → List DevicePass → Type 0
+MeetsEach lock hub [] hub_after after = (hub_after ≡ hub) × (after ≡ [])
+MeetsEach lock hub (p ∷ ps) hub_after after = (mid : DevicePass) × (q : DevicePass) × (rest : List DevicePass) × (after ≡ q ∷ rest)
+    × HaveMet lock hub p mid q × MeetsEach lock mid ps hub_after rest
 
 -- All passes are of this device.
 abbrev pub ArePassesOf : Lock → List DevicePass → Type 0
@@ -106,6 +106,6 @@ abbrev pub HaveAllMet : Lock → List DevicePass → List DevicePass → Type 0
 HaveAllMet lock old new = (front : List Entry) × MetAt lock front old new
 
 -- the passes have the numbers from n on, and are where they are after all have met at this front
-abbrev pub AllAt : Lock → ℕ → List DevicePass → List Entry → Type 0
-AllAt lock n [] front = Unit {0}
-AllAt lock n (p ∷ ps) front = (p.number ≡ n) × IsPassOf lock p × (front_in lock p ≡ front) × IsSoundIn lock p × AllAt lock (suc n) ps front
+abbrev pub AllPassesAt : Lock → ℕ → List DevicePass → List Entry → Type 0
+AllPassesAt lock n [] front = Unit {0}
+AllPassesAt lock n (p ∷ ps) front = (p.number ≡ n) × IsPassOf lock p × (front_in lock p ≡ front) × IsSoundIn lock p × AllPassesAt lock (suc n) ps front

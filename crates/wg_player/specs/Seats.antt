@@ -31,14 +31,14 @@ sight_with objects lanes n own = record { others = objects; first = first_of (le
 
 module _ {G : Type 0} where
   -- a lane's body before it runs, and its pass
-  abbrev pub IsSeated : Device → List (List BoundCall) → List Object → DevicePass → LaneRun G → Type 0
-  IsSeated device lanes objects p b = (b.pass ≡ p) × (b.device.now ≡ device) × (b.calls.now ≡ calls_of lanes p.number)
+  abbrev pub BodyIsSeated : Device → List (List BoundCall) → List Object → DevicePass → LaneRun G → Type 0
+  BodyIsSeated device lanes objects p b = (b.pass ≡ p) × (b.device.now ≡ device) × (b.calls.now ≡ calls_of lanes p.number)
       × (sight_of b.seen ≡ sight_at objects lanes p.number)
 
-  abbrev pub AreSeated : Device → List (List BoundCall) → List Object → List DevicePass → List (LaneRun G) → Type 0
-  AreSeated device lanes objects [] bodies = bodies ≡ []
-  AreSeated device lanes objects (p ∷ ps) [] = ⊥
-  AreSeated device lanes objects (p ∷ ps) (b ∷ bs) = IsSeated device lanes objects p b × AreSeated device lanes objects ps bs
+  abbrev pub BodiesAreSeated : Device → List (List BoundCall) → List Object → List DevicePass → List (LaneRun G) → Type 0
+  BodiesAreSeated device lanes objects [] bodies = bodies ≡ []
+  BodiesAreSeated device lanes objects (p ∷ ps) [] = ⊥
+  BodiesAreSeated device lanes objects (p ∷ ps) (b ∷ bs) = BodyIsSeated device lanes objects p b × BodiesAreSeated device lanes objects ps bs
 
 -- a body has run: what it was lent stays, and where it is through its pass has made the lane's entries
 abbrev pub HasRun : {G : Type 0} → LaneRun G → LaneRun G → Type 0

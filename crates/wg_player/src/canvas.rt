@@ -7,7 +7,7 @@ ghost use Rattle.wg_turn.specs.Passes.{own_of, number_of};
 ghost use Rattle.wg_calls.specs.Calls.{event_asked};
 ghost use Rattle.wg_device.specs.Fronts.{setup_of, CanCall, HasCalled};
 ghost use Rattle.wg_script.specs.declared.calls.CallOf.TheVariants.{Canvas as OfCanvas};
-ghost use Rattle.wg_play.specs.Canvases.{canvas_in, canvas_at, redrawn, asked_at, acted_at, shown_at};
+ghost use Rattle.wg_play.specs.Canvases.{canvas_in, canvas_at, redrawn, canvas_asked, acted_at, shown_at};
 ghost use Rattle.wg_play.specs.Sights.{SeesSame, sight_of, with_more};
 ghost use Rattle.wg_player.specs.Drawing.{HasDrawnBy, not_called};
 ghost use Rattle.wg_player.specs.Moves.{HasPlayedBy};
@@ -109,7 +109,7 @@ fn act_on(
 ) -> Result<(), NoMemory>
     requires { CanCall device.now.lock pass.old }
     ensures called { HasCalled device.now.lock pass.old pass.new }
-    ensures done { OnOk result (HasDrawnBy device.now.lock (asked_at own.old.items place call) pass.old pass.new
+    ensures done { OnOk result (HasDrawnBy device.now.lock (canvas_asked own.old.items place call) pass.old pass.new
         (λ given. own.new.items ≡ acted_at own.old.items place call given)) }
 {
     let index = place as usize;

@@ -1,6 +1,6 @@
 //! How all passes meet between two phases.
 ghost use Rattle.wg_turn.specs.Passes.{IsPassOf};
-ghost use Rattle.wg_player.specs.Moves.{Tells, ArePassesOf, AreSoundIn, HaveAllMet};
+ghost use Rattle.wg_player.specs.Moves.{MeetsEach, ArePassesOf, AreSoundIn, HaveAllMet};
 
 use wg_device::{Device, DevicePass};
 
@@ -8,7 +8,7 @@ use wg_device::{Device, DevicePass};
 fn meet_each(device: &Device, hub: &mut DevicePass, passes: &mut [DevicePass])
     requires hub { IsPassOf device.now.lock hub.old }
     requires passes { ArePassesOf device.now.lock passes.old }
-    ensures told { Tells device.now.lock hub.old passes.old hub.new passes.new }
+    ensures told { MeetsEach device.now.lock hub.old passes.old hub.new passes.new }
 {
     if let Some((first, rest)) = passes.split_first_mut() {
         device.meet(hub, first);

@@ -5,7 +5,7 @@ ghost use Rattle.wg_turn.specs.Passes.{callers_of, opened_with};
 ghost use Rattle.wg_device.specs.Fronts.{setup_of};
 ghost use Rattle.wg_play.specs.declared.objects.Object.{Object as ObjectOf};
 ghost use Rattle.wg_play.specs.Play.{PlaysTo};
-ghost use Rattle.wg_player.specs.Moves.{AllAt, ArePassesOf, AreSoundIn, HaveAllMet};
+ghost use Rattle.wg_player.specs.Moves.{AllPassesAt, ArePassesOf, AreSoundIn, HaveAllMet};
 ghost use Rattle.wg_player.specs.Seats.{HasRunPhase};
 
 use crate::meets::meet_all;
@@ -39,7 +39,7 @@ fn play_phase<T: Wait + Threads + Sync, G: Gate + Sync>(
     passes: Vec<DevicePass>,
     objects: &mut Vec<Object>,
 ) -> Result<Vec<DevicePass>, NoMemory>
-    requires at { (front : List Entry) × AllAt device.now.lock 0 passes.items front }
+    requires at { (front : List Entry) × AllPassesAt device.now.lock 0 passes.items front }
     ensures ran { IfOk result (λ qs. HasRunPhase device.now.lock lanes.now objects.old.items objects.new.items passes.items qs.items) }
 {
     let mut bodies = seat(
@@ -68,11 +68,11 @@ pub fn play_phases<T: Wait + Threads + Sync, G: Gate + Sync>(
     mut passes: Vec<DevicePass>,
 ) -> Result<Vec<DevicePass>, NoMemory>
     requires fresh { (opened_with device.now.lock).history ≡ [] }
-    requires at { AllAt device.now.lock 0 passes.items [] }
+    requires at { AllPassesAt device.now.lock 0 passes.items [] }
     requires all { vec_len passes ≡ callers_of device.now.lock }
     requires few { All (λ lanes. length lanes ≤ callers_of device.now.lock) phases.now }
     ensures played { IfOk result (λ qs. (front : List Entry) × (objects : List ObjectOf) × (vec_len qs ≡ callers_of device.now.lock)
-        × AllAt device.now.lock 0 qs.items front × PlaysTo (setup_of device.now.lock) phases.now [] front objects) }
+        × AllPassesAt device.now.lock 0 qs.items front × PlaysTo (setup_of device.now.lock) phases.now [] front objects) }
 {
     let mut objects = Vec::new(alloc);
     for (index, lanes) in phases.iter().enumerate() {

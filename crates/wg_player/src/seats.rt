@@ -2,7 +2,7 @@
 ghost use Rattle.std.specs.Prelude.{◌≡◌, All, true, map, flat_map, reverse, length, ℕ, Some, slice_get, IfOk};
 ghost use Rattle.wg_turn.specs.Passes.{IsPassOf};
 ghost use Rattle.wg_player.specs.declared.lane.LaneRun.{LaneRun};
-ghost use Rattle.wg_player.specs.Seats.{calls_of, first_of, AreSeated, HasRun};
+ghost use Rattle.wg_player.specs.Seats.{calls_of, first_of, BodiesAreSeated, HasRun};
 
 use crate::lane::LaneRun;
 use std::alloc::Global;
@@ -60,7 +60,7 @@ pub fn seat<'a, G: Gate>(
     mut passes: Vec<DevicePass>,
 ) -> Result<Vec<LaneRun<'a, G>>, NoMemory>
     requires of { All (λ p. IsPassOf device.now.lock p) passes.items }
-    ensures seated { IfOk result (λ bodies. AreSeated device.now lanes.now objects.now passes.items (reverse bodies.items)) }
+    ensures seated { IfOk result (λ bodies. BodiesAreSeated device.now lanes.now objects.now passes.items (reverse bodies.items)) }
 {
     let Ok(count) = u32::try_from(objects.len()) else {
         return Err(NoMemory);

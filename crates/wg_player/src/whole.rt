@@ -1,7 +1,7 @@
 //! A script played on a device of its own.
 ghost use Rattle.std.specs.Prelude.{◌≡◌, ◌<◌, ◌≤◌, All, length, IfOk};
 ghost use Rattle.wg_turn.specs.Closings.{entries_of, passes_of, state_of};
-ghost use Rattle.wg_play.specs.Play.{most_lanes, callers_for, setup_of};
+ghost use Rattle.wg_play.specs.Play.{most_lanes, callers_for, script_setup};
 ghost use Rattle.wg_player.specs.Whole.{IsPlayedOut};
 
 use crate::phase::play_phases;
@@ -53,9 +53,9 @@ pub fn play<T: Wait + Threads + Sync, G: Gate + Sync>(
     gate: &G,
     script: &Script,
 ) -> Result<Ended, NoMemory>
-    ensures setup { IfOk result (λ ended. (state_of ended).setup ≡ setup_of script.now) }
+    ensures setup { IfOk result (λ ended. (state_of ended).setup ≡ script_setup script.now) }
     ensures callers { IfOk result (λ ended. passes_of ended ≡ callers_for script.now.phases) }
-    ensures played { IfOk result (λ ended. IsPlayedOut (setup_of script.now) script.now.phases (passes_of ended) (state_of ended) (entries_of ended)) }
+    ensures played { IfOk result (λ ended. IsPlayedOut (script_setup script.now) script.now.phases (passes_of ended) (state_of ended) (entries_of ended)) }
 {
     let phases = script.phases.as_slice();
     let callers = callers_for(phases)?;

@@ -22,7 +22,7 @@ use Rattle.wg_subres.specs.Has.{is_accessed}
 use Rattle.wg_subres.specs.Attached.{attached_has, IsAttachable}
 use Rattle.wg_subres.proofs.Attaching.{attached_meet_where}
 use Rattle.wg_shaped.specs.Once.{IsFairColor}
-use Rattle.wg_shaped.proofs.Fitting.{Agree, AllAgree, AgreeWith, agree_joined, map_agree, same_line}
+use Rattle.wg_shaped.proofs.Fitting.{TouchesAgree, AllAgree, AgreeWith, agree_joined, map_agree, same_line}
 
 -- a touch of cells of an attachment
 abbrev Of : Attached → Touch → Type 0
@@ -43,7 +43,7 @@ Along [] touches = touches ≡ []
 Along (a ∷ views) touches = Next a (Along views) touches
 
 -- a touch of an attachment agrees with those of others that it does not meet
-one_apart : (a b : Attached) (t u : Touch) → attached_meet a b ≡ false → IsAttachable a → IsAttachable b → Of a t → Of b u → Agree t u
+one_apart : (a b : Attached) (t u : Touch) → attached_meet a b ≡ false → IsAttachable a → IsAttachable b → Of a t → Of b u → TouchesAgree t u
 one_apart a b t u apart fits fits2 own own2 c e h = absurd (true≢false (sym (attached_meet_where.only a b fits fits2 c (own c e) (own2 c h)) ∙ apart))
 
 block_apart : (a b : Attached) (t : Touch) (block : List Touch) → attached_meet a b ≡ false → IsAttachable a → IsAttachable b → Of a t → EachRow (Of b) block → AgreeWith block t
@@ -55,7 +55,7 @@ rest_apart a t [] touches fits own none along = subst (λ (ts : List Touch). Agr
 rest_apart a t (b ∷ views) touches fits own none along =
     let parts : (attached_meet a b ≡ false) × (list_any (attached_meet a) views ≡ false) = or_parts (attached_meet a b) (list_any (attached_meet a) views) none in
     subst (λ (ts : List Touch). AgreeWith ts t) (sym along.is)
-    (each_joined (Agree t) along.block along.rest (block_apart a b t along.block parts.0 fits along.fits own along.own) (rest_apart a t views along.rest fits own parts.1 along.more))
+    (each_joined (TouchesAgree t) along.block along.rest (block_apart a b t along.block parts.0 fits along.fits own along.own) (rest_apart a t views along.rest fits own parts.1 along.more))
 
 cross_apart : (a : Attached) (these : List Touch) (views : List Attached) (touches : List Touch) → IsAttachable a → EachRow (Of a) these → list_any (attached_meet a) views ≡ false → Along views touches → EachRow (AgreeWith touches) these
 cross_apart a [] views touches fits owns none along = tt

@@ -18,19 +18,19 @@ use Rattle.wg_readback.proofs.Apart.{cell_at, spot_at}
 use Rattle.wg_readback.proofs.Rows.{apart_once}
 
 -- Two touches access each cell of both in one way.
-abbrev pub Agree : Touch → Touch → Type 0
-Agree a b = (c : Cell) → covers a.0 c ≡ true → covers b.0 c ≡ true → a.1.1 ≡ b.1.1
+abbrev pub TouchesAgree : Touch → Touch → Type 0
+TouchesAgree a b = (c : Cell) → covers a.0 c ≡ true → covers b.0 c ≡ true → a.1.1 ≡ b.1.1
 
 abbrev pub AllAgree : List Touch → Type 0
 AllAgree [] = Unit {0}
-AllAgree (touch ∷ touches) = EachRow (Agree touch) touches × AllAgree touches
+AllAgree (touch ∷ touches) = EachRow (TouchesAgree touch) touches × AllAgree touches
 
 abbrev pub AgreeWith : List Touch → Touch → Type 0
-AgreeWith touches touch = EachRow (Agree touch) touches
+AgreeWith touches touch = EachRow (TouchesAgree touch) touches
 
 pub agree_joined : (xs ys : List Touch) → AllAgree xs → AllAgree ys → EachRow (AgreeWith ys) xs → AllAgree (xs ++ ys)
 agree_joined [] ys a b k = b
-agree_joined (x ∷ xs) ys a b k = (each_joined (Agree x) xs ys a.0 k.0, agree_joined xs ys a.1 b k.1)
+agree_joined (x ∷ xs) ys a b k = (each_joined (TouchesAgree x) xs ys a.0 k.0, agree_joined xs ys a.1 b k.1)
 
 -- touches of one kind
 abbrev pub OfKind : AccessKind → Touch → Type 0
@@ -58,7 +58,7 @@ same_line a b c e h =
     list_eq_true (cell_line a) (cell_spot c).0 (and_parts (list_eq (cell_line a) (cell_spot c).0) (in_range (cell_lo a) (cell_hi a) (cell_spot c).1) e).0
     ∙ sym (list_eq_true (cell_line b) (cell_spot c).0 (and_parts (list_eq (cell_line b) (cell_spot c).0) (in_range (cell_lo b) (cell_hi b) (cell_spot c).1) h).0)
 
-pub apart_agree : (a b : Touch) → (cell_line a.0 ≡ cell_line b.0 → ⊥) → Agree a b
+pub apart_agree : (a b : Touch) → (cell_line a.0 ≡ cell_line b.0 → ⊥) → TouchesAgree a b
 apart_agree a b ne c e h = absurd (ne (same_line a.0 b.0 c e h))
 
 -- what agrees at cells fits at spots
@@ -66,7 +66,7 @@ spot_covered : (run other : Cells) (spot : Spot) → cell_line run ≡ spot.0 �
 unfolding covers
 spot_covered run other spot line e = ap (covers_spot cell_sort other) (spot_at run spot.1 ∙ ap (λ (l : List ℕ). (l, spot.1)) line) ∙ e
 
-agree_fits : (a b : Touch) → Agree a b → Fits cell_sort (access_of a) (access_of b)
+agree_fits : (a b : Touch) → TouchesAgree a b → Fits cell_sort (access_of a) (access_of b)
 agree_fits a b h spot e k =
     let line : cell_line a.0 ≡ spot.0 = list_eq_true (cell_line a.0) spot.0 (and_parts (list_eq (cell_line a.0) spot.0) (in_range (cell_lo a.0) (cell_hi a.0) spot.1) e).0 in
     h (cell_at a.0 spot.1) (spot_covered a.0 a.0 spot line e) (spot_covered a.0 b.0 spot line k)

@@ -21,7 +21,7 @@ use Rattle.wg_rows.proofs.Permuted.{set_permuted}
 use Rattle.wg_model.specs.Touches.{Touch, use_of, access_of, has_cells, deed_of}
 use Rattle.wg_model.specs.Bundles.{bundle_how, bundle_touch, is_used_so, no_cells, part_touched, cells_touched, touched_so, bundle_touches}
 use Rattle.wg_model.proofs.Touching.{filtered_any, none_covered}
-use Rattle.wg_shaped.specs.Bundled.{is_accessed_so, is_used, AreAlike, tells_part, IsBundled, TouchesAreKnown}
+use Rattle.wg_shaped.specs.Bundled.{is_accessed_so, part_is_used, AreAlike, tells_part, IsBundled, TouchesAreKnown}
 
 -- Tests.
 none_and : (b : Bool) → b && false ≡ false
@@ -284,43 +284,43 @@ known_parts used rows = map bundle_touch (map (part_touched used) rows)
 abbrev known_cells : BundleUse → List (Cells × AccessKind) → List Touch
 known_cells used rows = map bundle_touch (map (cells_touched used) rows)
 
-parts_used : (used : BundleUse) (p : Part) (rows : List UseRow) → is_used p (known_parts used rows) ≡ used_in p rows && not (is_texture p)
+parts_used : (used : BundleUse) (p : Part) (rows : List UseRow) → part_is_used p (known_parts used rows) ≡ used_in p rows && not (is_texture p)
 parts_used used p [] = refl
 parts_used used p (row ∷ rows) =
     ap₂ ◌||◌ (all_and (covers_part (run_part (no_cells row.0)) p) ∙ part_known row.0 p) (parts_used used p rows)
     ∙ (or_and (covers_part row.0 p) (used_in p rows) (not (is_texture p)) ∙ ap (λ b. (b || used_in p rows) && not (is_texture p)) (sym (all_and (covers_part row.0 p))))
 
-cells_used : (used : BundleUse) (p : Part) (rows : List (Cells × AccessKind)) → is_used p (known_cells used rows) ≡ lies_in p rows
+cells_used : (used : BundleUse) (p : Part) (rows : List (Cells × AccessKind)) → part_is_used p (known_cells used rows) ≡ lies_in p rows
 cells_used used p [] = refl
 cells_used used p (row ∷ rows) = ap (λ b. (covers_part (run_part row.0) p && true) || b) (cells_used used p rows)
 
-pub touches_lie : (p : Part) (touches : List Touch) → is_used p touches ≡ lies_in p (map access_of touches)
+pub touches_lie : (p : Part) (touches : List Touch) → part_is_used p touches ≡ lies_in p (map access_of touches)
 touches_lie p [] = refl
 touches_lie p (touch ∷ touches) = ap (λ b. (covers_part (run_part touch.0) p && true) || b) (touches_lie p touches)
 
 sets_used : (p : Part) (rows : List UseRow) → used_in p (sets rows) ≡ used_in p rows
 sets_used p rows = used_is p (sets rows) ∙ (ap is_some (sets_row p rows) ∙ sym (used_is p rows))
 
-pub used_joined : (p : Part) (xs ys : List Touch) → is_used p (xs ++ ys) ≡ is_used p xs || is_used p ys
+pub used_joined : (p : Part) (xs ys : List Touch) → part_is_used p (xs ++ ys) ≡ part_is_used p xs || part_is_used p ys
 used_joined p xs ys = ap (used_in p) (map-append use_of xs ys) ∙ any_joined (λ run. covers_part run p) (λ _. true) (map use_of xs) (map use_of ys)
 
 -- What is known of touches of one way uses the same parts,
 abbrev known_so : BundleUse → List Touch → List Touch
 known_so used touches = known_parts used (sets (map use_of touches)) ++ known_cells used (shown (map access_of touches))
 
-so_used : (used : BundleUse) (p : Part) (touches : List Touch) → AllOf used touches → is_used p (known_so used touches) ≡ is_used p touches
+so_used : (used : BundleUse) (p : Part) (touches : List Touch) → AllOf used touches → part_is_used p (known_so used touches) ≡ part_is_used p touches
 so_used used p touches each =
     used_joined p (known_parts used (sets (map use_of touches))) (known_cells used (shown (map access_of touches)))
     ∙ (ap₂ ◌||◌ (parts_used used p (sets (map use_of touches)) ∙ ap (λ b. b && not (is_texture p)) (sets_used p (map use_of touches))) (cells_used used p (shown (map access_of touches)))
-    ∙ by_tests (is_used p touches) (is_texture p) (lies_in p (shown (map access_of touches))) refl refl refl)
+    ∙ by_tests (part_is_used p touches) (is_texture p) (lies_in p (shown (map access_of touches))) refl refl refl)
   where
-    back : lies_in p (shown (map access_of touches)) ≡ true → is_used p touches ≡ true
+    back : lies_in p (shown (map access_of touches)) ≡ true → part_is_used p touches ≡ true
     back e = touches_lie p touches ∙ shown_lies (bundle_how used).1 p (map access_of touches) (accesses_of used touches each) e
 
-    on : is_texture p ≡ true → is_used p touches ≡ true → lies_in p (shown (map access_of touches)) ≡ true
+    on : is_texture p ≡ true → part_is_used p touches ≡ true → lies_in p (shown (map access_of touches)) ≡ true
     on is e = lies_shown p (map access_of touches) is (accesses_told used touches each) (sym (touches_lie p touches) ∙ e)
 
-    by_tests : (x t y : Bool) → is_used p touches ≡ x → is_texture p ≡ t → lies_in p (shown (map access_of touches)) ≡ y → (x && not t) || y ≡ x
+    by_tests : (x t y : Bool) → part_is_used p touches ≡ x → is_texture p ≡ t → lies_in p (shown (map access_of touches)) ≡ y → (x && not t) || y ≡ x
     by_tests true false y e f g = refl
     by_tests true true y e f g = sym g ∙ on f e
     by_tests false t true e f g = absurd (true≢false (sym (back g) ∙ e))

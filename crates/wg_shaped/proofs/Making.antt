@@ -56,7 +56,7 @@ use Rattle.wg_history.proofs.Makers.{made_met}
 use Rattle.wg_history.proofs.Runs.{newest, others}
 use Rattle.wg_history.proofs.Tests.{met_before}
 use Rattle.wg_history.proofs.Reached.{Knows, genuine_knows, double_not}
-use Rattle.wg_shaped.specs.Bundled.{MayStand, IsWholeResource, IsWholeEntry, IsWholeGroup, IsWhole, TouchesWhatIsNamed, HistoryTouchesWhatItNames}
+use Rattle.wg_shaped.specs.Bundled.{MayStand, IsWholeResource, IsWholeEntry, IsWholeGroup, IsWholeCommand, TouchesWhatIsNamed, HistoryTouchesWhatItNames}
 use Rattle.wg_shaped.proofs.Genuine.{or_none}
 use Rattle.wg_shaped.proofs.Recorded.{none_is}
 use Rattle.wg_shaped.proofs.Naming.{bundles_touch_what_they_name}
@@ -185,11 +185,11 @@ genuine_first setup past encoder object objects e =
     let parts : (is_barred setup past encoder object ≡ false) × (list_any (is_barred setup past encoder) objects ≡ false) = or_parts (is_barred setup past encoder object) (list_any (is_barred setup past encoder) objects) e in
     (and_parts _ _ (double_not _ parts.0)).0
 
-command_whole : (setup : Setup) (past : Past) (encoder : ℕ) (command : Command) → IsRun setup past → list_any (is_barred setup past encoder) (named command) ≡ false → IsWhole command
+command_whole : (setup : Setup) (past : Past) (encoder : ℕ) (command : Command) → IsRun setup past → list_any (is_barred setup past encoder) (named command) ≡ false → IsWholeCommand command
 command_whole setup past encoder (SetBindGroup index group offsets) run e = handle_whole setup past group run (genuine_first setup past encoder (group, wanted.Group) [] e)
 command_whole setup past encoder _ run e = tt
 
-kept_whole : (setup : Setup) (past : Past) (encoder : ℕ) (commands : List (On × Command)) → IsRun setup past → any_barred setup past encoder commands ≡ false → EachRow (λ (kept : On × Command). IsWhole kept.1) commands
+kept_whole : (setup : Setup) (past : Past) (encoder : ℕ) (commands : List (On × Command)) → IsRun setup past → any_barred setup past encoder commands ≡ false → EachRow (λ (kept : On × Command). IsWholeCommand kept.1) commands
 kept_whole setup past encoder [] run e = tt
 kept_whole setup past encoder (kept ∷ commands) run e =
     let parts : (list_any (is_barred setup past encoder) (named kept.1) ≡ false) × (any_barred setup past encoder commands ≡ false) = or_parts (list_any (is_barred setup past encoder) (named kept.1)) (any_barred setup past encoder commands) e in

@@ -37,7 +37,7 @@ use Rattle.wg_subres.specs.Has.{view_has, is_covered}
 use Rattle.wg_subres.proofs.Lying.{runs_of_view}
 use Rattle.wg_subres.proofs.Covered.{views_cover}
 use Rattle.wg_history.proofs.BundleTouches.{Word, buffer_word, texture_word, query_word, numbers_in, reached_by, bound_by, reached_of, bundle_uses}
-use Rattle.wg_shaped.specs.Bundled.{is_used, AreAlike, MayStand, IsWholeResource, IsWholeEntry, IsWholeGroup, IsWhole, BundlesTouchWhatTheyName}
+use Rattle.wg_shaped.specs.Bundled.{part_is_used, AreAlike, MayStand, IsWholeResource, IsWholeEntry, IsWholeGroup, IsWholeCommand, BundlesTouchWhatTheyName}
 use Rattle.wg_shaped.proofs.Known.{same_test, all_and, used_is, used_joined}
 use Rattle.wg_shaped.proofs.Standing.{each_back, each_second, all_fit, bundles_are_known}
 
@@ -85,14 +85,14 @@ numbers_lie word (Layers object aspect mip lo hi) (Subresource o a m layer) e = 
     by_word query_word = refl
 
 -- So touches of a part of a resource that passes a test are known to be of one that does.
-known_numbers : (word : Word) (test : ℕ → Bool) (p : Part) (known : List BundleTouch) → list_any test (numbers_at word p) ≡ true → is_used p (map bundle_touch known) ≡ true → list_any test (flat_map (λ (touch : BundleTouch). numbers_in word touch.cells) known) ≡ true
+known_numbers : (word : Word) (test : ℕ → Bool) (p : Part) (known : List BundleTouch) → list_any test (numbers_at word p) ≡ true → part_is_used p (map bundle_touch known) ≡ true → list_any test (flat_map (λ (touch : BundleTouch). numbers_in word touch.cells) known) ≡ true
 known_numbers word test p [] own e = absurd (true≢false (sym e))
 known_numbers word test p (touch ∷ known) own e =
     list_any-append test (numbers_in word touch.cells) (flat_map (λ (touch : BundleTouch). numbers_in word touch.cells) known)
-    ∙ by_cases (or_cases (covers_part (run_part touch.cells) p && true) (is_used p (map bundle_touch known)) e) (λ later. known_numbers word test p known own later)
+    ∙ by_cases (or_cases (covers_part (run_part touch.cells) p && true) (part_is_used p (map bundle_touch known)) e) (λ later. known_numbers word test p known own later)
   where
-    by_cases : (covers_part (run_part touch.cells) p && true ≡ true) ⊎ (is_used p (map bundle_touch known) ≡ true)
-        → (is_used p (map bundle_touch known) ≡ true → list_any test (flat_map (λ (touch : BundleTouch). numbers_in word touch.cells) known) ≡ true)
+    by_cases : (covers_part (run_part touch.cells) p && true ≡ true) ⊎ (part_is_used p (map bundle_touch known) ≡ true)
+        → (part_is_used p (map bundle_touch known) ≡ true → list_any test (flat_map (λ (touch : BundleTouch). numbers_in word touch.cells) known) ≡ true)
         → list_any test (numbers_in word touch.cells) || list_any test (flat_map (λ (touch : BundleTouch). numbers_in word touch.cells) known) ≡ true
     by_cases (inl here) rest = or_left (list_any test (numbers_in word touch.cells)) _ (sym (ap (list_any test) (numbers_lie word touch.cells p (and_parts (covers_part (run_part touch.cells) p) true here).0)) ∙ own)
     by_cases (inr later) rest = or_right (list_any test (numbers_in word touch.cells)) _ (rest later)
@@ -101,13 +101,13 @@ known_numbers word test p (touch ∷ known) own e =
 pub record Uses (word : Word) (test : ℕ → Bool) (touches : List Touch) : Type 0 where
   pub part : Part
   pub own : list_any test (numbers_at word part) ≡ true
-  pub used : is_used part touches ≡ true
+  pub used : part_is_used part touches ≡ true
 
 uses_left : (word : Word) (test : ℕ → Bool) (xs ys : List Touch) → Uses word test xs → Uses word test (xs ++ ys)
-uses_left word test xs ys uses = record { part = uses.part; own = uses.own; used = used_joined uses.part xs ys ∙ or_left (is_used uses.part xs) (is_used uses.part ys) uses.used }
+uses_left word test xs ys uses = record { part = uses.part; own = uses.own; used = used_joined uses.part xs ys ∙ or_left (part_is_used uses.part xs) (part_is_used uses.part ys) uses.used }
 
 uses_right : (word : Word) (test : ℕ → Bool) (xs ys : List Touch) → Uses word test ys → Uses word test (xs ++ ys)
-uses_right word test xs ys uses = record { part = uses.part; own = uses.own; used = used_joined uses.part xs ys ∙ or_right (is_used uses.part xs) (is_used uses.part ys) uses.used }
+uses_right word test xs ys uses = record { part = uses.part; own = uses.own; used = used_joined uses.part xs ys ∙ or_right (part_is_used uses.part xs) (part_is_used uses.part ys) uses.used }
 
 -- what is bound
 buffer_used : (test : ℕ → Bool) (object lo hi : ℕ) (how : Usages × AccessKind) → list_any test (object ∷ []) ≡ true → Uses buffer_word test ((Bytes object lo hi, how) ∷ [])
@@ -117,7 +117,7 @@ buffer_used test object lo hi how e = record {
   used = or_left (covers_part (BufferPart object) (Buffer object) && true) false (and_from (covers_part (BufferPart object) (Buffer object)) true (part_self (Buffer object)) refl);
 }
 
-cells_cover : (how : Usages × AccessKind) (p : Part) (cells : List Cells) → is_used p (map (λ (run : Cells). (run, how)) cells) ≡ is_covered (map run_part cells) p
+cells_cover : (how : Usages × AccessKind) (p : Part) (cells : List Cells) → part_is_used p (map (λ (run : Cells). (run, how)) cells) ≡ is_covered (map run_part cells) p
 cells_cover how p [] = refl
 cells_cover how p (run ∷ cells) = ap₂ ◌||◌ (all_and (covers_part (run_part run) p)) (cells_cover how p cells)
 
@@ -185,7 +185,7 @@ no_pipeline buffer_word test pipeline = refl
 no_pipeline texture_word test pipeline = refl
 no_pipeline query_word test pipeline = refl
 
-command_uses : (word : Word) (test : ℕ → Bool) (command : Command) → fits command Bundle ≡ true → IsWhole command → list_any test (reached_of (reached_by word) command) ≡ true → Uses word test (command_touches None command)
+command_uses : (word : Word) (test : ℕ → Bool) (command : Command) → fits command Bundle ≡ true → IsWholeCommand command → list_any test (reached_of (reached_by word) command) ≡ true → Uses word test (command_touches None command)
 command_uses word test (SetBindGroup index group offsets) f whole e =
     uses_left word test (bound_group_touches (Some (index, record { group = group; offsets = offsets }))) []
     (info_uses word test (known_group group) offsets whole (group_reached word test group (ap (list_any test) (sym (append-nil (reached_by word wanted.Group group))) ∙ e)))
@@ -203,7 +203,7 @@ command_uses word test _ f whole e = absurd (true≢false (sym f))
 abbrev reaches : Word → (ℕ → Bool) → Command → Bool
 reaches word test command = list_any test (reached_of (reached_by word) command)
 
-over_uses : (word : Word) (test : ℕ → Bool) (earlier : List Command) → EachRow (λ (command : Command). fits command Bundle ≡ true) earlier → EachRow IsWhole earlier → list_any (reaches word test) earlier ≡ true → Uses word test (touches_over None [] earlier)
+over_uses : (word : Word) (test : ℕ → Bool) (earlier : List Command) → EachRow (λ (command : Command). fits command Bundle ≡ true) earlier → EachRow IsWholeCommand earlier → list_any (reaches word test) earlier ≡ true → Uses word test (touches_over None [] earlier)
 over_uses word test [] stand whole e = absurd (true≢false (sym e))
 over_uses word test (command ∷ earlier) stand whole e = by_cases (or_cases (reaches word test command) (list_any (reaches word test) earlier) e) (λ later. over_uses word test earlier stand.1 whole.1 later)
   where
@@ -216,13 +216,13 @@ any_second test [] = refl
 any_second test (one ∷ kept) = ap (λ b. test one.1 || b) (any_second test kept)
 
 -- So a bundle touches what its commands name,
-named_touched : (word : Word) (test : ℕ → Bool) (device : ℕ) (targets : TargetInfo) (commands : List (On × Command)) → MayStand commands → EachRow (λ (kept : On × Command). IsWhole kept.1) commands → Verdict device (Some targets) commands ≡ None
+named_touched : (word : Word) (test : ℕ → Bool) (device : ℕ) (targets : TargetInfo) (commands : List (On × Command)) → MayStand commands → EachRow (λ (kept : On × Command). IsWholeCommand kept.1) commands → Verdict device (Some targets) commands ≡ None
     → any_named (reached_of (reached_by word)) test commands ≡ true → list_any test (in_bundle (numbers_in word) (Some (bundle_of device (Some targets) commands))) ≡ true
 named_touched word test device targets commands stand whole none e =
     let touches : List Touch = (bundle_set targets (bundled commands)).touches in
     let known : List BundleTouch = recorded_touches device targets (bundled commands) in
     let back : list_any (reaches word test) (bundled commands) ≡ true = any_second (reaches word test) (reverse commands) ∙ (any_reversed (λ (kept : On × Command). reaches word test kept.1) commands ∙ e) in
-    let uses : Uses word test touches = over_uses word test (bundled commands) (all_fit commands stand) (each_second IsWhole (reverse commands) (each_back (λ (kept : On × Command). IsWhole kept.1) commands whole)) back in
+    let uses : Uses word test touches = over_uses word test (bundled commands) (all_fit commands stand) (each_second IsWholeCommand (reverse commands) (each_back (λ (kept : On × Command). IsWholeCommand kept.1) commands whole)) back in
     let alike : AreAlike (map bundle_touch known) touches = bundles_are_known device targets commands stand none in
     known_numbers word test uses.part known uses.own
     (used_is uses.part (map use_of (map bundle_touch known)) ∙ (ap is_some (alike.sets uses.part) ∙ (sym (used_is uses.part (map use_of touches)) ∙ uses.used)))
@@ -262,7 +262,7 @@ touched_named word test device targets commands e =
     let found : Passes test (in_bundle (numbers_in word) (Some (bundle_of device (Some targets) commands))) = some_passes test _ e in
     named_passes (reached_of (reached_by word)) test found.number commands found.passes (bundle_uses word found.number device (Some targets) commands found.among)
 
-word_same : (word : Word) (device : ℕ) (targets : TargetInfo) (commands : List (On × Command)) → MayStand commands → EachRow (λ (kept : On × Command). IsWhole kept.1) commands → Verdict device (Some targets) commands ≡ None
+word_same : (word : Word) (device : ℕ) (targets : TargetInfo) (commands : List (On × Command)) → MayStand commands → EachRow (λ (kept : On × Command). IsWholeCommand kept.1) commands → Verdict device (Some targets) commands ≡ None
     → (test : ℕ → Bool) → list_any test (in_bundle (numbers_in word) (Some (bundle_of device (Some targets) commands))) ≡ any_named (reached_of (reached_by word)) test commands
 word_same word device targets commands stand whole none test =
     same_test (list_any test (in_bundle (numbers_in word) (Some (bundle_of device (Some targets) commands)))) (any_named (reached_of (reached_by word)) test commands)

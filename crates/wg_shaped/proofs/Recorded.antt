@@ -25,7 +25,7 @@ use Rattle.wg_model.proofs.StepLaws.{each_joined}
 use Rattle.wg_readback.specs.Shapes.{IsOnceStep}
 use Rattle.wg_shaped.specs.Once.{IsFair, RecordedAreOnce}
 use Rattle.wg_shaped.proofs.Walked.{or_none, EachKept, EachDone, Does, walked, kept_reverse}
-use Rattle.wg_shaped.proofs.Fitting.{Agree, AllAgree, AgreeWith, step_once}
+use Rattle.wg_shaped.proofs.Fitting.{TouchesAgree, AllAgree, AgreeWith, step_once}
 use Rattle.wg_shaped.proofs.Copying.{AgreeDoing, encoder_agree}
 use Rattle.wg_shaped.proofs.Scoping.{AreTold, IsAttached, AttachedWith, AttachedAgree, scope_agrees}
 use Rattle.wg_shaped.proofs.Telling.{ArePlain, plain_told, dispatched_plain, indirect_plain, command_plain, targets_told}
@@ -54,7 +54,7 @@ plain_attached (a ∷ touches) h = (plain_with a touches h.1, plain_attached tou
 
 attached_joined : (xs ys : List Touch) → AttachedAgree xs → ArePlain ys → AttachedAgree (xs ++ ys)
 attached_joined [] ys h k = plain_attached ys k
-attached_joined (x ∷ xs) ys h k = (each_joined (λ b. IsAttached x → IsAttached b → Agree x b) xs ys h.0 (plain_with x ys k), attached_joined xs ys h.1 k)
+attached_joined (x ∷ xs) ys h k = (each_joined (λ b. IsAttached x → IsAttached b → TouchesAgree x b) xs ys h.0 (plain_with x ys k), attached_joined xs ys h.1 k)
 
 agree_with : (a : Touch) (touches : List Touch) → AgreeWith touches a → AttachedWith touches a
 agree_with a [] h = tt

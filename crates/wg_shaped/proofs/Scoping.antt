@@ -8,7 +8,7 @@ use Rattle.wg_rows.proofs.Lying.{cells_lie}
 use Rattle.wg_model.specs.Scopes.{Use, is_within, agree, Among, Compatible, clash, IsVerdict}
 use Rattle.wg_model.specs.Touches.{Touch, use_of, in_scope, is_scoped}
 use Rattle.wg_model.proofs.Verdicts.{verdict_is}
-use Rattle.wg_shaped.proofs.Fitting.{Agree, AllAgree, AgreeWith, same_line}
+use Rattle.wg_shaped.proofs.Fitting.{TouchesAgree, AllAgree, AgreeWith, same_line}
 
 -- How a touch uses and accesses cells: it reads them, it reads and writes what it stores in, they are of an attachment, or it
 -- writes queries, which no usage scope has.
@@ -60,7 +60,7 @@ scoped_apart a (Slices o mip lo hi) e h k = true≢false h
 abbrev InScope : List Use → Touch → Type 0
 InScope uses t = is_scoped t.0 ≡ true → Among (use_of t) uses
 
-told_agree : (uses : List Use) (a b : Touch) → Compatible uses → InScope uses a → InScope uses b → Told a → Told b → (IsAttached a → IsAttached b → Agree a b) → Agree a b
+told_agree : (uses : List Use) (a b : Touch) → Compatible uses → InScope uses a → InScope uses b → Told a → Told b → (IsAttached a → IsAttached b → TouchesAgree a b) → TouchesAgree a b
 told_agree uses a b compatible in_a in_b (Reads s r w t k) (Reads s2 r2 w2 t2 k2) att c e h = k ∙ sym k2
 told_agree uses a b compatible in_a in_b (Stores s r w t k) (Stores s2 r2 w2 t2 k2) att c e h = k ∙ sym k2
 told_agree uses a b compatible in_a in_b (Attaches s r w t) (Attaches s2 r2 w2 t2) att c e h = att t t2 c e h
@@ -112,7 +112,7 @@ all_in (t ∷ touches) = (among_first t touches, later (touches) (all_in touches
 
 -- the touches of attachments that are drawn to agree
 abbrev pub AttachedWith : List Touch → Touch → Type 0
-AttachedWith touches a = EachRow (λ b. IsAttached a → IsAttached b → Agree a b) touches
+AttachedWith touches a = EachRow (λ b. IsAttached a → IsAttached b → TouchesAgree a b) touches
 
 abbrev pub AttachedAgree : List Touch → Type 0
 AttachedAgree [] = Unit {0}

@@ -37,8 +37,8 @@ abbrev pub is_accessed_so : Cell → AccessKind → List Touch → Bool
 is_accessed_so c kind touches = any_row (λ run. covers run c) (same_kind kind) (map access_of touches)
 
 -- whether some touch uses a part
-abbrev pub is_used : Part → List Touch → Bool
-is_used p touches = any_row (λ run. covers_part run p) (λ _. true) (map use_of touches)
+abbrev pub part_is_used : Part → List Touch → Bool
+part_is_used p touches = any_row (λ run. covers_part run p) (λ _. true) (map use_of touches)
 
 -- Each part has the same set of usages in two lists of touches, and each cell is accessed in the same ways.
 pub record AreAlike (xs ys : List Touch) : Type 0 where
@@ -76,7 +76,7 @@ BundlesAreKnown =
     → AreAlike (known_touches (Some (bundle_of device (Some targets) commands))) (bundle_set targets (bundled commands)).touches
 
 -- Some cell of a part is accessed.
-pub record HasCell (p : Part) (touches : List Touch) : Type 0 where
+pub record HasAccessedCell (p : Part) (touches : List Touch) : Type 0 where
   pub cell : Cell
   pub lies : part_of cell ≡ p
   pub accessed : any_row (λ run. covers run cell) (λ _. true) (map access_of touches) ≡ true
@@ -86,8 +86,8 @@ abbrev pub TexturesHaveCells : Type 0
 TexturesHaveCells =
     (targets : TargetInfo) (commands : List (On × Command))
     → MayStand commands
-    → (p : Part) → is_texture p ≡ true → is_used p (bundle_set targets (bundled commands)).touches ≡ true
-    → HasCell p (bundle_set targets (bundled commands)).touches
+    → (p : Part) → is_texture p ≡ true → part_is_used p (bundle_set targets (bundled commands)).touches ≡ true
+    → HasAccessedCell p (bundle_set targets (bundled commands)).touches
 
 -- A view that is bound has a subresource, as each that is made.
 abbrev pub IsWholeResource : BoundResource → Type 0
@@ -106,9 +106,9 @@ IsWholeGroup None = Unit {0}
 IsWholeGroup (Some group) = EachRow (IsWholeEntry group.layout_info.entries) group.entries
 
 -- A command sets no group that is not whole.
-abbrev pub IsWhole : Command → Type 0
-IsWhole (SetBindGroup index group offsets) = IsWholeGroup (known_group group)
-IsWhole _ = Unit {0}
+abbrev pub IsWholeCommand : Command → Type 0
+IsWholeCommand (SetBindGroup index group offsets) = IsWholeGroup (known_group group)
+IsWholeCommand _ = Unit {0}
 
 -- A test finds one of the buffers that a bundle is known to touch exactly where it finds one that the commands name, themselves or
 -- through bind groups, and so it is with textures and query sets: since a command that executes the bundle names what that touches, the
@@ -123,7 +123,7 @@ abbrev pub BundlesTouchWhatTheyName : Type 0
 BundlesTouchWhatTheyName =
     (device : ℕ) (targets : TargetInfo) (commands : List (On × Command))
     → MayStand commands
-    → EachRow (λ (kept : On × Command). IsWhole kept.1) commands
+    → EachRow (λ (kept : On × Command). IsWholeCommand kept.1) commands
     → Verdict device (Some targets) commands ≡ None
     → TouchesWhatIsNamed (bundle_of device (Some targets) commands) commands
 

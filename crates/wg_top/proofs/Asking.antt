@@ -3,7 +3,7 @@ use Rattle.std.proofs.Common.{◌≡◌, ℕ, ◌<◌, ◌^◌, List, [], ◌∷
 use Rattle.std.proofs.lemmas.Fmt.{decimal_injective}
 use Rattle.std.proofs.lemmas.Slice.Eq.{bytes_eq-Decides}
 use Rattle.wg_gen.specs.Alike.{MayGenerate}
-use Rattle.wg_top.specs.Words.{Spells, Asks, AsksNothing, IsJobOf, generation_words, lanes_in}
+use Rattle.wg_top.specs.Words.{Spells, AskFor, AsksNothing, IsJobOf, generation_words, lane_count}
 use Rattle.wg_top.specs.declared.words.Job.{Job}
 use Rattle.wg_top.specs.declared.words.Job.TheVariants.{Run, Generate, Check}
 
@@ -44,7 +44,7 @@ same_number : (word : List ℕ) (n m : ℕ) → Spells word (Some n) → m < 2 ^
 same_number word n m spelled small is = decimal_injective m n (omega arith) (omega (arith, spelled.1)) (sym is ∙ spelled.2)
 
 -- numbers that may not be asked for ask for nothing
-pub too_many : (count : List ℕ) (lanes : Option (List ℕ)) (n : ℕ) (m : Option ℕ) → Spells count (Some n) → SpellsAlike lanes m → (MayGenerate n (lanes_in m) → ⊥) → AsksNothing (generation_words count lanes)
+pub too_many : (count : List ℕ) (lanes : Option (List ℕ)) (n : ℕ) (m : Option ℕ) → Spells count (Some n) → SpellsAlike lanes m → (MayGenerate n (lane_count m) → ⊥) → AsksNothing (generation_words count lanes)
 too_many count lanes n m spelled alike not Run asks = cc asks.0
 too_many count lanes n m spelled alike not Check asks = cc asks.0
 too_many count None n None spelled alike not (Generate k None) asks = not (subst (λ (number : ℕ). MayGenerate number 1) (same_number count n k spelled (count_small k 1 asks.1) (cc asks.0)) asks.1)

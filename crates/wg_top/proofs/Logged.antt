@@ -6,9 +6,9 @@ use Rattle.wg_core.specs.declared.logged.Line.{Line}
 use Rattle.wg_core.specs.Cores.{line_of}
 use Rattle.wg_readback.specs.Texts.{Told, trace_behind, history_text}
 use Rattle.wg_shaped.specs.Reports.{told, report_text}
-use Rattle.wg_gen.specs.Counts.{Counts, is_issue, is_fault, is_free, counts_of}
+use Rattle.wg_gen.specs.Counts.{Tally, is_issue, is_fault, is_free, counts_of}
 use Rattle.wg_top.specs.Line.{counts_text, more_text, counted_text}
-use Rattle.wg_top.specs.Logged.{line_told, logged_text, issued, faulted, logged_counts, logged_counted}
+use Rattle.wg_top.specs.Logged.{line_told, logged_text, line_issued, faulted, logged_counts, logged_counted}
 
 told_of : (history : List Entry) → map line_told (map line_of history) ≡ map told history
 told_of [] = refl
@@ -32,12 +32,12 @@ length_lines [] = refl
 length_lines (entry ∷ history) = let e = length_lines history in omega (arith, e)
 
 counts_are : (history : List Entry) (trace : List Item) → logged_counts (map line_of history) trace ≡ counts_of history trace
-counts_are history trace = by_numbers _ _ _ _ _ _ (length_lines history) (count_lines issued history) (count_lines faulted history)
+counts_are history trace = by_numbers _ _ _ _ _ _ (length_lines history) (count_lines line_issued history) (count_lines faulted history)
   where
-    by_numbers : (a b c d e f : ℕ) → a ≡ b → c ≡ d → e ≡ f → ◌≡◌ {A = Counts} (record { entries = a; ops = c; faults = e; frees = count_by is_free trace }) (record { entries = b; ops = d; faults = f; frees = count_by is_free trace })
+    by_numbers : (a b c d e f : ℕ) → a ≡ b → c ≡ d → e ≡ f → ◌≡◌ {A = Tally} (record { entries = a; ops = c; faults = e; frees = count_by is_free trace }) (record { entries = b; ops = d; faults = f; frees = count_by is_free trace })
     by_numbers a b c d e f p q r = rw (p, q, r) refl
 
 pub counted_of : (lanes : Option ℕ) (lines : List Line) (history : List Entry) (trace : List Item) → lines ≡ map line_of history → logged_counted lanes lines trace ≡ counted_text lanes history trace
 counted_of lanes lines history trace are =
     ap (λ (ls : List Line). logged_counted lanes ls trace) are
-    ∙ ap (λ (counts : Counts). counts_text counts ++ more_text lanes trace ++ codes "\n") (counts_are history trace)
+    ∙ ap (λ (counts : Tally). counts_text counts ++ more_text lanes trace ++ codes "\n") (counts_are history trace)

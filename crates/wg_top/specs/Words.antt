@@ -5,8 +5,8 @@ use Rattle.wg_top.specs.declared.words.Job.{Job}
 use Rattle.wg_top.specs.declared.words.Job.TheVariants.{Run, Generate, Check}
 
 -- how many lanes a generated script has: one where none is asked for
-abbrev pub lanes_in : Option ℕ → ℕ
-lanes_in lanes = unwrap_or lanes 1
+abbrev pub lane_count : Option ℕ → ℕ
+lane_count lanes = unwrap_or lanes 1
 
 -- The single word `run` or `check`; or `gen` and how many iterations, or how many in each of how many lanes. Numbers stand in decimal digits,
 -- without leading zeros.
@@ -20,20 +20,20 @@ words_for (Generate count (Some lanes)) = codes "gen" ∷ decimal count ∷ deci
 abbrev pub MayAsk : Job → Type 0
 MayAsk Run = Unit {0}
 MayAsk Check = Unit {0}
-MayAsk (Generate count lanes) = MayGenerate count (lanes_in lanes)
+MayAsk (Generate count lanes) = MayGenerate count (lane_count lanes)
 
 -- the words ask for a job
-abbrev pub Asks : List (List ℕ) → Job → Type 0
-Asks words job = (words ≡ words_for job) × MayAsk job
+abbrev pub AskFor : List (List ℕ) → Job → Type 0
+AskFor words job = (words ≡ words_for job) × MayAsk job
 
 -- Words ask for no job.
 abbrev pub AsksNothing : List (List ℕ) → Type 0
-AsksNothing words = (job : Job) → Asks words job → ⊥
+AsksNothing words = (job : Job) → AskFor words job → ⊥
 
 -- the job that words ask for, if they ask for one
 abbrev pub IsJobOf : List (List ℕ) → Option Job → Type 0
 IsJobOf words None = AsksNothing words
-IsJobOf words (Some job) = Asks words job
+IsJobOf words (Some job) = AskFor words job
 
 -- ---- numbers
 

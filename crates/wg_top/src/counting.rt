@@ -2,9 +2,9 @@
 ghost use Rattle.std.specs.Prelude.{◌≡◌, count_by};
 ghost use Rattle.wg_print.specs.Printing.{Puts, Written};
 ghost use Rattle.wg_print.specs.Seen.{seen, reference};
-ghost use Rattle.wg_gen.specs.Counts.{is_free, is_bar, is_clear_step};
+ghost use Rattle.wg_gen.specs.Counts.{is_free, is_barrier, is_clear_step};
 ghost use Rattle.wg_top.specs.Line.{counts_text, more_text};
-ghost use Rattle.wg_top.specs.Logged.{issued, faulted, logged_counts, logged_counted};
+ghost use Rattle.wg_top.specs.Logged.{line_issued, faulted, logged_counts, logged_counted};
 
 use wg_core::Line;
 use wg_io::{Failed, Sink};
@@ -13,8 +13,8 @@ use wg_types::replies::Answer;
 use wg_types::steps::{Item, StepName};
 
 /// Whether the line is of an entry that issued an operation.
-fn issued(line: &Line) -> bool
-    ensures { result ≡ issued line.now }
+fn line_issued(line: &Line) -> bool
+    ensures { result ≡ line_issued line.now }
 {
     matches!(line.reply.answer, Answer::Queued(_))
 }
@@ -32,8 +32,8 @@ fn is_free(item: &Item) -> bool
     matches!(item, Item::Free { .. })
 }
 
-fn is_bar(item: &Item) -> bool
-    ensures { result ≡ is_bar item.now }
+fn is_barrier(item: &Item) -> bool
+    ensures { result ≡ is_barrier item.now }
 {
     matches!(item, Item::Bar { .. })
 }
@@ -49,9 +49,9 @@ fn is_clear_step(item: &Item) -> bool
 }
 
 fn issues_in(lines: &[Line]) -> usize
-    ensures { result ≡ count_by issued lines.now }
+    ensures { result ≡ count_by line_issued lines.now }
 {
-    lines.iter().filter(|line| issued(line)).count()
+    lines.iter().filter(|line| line_issued(line)).count()
 }
 
 fn faults_in(lines: &[Line]) -> usize
@@ -67,9 +67,9 @@ fn frees_in(trace: &[Item]) -> usize
 }
 
 fn bars_in(trace: &[Item]) -> usize
-    ensures { result ≡ count_by is_bar trace.now }
+    ensures { result ≡ count_by is_barrier trace.now }
 {
-    trace.iter().filter(|item| is_bar(item)).count()
+    trace.iter().filter(|item| is_barrier(item)).count()
 }
 
 fn clears_in(trace: &[Item]) -> usize

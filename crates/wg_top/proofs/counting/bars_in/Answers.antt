@@ -2,8 +2,8 @@ use Rattle.std.proofs.Common.{rules, tests, ◌∙◌}
 use Rattle.std.proofs.lemmas.Iterator.{YieldsList-from_slice}
 use Rattle.std.proofs.lemmas.Iterator.Consumers.{YieldsList-from_filter, count_from_yields_List}
 use Rattle.std.proofs.lemmas.List.Sums.{length-filter}
-use Rattle.wg_gen.specs.Counts.{is_bar}
+use Rattle.wg_gen.specs.Counts.{is_barrier}
 use Rattle.wg_top.proofs.counting.bars_in.Goals as goal
 
 pub returns : goal.returns
-returns c = count_from_yields_List c.filter.result _ c.count.ensures.ran (YieldsList-from_filter _ is_bar (YieldsList-from_slice c.args.trace.now cc) c.filter.ensures.closure (λ x b q k. search (rules, tests))) ∙ length-filter is_bar c.args.trace.now
+returns c = count_from_yields_List c.filter.result _ c.count.ensures.ran (YieldsList-from_filter _ is_barrier (YieldsList-from_slice c.args.trace.now cc) c.filter.ensures.closure (λ x b q k. search (rules, tests))) ∙ length-filter is_barrier c.args.trace.now
