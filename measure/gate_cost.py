@@ -3,7 +3,8 @@ such word, looks at its processes in /proc each half second, and writes a table 
 
     measure/gate-cost [--print] [-- COMMAND ..]    of the gate, or of a command in place of it
     measure/gate-cost --first-run [--print]        of the first run of the program, `./wgsim prove`
-    measure/gate-cost --from FILE [--print]        of what an earlier run left, also of one that was cut off
+    measure/gate-cost --from FILE .. [--print]     of what an earlier run left, also of one that was cut off; or of what several runs
+                                                   left, each of some crates: of a crate that several proved the last counts
     measure/gate-cost --as 13b [--from FILE]       reckons what it would take by a kit that keeps nothing, and sums up each library along
                                                    each way through crates.txt; runs nothing, and changes no document
 
@@ -48,7 +49,7 @@ def arguments():
     parser = argparse.ArgumentParser(prog="measure/gate-cost", description=__doc__, formatter_class=argparse.RawDescriptionHelpFormatter)
     parser.add_argument("--print", action="store_true", help="writes the table to standard output, and changes no document")
     parser.add_argument("--first-run", action="store_true", help="of `./wgsim prove`")
-    parser.add_argument("--from", dest="earlier", type=pathlib.Path, metavar="FILE", help="runs nothing: the samples are in this file")
+    parser.add_argument("--from", dest="earlier", type=pathlib.Path, nargs="+", metavar="FILE", help="runs nothing: of these samples")
     parser.add_argument("--as", dest="kit", choices=["13b"], help="reckons what the gate would take by that kit")
     parser.add_argument("--samples", type=pathlib.Path, metavar="FILE", help="where samples go; else a file in tools/out/")
     asked = parser.parse_args(words)
@@ -265,26 +266,43 @@ def sampled(command, file, out):
 
 
 class Costs:
-    """What a file of samples has. The last line of a job counts, and the last of all; a line that was cut off counts for nothing."""
+    """What files of samples have. The last line of a job counts, and the last of all; a line that was cut off counts for nothing."""
 
-    def __init__(self, lines):
-        self.run, self.jobs, self.all = {}, {}, {"clock": 0, "seconds": 0, "memory": 0}
+    def __init__(self, files):
+        self.runs, self.jobs, self.alls = [], {}, []
+        for lines in files:
+            self.read(lines)
+        self.run = self.runs[-1] if self.runs else {}
+
+    def read(self, lines):
+        """Takes in the samples of one run."""
+        at, whole = len(self.alls), {"clock": 0, "seconds": 0, "memory": 0}
         for line in lines:
             try:
                 record = json.loads(line)
             except ValueError:
                 continue
             if "command" in record:
-                self.run = record
+                self.runs.append(record)
             elif "job" in record:
-                self.jobs[record["job"]] = record
+                self.jobs[at, record["job"]] = record
             else:
-                self.all = record
+                whole = record
+        self.alls.append(whole)
+
+    @property
+    def all(self):
+        """What the runs took together, and what came of the last."""
+        added = {word: sum(whole[word] for whole in self.alls) for word in ("clock", "seconds")}
+        return {**self.alls[-1], **added, "memory": max(whole["memory"] for whole in self.alls)}
 
     def seconds(self, crate, kind):
-        """The processor seconds of a crate's work of a kind, or None if there was none."""
-        found = [job["seconds"] for job in self.jobs.values() if job["kind"] == kind and job["crate"] == crate]
-        return sum(found) if found else None
+        """The processor seconds of a crate's work of a kind, in the last run that had some, or None if none had."""
+        found = {}
+        for (at, _), job in self.jobs.items():
+            if job["kind"] == kind and job["crate"] == crate:
+                found[at] = found.get(at, 0) + job["seconds"]
+        return found[max(found)] if found else None
 
     def rows(self):
         """The crates, the dearest first: the seconds of each kind, all together, and the most memory at once of one of its jobs."""
@@ -307,20 +325,33 @@ def minutes(seconds):
     return f"{seconds / 60:,.0f}" if seconds > 600 else f"{seconds / 60:.1f}"
 
 
+COLUMNS = (
+    "Processor seconds, user and system, the dearest crate first. `Tests` is the crate proved once more with its tests, `Edits` the "
+    "wrong bodies that are tried, `Beside` the layout, compiling, linking and runs; `Memory` is in GB, the most that one of these took."
+)
+
+
 def head(costs):
     """The sentences above the table."""
     run, every = costs.run, costs.all
+    if len(costs.runs) > 1:
+        return f"{of_several(costs)}\n\n{COLUMNS}"
     status = every.get("status")
     ended = "It was cut off: this is what it took until then." if status is None else f"It ended with status {status}."
     where = f"on {run['day']} at commit {run['commit'] or 'unknown'}, by {run['kit'] or 'an unknown kit'}"
     took = f"{minutes(every['seconds'])} processor minutes, and {minutes(every['clock'])} minutes of the clock"
     on = f"on {run['processors']} processors, with at most {every['memory'] / 1e9:.1f} GB of memory at once"
     first = f"`{' '.join(run['command'])}` {where}: {took}, {on}. {ended}"
-    columns = (
-        "Processor seconds, user and system, the dearest crate first. `Tests` is the crate proved once more with its tests, `Edits` the "
-        "wrong bodies that are tried, `Beside` the layout, compiling, linking and runs; `Memory` is in GB, the most that one of these took."
-    )
-    return f"{first}\n\n{columns}"
+    return f"{first}\n\n{COLUMNS}"
+
+
+def of_several(costs):
+    """The sentence above the table of several runs."""
+    run = costs.run
+    crates_seconds = sum(row[-2] for row in costs.rows())
+    where = f"the last on {run['day']} at commit {run['commit'] or 'unknown'}, by {run['kit'] or 'an unknown kit'}"
+    took = f"what the table has is {minutes(crates_seconds)} processor minutes"
+    return f"{len(costs.runs)} runs, each of some crates, {where}, beside other work on {run['processors']} processors: {took}."
 
 
 def table(costs):
@@ -353,10 +384,10 @@ def chain(costs):
 
 def reckoned(asked):
     """What the gate would take by another kit: by samples, where there are some, or by the table by which `./wgsim prove` estimates."""
-    path = asked.earlier or asked.samples
-    if path.exists():
-        costs = costs_in(path)
-        return f"By {path}:\n\n" + chains.as_13b(seconds_of(costs), costs.all["seconds"])
+    paths = asked.earlier or [asked.samples]
+    if all(path.exists() for path in paths):
+        costs = costs_in(paths)
+        return f"By {', '.join(map(str, paths))}:\n\n" + chains.as_13b(seconds_of(costs), costs.all["seconds"])
     whole = sum(map(proof_costs.seconds_of, crates.listed()))
     return "By tools/wgsim/program/proof_costs.json, so without edits:\n\n" + chains.as_13b(proof_costs.seconds_of, whole)
 
@@ -371,8 +402,8 @@ def put(document, name, text):
     document.write_text(f"{before}{begin}\n\n{text}\n{end}{rest.partition(end)[2]}", encoding="utf-8")
 
 
-def costs_in(path):
-    return Costs(path.read_text(encoding="utf-8").splitlines())
+def costs_in(paths):
+    return Costs([path.read_text(encoding="utf-8").splitlines() for path in paths])
 
 
 def measured(asked, command):
@@ -391,12 +422,12 @@ def main():
     status = 0
     if not asked.earlier:
         status = measured(asked, asked.command)
-        if asked.command == ANEW and status == UNKNOWN and not costs_in(asked.samples).jobs:
+        if asked.command == ANEW and status == UNKNOWN and not costs_in([asked.samples]).jobs:
             print("gate-cost: this toolchain has no such word, and each of its gates is from nothing", file=sys.stderr)
             status = measured(asked, GATE)
-    costs = costs_in(asked.earlier or asked.samples)
+    costs = costs_in(asked.earlier or [asked.samples])
     if not costs.run:
-        sys.exit(f"{asked.earlier or asked.samples} has no samples")
+        sys.exit(f"{asked.earlier or [asked.samples]} has no samples")
     text = table(costs)
     if asked.print:
         print(text, end="")
