@@ -138,11 +138,11 @@ pub fits_each : (kind : AccessKind) (r : Cells × AccessKind) (rows : List (Cell
 fits_each kind r [] e h = tt
 fits_each kind r (y ∷ ys) e h = (λ spot p q. e ∙ sym h.0, fits_each kind r ys e h.1)
 
-put_each : (kind : AccessKind) (ps rows : List (Cells × AccessKind)) → Loose cell_sort ps → Each_value kind ps → Each_value kind rows → Apart cell_sort rows → Each_value kind (put_all cell_sort same_kind ps rows) × Apart cell_sort (put_all cell_sort same_kind ps rows)
+pub put_each : (kind : AccessKind) (ps rows : List (Cells × AccessKind)) → Loose cell_sort ps → Each_value kind ps → Each_value kind rows → Apart cell_sort rows → Each_value kind (put_all cell_sort same_kind ps rows) × Apart cell_sort (put_all cell_sort same_kind ps rows)
 put_each kind [] rows l e h a = (h, a)
 put_each kind (p ∷ ps) rows l e h a = put_each kind ps (put cell_sort same_kind p rows) l.2 e.1 (put_const cell_sort same_kind kind p rows e.0 h) (put_apart cell_sort same_kind accesses_tell p rows l.0 a (fits_each kind p rows e.0 h))
 
-put_any_all : (spot : Spot) (test : AccessKind → Bool) → Respects same_kind test → (ps rows : List (Cells × AccessKind)) → any_row (λ run. covers_spot cell_sort run spot) test (put_all cell_sort same_kind ps rows) ≡ (any_row (λ run. covers_spot cell_sort run spot) test ps || any_row (λ run. covers_spot cell_sort run spot) test rows)
+pub put_any_all : (spot : Spot) (test : AccessKind → Bool) → Respects same_kind test → (ps rows : List (Cells × AccessKind)) → any_row (λ run. covers_spot cell_sort run spot) test (put_all cell_sort same_kind ps rows) ≡ (any_row (λ run. covers_spot cell_sort run spot) test ps || any_row (λ run. covers_spot cell_sort run spot) test rows)
 put_any_all spot test r [] rows = refl
 put_any_all spot test r (p ∷ ps) rows = put_any_all spot test r ps (put cell_sort same_kind p rows) ∙ (ap (λ t. any_row (λ run. covers_spot cell_sort run spot) test ps || t) (put_any cell_sort same_kind spot test cell_widens r p rows) ∙ moved (any_row (λ run. covers_spot cell_sort run spot) test ps) (covers_spot cell_sort p.0 spot && test p.1) (any_row (λ run. covers_spot cell_sort run spot) test rows))
   where
@@ -153,7 +153,7 @@ put_any_all spot test r (p ∷ ps) rows = put_any_all spot test r ps (put cell_s
     moved false false c = refl
 
 -- The pieces of a run have one value, at those of its cells that pass a test.
-abbrev PiecesAre : AccessKind → (Cell → Bool) → (Cells → List (Cells × AccessKind)) → Type 0
+abbrev pub PiecesAre : AccessKind → (Cell → Bool) → (Cells → List (Cells × AccessKind)) → Type 0
 PiecesAre kind passes pieces = (run : Cells) → is_full run ≡ true → Loose cell_sort (pieces run) × Each_value kind (pieces run) × ((c : Cell) → value_at cell_sort (cell_spot c) (pieces run) ≡ (if covers_spot cell_sort run (cell_spot c) && passes c then Some kind else None))
 
 abbrev WithPieces : AccessKind → (Cell → Bool) → (Cells → List (Cells × AccessKind)) → List (Cells × AccessKind) → List (Cells × AccessKind) → Type 0
@@ -233,7 +233,7 @@ unset_are leaves a run full = (loose, each_by_value Write (unset_pieces leaves r
     only spot v e = chosen (if covers_spot cell_sort run spot then value_at cell_sort spot leaves else None) v (sym (value spot) ∙ e)
 
 -- and those that are wanted from before all steps.
-unwritten_are : (leaves : List (Cells × AccessKind)) → Apart cell_sort leaves → ((c : Cell) (kind : AccessKind) → value_at cell_sort (cell_spot c) leaves ≡ Some kind → kind_writes kind ≡ true) → PiecesAre Read (λ c. not (row_writes c leaves)) (unwritten_pieces leaves)
+pub unwritten_are : (leaves : List (Cells × AccessKind)) → Apart cell_sort leaves → ((c : Cell) (kind : AccessKind) → value_at cell_sort (cell_spot c) leaves ≡ Some kind → kind_writes kind ≡ true) → PiecesAre Read (λ c. not (row_writes c leaves)) (unwritten_pieces leaves)
 unwritten_are leaves a written run full = (apart_loose cell_sort (unwritten_pieces leaves run) found.0, each_by_value Read (unwritten_pieces leaves run) (apart_loose cell_sort (unwritten_pieces leaves run) found.0) only, λ c. found.1 (cell_spot c) ∙ (by_cover (covers_spot cell_sort run (cell_spot c)) (value_at cell_sort (cell_spot c) leaves) (written c) ∙ ap (λ t. if covers_spot cell_sort run (cell_spot c) && not t then Some Read else None) (sym (writes_loose c leaves (apart_loose cell_sort leaves a)))))
   where
     found : Apart cell_sort (unwritten_pieces leaves run) × ((spot : Spot) → value_at cell_sort spot (unwritten_pieces leaves run) ≡ option_map_or (λ (v : AccessKind). None) (value_at cell_sort spot leaves) (value_at cell_sort spot ((run, Read) ∷ [])))

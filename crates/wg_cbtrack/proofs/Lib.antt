@@ -17,8 +17,8 @@ pub mod Seeing
 pub mod Standing
 pub mod Spreading
 pub mod Finding
-pub mod Telling
-pub mod Swifting
+pub mod Covering
+pub mod Opening
 pub mod Nearing
 pub mod Placing
 pub mod Single

@@ -3,11 +3,13 @@ use Rattle.std.proofs.Common.{◌≡◌, ◌<◌, ◌≤◌, min, max, List, [],
 use Rattle.std.specs.Option.{option_or, option_map_or}
 use Rattle.std.proofs.lemmas.Bool.{ltb-true}
 use Rattle.wg_rows.specs.Rows.{Sort, Spot, EachRow, list_eq, list_before, covers_spot, Apart, After}
-use Rattle.wg_rows.specs.Cut.{value_at, inside_row, inside, gaps}
+use Rattle.wg_rows.specs.Cut.{value_at, inside_row, inside, gaps, choose, put_all}
 use Rattle.wg_rows.specs.Chained.{ends_before, Chained}
 use Rattle.wg_rows.specs.Runs.{PartRun, Cells, part_sort, cell_sort, part_lo, part_hi, cell_lo, cell_hi}
-use Rattle.wg_rows.specs.Uses.{Usages, AccessKind, same_set, same_kind}
+use Rattle.wg_rows.specs.Uses.{Usages, AccessKind, same_set, same_kind, same_change}
 use Rattle.wg_rows.specs.Sets.{UseRow}
+use Rattle.wg_bars.specs.Changes.{ChangeRow, change_from}
+use Rattle.wg_rows.proofs.Chained.{put_all_more}
 use Rattle.wg_rows.proofs.Cut.{Clips}
 use Rattle.wg_rows.proofs.Printed.{Tells, before_not_self}
 use Rattle.wg_rows.proofs.Sets.{covered, part_clips}
@@ -135,3 +137,13 @@ parts_chained rows a = apart_chained part_sort rows a
 
 pub cells_chained : (rows : List (Cells × AccessKind)) → Apart cell_sort rows → Chained cell_sort rows
 cells_chained rows a = apart_chained cell_sort rows a
+
+pub cells_apart : (run : Cells) (rows mid : List (Cells × AccessKind)) → IsNear cell_sort run rows mid → Apart cell_sort rows → Apart cell_sort mid
+cells_apart run rows mid n a = apart_near cell_sort run rows mid n a
+
+-- Where nothing is near, a use changes nothing, and is the first of its parts.
+pub no_changes : (row : UseRow) (near inner : List UseRow) (found : List ChangeRow) → near ≡ [] → inside part_sort row.0 near ≡ inside part_sort row.0 inner → put_all part_sort same_change found [] ≡ put_all part_sort same_change (choose (change_from row.1) (inside part_sort row.0 inner)) (put_all part_sort same_change found [])
+no_changes row near inner found none same = sym (ap (λ xs. put_all part_sort same_change (choose (change_from row.1) xs) (put_all part_sort same_change found [])) (sym same ∙ ap (inside part_sort row.0) none))
+
+pub all_open : (row : UseRow) (near inner found later : List UseRow) → near ≡ [] → gaps part_sort (row ∷ []) near ≡ gaps part_sort (row ∷ []) inner → later ≡ found ++ row ∷ [] → put_all part_sort same_set later [] ≡ put_all part_sort same_set (gaps part_sort (row ∷ []) inner) (put_all part_sort same_set found [])
+all_open row near inner found later none same e = ap (λ xs. put_all part_sort same_set xs []) e ∙ (put_all_more part_sort same_set found (row ∷ []) [] ∙ sym (ap (λ xs. put_all part_sort same_set xs (put_all part_sort same_set found [])) (sym same ∙ ap (gaps part_sort (row ∷ [])) none)))

@@ -30,7 +30,7 @@ use Rattle.wg_cbtrack.proofs.Joins.{opens_are}
 use Rattle.wg_cbtrack.proofs.Leaving.{cell_clips, cells_are, each_from, each_to, fits_each}
 use Rattle.wg_cbtrack.proofs.Nexts.{track_next, noted_more}
 use Rattle.wg_cbtrack.proofs.Seeing.{see_next}
-use Rattle.wg_cbtrack.proofs.Swifting.{opened_put}
+use Rattle.wg_cbtrack.proofs.Opening.{opened_put}
 
 pub part_whole : Whole part_sort
 part_whole (BufferPart a) = refl

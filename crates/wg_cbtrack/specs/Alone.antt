@@ -51,3 +51,12 @@ pub record FindsAll (ends starts last us : List UseRow) (changes : List ChangeRo
   pub changes_are : changes ≡ inner_changes ends us
   pub first_are : first ≡ opens ends us
   pub opened_are : opened ≡ opens starts us
+
+-- Uses are spread, and so are those of them that open parts; each is the only one of its object in the rows that it is put
+-- among.
+pub record ArePutAlone (ends starts last us opened : List UseRow) : Type 0 where
+  pub spread : Spread us
+  pub among_ends : AllAlone ends us
+  pub among_last : AllAlone last us
+  pub opened_spread : Spread opened
+  pub among_starts : AllAlone starts opened

@@ -1,5 +1,5 @@
 //! The rows that a run can meet: those of its object, where rows are in printed form.
-ghost use Rattle.std.specs.Prelude.{◌≡◌, ◌∷◌, ◌++◌, [], true, nat_lt, IsTrue, IfOk, OnOk};
+ghost use Rattle.std.specs.Prelude.{◌<◌, length, IsFalse, ◌≡◌, ◌∷◌, ◌++◌, [], true, nat_lt, IsTrue, IfOk, OnOk};
 ghost use Rattle.wg_rows.specs.Cut.{inside, gaps, put_all};
 ghost use Rattle.wg_rows.specs.Rows.{Apart};
 ghost use Rattle.std.specs.List.{flat_map};
@@ -13,6 +13,15 @@ use wg_rows::rows::{Run, gaps, put_all};
 use wg_trace::parts::{AccessKind, Cells, PartRun};
 use wg_trace::usages::Usages;
 
+/// Whether there are no rows.
+#[tactic(auto, using(std::proofs::lemmas::List::nil_from_length))]
+pub fn are_none<T>(rows: &[T]) -> bool
+    ensures yes { IsTrue result → rows.now ≡ [] }
+    ensures no { IsFalse result → 0 < length rows.now }
+{
+    rows.is_empty()
+}
+
 /// The rows near a run of parts.
 #[tactic(auto, using(crate::proofs::Nearing::inside_parts, crate::proofs::Nearing::gaps_parts, crate::proofs::Nearing::parts_chained))]
 fn near_parts(rows: &[(PartRun, Usages)], run: PartRun) -> &[(PartRun, Usages)]
@@ -25,12 +34,13 @@ fn near_parts(rows: &[(PartRun, Usages)], run: PartRun) -> &[(PartRun, Usages)]
 }
 
 /// The rows near a run of cells.
-#[tactic(auto, using(crate::proofs::Nearing::inside_cells, crate::proofs::Nearing::gaps_cells, crate::proofs::Nearing::cells_chained))]
-fn near_cells(rows: &[(Cells, AccessKind)], run: Cells) -> &[(Cells, AccessKind)]
+#[tactic(auto, using(crate::proofs::Nearing::inside_cells, crate::proofs::Nearing::gaps_cells, crate::proofs::Nearing::cells_chained, crate::proofs::Nearing::cells_apart))]
+pub fn near_cells(rows: &[(Cells, AccessKind)], run: Cells) -> &[(Cells, AccessKind)]
     requires apart { Apart cell_sort rows.now }
     requires full { nat_lt (cell_lo run) (cell_hi run) ≡ true }
     ensures inside { inside cell_sort run result.now ≡ inside cell_sort run rows.now }
     ensures gaps { (v : AccessKind) → gaps cell_sort ((run, v) ∷ []) result.now ≡ gaps cell_sort ((run, v) ∷ []) rows.now }
+    ensures apart { Apart cell_sort result.now }
 {
     near_run(rows, place(rows, run), run)
 }

@@ -9,9 +9,79 @@ ghost use Rattle.wg_cbtrack.specs.Join.{used_after};
 ghost use Rattle.wg_cbtrack.specs.Alone.{some, with_set, IsAlone, is_below, are_spread, Spread, AllAlone};
 
 use crate::owners::{Owned, start_of};
+use wg_inplace::place::insert_one;
 use wg_rows::rows::Run;
 use wg_trace::parts::PartRun;
 use wg_trace::usages::Usages;
+
+/// Where the rows of up to four uses were found, in their order.
+#[derive(Clone, Copy)]
+pub struct Places {
+    count: u8,
+    first: usize,
+    second: usize,
+    third: usize,
+    fourth: usize,
+}
+
+impl Places {
+    /// None was found.
+    pub fn new() -> Places {
+        Places {
+            count: 0,
+            first: 0,
+            second: 0,
+            third: 0,
+            fourth: 0,
+        }
+    }
+
+    /// With one more, unless there are four.
+    pub fn and(self, at: usize) -> Places {
+        match self.count {
+            0 => Places {
+                count: 1,
+                first: at,
+                ..self
+            },
+            1 => Places {
+                count: 2,
+                second: at,
+                ..self
+            },
+            2 => Places {
+                count: 3,
+                third: at,
+                ..self
+            },
+            3 => Places {
+                count: 4,
+                fourth: at,
+                ..self
+            },
+            _ => self,
+        }
+    }
+
+    /// The first of them, behind rows that came before it since, or another place if there is none.
+    fn next_or(self, other: usize, more: usize) -> usize {
+        if self.count == 0 {
+            return other;
+        }
+        self.first.saturating_add(more)
+    }
+
+    /// Those behind the first.
+    fn later(self) -> Places {
+        Places {
+            count: self.count.saturating_sub(1),
+            first: self.second,
+            second: self.third,
+            third: self.fourth,
+            fourth: 0,
+        }
+    }
+}
 
 /// Whether what stands before a place is of a lesser object.
 fn is_behind<T: Owned>(rows: &[T], object: u64, at: usize) -> bool
@@ -138,7 +208,7 @@ pub fn put_one<T: Owned>(rows: &mut Vec<T>, at: usize, row: T)
         rows[at] = row;
         return;
     }
-    let _ = rows.insert(at, row);
+    insert_one(rows, at, row);
 }
 
 /// Whether a use stands before the next, if there is one, by its object.
@@ -181,8 +251,9 @@ fn put_next(rows: &mut Vec<(PartRun, Usages)>, row: (PartRun, Usages), hint: usi
     at.saturating_add(1)
 }
 
-/// Puts uses over rows, each in place of what its object has there.
-pub fn put_alone(rows: &mut Vec<(PartRun, Usages)>, uses: &[(PartRun, Usages)])
+/// Puts uses over rows, each in place of what its object has there. They are looked for first where they may
+/// have been found.
+pub fn put_alone(rows: &mut Vec<(PartRun, Usages)>, uses: &[(PartRun, Usages)], places: Places)
     requires apart { Apart part_sort rows.old.items }
     requires spread { Spread uses.now }
     requires alone { AllAlone rows.old.items uses.now }
@@ -190,8 +261,12 @@ pub fn put_alone(rows: &mut Vec<(PartRun, Usages)>, uses: &[(PartRun, Usages)])
     ensures items { rows.new.items ≡ used_after uses.now rows.old.items }
     ensures capacity { vec_capacity rows.old ≤ vec_capacity rows.new }
 {
+    let len = rows.len();
+    let mut rest = places;
     let mut hint = 0;
     for row in uses {
-        hint = put_next(rows, *row, hint);
+        let at = rest.next_or(hint, rows.len().saturating_sub(len));
+        rest = rest.later();
+        hint = put_next(rows, *row, at);
     }
 }

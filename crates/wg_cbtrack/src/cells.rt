@@ -1,5 +1,5 @@
 //! The cells of one more noted step.
-ghost use Rattle.std.specs.Prelude.{◌≡◌, List, [], IfOk, OnOk, IsTrue};
+ghost use Rattle.std.specs.Prelude.{◌≡◌, List, IfOk, OnOk, IsTrue};
 ghost use Rattle.wg_rows.specs.Cut.{choose, put_all};
 ghost use Rattle.wg_rows.specs.Rows.{Apart};
 ghost use Rattle.wg_rows.specs.Runs.{cell_sort};
@@ -17,7 +17,6 @@ ghost use Rattle.wg_cbtrack.specs.Leaves.{
 ghost use Rattle.wg_cbtrack.specs.Next.{AreCells};
 
 use crate::about::about_cells;
-use crate::join::put_few;
 use std::alloc::Global;
 use wg_entry::NoMemory;
 use wg_rows::cell_runs::{cell_hi, cell_lo, reads, unsets, writes};
@@ -36,7 +35,7 @@ pub struct CellsAfter {
 /// Which pieces of a run that is read count: those that are left unset, as they are cleared, or those that
 /// no step before wrote, as they are read.
 #[derive(Clone, Copy)]
-pub enum Pieces {
+enum Pieces {
     Unset,
     Unwritten,
 }
@@ -69,7 +68,7 @@ fn left_after(
 }
 
 /// The rows of what is left unset, as they are cleared.
-fn cleared(
+pub fn cleared(
     alloc: Global,
     rows: &[(Cells, AccessKind)],
 ) -> Result<Vec<(Cells, AccessKind)>, NoMemory>
@@ -155,7 +154,7 @@ fn push_pieces(
 
 /// Pieces of the runs that accesses read, the last access first, which are yet to be put among rows: it is known
 /// whether what is left is in printed form.
-pub fn pieces_over(
+fn pieces_over(
     alloc: Global,
     pieces: Pieces,
     rows: &[(Cells, AccessKind)],
@@ -177,28 +176,6 @@ pub fn pieces_over(
         }
     }
     Ok(found)
-}
-
-/// What accesses read of the cells that are left unset, which are in printed form: the accesses of the clear
-/// inside before them.
-pub fn clear_over(
-    alloc: Global,
-    leaves: &[(Cells, AccessKind)],
-    accesses: &[(Cells, AccessKind)],
-) -> Result<Vec<(Cells, AccessKind)>, NoMemory>
-    requires { Apart cell_sort leaves.now }
-    ensures { IfOk result (λ v. v.items ≡ with_pieces (unset_pieces leaves.now) accesses.now []) }
-{
-    let none = Vec::new(alloc);
-    let found = pieces_over(
-        alloc,
-        Pieces::Unset,
-        none.as_slice(),
-        leaves,
-        true,
-        accesses,
-    )?;
-    put_few(alloc, found)
 }
 
 /// Rows with pieces of the runs that accesses read, the last access first.

@@ -8,7 +8,7 @@ ghost use Rattle.wg_cbtrack.specs.Owners.{Ordered, rows_below};
 ghost use Rattle.wg_cbtrack.specs.Near.{use_object};
 ghost use Rattle.wg_cbtrack.specs.Alone.{IsAlone, Spread, FindsAll};
 
-use crate::alone::{seek, set_at};
+use crate::alone::{Places, seek, set_at};
 use crate::join::push_change;
 use crate::owners::Owned;
 use std::alloc::Global;
@@ -82,12 +82,15 @@ fn is_alone(rows: &[(PartRun, Usages)], row: (PartRun, Usages), at: usize) -> bo
 }
 
 /// What uses find: the changes that they bring, those that are the first of their parts, and those that
-/// are the first of them among noted steps.
+/// are the first of them among noted steps. Also whether each is known to be the only one of its object, and
+/// where they may stand.
 #[derive(Drop)]
 pub struct Found {
     pub changes: Vec<(PartRun, Change)>,
     pub first: Vec<(PartRun, Usages)>,
     pub opened: Vec<(PartRun, Usages)>,
+    pub are_alone: bool,
+    pub places: Places,
 }
 
 /// What uses find in rows, unless some object has other parts there.
@@ -107,6 +110,7 @@ pub fn find_all(
     let mut changes = Vec::new(alloc);
     let mut first = Vec::new(alloc);
     let mut opened = Vec::new(alloc);
+    let mut places = Places::new();
     let mut hint = 0;
     for row in uses {
         let at = seek(ends, row.object(), hint);
@@ -121,11 +125,14 @@ pub fn find_all(
         if !is_alone(last, *row, ended) {
             return Ok(None);
         }
+        places = places.and(at);
         hint = at.saturating_add(1);
     }
     Ok(Some(Found {
         changes,
         first,
         opened,
+        are_alone: true,
+        places,
     }))
 }

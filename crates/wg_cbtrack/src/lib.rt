@@ -7,6 +7,7 @@ ghost use Rattle.wg_cbtrack.specs.Stands.{FreesKeep};
 mod about;
 mod alone;
 mod cells;
+mod covered;
 mod draft;
 mod found;
 mod join;
@@ -16,9 +17,8 @@ mod noting;
 mod owners;
 mod placed;
 pub mod plan;
+mod reads;
 mod seen;
-mod swift;
-mod told;
 pub mod track;
 pub mod tracker;
 

@@ -9,21 +9,24 @@ ghost use Rattle.wg_init.specs.Effects.{is_full};
 ghost use Rattle.wg_cbtrack.specs.Join.{used_after, inner_changes, opens};
 ghost use Rattle.wg_cbtrack.specs.Owners.{Ordered};
 ghost use Rattle.wg_cbtrack.specs.Items.{noted};
-ghost use Rattle.wg_cbtrack.specs.Leaves.{AllOf, left_kind, left_after};
+ghost use Rattle.wg_cbtrack.specs.Alone.{Spread, AllAlone, ArePutAlone};
+ghost use Rattle.wg_cbtrack.specs.Leaves.{AllOf, AreTidy, left_kind, left_after};
 ghost use Rattle.wg_cbtrack.specs.Near.{AreOrdered, AreSameRows, use_object};
 ghost use Rattle.wg_cbtrack.specs.Track.{Holds};
 ghost use Rattle.wg_cbtrack.specs.Placed.{AreReads, IsPlaced};
 
-use crate::alone::are_spread;
-use crate::cells::{Pieces, clear_over, left_kind, pieces_over};
+use crate::alone::{Places, are_spread, put_alone};
+use crate::cells::left_kind;
+use crate::covered::is_held_at;
 use crate::found::{Found, find_all};
 use crate::join::{changes_over, opens_over};
 use crate::kept::{Kept, Rows};
+use crate::reads::find_reads;
 use std::alloc::Global;
 use wg_bars::barriers::Change;
 use wg_entry::NoMemory;
 use wg_inplace::place::{overwrite_in, place, place_of, replace};
-use wg_rows::cell_runs::{cell_hi, cell_lo, writes};
+use wg_rows::cell_runs::{cell_hi, cell_lo, unsets, writes};
 use wg_rows::rows::are_apart;
 use wg_trace::items::Items;
 use wg_trace::parts::{AccessKind, Cells, PartRun};
@@ -31,13 +34,16 @@ use wg_trace::steps::Deed;
 use wg_trace::usages::Usages;
 
 /// What a step finds: the changes that it brings, its uses that are the first of their parts, those that are
-/// the first of them among noted steps, and what it reads that no step before it writes.
+/// the first of them among noted steps, and what it reads that no step before it writes. Also whether each use is
+/// known to be the only one of its object, and where it may stand.
 #[derive(Drop)]
 pub struct Placed {
     pub changes: Vec<(PartRun, Change)>,
     pub first: Vec<(PartRun, Usages)>,
     pub opened: Vec<(PartRun, Usages)>,
     pub pieces: Vec<(Cells, AccessKind)>,
+    pub are_alone: bool,
+    pub places: Places,
 }
 
 /// Whether a row is a read that covers something.
@@ -65,7 +71,7 @@ fn are_reads(rows: &[(Cells, AccessKind)]) -> bool
 
 /// What uses find that are in printed form: with no list but of what is found, where each is the only one of
 /// its object.
-#[tactic(auto, using(crate::proofs::Spreading::spread_told))]
+#[tactic(auto, using(crate::proofs::Spreading::spread_told, crate::proofs::Opening::puts_alone))]
 fn find_uses(
     alloc: Global,
     ends: &[(PartRun, Usages)],
@@ -81,6 +87,7 @@ fn find_uses(
     ensures changes { IfOk result (λ found. found.changes.items ≡ inner_changes ends.now uses.now) }
     ensures first { IfOk result (λ found. found.first.items ≡ opens ends.now uses.now) }
     ensures opened { IfOk result (λ found. found.opened.items ≡ opens starts.now uses.now) }
+    ensures alone { IfOk result (λ found. IsTrue found.are_alone → ArePutAlone ends.now starts.now last.now uses.now found.opened.items) }
 {
     if are_spread(uses) {
         if let Some(found) = find_all(alloc, ends, starts, last, uses)? {
@@ -94,6 +101,8 @@ fn find_uses(
         changes,
         first,
         opened,
+        are_alone: false,
+        places: Places::new(),
     })
 }
 
@@ -102,26 +111,20 @@ pub fn find_placed(alloc: Global, rows: &Rows, deed: &Deed) -> Result<Option<Pla
     requires ordered { AreOrdered rows.now }
     requires ends { Apart part_sort rows.now.ends.items }
     requires starts { Apart part_sort rows.now.starts.items }
-    requires leaves { Apart cell_sort rows.now.leaves.items }
-    ensures { IfOk result (λ o. IfSome o (λ found. IsPlaced rows.now deed.now found.changes.items found.first.items found.opened.items found.pieces.items)) }
+    requires tidy { AreTidy rows.now.wants.items rows.now.leaves.items }
+    ensures placed { IfOk result (λ o. IfSome o (λ found. IsPlaced rows.now deed.now found.changes.items found.first.items found.opened.items found.pieces.items)) }
+    ensures alone { IfOk result (λ o. IfSome o (λ found. IsTrue found.are_alone →
+        ArePutAlone rows.now.ends.items rows.now.starts.items rows.now.last.items deed.now.uses found.opened.items)) }
 {
     let uses = deed.uses.as_slice();
-    let accesses = deed.accesses.as_slice();
     if !are_apart(uses) {
         return Ok(None);
     }
-    let clear = clear_over(alloc, rows.leaves.as_slice(), accesses)?;
-    if !clear.is_empty() {
+    let wants = rows.wants.as_slice();
+    let leaves = rows.leaves.as_slice();
+    let Some(pieces) = find_reads(alloc, wants, leaves, deed.accesses.as_slice())? else {
         return Ok(None);
-    }
-    let pieces = pieces_over(
-        alloc,
-        Pieces::Unwritten,
-        rows.wants.as_slice(),
-        rows.leaves.as_slice(),
-        true,
-        accesses,
-    )?;
+    };
     if !are_reads(pieces.as_slice()) {
         return Ok(None);
     }
@@ -136,12 +139,16 @@ pub fn find_placed(alloc: Global, rows: &Rows, deed: &Deed) -> Result<Option<Pla
         changes,
         first,
         opened,
+        are_alone,
+        places,
     } = found;
     Ok(Some(Placed {
         changes,
         first,
         opened,
         pieces,
+        are_alone,
+        places,
     }))
 }
 
@@ -172,8 +179,28 @@ fn use_in(rows: &mut Vec<(PartRun, Usages)>, uses: &[(PartRun, Usages)])
     }
 }
 
+/// Puts uses over rows, each in place of what was there: with less where each is the only one of its object.
+fn put_uses(
+    rows: &mut Vec<(PartRun, Usages)>,
+    uses: &[(PartRun, Usages)],
+    are_alone: bool,
+    places: Places,
+)
+    requires apart { Apart part_sort rows.old.items }
+    requires uses { Apart part_sort uses.now }
+    requires alone { IsTrue are_alone → Spread uses.now × AllAlone rows.old.items uses.now }
+    requires room { vec_len rows.old + 2 * length uses.now ≤ vec_capacity rows.old }
+    ensures items { rows.new.items ≡ used_after uses.now rows.old.items }
+{
+    if are_alone {
+        put_alone(rows, uses, places);
+        return;
+    }
+    use_in(rows, uses);
+}
+
 /// Puts what an access writes over what is left.
-#[tactic(auto, using(wg_rows::proofs::Runs::cell_widens, crate::proofs::Leaving::cell_clips, crate::proofs::Placing::cell_whole))]
+#[tactic(auto, using(wg_rows::proofs::Runs::cell_widens, crate::proofs::Leaving::cell_clips, crate::proofs::Placing::cell_whole, crate::proofs::Covering::left_same))]
 fn leave_one(rows: &mut Vec<(Cells, AccessKind)>, access: (Cells, AccessKind))
     requires apart { Apart cell_sort rows.old.items }
     requires room { vec_len rows.old + 2 ≤ vec_capacity rows.old }
@@ -183,6 +210,9 @@ fn leave_one(rows: &mut Vec<(Cells, AccessKind)>, access: (Cells, AccessKind))
 {
     if writes(access.1) && cell_lo(access.0) < cell_hi(access.0) {
         let at = place(rows.as_slice(), access.0);
+        if !unsets(access.1) && is_held_at(rows.as_slice(), at, access.0, AccessKind::Write) {
+            return;
+        }
         overwrite_in(rows, at, (access.0, left_kind(access.1)));
     }
 }
@@ -278,6 +308,8 @@ fn put_placed(
     opened: &[(PartRun, Usages)],
     pieces: &[(Cells, AccessKind)],
     accesses: &[(Cells, AccessKind)],
+    are_alone: bool,
+    places: Places,
 )
     requires ends { Apart part_sort rows.old.ends.items }
     requires last { Apart part_sort rows.old.last.items }
@@ -288,6 +320,7 @@ fn put_placed(
     requires uses { Apart part_sort uses.now }
     requires opened { Apart part_sort opened.now }
     requires reads { AreReads pieces.now }
+    requires alone { IsTrue are_alone → ArePutAlone rows.old.ends.items rows.old.starts.items rows.old.last.items uses.now opened.now }
     requires room_ends { vec_len rows.old.ends + 2 * length uses.now ≤ vec_capacity rows.old.ends }
     requires room_last { vec_len rows.old.last + 2 * length uses.now ≤ vec_capacity rows.old.last }
     requires room_starts { vec_len rows.old.starts + 2 * length opened.now ≤ vec_capacity rows.old.starts }
@@ -301,9 +334,9 @@ fn put_placed(
     ensures needs { rows.new.needs.items ≡ map (λ row. row.0) rows.new.wants.items }
     ensures leaves { rows.new.leaves.items ≡ left_after accesses.now rows.old.leaves.items }
 {
-    use_in(&mut rows.ends, uses);
-    use_in(&mut rows.last, uses);
-    use_in(&mut rows.starts, opened);
+    put_uses(&mut rows.ends, uses, are_alone, places);
+    put_uses(&mut rows.last, uses, are_alone, places);
+    put_uses(&mut rows.starts, opened, are_alone, places);
     want_in(&mut rows.wants, &mut rows.needs, pieces);
     leave_in(&mut rows.leaves, accesses);
 }
@@ -317,6 +350,8 @@ pub fn note_placed(
 ) -> Result<(), NoMemory>
     requires holds { Holds (noted kept.old.items) kept.old.items rows.old }
     requires placed { IsPlaced rows.old deed found.changes.items found.first.items found.opened.items found.pieces.items }
+    requires alone { IsTrue found.are_alone →
+        ArePutAlone rows.old.ends.items rows.old.starts.items rows.old.last.items deed.uses found.opened.items }
     ensures holds { Holds (noted kept.new.items) kept.new.items rows.new }
     ensures noted { OnOk result (noted kept.new.items ≡ noted kept.old.items ++ deed ∷ []) }
     ensures unchanged { OnErr result (kept.new.items ≡ kept.old.items) }
@@ -326,6 +361,8 @@ pub fn note_placed(
         first,
         opened,
         pieces,
+        are_alone,
+        places,
     } = found;
     kept.reserve(1)?;
     make_room(
@@ -341,6 +378,8 @@ pub fn note_placed(
         opened.as_slice(),
         pieces.as_slice(),
         deed.accesses.as_slice(),
+        are_alone,
+        places,
     );
     kept.push_reserved(Kept {
         deed,

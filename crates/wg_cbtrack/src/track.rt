@@ -16,7 +16,6 @@ use crate::kept::{Kept, Rows};
 use crate::near::{exchange_all, make_room};
 use crate::noting::{After, copy_of, step_after};
 use crate::placed::{find_placed, note_placed};
-use crate::swift::{find_swift, note_swift};
 use std::alloc::Global;
 use std::marker::Model;
 use wg_entry::NoMemory;
@@ -183,9 +182,6 @@ impl CbTrack {
         ensures noted { OnOk result (self.new ≡ self.old ++ deed ∷ []) }
         ensures unchanged { OnErr result (self.new ≡ self.old) }
     {
-        if let Some(found) = find_swift(self.alloc, &self.rows, &deed)? {
-            return note_swift(&mut self.kept, &mut self.rows, deed, found);
-        }
         if let Some(found) = find_placed(self.alloc, &self.rows, &deed)? {
             return note_placed(&mut self.kept, &mut self.rows, deed, found);
         }

@@ -161,7 +161,7 @@ fn open_up<T: Copy>(rows: &mut Vec<T>, from: usize, row: T)
 
 /// Puts a row in at a place, in room that there is.
 #[tactic(auto, using(crate::proofs::Placing::opened))]
-fn insert_one<T: Copy>(rows: &mut Vec<T>, from: usize, row: T)
+pub fn insert_one<T: Copy>(rows: &mut Vec<T>, from: usize, row: T)
     requires within { from ≤ vec_len rows.old }
     requires room { vec_len rows.old < vec_capacity rows.old }
     ensures items { rows.new.items ≡ take from rows.old.items ++ (row ∷ drop from rows.old.items) }

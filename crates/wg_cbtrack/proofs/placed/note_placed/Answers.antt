@@ -11,6 +11,7 @@ use Rattle.wg_cbtrack.specs.Track.{Holds}
 use Rattle.wg_cbtrack.specs.Next.{AreMore}
 use Rattle.wg_cbtrack.specs.Placed.{AreReads}
 use Rattle.wg_cbtrack.proofs.Nearby.{ends_apart}
+use Rattle.wg_cbtrack.proofs.Opening.{alone_same}
 use Rattle.wg_cbtrack.proofs.Placing.{PlacedRows, opened_apart, placed_more, placed_noted, placed_holds}
 use Rattle.wg_cbtrack.proofs.placed.note_placed.Goals as goal
 
@@ -25,6 +26,9 @@ put_placed-requires-clause-opened c = subst (Apart part_sort) (sym c.as_slice-4.
 
 pub put_placed-requires-clause-reads : goal.put_placed-requires-clause-reads
 put_placed-requires-clause-reads c = subst AreReads (sym c.as_slice-5.ensures.value) c.requires.placed.reads
+
+pub put_placed-requires-clause-alone : goal.put_placed-requires-clause-alone
+put_placed-requires-clause-alone c = λ t. alone_same c.args.rows.now.ends.items c.args.rows.now.starts.items c.args.rows.now.last.items c.args.deed.uses c.args.found.opened.items c.make_room.new.rows.ends.items c.make_room.new.rows.starts.items c.make_room.new.rows.last.items c.as_slice-3.result.now c.as_slice-4.result.now c.make_room.ensures.same.ends c.make_room.ensures.same.starts c.make_room.ensures.same.last c.as_slice-3.ensures c.as_slice-4.ensures.value (c.requires.alone t)
 
 pub returns-clause-holds : goal.returns-clause-holds
 returns-clause-holds c =

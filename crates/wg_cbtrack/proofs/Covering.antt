@@ -1,30 +1,23 @@
--- Accesses that change no cells.
-use Rattle.std.proofs.Common.{◌≡◌, ℕ, zero, suc, ◌<◌, ◌≤◌, List, [], ◌∷◌, Bool, true, false, ◌||◌, ◌&&◌, ◌⊎◌, inl, inr, Option, Some, None, refl, ap, sym, ◌∙◌, arith, if◌then◌else◌, subst, true≢false, length, drop, get_or, drop-cons, add-one, ◌+◌}
+-- Accesses to cells that rows cover, which change nothing.
+use Rattle.std.proofs.Common.{◌≡◌, ℕ, zero, suc, ◌<◌, ◌≤◌, List, [], ◌∷◌, ◌++◌, Bool, true, false, ◌||◌, ◌&&◌, Option, Some, None, refl, ap, sym, ◌∙◌, subst, arith, if◌then◌else◌, true≢false, length, get_or}
 use Rattle.std.specs.Option.{option_map_or, option_and_then}
-use Rattle.std.proofs.lemmas.List.{drop_all}
-use Rattle.std.proofs.lemmas.Bool.{ltb-true}
+use Rattle.std.proofs.lemmas.Bool.{lt-ltb, or_right}
 use Rattle.wg_rows.specs.Rows.{Spot, covers_spot, EachRow, Apart, Fits, list_eq, has_value, put}
-use Rattle.wg_rows.specs.Cut.{value_at, inside, gaps, choose, put_all, overwrite}
-use Rattle.wg_rows.specs.Runs.{Cells, Bytes, Layers, Slices, Queries, cell_sort, cell_line, cell_lo, cell_hi}
-use Rattle.wg_rows.specs.Uses.{AccessKind, Read, Write, Drop, same_kind, kind_reads, kind_writes}
+use Rattle.wg_rows.specs.Cut.{value_at, inside, put_all, overwrite}
+use Rattle.wg_rows.specs.Runs.{Cells, cell_sort, cell_line, cell_lo, cell_hi}
+use Rattle.wg_rows.specs.Uses.{AccessKind, Read, Write, Drop, same_kind, kind_writes, kind_unsets}
 use Rattle.wg_init.specs.Effects.{is_full}
-use Rattle.wg_rows.proofs.Put.{list_eq_true, put_any}
+use Rattle.wg_rows.proofs.Put.{list_eq_true, put_any, Respects}
 use Rattle.wg_rows.proofs.Printed.{covers_from, put_apart, respects, rows_unique}
 use Rattle.wg_rows.proofs.Runs.{cell_widens}
 use Rattle.wg_rows.proofs.Sets.{covered}
 use Rattle.wg_rows.proofs.Told.{accesses_tell}
 use Rattle.wg_rows.proofs.Values.{Loose, apart_loose, inside_value, inside_loose, choose_value, choose_loose, gaps_are, has_at, overwrite_value, overwrite_apart}
-use Rattle.wg_cbtrack.specs.Leaves.{left_kind, left_after, with_pieces, cleared_kind, unset_pieces, unwritten_pieces}
-use Rattle.wg_cbtrack.specs.Told.{CoveredBy, IsAbsent, IsTold}
-use Rattle.wg_cbtrack.proofs.Local.{Keeps, same_values}
-use Rattle.wg_cbtrack.proofs.Leaving.{cell_clips}
-use Rattle.wg_cbtrack.proofs.Finding.{inside_about, gaps_about}
-
-cell_keeps : Keeps cell_sort
-cell_keeps (Bytes a x y) lo hi = refl
-cell_keeps (Layers a b c x y) lo hi = refl
-cell_keeps (Slices a b x y) lo hi = refl
-cell_keeps (Queries a x y) lo hi = refl
+use Rattle.wg_rows.proofs.Chained.{put_all_more}
+use Rattle.wg_cbtrack.specs.Leaves.{AllOf, AreTidy, left_kind, cleared_kind, unset_pieces, unwritten_pieces}
+use Rattle.wg_cbtrack.specs.Covered.{CoveredBy}
+use Rattle.wg_cbtrack.proofs.Local.{same_values}
+use Rattle.wg_cbtrack.proofs.Leaving.{cell_clips, put_any_all, put_each, unwritten_are, each_from, each_to}
 
 -- A row shows its value.
 shown_at : (rows : List (Cells × AccessKind)) (i : ℕ) (d : Cells × AccessKind) (spot : Spot) → Loose cell_sort rows → i < length rows → covers_spot cell_sort (get_or rows i d).0 spot ≡ true → value_at cell_sort spot rows ≡ Some (get_or rows i d).1
@@ -49,7 +42,7 @@ nothing (x ∷ xs) l h =
     let none_is_some : None ≡ Some x.1 = sym (h (cell_line x.0, cell_lo x.0)) ∙ ap (λ b. if b then Some x.1 else value_at cell_sort (cell_line x.0, cell_lo x.0) xs) itself in
     absurd (cc)
 
-covered_unset : (leaves : List (Cells × AccessKind)) (run : Cells) → Apart cell_sort leaves → CoveredBy leaves run Write → unset_pieces leaves run ≡ []
+pub covered_unset : (leaves : List (Cells × AccessKind)) (run : Cells) → Apart cell_sort leaves → CoveredBy leaves run Write → unset_pieces leaves run ≡ []
 covered_unset leaves run a h = nothing (unset_pieces leaves run) (choose_loose cell_sort cleared_kind (inside cell_sort run leaves) inner) (λ spot. choose_value cell_sort cleared_kind (inside cell_sort run leaves) spot inner ∙ (ap (option_and_then cleared_kind) (inside_value cell_sort cell_clips run leaves spot) ∙ by_cover spot (covers_spot cell_sort run spot) refl))
   where
     inner : Loose cell_sort (inside cell_sort run leaves)
@@ -59,10 +52,7 @@ covered_unset leaves run a h = nothing (unset_pieces leaves run) (choose_loose c
     by_cover spot true k = ap (option_and_then cleared_kind) (h spot k)
     by_cover spot false k = refl
 
-absent_unset : (leaves : List (Cells × AccessKind)) (run : Cells) → IsAbsent leaves run → unset_pieces leaves run ≡ []
-absent_unset leaves run h = ap (choose cleared_kind) (sym (inside_about cell_sort run leaves) ∙ ap (inside cell_sort run) h)
-
-covered_gaps : (leaves : List (Cells × AccessKind)) (run : Cells) → Apart cell_sort leaves → cell_lo run < cell_hi run → CoveredBy leaves run Write → unwritten_pieces leaves run ≡ []
+pub covered_gaps : (leaves : List (Cells × AccessKind)) (run : Cells) → Apart cell_sort leaves → cell_lo run < cell_hi run → CoveredBy leaves run Write → unwritten_pieces leaves run ≡ []
 covered_gaps leaves run a n h = nothing (unwritten_pieces leaves run) (apart_loose cell_sort (unwritten_pieces leaves run) found.0) (λ spot. found.1 spot ∙ by_cover spot (covers_spot cell_sort run spot) refl)
   where
     found : Apart cell_sort (unwritten_pieces leaves run) × ((spot : Spot) → value_at cell_sort spot (unwritten_pieces leaves run) ≡ option_map_or (λ (v : AccessKind). None) (value_at cell_sort spot leaves) (value_at cell_sort spot ((run, Read) ∷ [])))
@@ -76,15 +66,12 @@ covered_gaps leaves run a n h = nothing (unwritten_pieces leaves run) (apart_loo
     by_cover spot true k = ap (λ (o : Option AccessKind). option_map_or (λ (v : AccessKind). None) o (Some Read)) (h spot k)
     by_cover spot false k = or_none (value_at cell_sort spot leaves)
 
-absent_gaps : (leaves : List (Cells × AccessKind)) (run : Cells) → IsAbsent leaves run → unwritten_pieces leaves run ≡ (run, Read) ∷ []
-absent_gaps leaves run h = sym (gaps_about cell_sort cell_keeps (run, Read) leaves) ∙ ap (gaps cell_sort ((run, Read) ∷ [])) h
-
 -- What stands and is put again changes nothing.
 pub fits_reads : (run : Cells) (rows : List (Cells × AccessKind)) → EachRow (λ row. row.1 ≡ Read) rows → EachRow (Fits cell_sort (run, Read)) rows
 fits_reads run [] h = tt
 fits_reads run (x ∷ xs) h = (λ spot p q. sym h.0, fits_reads run xs h.1)
 
-put_same : (wants : List (Cells × AccessKind)) (run : Cells) → EachRow (λ row. row.1 ≡ Read) wants → Apart cell_sort wants → cell_lo run < cell_hi run → CoveredBy wants run Read → put cell_sort same_kind (run, Read) wants ≡ wants
+pub put_same : (wants : List (Cells × AccessKind)) (run : Cells) → EachRow (λ row. row.1 ≡ Read) wants → Apart cell_sort wants → cell_lo run < cell_hi run → CoveredBy wants run Read → put cell_sort same_kind (run, Read) wants ≡ wants
 put_same wants run reads a n h = rows_unique cell_sort same_kind accesses_tell (put cell_sort same_kind (run, Read) wants) wants (put_apart cell_sort same_kind accesses_tell (run, Read) wants n a (fits_reads run wants reads)) a (λ spot v. put_any cell_sort same_kind spot (same_kind v) cell_widens (respects cell_sort same_kind accesses_tell v) (run, Read) wants ∙ by_cover spot v (covers_spot cell_sort run spot) refl)
   where
     or_itself : (b : Bool) → (b || b) ≡ b
@@ -104,51 +91,40 @@ over_same leaves run a n h = same_values cell_sort same_kind accesses_tell (over
     by_cover spot true k = sym (h spot k)
     by_cover spot false k = refl
 
-full_is : (run : Cells) → is_full run ≡ true → cell_lo run < cell_hi run
-full_is run e = ltb-true (cell_lo run) (cell_hi run) e
-
--- All that such accesses find.
-pub told_unset : (wants leaves xs : List (Cells × AccessKind)) → Apart cell_sort leaves → EachRow (IsTold wants leaves) xs → [] ≡ with_pieces (unset_pieces leaves) xs []
-told_unset wants leaves [] a h = refl
-told_unset wants leaves (x ∷ xs) a h = told_unset wants leaves xs a h.1 ∙ by_test (kind_reads x.1 && is_full x.0)
+-- What an access writes over what was written so leaves that as it was.
+pub left_same : (rows : List (Cells × AccessKind)) (x : Cells × AccessKind) → Apart cell_sort rows → kind_unsets x.1 ≡ false → cell_lo x.0 < cell_hi x.0 → CoveredBy rows x.0 Write → rows ≡ (if kind_writes x.1 && is_full x.0 then overwrite cell_sort same_kind (x.0, left_kind x.1) rows else rows)
+left_same rows x a u n c = by_test (kind_writes x.1 && is_full x.0)
   where
-    none : CoveredBy leaves x.0 Write ⊎ ((kind_writes x.1 ≡ false) × IsAbsent leaves x.0 × CoveredBy wants x.0 Read) → unset_pieces leaves x.0 ≡ []
-    none (inl c) = covered_unset leaves x.0 a c
-    none (inr c) = absent_unset leaves x.0 c.1
-
-    by_test : (b : Bool) → with_pieces (unset_pieces leaves) xs [] ≡ (if b then put_all cell_sort same_kind (unset_pieces leaves x.0) (with_pieces (unset_pieces leaves) xs []) else with_pieces (unset_pieces leaves) xs [])
-    by_test true = sym (ap (λ ps. put_all cell_sort same_kind ps (with_pieces (unset_pieces leaves) xs [])) (none h.0.1))
+    by_test : (b : Bool) → rows ≡ (if b then overwrite cell_sort same_kind (x.0, left_kind x.1) rows else rows)
+    by_test true = sym (ap (λ (b : Bool). overwrite cell_sort same_kind (x.0, if b then Drop else Write) rows) u ∙ over_same rows x.0 a n c)
     by_test false = refl
 
-pub told_wants : (wants leaves xs : List (Cells × AccessKind)) → Apart cell_sort leaves → EachRow (λ row. row.1 ≡ Read) wants → Apart cell_sort wants → EachRow (IsTold wants leaves) xs → wants ≡ with_pieces (unwritten_pieces leaves) xs wants
-told_wants wants leaves [] a r w h = refl
-told_wants wants leaves (x ∷ xs) a r w h = by_test (kind_reads x.1) (is_full x.0) refl (told_wants wants leaves xs a r w h.1)
-  where
-    one : is_full x.0 ≡ true → CoveredBy leaves x.0 Write ⊎ ((kind_writes x.1 ≡ false) × IsAbsent leaves x.0 × CoveredBy wants x.0 Read) → wants ≡ put_all cell_sort same_kind (unwritten_pieces leaves x.0) wants
-    one e (inl c) = sym (ap (λ ps. put_all cell_sort same_kind ps wants) (covered_gaps leaves x.0 a (full_is x.0 e) c))
-    one e (inr c) = sym (ap (λ ps. put_all cell_sort same_kind ps wants) (absent_gaps leaves x.0 c.1) ∙ put_same wants x.0 r w (full_is x.0 e) c.2)
+-- Reads that are put among reads.
+reads_respect : Respects same_kind (same_kind Read)
+reads_respect = respects cell_sort same_kind accesses_tell Read
 
-    by_test : (k f : Bool) → is_full x.0 ≡ f → wants ≡ with_pieces (unwritten_pieces leaves) xs wants → wants ≡ (if k && f then put_all cell_sort same_kind (unwritten_pieces leaves x.0) (with_pieces (unwritten_pieces leaves) xs wants) else with_pieces (unwritten_pieces leaves) xs wants)
-    by_test true true e rest = one e h.0.1 ∙ ap (put_all cell_sort same_kind (unwritten_pieces leaves x.0)) rest
-    by_test true false e rest = rest
-    by_test false f e rest = rest
+is_read : (o : Option AccessKind) → option_map_or (same_kind Read) o false ≡ true → o ≡ Some Read
+is_read None e = absurd (true≢false (sym e))
+is_read (Some k) e = ap Some (sym (accesses_tell.equal Read k e))
 
-pub told_left : (wants leaves xs : List (Cells × AccessKind)) → Apart cell_sort leaves → EachRow (IsTold wants leaves) xs → leaves ≡ left_after xs leaves
-told_left wants leaves [] a h = refl
-told_left wants leaves (x ∷ xs) a h = told_left wants leaves xs a h.1 ∙ ap (left_after xs) (by_test (kind_writes x.1) (is_full x.0) refl refl)
-  where
-    one : kind_writes x.1 ≡ true → is_full x.0 ≡ true → CoveredBy leaves x.0 Write ⊎ ((kind_writes x.1 ≡ false) × IsAbsent leaves x.0 × CoveredBy wants x.0 Read) → overwrite cell_sort same_kind (x.0, left_kind x.1) leaves ≡ leaves
-    one w e (inl c) = ap (λ (b : Bool). overwrite cell_sort same_kind (x.0, if b then Drop else Write) leaves) h.0.0 ∙ over_same leaves x.0 a (full_is x.0 e) c
-    one w e (inr c) = absurd (true≢false (sym w ∙ c.0))
+pub covered_more : (ps wants : List (Cells × AccessKind)) (run : Cells) → AllOf Read wants → AllOf Read (put_all cell_sort same_kind ps wants) → CoveredBy wants run Read → CoveredBy (put_all cell_sort same_kind ps wants) run Read
+covered_more ps wants run reads more h = λ spot c.
+    let held : has_value cell_sort same_kind spot Read wants ≡ true = has_at cell_sort same_kind spot Read wants (apart_loose cell_sort wants reads.1) ∙ ap (λ (o : Option AccessKind). option_map_or (same_kind Read) o false) (h spot c) in
+    is_read (value_at cell_sort spot (put_all cell_sort same_kind ps wants)) (sym (has_at cell_sort same_kind spot Read (put_all cell_sort same_kind ps wants) (apart_loose cell_sort (put_all cell_sort same_kind ps wants) more.1)) ∙ (put_any_all spot (same_kind Read) reads_respect ps wants ∙ or_right (has_value cell_sort same_kind spot Read ps) (has_value cell_sort same_kind spot Read wants) held))
 
-    by_test : (k f : Bool) → kind_writes x.1 ≡ k → is_full x.0 ≡ f → leaves ≡ (if k && f then overwrite cell_sort same_kind (x.0, left_kind x.1) leaves else leaves)
-    by_test true true w e = sym (one w e h.0.1)
-    by_test true false w e = refl
-    by_test false f w e = refl
+-- a read that is wanted already,
+pub put_held : (ps wants : List (Cells × AccessKind)) (run : Cells) → AllOf Read wants → AllOf Read (put_all cell_sort same_kind ps wants) → cell_lo run < cell_hi run → CoveredBy wants run Read → put_all cell_sort same_kind ps wants ≡ put_all cell_sort same_kind ((run, Read) ∷ []) (put_all cell_sort same_kind ps wants)
+put_held ps wants run reads more n c = sym (put_same (put_all cell_sort same_kind ps wants) run more.0 more.1 n (covered_more ps wants run reads more c))
 
--- The next access of a list.
-pub access_on : (P : Cells × AccessKind → Type 0) (xs : List (Cells × AccessKind)) (i : ℕ) (d : Cells × AccessKind) → i < length xs → P (get_or xs i d) → (EachRow P (drop i xs) → EachRow P xs) → EachRow P (drop (i + 1) xs) → EachRow P xs
-access_on P xs i d l p h rest = h (subst (EachRow P) (sym (drop-cons xs i d l ∙ ap (λ n. get_or xs i d ∷ drop n xs) (sym (add-one i)))) (p, rest))
+-- and one that is put behind others.
+pub put_behind_all : (ps later wants : List (Cells × AccessKind)) (run : Cells) → later ≡ ps ++ (run, Read) ∷ [] → put_all cell_sort same_kind later wants ≡ put_all cell_sort same_kind ((run, Read) ∷ []) (put_all cell_sort same_kind ps wants)
+put_behind_all ps later wants run e = ap (λ qs. put_all cell_sort same_kind qs wants) e ∙ put_all_more cell_sort same_kind ps ((run, Read) ∷ []) wants
 
-pub access_all : (P : Cells × AccessKind → Type 0) (xs : List (Cells × AccessKind)) (i : ℕ) → length xs ≤ i → (EachRow P (drop i xs) → EachRow P xs) → EachRow P xs
-access_all P xs i l h = h (subst (EachRow P) (sym (drop_all i xs l)) tt)
+reads_put : (wants leaves ps : List (Cells × AccessKind)) (run : Cells) → AreTidy wants leaves → cell_lo run < cell_hi run → AllOf Read (put_all cell_sort same_kind ps wants) → AllOf Read (put_all cell_sort same_kind (unwritten_pieces leaves run) (put_all cell_sort same_kind ps wants))
+reads_put wants leaves ps run tidy n reads =
+    let pieces = unwritten_are leaves tidy.left tidy.written run (lt-ltb (cell_lo run) (cell_hi run) n) in
+    let all = put_each Read (unwritten_pieces leaves run) (put_all cell_sort same_kind ps wants) pieces.0 pieces.1 (each_from Read (put_all cell_sort same_kind ps wants) reads.0) reads.1 in
+    (each_to Read (put_all cell_sort same_kind (unwritten_pieces leaves run) (put_all cell_sort same_kind ps wants)) all.0, all.1)
+
+pub held_more : (wants leaves ps later : List (Cells × AccessKind)) (run : Cells) → AreTidy wants leaves → cell_lo run < cell_hi run → AllOf Read (put_all cell_sort same_kind ps wants) → put_all cell_sort same_kind later wants ≡ put_all cell_sort same_kind (unwritten_pieces leaves run) (put_all cell_sort same_kind ps wants) → AllOf Read (put_all cell_sort same_kind later wants)
+held_more wants leaves ps later run tidy n reads e = subst (AllOf Read) (sym e) (reads_put wants leaves ps run tidy n reads)
