@@ -1,5 +1,7 @@
 //! The reply to an event, by the form in which it is answered.
-ghost use Rattle.std.specs.Prelude.{◌≡◌, ◌+◌, ◌^◌, ◌<◌, reverse, length, IfOk};
+ghost use Rattle.std.specs.Prelude.{◌≡◌, ◌+◌, ◌^◌, ◌<◌, false, reverse, length, IfOk};
+ghost use Rattle.wg_fading.specs.Fading.{was_let_go};
+ghost use Rattle.wg_state.specs.Gone.{any_gone, asked_by};
 ghost use Rattle.wg_history.specs.Entries.{effects_of};
 ghost use Rattle.wg_history.specs.Loss.{is_lost};
 ghost use Rattle.wg_history.specs.Answers.{fault_kind, fault_by, is_taken, answer_by, at_once, own_settled, loss_settled, unmap_settled, settled_by, reply_by};
@@ -86,6 +88,7 @@ fn map_settled(
     buffer: ObjRef,
     met: bool,
 ) -> Result<Settlements, NoMemory>
+    requires { was_let_go state.now.gone buffer.number ≡ false }
     ensures { (mode offset size : _) → IfOk result (λ settled. settled ≡ own_settled (reverse state.now.history) (is_lost (reverse state.now.history)) met (Promise.Map buffer mode offset size)) }
 {
     let number = state.len();
@@ -108,6 +111,7 @@ fn own_settled(
     promise: Promise,
     met: bool,
 ) -> Result<Settlements, NoMemory>
+    requires { any_gone state.now.gone (asked_by (Form.Promise promise)) ≡ false }
     ensures { IfOk result (λ settled. settled ≡ own_settled (reverse state.now.history) (is_lost (reverse state.now.history)) met promise) }
 {
     let number = state.len();
@@ -159,6 +163,7 @@ fn settled(
     effects: Effects,
     met: bool,
 ) -> Result<Settlements, NoMemory>
+    requires { any_gone state.now.gone (asked_by effects.form) ≡ false }
     ensures { IfOk result (λ settled. settled ≡ settled_by (reverse state.now.history) effects (is_lost (reverse state.now.history)) met) }
 {
     match effects.form {
@@ -186,7 +191,8 @@ pub fn reply(
     event: &Event,
     rule: Option<u16>,
 ) -> Result<Reply, NoMemory>
-    requires { length state.now.history + 1 < 2 ^ 64 }
+    requires names { any_gone state.now.gone (asked_by (effects_of event.now).form) ≡ false }
+    requires small { length state.now.history + 1 < 2 ^ 64 }
     ensures { IfOk result (λ reply. reply ≡ reply_by (reverse state.now.history) (effects_of event.now) (is_lost (reverse state.now.history)) rule) }
 {
     let effects = event.effects();

@@ -1,5 +1,7 @@
 //! The first unmet rule of each event.
-ghost use Rattle.std.specs.Prelude.{◌≡◌, ◌&&◌, ◌+◌, ◌*◌, ◌^◌, ◌<◌, reverse, [], Some, IsNone, IfOk, IfSome, false};
+ghost use Rattle.std.specs.Prelude.{◌≡◌, ◌&&◌, ◌+◌, ◌*◌, ◌^◌, ◌<◌, reverse, [], Some, IsNone, IfOk, IfSome, true, false};
+ghost use Rattle.wg_fading.specs.Fading.{was_let_go};
+ghost use Rattle.wg_state.specs.Gone.{any_gone, names_gone, uses_gone, AreDead};
 ghost use Rattle.wg_state.specs.Recordings.{any_spent};
 ghost use Rattle.std.specs.List.{list_any};
 ghost use Rattle.wg_model.specs.Rules.{first_unmet};
@@ -10,7 +12,7 @@ ghost use Rattle.wg_history.specs.Objects.{made_info};
 ghost use Rattle.wg_model.specs.Commands.{no_texture, query_bytes};
 ghost use Rattle.wg_access.specs.Ranges.{IsInRange};
 ghost use Rattle.wg_history.specs.Entries.{effects_of, submitted, written};
-ghost use Rattle.wg_history.specs.Rules.{is_busy, map_async_rule, unmap_rule, create_view_rule, write_buffer_rule, write_texture_rule, destroy_rule, drop_rule, is_destroyed, finish_rule, finish_bundle_rule, kept_rules, has_finished, is_consumed, are_distinct, listed_rules, submit_rule};
+ghost use Rattle.wg_history.specs.Rules.{is_busy, map_async_rule, unmap_rule, create_view_rule, write_buffer_rule, write_texture_rule, destroy_rule, drop_rule, is_destroyed, finish_rule, finish_bundle_rule, kept_rules, has_finished, may_name, is_consumed, are_distinct, listed_rules, submit_rule};
 ghost use Rattle.wg_history.specs.FirstRules.{first_rule, create_buffer_rule, create_texture_rule, create_query_set_rule, create_bundle_encoder_rule};
 ghost use Rattle.wg_history.specs.Budget.{bytes_made};
 ghost use Rattle.wg_model.specs.Memory.{texture_bytes};
@@ -95,6 +97,7 @@ fn create_query_set(state: &State, info: &QueriesInfo) -> Option<u16>
 /// The first unmet rule of a createView (WebGPU, "Texture View Creation").
 #[tactic(auto, unfolding(wg_history::specs::Rules::create_view_rule))]
 fn create_view(state: &State, texture: ObjRef, desc: &ViewDesc) -> Option<u16>
+    requires here { was_let_go state.now.gone texture.number ≡ false }
     ensures { result ≡ create_view_rule state.now.setup (reverse state.now.history) texture desc.now }
 {
     let Some(info) = wg_state::own_texture(state.setup(), state.book(), texture) else {
@@ -113,6 +116,7 @@ fn create_view(state: &State, texture: ObjRef, desc: &ViewDesc) -> Option<u16>
 /// Destruction").
 #[tactic(auto, unfolding(wg_history::specs::Rules::destroy_rule))]
 fn destroy(state: &State, object: ObjRef) -> Option<u16>
+    requires here { was_let_go state.now.gone object.number ≡ false }
     ensures { result ≡ destroy_rule state.now.setup (reverse state.now.history) object }
 {
     if !wg_state::is_own_resource(state.setup(), state.book(), object) {
@@ -127,6 +131,7 @@ fn destroy(state: &State, object: ObjRef) -> Option<u16>
 /// The first unmet rule of a drop (WebGPU, "Internal Objects").
 #[tactic(auto, unfolding(wg_history::specs::Rules::drop_rule))]
 fn drop_object(state: &State, object: ObjRef) -> Option<u16>
+    requires here { was_let_go state.now.gone object.number ≡ false }
     ensures { result ≡ drop_rule state.now.setup (reverse state.now.history) object }
 {
     if !wg_state::is_own_object(state.setup(), state.book(), object) {
@@ -141,6 +146,7 @@ fn drop_object(state: &State, object: ObjRef) -> Option<u16>
 /// The first unmet rule of a write (WebGPU, "writeBuffer").
 #[tactic(auto, unfolding(wg_history::specs::Rules::write_buffer_rule))]
 fn write_buffer(state: &State, buffer: ObjRef, offset: u64, size: u64) -> Option<u16>
+    requires here { was_let_go state.now.gone buffer.number ≡ false }
     ensures rule { result ≡ write_buffer_rule state.now.setup (reverse state.now.history) buffer offset size }
     ensures fits { IsNone result → offset + size < 2 ^ 64 }
 {
@@ -165,6 +171,7 @@ fn write_buffer(state: &State, buffer: ObjRef, offset: u64, size: u64) -> Option
 /// The first unmet rule of a map (WebGPU, "mapAsync").
 #[tactic(auto, unfolding(wg_history::specs::Rules::map_async_rule))]
 fn map_async(state: &State, buffer: ObjRef, mode: u32, offset: u64, size: u64) -> Option<u16>
+    requires here { was_let_go state.now.gone buffer.number ≡ false }
     ensures rule { result ≡ map_async_rule state.now.setup (reverse state.now.history) buffer mode offset size }
     ensures fits { IsNone result → offset + size < 2 ^ 64 }
 {
@@ -189,6 +196,7 @@ fn map_async(state: &State, buffer: ObjRef, mode: u32, offset: u64, size: u64) -
 /// The first unmet rule of an unmap (WebGPU, "unmap").
 #[tactic(auto, unfolding(wg_history::specs::Rules::unmap_rule))]
 fn unmap(state: &State, buffer: ObjRef) -> Option<u16>
+    requires here { was_let_go state.now.gone buffer.number ≡ false }
     ensures { result ≡ unmap_rule state.now.setup (reverse state.now.history) buffer }
 {
     if wg_state::own_buffer(state.setup(), state.book(), buffer).is_none() {
@@ -210,6 +218,7 @@ fn write_texture(
     size: [u32; 3],
     data_size: u64,
 ) -> Option<u16>
+    requires here { was_let_go state.now.gone texture.number ≡ false }
     ensures { result ≡ write_texture_rule state.now.setup (reverse state.now.history) texture spot.now layout.now size data_size }
 {
     let Some(info) = wg_state::own_texture(state.setup(), state.book(), texture) else {
@@ -240,6 +249,7 @@ fn create_bundle_encoder(state: &State, targets: &TargetInfo) -> Option<u16>
 
 /// The first unmet rule of those on the encoder that a finish or a finishBundle ends, once that is one of this device.
 fn check_ending(state: &State, encoder: u64) -> Option<u16>
+    requires here { was_let_go state.now.gone encoder ≡ false }
     ensures { result ≡ first_unmet (ending_rules state.now.setup (reverse state.now.history) encoder) }
 {
     if state.is_dropped(encoder) {
@@ -261,6 +271,7 @@ fn check_kept(
     encoder: u64,
     recording: &Recording,
 ) -> Result<Option<u16>, NoMemory>
+    requires barred { (n : _) → was_let_go state.now.gone n ≡ true → may_name state.now.setup (reverse state.now.history) encoder n ≡ false }
     ensures { IfOk result (λ rule. rule ≡ first_unmet (kept_rules state.now.setup (reverse state.now.history) encoder recording.now)) }
 {
     if recording.open_group() {
@@ -276,13 +287,15 @@ fn check_kept(
 }
 
 /// The first unmet rule of a finish (WebGPU, "finish").
-#[tactic(auto, unfolding(wg_history::specs::Rules::finish_rule))]
+#[tactic(auto, unfolding(wg_history::specs::Rules::finish_rule), using(crate::proofs::Forgotten::barred_gone))]
 fn finish(
     alloc: Global,
     state: &State,
     encoder: ObjRef,
     recording: &Recording,
 ) -> Result<Option<u16>, NoMemory>
+    requires dead { AreDead state.now.setup (reverse state.now.history) state.now.gone }
+    requires here { was_let_go state.now.gone encoder.number ≡ false }
     ensures { IfOk result (λ rule. rule ≡ finish_rule state.now.setup (reverse state.now.history) encoder recording.now) }
 {
     if !wg_state::is_own_encoder(state.setup(), state.book(), encoder) {
@@ -301,13 +314,15 @@ fn finish(
 }
 
 /// The first unmet rule of a finishBundle (WebGPU, "finish" of a render bundle encoder).
-#[tactic(auto, unfolding(wg_history::specs::Rules::finish_bundle_rule))]
+#[tactic(auto, unfolding(wg_history::specs::Rules::finish_bundle_rule), using(crate::proofs::Forgotten::barred_gone))]
 fn finish_bundle(
     alloc: Global,
     state: &State,
     encoder: ObjRef,
     recording: &Recording,
 ) -> Result<Option<u16>, NoMemory>
+    requires dead { AreDead state.now.setup (reverse state.now.history) state.now.gone }
+    requires here { was_let_go state.now.gone encoder.number ≡ false }
     ensures { IfOk result (λ rule. rule ≡ finish_bundle_rule state.now.setup (reverse state.now.history) encoder recording.now) }
 {
     if !wg_state::is_own_bundle_encoder(state.setup(), state.book(), encoder) {
@@ -324,6 +339,7 @@ fn finish_bundle(
 
 /// Whether some command buffer of a list was consumed.
 fn any_consumed(state: &State, buffers: &[ObjRef]) -> bool
+    requires { any_gone state.now.gone buffers.now ≡ false }
     ensures { result ≡ list_any (λ buffer. is_consumed state.now.setup (reverse state.now.history) buffer.number) buffers.now }
 {
     for buffer in buffers {
@@ -361,6 +377,7 @@ fn is_sort(a: Sort, b: Sort) -> bool
 
 /// Whether a buffer is used that is mapped, pending or destroyed.
 fn any_busy(state: &State, uses: &[Used]) -> bool
+    requires { uses_gone state.now.gone uses.now ≡ false }
     ensures { result ≡ list_any (is_used_as Sort.Buffer (is_busy state.now.setup (reverse state.now.history))) uses.now }
 {
     for used in uses {
@@ -373,6 +390,7 @@ fn any_busy(state: &State, uses: &[Used]) -> bool
 
 /// Whether a resource of a sort is used that is destroyed.
 fn any_destroyed(state: &State, sort: Sort, uses: &[Used]) -> bool
+    requires { uses_gone state.now.gone uses.now ≡ false }
     ensures { result ≡ list_any (is_used_as sort (is_destroyed state.now.setup (reverse state.now.history))) uses.now }
 {
     for used in uses {
@@ -385,6 +403,7 @@ fn any_destroyed(state: &State, sort: Sort, uses: &[Used]) -> bool
 
 /// The first unmet rule on the command buffers of a submit, one after another.
 fn check_listed(state: &State, buffers: &[ObjRef]) -> Option<u16>
+    requires { any_gone state.now.gone buffers.now ≡ false }
     ensures { result ≡ first_unmet (listed_rules state.now.setup (reverse state.now.history) buffers.now) }
 {
     for buffer in buffers {
@@ -421,6 +440,7 @@ fn without_uses(alloc: Global, rule: Option<u16>) -> Ruled
 
 /// The first unmet rule on the resources that a submit uses.
 fn check_uses(state: &State, uses: &[Used]) -> Option<u16>
+    requires { uses_gone state.now.gone uses.now ≡ false }
     ensures { result ≡ first_unmet (use_rules state.now.setup (reverse state.now.history) uses.now) }
 {
     if any_busy(state, uses) {
@@ -433,11 +453,14 @@ fn check_uses(state: &State, uses: &[Used]) -> Option<u16>
 }
 
 /// The first unmet rule of a submit (WebGPU, "submit"), with what its command buffers use.
-#[tactic(auto, unfolding(wg_history::specs::Rules::submit_rule), using(wg_model::proofs::Unmet::first_unmet_joined, crate::proofs::Submitting::submit_found, crate::proofs::Submitting::unspent))]
+#[tactic(auto, unfolding(wg_history::specs::Rules::submit_rule), using(wg_model::proofs::Unmet::first_unmet_joined, crate::proofs::Submitting::submit_found, crate::proofs::Submitting::unspent, crate::proofs::Forgotten::uses_kept))]
 fn submit(alloc: Global, state: &State, buffers: &[ObjRef]) -> Result<Ruled, NoMemory>
+    requires dead { AreDead state.now.setup (reverse state.now.history) state.now.gone }
+    requires here { any_gone state.now.gone buffers.now ≡ false }
     ensures rule { IfOk result (λ ruled. ruled.rule ≡ submit_rule state.now.setup (reverse state.now.history) buffers.now) }
     ensures uses { IfOk result (λ ruled. IsNone ruled.rule → ruled.uses.items ≡ uses_of (reverse state.now.history) buffers.now) }
     ensures unspent { IfOk result (λ ruled. IsNone ruled.rule → any_spent state.now.setup (reverse state.now.history) buffers.now ≡ false) }
+    ensures used_here { IfOk result (λ ruled. uses_gone state.now.gone ruled.uses.items ≡ false) }
 {
     if let Some(rule) = check_listed(state, buffers) {
         return Ok(without_uses(alloc, Some(rule)));
@@ -461,7 +484,10 @@ pub fn first_rule(
     event: &Event,
     made: &Option<Info>,
 ) -> Result<Ruled, NoMemory>
+    requires names { names_gone state.now.gone event.now ≡ false }
+    requires dead { AreDead state.now.setup (reverse state.now.history) state.now.gone }
     requires made { made.now ≡ made_info (reverse state.now.history) event.now }
+    ensures used_here { IfOk result (λ ruled. uses_gone state.now.gone ruled.uses.items ≡ false) }
     ensures rule { IfOk result (λ ruled. ruled.rule ≡ first_rule state.now.setup (reverse state.now.history) event.now) }
     ensures uses { IfOk result (λ ruled. IsNone ruled.rule → ruled.uses.items ≡ uses_of (reverse state.now.history) (submitted event.now)) }
     ensures unspent { IfOk result (λ ruled. IsNone ruled.rule → any_spent state.now.setup (reverse state.now.history) (submitted event.now) ≡ false) }

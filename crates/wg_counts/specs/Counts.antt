@@ -3,11 +3,12 @@ use Rattle.std.specs.Prelude.{◌≡◌, ℕ, zero, suc, ◌+◌, ◌-◌, Bool,
 use Rattle.wg_model.specs.Holding.{Node, is_among, is_held_among}
 
 -- what is kept of counts: how many holds each object has that are no objects, to which objects each refers, by number, which
--- objects fell since that list was cleared, in some order, and for how many more objects and holds there is room
+-- objects fell since that list was cleared, in some order, which were let go, and for how many more objects and holds there is room
 pub record CountsValue : Type 0 where
   pub own : List ℕ
   pub refers : List (List ℕ)
   pub fallen : List ℕ
+  pub gone : List ℕ
   pub spare : ℕ
   pub room : ℕ
 

@@ -1,6 +1,7 @@
 -- What counts of holds are, and what becomes of them while holds end.
-use Rattle.std.specs.Prelude.{◌≡◌, ℕ, zero, suc, ◌+◌, ◌<◌, ◌≤◌, Bool, true, not, ◌&&◌, ◌||◌, nat_lt, List, [], ◌∷◌, length, drop, slice_index_or, if◌then◌else◌}
+use Rattle.std.specs.Prelude.{◌≡◌, ℕ, zero, suc, ◌+◌, ◌<◌, ◌≤◌, Bool, true, false, not, ◌&&◌, ◌||◌, nat_lt, List, [], ◌∷◌, length, drop, slice_index_or, if◌then◌else◌}
 use Rattle.wg_model.specs.Holding.{is_among}
+use Rattle.wg_fading.specs.Fading.{was_let_go}
 use Rattle.wg_counts.specs.Counts.{own_at, refers_in, times}
 
 -- the count of object n, or 0
@@ -69,3 +70,9 @@ pub record IsEnding (own : ℕ → ℕ) (refers : ℕ → List ℕ) (first befor
   pub holders : AreHolders (λ n. own n + (times n rest + pending refers (drop place fallen) n)) refers counts
   pub inside : (n : ℕ) → is_among (drop place fallen) n ≡ true → n < length first
   pub reached : place ≤ length fallen
+
+-- What was let go was made, is not alive and is not listed as fallen.
+pub record AreDead (gone counts fallen : List ℕ) : Type 0 where
+  pub made : (n : ℕ) → was_let_go gone n ≡ true → n < length counts
+  pub each : (n : ℕ) → was_let_go gone n ≡ true → is_alive counts n ≡ false
+  pub unlisted : (n : ℕ) → was_let_go gone n ≡ true → is_among fallen n ≡ false

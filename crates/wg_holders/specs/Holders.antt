@@ -1,5 +1,6 @@
 -- Who holds which objects (WebGPU, "Internal Objects").
 use Rattle.std.specs.Prelude.{◌≡◌, ℕ, ◌+◌, ◌<◌, Bool, true, false, not, ◌&&◌, ◌||◌, List, [], ◌∷◌, ◌++◌, length, Some, None, is_some, slice_index_or, if◌then◌else◌}
+use Rattle.wg_fading.specs.Fading.{was_let_go}
 use Rattle.wg_model.specs.Holding.{Holds, is_among, is_held_in}
 use Rattle.wg_counts.specs.Counts.{times}
 use Rattle.wg_holders.specs.declared.marks.Mark.{Mark}
@@ -16,11 +17,12 @@ pub record Holdings : Type 0 where
 abbrev pub no_holdings : Holdings
 no_holdings = record { marks = []; names = []; refers = [] }
 
--- what is kept of holders: the holdings, which objects fell since that list was cleared, and for how many more objects and
--- holds there is room
+-- what is kept of holders: the holdings, which objects fell since that list was cleared, which were let go, and for how many
+-- more objects and holds there is room
 pub record HoldersValue : Type 0 where
   pub holdings : Holdings
   pub fallen : List ℕ
+  pub gone : List ℕ
   pub spare : ℕ
   pub room : ℕ
 
@@ -97,3 +99,20 @@ pub record Falls (old new : HoldersValue) : Type 0 where
   pub listed : (n : ℕ) → is_among new.fallen n ≡ is_among old.fallen n || (is_held old.holdings n && not (is_held new.holdings n))
   pub once : (n : ℕ) → times n new.fallen ≡ times n old.fallen + (if is_held old.holdings n && not (is_held new.holdings n) then 1 else 0)
   pub falls : (n : ℕ) → is_held new.holdings n ≡ true → is_held old.holdings n ≡ true
+
+-- What was let go was made and dropped.
+pub record AreDropped (gone : List ℕ) (marks : List Mark) : Type 0 where
+  pub made : (n : ℕ) → was_let_go gone n ≡ true → n < length marks
+  pub dropped : (n : ℕ) → was_let_go gone n ≡ true → is_some (mark_at marks n).dropped ≡ true
+
+-- An object was there when it was dropped.
+abbrev pub AreAfter : List Mark → Type 0
+AreAfter marks = (n k : ℕ) → (mark_at marks n).dropped ≡ Some k → n < k
+
+-- No object of a list was let go.
+abbrev pub AreHere : List ℕ → List ℕ → Type 0
+AreHere gone list = (e : ℕ) → is_among list e ≡ true → was_let_go gone e ≡ false
+
+-- A list has no object that another has not.
+abbrev pub AreAmong : List ℕ → List ℕ → Type 0
+AreAmong old new = (e : ℕ) → is_among new e ≡ true → is_among old e ≡ true

@@ -1,17 +1,19 @@
 -- What is noted of each object, and what is released.
-use Rattle.std.specs.Prelude.{◌≡◌, ℕ, zero, suc, ◌+◌, ◌<◌, Bool, false, not, ◌&&◌, ◌||◌, nat_le, max, List, [], ◌∷◌, ◌++◌, length, Option, None, is_some, option_map, option_to_list, slice_index_or, if◌then◌else◌}
+use Rattle.std.specs.Prelude.{◌≡◌, ℕ, zero, suc, ◌+◌, ◌<◌, Bool, true, false, nat_lt, not, ◌&&◌, ◌||◌, nat_le, max, List, [], ◌∷◌, ◌++◌, length, Option, None, is_some, option_map, option_to_list, slice_index_or, if◌then◌else◌}
 use Rattle.std.specs.Option.{option_map_or}
+use Rattle.wg_fading.specs.Fading.{was_let_go}
 use Rattle.wg_trace.specs.declared.steps.Sort.{Sort}
-use Rattle.wg_holders.specs.Holders.{Holdings, with_made, is_held}
+use Rattle.wg_holders.specs.Holders.{Holdings, mark_at, with_made, is_held}
 use Rattle.wg_life.specs.declared.rows.Resource.{Resource}
 use Rattle.wg_life.specs.declared.rows.Row.{Row}
 use Rattle.wg_life.specs.declared.rows.Made.{Made}
 
--- what is kept of lives: what is noted of the objects by number, who holds them, how many bytes resources may have, and for
--- how many more objects and holds there is room
+-- what is kept of lives: what is noted of the objects by number, who holds them, which were let go, how many bytes resources
+-- may have, and for how many more objects and holds there is room
 pub record LifeValue : Type 0 where
   pub rows : List Row
   pub holdings : Holdings
+  pub gone : List ℕ
   pub budget : ℕ
   pub spare : ℕ
   pub room : ℕ
@@ -99,3 +101,23 @@ live_count (row ∷ rows) = (if is_live row then 1 else 0) + live_count rows
 -- holdings with one object more
 abbrev pub with_object : Made → Holdings → Holdings
 with_object made h = with_made made.encoder made.links h
+
+-- whether nobody can reach object n, as it was dropped and is not held, and nothing is to be done for it, as it is no resource
+-- that is not released
+abbrev pub is_unreached : List Row → Holdings → ℕ → Bool
+is_unreached rows h n = is_some (mark_at h.marks n).dropped && (not (is_held h n) && not (is_live (row_at rows n)))
+
+-- whether object n is kept and dead
+abbrev pub is_dead : LifeValue → ℕ → Bool
+is_dead v n = (nat_lt n (length v.rows) && not (was_let_go v.gone n)) && is_unreached v.rows v.holdings n
+
+-- What was let go is no resource that is not released.
+abbrev pub AreOver : List ℕ → List Row → Type 0
+AreOver gone rows = (n : ℕ) → was_let_go gone n ≡ true → is_live (row_at rows n) ≡ false
+
+-- What was let go was made, is dropped, is not held, and is no resource that is not released.
+pub record AreDead (rows : List Row) (h : Holdings) (gone : List ℕ) : Type 0 where
+  pub made : (n : ℕ) → was_let_go gone n ≡ true → n < length rows
+  pub dropped : (n : ℕ) → was_let_go gone n ≡ true → is_some (mark_at h.marks n).dropped ≡ true
+  pub unheld : (n : ℕ) → was_let_go gone n ≡ true → is_held h n ≡ false
+  pub over : AreOver gone rows

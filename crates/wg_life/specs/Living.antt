@@ -1,5 +1,5 @@
 -- What is kept of the resources that are not released.
-use Rattle.std.specs.Prelude.{◌≡◌, ℕ, ◌+◌, ◌<◌, ◌≤◌, true, List, length, Some, slice_index, vec_len, vec_capacity}
+use Rattle.std.specs.Prelude.{◌≡◌, ℕ, ◌<◌, ◌≤◌, true, List, length, Some, slice_index}
 use Rattle.slab.specs.Slab.{get, slab_len, HasRoomFor}
 use Rattle.wg_life.specs.declared.rows.Row.{Row}
 use Rattle.wg_life.specs.declared.live.Live.{Live}
@@ -15,7 +15,7 @@ pub record IsKept (rows : List Row) (live : Live) : Type 0 where
 -- So many more objects can be added to what is kept of live resources.
 pub record HasPlacesFor (live : Live) (more : ℕ) : Type 0 where
   pub slab : HasRoomFor live.slab more
-  pub keys : vec_len live.keys + more ≤ vec_capacity live.keys
+  pub keys : more ≤ live.keys.spare
 
 -- A release takes nothing more, and no room away.
 pub record IsLess (old new : Live) : Type 0 where

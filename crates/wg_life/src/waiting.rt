@@ -1,17 +1,20 @@
 //! What waits for its release.
-ghost use Rattle.std.specs.Prelude.{◌≡◌, List, ◌+◌, ◌≤◌, ◌<◌, ◌∷◌, [], ◌++◌, ◌==◌, true, length, map, option_to_list, IfSome, IfNone, vec_len, vec_capacity};
+ghost use Rattle.std.specs.Prelude.{◌≡◌, List, ◌+◌, ◌≤◌, ◌<◌, ◌∷◌, [], ◌++◌, ◌==◌, true, false, length, map, option_to_list, IfSome, IfNone, vec_len, vec_capacity};
 ghost use Rattle.std.specs.VecDeque.{deque_len, deque_capacity};
 ghost use Rattle.std.specs.List.{flat_map};
 ghost use Rattle.std.specs.List.Sorted.{IsNonDecreasingBy};
+ghost use Rattle.wg_fading.specs.Fading.{was_let_go};
+ghost use Rattle.wg_holders.specs.Holders.{AreHere};
 ghost use Rattle.wg_model.specs.Holding.{is_among};
 ghost use Rattle.wg_orders.specs.Trace.{free};
-ghost use Rattle.wg_life.specs.Lives.{Notes, live_count};
+ghost use Rattle.wg_life.specs.Lives.{Notes, live_count, AreOver};
 ghost use Rattle.wg_life.specs.Living.{IsKept, IsLess};
 ghost use Rattle.wg_life.specs.Waits.{gone_at, waits, is_waiting, will_wait, with_due, freed, is_early, early, starts_late, Losses, IsInserted, IsTidy, IsReleasing, sort_at};
 
 use crate::live::{Live, release_row};
-use crate::rows::{Row, gone_in, mark_gone, row_in};
+use crate::rows::{Row, lost_in, mark_lost, row_in};
 use std::collections::VecDeque;
+use wg_fading::Fading;
 use wg_types::steps::Item;
 
 /// An object that waits for its release.
@@ -29,6 +32,22 @@ pub struct Waiting {
     pub listed: VecDeque<Wait>,
     /// What a release gives back; empty between releases.
     pub due: Vec<u64>,
+    /// What may be dead; no clause speaks of it.
+    pub dead: Vec<u64>,
+}
+
+/// Notes that an object may be dead, where there is room for that.
+fn hint(dead: &mut Vec<u64>, number: u64) {
+    if dead.len() < dead.capacity() {
+        dead.push_reserved(number);
+    }
+}
+
+/// Notes that all of a list may be dead.
+fn hint_all(dead: &mut Vec<u64>, numbers: &[u64]) {
+    for number in numbers {
+        hint(dead, *number);
+    }
 }
 
 /// Lists what waits, behind what waits for the same operation.
@@ -74,18 +93,30 @@ fn will_wait(row: Row, gone: bool) -> bool
 
 /// Notes that an object is gone.
 #[tactic(auto, using(crate::proofs::Tidy::tidy_lost, crate::proofs::Tidy::tidy_listed, crate::proofs::Bound::listed_lt))]
-pub fn lose(rows: &[Row], gone: &mut Vec<bool>, listed: &mut VecDeque<Wait>, number: u64)
-    requires tidy { IsTidy rows.now gone.old.items listed.old.items }
-    requires room { live_count rows.now ≤ deque_capacity listed.old }
-    ensures losses { Losses (λ n. number == n) gone.old.items gone.new.items }
-    ensures tidy { IsTidy rows.now gone.new.items listed.new.items }
-    ensures gone_room { vec_capacity gone.new ≡ vec_capacity gone.old }
+pub fn lose(
+    rows: &Fading<Row>,
+    lost: &mut Fading<bool>,
+    listed: &mut VecDeque<Wait>,
+    dead: &mut Vec<u64>,
+    number: u64,
+)
+    requires here { was_let_go rows.now.gone number ≡ false }
+    requires lost_here { was_let_go lost.old.gone number ≡ false }
+    requires tidy { IsTidy rows.now.items lost.old.items listed.old.items }
+    requires room { live_count rows.now.items ≤ deque_capacity listed.old }
+    ensures losses { Losses (λ n. number == n) lost.old.items lost.new.items }
+    ensures tidy { IsTidy rows.now.items lost.new.items listed.new.items }
+    ensures gone { lost.new.gone ≡ lost.old.gone }
+    ensures spare { lost.new.spare ≡ lost.old.spare }
     ensures listed_room { deque_capacity listed.old ≤ deque_capacity listed.new }
 {
     let row = row_in(rows, number);
-    let was_gone = gone_in(gone.as_slice(), number);
-    mark_gone(gone, number);
-    if will_wait(row, was_gone) {
+    let was_lost = lost_in(lost, number);
+    mark_lost(lost, number);
+    if row.resource.is_none() || row.released {
+        hint(dead, number);
+    }
+    if will_wait(row, was_lost) {
         list(
             listed,
             Wait {
@@ -98,44 +129,63 @@ pub fn lose(rows: &[Row], gone: &mut Vec<bool>, listed: &mut VecDeque<Wait>, num
 
 /// Notes that all of a list are gone.
 #[tactic(auto, using(crate::proofs::Gone::losses_none, crate::proofs::Gone::losses_more))]
-pub fn lose_all(rows: &[Row], gone: &mut Vec<bool>, listed: &mut VecDeque<Wait>, numbers: &[u64])
-    requires tidy { IsTidy rows.now gone.old.items listed.old.items }
-    requires room { live_count rows.now ≤ deque_capacity listed.old }
-    ensures losses { Losses (is_among numbers.now) gone.old.items gone.new.items }
-    ensures tidy { IsTidy rows.now gone.new.items listed.new.items }
-    ensures gone_room { vec_capacity gone.new ≡ vec_capacity gone.old }
+pub fn lose_all(
+    rows: &Fading<Row>,
+    lost: &mut Fading<bool>,
+    listed: &mut VecDeque<Wait>,
+    dead: &mut Vec<u64>,
+    numbers: &[u64],
+)
+    requires here { AreHere rows.now.gone numbers.now }
+    requires lost_here { AreHere lost.old.gone numbers.now }
+    requires tidy { IsTidy rows.now.items lost.old.items listed.old.items }
+    requires room { live_count rows.now.items ≤ deque_capacity listed.old }
+    ensures losses { Losses (is_among numbers.now) lost.old.items lost.new.items }
+    ensures tidy { IsTidy rows.now.items lost.new.items listed.new.items }
+    ensures gone { lost.new.gone ≡ lost.old.gone }
+    ensures spare { lost.new.spare ≡ lost.old.spare }
     ensures listed_room { deque_capacity listed.old ≤ deque_capacity listed.new }
 {
     for number in numbers {
-        lose(rows, gone, listed, *number);
+        lose(rows, lost, listed, dead, *number);
     }
 }
 
 /// Releases an object that was listed, if it is due; lists it again if it was used since.
 #[tactic(auto, using(crate::proofs::Releasing::step_gone, crate::proofs::Releasing::step_later, crate::proofs::Releasing::step_released, crate::proofs::Kept::less_same))]
 fn settle(
-    rows: &mut Vec<Row>,
-    gone: &[bool],
+    rows: &mut Fading<Row>,
+    lost: &Fading<bool>,
     live: &mut Live,
     waiting: &mut Waiting,
     wait: Wait,
     done: u64,
 )
-    requires tidy { IsTidy rows.old.items gone.now (wait ∷ waiting.old.listed.items) }
+    requires tidy { IsTidy rows.old.items lost.now.items (wait ∷ waiting.old.listed.items) }
     requires kept { IsKept rows.old.items live.old }
+    requires over { AreOver rows.old.gone rows.old.items }
+    requires lost_gone { lost.now.gone ≡ rows.old.gone }
+    requires keys_gone { live.old.keys.gone ≡ rows.old.gone }
     requires room { live_count rows.old.items ≤ deque_capacity waiting.old.listed }
-    requires due_room { is_waiting rows.old.items gone.now wait.number ≡ true → vec_len waiting.old.due < vec_capacity waiting.old.due }
-    ensures releasing { (first : List Row) → IsReleasing done first rows.old.items gone.now (wait ∷ waiting.old.listed.items) waiting.old.due.items → IsReleasing done first rows.new.items gone.now waiting.new.listed.items waiting.new.due.items }
+    requires due_room { is_waiting rows.old.items lost.now.items wait.number ≡ true → vec_len waiting.old.due < vec_capacity waiting.old.due }
+    ensures releasing { (first : List Row) → IsReleasing done first rows.old.items lost.now.items (wait ∷ waiting.old.listed.items) waiting.old.due.items → IsReleasing done first rows.new.items lost.now.items waiting.new.listed.items waiting.new.due.items }
     ensures kept { IsKept rows.new.items live.new }
     ensures less { IsLess live.old live.new }
+    ensures over { AreOver rows.new.gone rows.new.items }
+    ensures here { AreHere rows.old.gone waiting.old.due.items → AreHere rows.new.gone waiting.new.due.items }
     ensures early { early done waiting.new.listed.items ≤ early done waiting.old.listed.items }
-    ensures rows_room { vec_capacity rows.new ≡ vec_capacity rows.old }
+    ensures gone { rows.new.gone ≡ rows.old.gone }
+    ensures keys_gone { live.new.keys.gone ≡ live.old.keys.gone }
+    ensures rows_spare { rows.new.spare ≡ rows.old.spare }
     ensures listed_room { deque_capacity waiting.old.listed ≤ deque_capacity waiting.new.listed }
     ensures due_room { vec_capacity waiting.old.due ≤ vec_capacity waiting.new.due }
 {
     let number = wait.number;
-    let row = row_in(rows.as_slice(), number);
-    if !waits(row, gone_in(gone, number)) {
+    if !rows.is_kept(number) {
+        return;
+    }
+    let row = row_in(rows, number);
+    if !waits(row, lost_in(lost, number)) {
         return;
     }
     if row.last > done {
@@ -154,30 +204,44 @@ fn settle(
 
 /// Releases what is due, and lists its numbers.
 #[tactic(auto, using(crate::proofs::Kept::less_then))]
-fn take_due(rows: &mut Vec<Row>, gone: &[bool], live: &mut Live, waiting: &mut Waiting, done: u64)
-    requires tidy { IsTidy rows.old.items gone.now waiting.old.listed.items }
+fn take_due(
+    rows: &mut Fading<Row>,
+    lost: &Fading<bool>,
+    live: &mut Live,
+    waiting: &mut Waiting,
+    done: u64,
+)
+    requires tidy { IsTidy rows.old.items lost.now.items waiting.old.listed.items }
     requires kept { IsKept rows.old.items live.old }
+    requires over { AreOver rows.old.gone rows.old.items }
+    requires lost_gone { lost.now.gone ≡ rows.old.gone }
+    requires keys_gone { live.old.keys.gone ≡ rows.old.gone }
     requires none { waiting.old.due.items ≡ [] }
     requires room { live_count rows.old.items ≤ deque_capacity waiting.old.listed }
     requires due_room { live_count rows.old.items ≤ vec_capacity waiting.old.due }
-    ensures releasing { IsReleasing done rows.old.items rows.new.items gone.now waiting.new.listed.items waiting.new.due.items }
+    ensures releasing { IsReleasing done rows.old.items rows.new.items lost.now.items waiting.new.listed.items waiting.new.due.items }
     ensures kept { IsKept rows.new.items live.new }
     ensures less { IsLess live.old live.new }
     ensures late { starts_late done waiting.new.listed.items ≡ true }
-    ensures rows_room { vec_capacity rows.new ≡ vec_capacity rows.old }
+    ensures over { AreOver rows.new.gone rows.new.items }
+    ensures here { AreHere rows.new.gone waiting.new.due.items }
+    ensures gone { rows.new.gone ≡ rows.old.gone }
+    ensures keys_gone { live.new.keys.gone ≡ live.old.keys.gone }
+    ensures rows_spare { rows.new.spare ≡ rows.old.spare }
     ensures listed_room { deque_capacity waiting.old.listed ≤ deque_capacity waiting.new.listed }
     ensures due_room { vec_capacity waiting.old.due ≤ vec_capacity waiting.new.due }
 {
     while let Some(wait) = next_early(&mut waiting.listed, done) {
-        settle(rows, gone, live, waiting, wait, done);
+        settle(rows, lost, live, waiting, wait, done);
     }
 }
 
 /// Adds the release of an object, if it is a resource.
 #[tactic(auto, using(crate::proofs::Picked::released_item))]
-fn push_released(rows: &[Row], number: u64, trace: &mut Vec<Item>)
-    requires { vec_len trace.old + 1 ≤ vec_capacity trace.old }
-    ensures items { trace.new.items ≡ trace.old.items ++ map free (sort_at rows.now number) }
+fn push_released(rows: &Fading<Row>, number: u64, trace: &mut Vec<Item>)
+    requires here { was_let_go rows.now.gone number ≡ false }
+    requires room { vec_len trace.old + 1 ≤ vec_capacity trace.old }
+    ensures items { trace.new.items ≡ trace.old.items ++ map free (sort_at rows.now.items number) }
     ensures room { vec_len trace.new ≤ vec_len trace.old + 1 }
     ensures capacity { vec_capacity trace.new ≡ vec_capacity trace.old }
 {
@@ -190,9 +254,10 @@ fn push_released(rows: &[Row], number: u64, trace: &mut Vec<Item>)
 }
 
 /// Adds the releases of those of a list that are resources.
-fn push_all(rows: &[Row], due: &[u64], trace: &mut Vec<Item>)
-    requires { vec_len trace.old + length due.now ≤ vec_capacity trace.old }
-    ensures items { trace.new.items ≡ trace.old.items ++ map free (flat_map (sort_at rows.now) due.now) }
+fn push_all(rows: &Fading<Row>, due: &[u64], trace: &mut Vec<Item>)
+    requires here { AreHere rows.now.gone due.now }
+    requires room { vec_len trace.old + length due.now ≤ vec_capacity trace.old }
+    ensures items { trace.new.items ≡ trace.old.items ++ map free (flat_map (sort_at rows.now.items) due.now) }
     ensures capacity { vec_capacity trace.new ≡ vec_capacity trace.old }
 {
     for number in due {
@@ -203,32 +268,39 @@ fn push_all(rows: &[Row], due: &[u64], trace: &mut Vec<Item>)
 /// Releases what is due, and adds it to a trace, least numbers first.
 #[tactic(auto, using(crate::proofs::Releasing::pushed_due, crate::proofs::Releasing::marked_due, crate::proofs::Bound::due_le))]
 pub fn release(
-    rows: &mut Vec<Row>,
-    gone: &[bool],
+    rows: &mut Fading<Row>,
+    lost: &Fading<bool>,
     live: &mut Live,
     waiting: &mut Waiting,
     done: u64,
     trace: &mut Vec<Item>,
 )
-    requires tidy { IsTidy rows.old.items gone.now waiting.old.listed.items }
+    requires tidy { IsTidy rows.old.items lost.now.items waiting.old.listed.items }
     requires kept { IsKept rows.old.items live.old }
+    requires over { AreOver rows.old.gone rows.old.items }
+    requires lost_gone { lost.now.gone ≡ rows.old.gone }
+    requires keys_gone { live.old.keys.gone ≡ rows.old.gone }
     requires none { waiting.old.due.items ≡ [] }
     requires room { live_count rows.old.items ≤ deque_capacity waiting.old.listed }
     requires due_room { live_count rows.old.items ≤ vec_capacity waiting.old.due }
     requires trace_room { vec_len trace.old + live_count rows.old.items ≤ vec_capacity trace.old }
-    ensures items { trace.new.items ≡ trace.old.items ++ map free (freed rows.old.items gone.now done) }
-    ensures notes { Notes (λ n. with_due done (gone_at gone.now n) true) rows.old.items rows.new.items }
-    ensures tidy { IsTidy rows.new.items gone.now waiting.new.listed.items }
+    ensures items { trace.new.items ≡ trace.old.items ++ map free (freed rows.old.items lost.now.items done) }
+    ensures notes { Notes (λ n. with_due done (gone_at lost.now.items n) true) rows.old.items rows.new.items }
+    ensures tidy { IsTidy rows.new.items lost.now.items waiting.new.listed.items }
     ensures kept { IsKept rows.new.items live.new }
     ensures less { IsLess live.old live.new }
     ensures none { waiting.new.due.items ≡ [] }
-    ensures rows_room { vec_capacity rows.new ≡ vec_capacity rows.old }
+    ensures over { AreOver rows.new.gone rows.new.items }
+    ensures gone { rows.new.gone ≡ rows.old.gone }
+    ensures keys_gone { live.new.keys.gone ≡ live.old.keys.gone }
+    ensures rows_spare { rows.new.spare ≡ rows.old.spare }
     ensures listed_room { deque_capacity waiting.old.listed ≤ deque_capacity waiting.new.listed }
     ensures due_room { vec_capacity waiting.old.due ≤ vec_capacity waiting.new.due }
     ensures capacity { vec_capacity trace.new ≡ vec_capacity trace.old }
 {
-    take_due(rows, gone, live, waiting, done);
+    take_due(rows, lost, live, waiting, done);
     waiting.due.sort_unstable();
-    push_all(rows.as_slice(), waiting.due.as_slice(), trace);
+    push_all(rows, waiting.due.as_slice(), trace);
+    hint_all(&mut waiting.dead, waiting.due.as_slice());
     waiting.due.clear();
 }

@@ -1,5 +1,6 @@
 //! A history with all that is kept beside it.
 ghost use Rattle.std.specs.Prelude.{◌≡◌, true, ◌+◌, ◌-◌, ◌^◌, ◌<◌, ◌≤◌, ◌∷◌, ◌++◌, [], map, filter, nat_le, is_some, length, reverse, vec_len, vec_capacity, OnOk, IfOk, Some, None, ◌||◌, ◌==◌, if◌then◌else◌, false, MatchOption};
+ghost use Rattle.wg_fading.specs.Fading.{was_let_go};
 ghost use Rattle.wg_orders.specs.Trace.{free};
 ghost use Rattle.wg_history.specs.Operations.{issued, completed, last_use};
 ghost use Rattle.wg_model.specs.ErrorScopes.{deliver, pop_how};
@@ -12,6 +13,7 @@ ghost use Rattle.wg_history.specs.Releases.{freed};
 ghost use Rattle.wg_maps.specs.Mappings.{due_maps};
 ghost use Rattle.wg_state.specs.Rows.{AreUsed, made_by, links_of};
 ghost use Rattle.wg_life.specs.Lives.{live_count};
+ghost use Rattle.wg_state.specs.Gone.{names_gone, uses_gone, is_here, AreDead};
 ghost use Rattle.wg_state.specs.States.{IsKept};
 ghost use Rattle.wg_state.specs.Waits.{map_waits};
 ghost use Rattle.wg_state.specs.Uses.{uses_of};
@@ -61,6 +63,9 @@ fn note(
     kept: &mut Kept,
     trace: &mut Vec<Item>,
 )
+    requires names { names_gone book.now.gone entry.now.event ≡ false }
+    requires same_gone { kept.old.life.gone ≡ book.now.gone }
+    requires here { uses_gone book.now.gone uses.now ≡ false }
     requires run { Run setup book.now.entries }
     requires answers { entry.now.reply ≡ reply_to setup (reverse book.now.entries) entry.now.event }
     requires used { AreUsed (reverse book.now.entries) entry.now.reply.answer entry.now.event uses.now }
@@ -76,6 +81,7 @@ fn note(
     requires room { vec_len trace.old + (live_count kept.old.life.rows + 1) ≤ vec_capacity trace.old }
     ensures kept { IsKept setup (entry.now ∷ reverse book.now.entries) kept.new.life kept.new.queue kept.new.errors kept.new.maps }
     ensures trace { trace.new.items ≡ trace.old.items ++ map free (freed setup (entry.now ∷ reverse book.now.entries)) }
+    ensures gone { kept.new.life.gone ≡ kept.old.life.gone }
     ensures spare { kept.old.life.spare ≤ kept.new.life.spare + 1 }
     ensures queue_spare { kept.old.queue.spare ≤ kept.new.queue.spare + 1 }
     ensures errors_spare { kept.old.errors.spare ≤ kept.new.errors.spare + 1 }
@@ -110,11 +116,12 @@ impl Model for State {
 
     ghost Value = { StateValue };
 
-    ghost view = { λ s. record { setup = s.setup; history = s.book.entries; run = s.run; spare = s.spare; room = s.kept.life.room; live = live_count s.kept.life.rows } };
+    ghost view = { λ s. record { setup = s.setup; history = s.book.entries; run = s.run; spare = s.spare; gone = s.book.gone; room = s.kept.life.room; live = live_count s.kept.life.rows } };
 
     ghost invariant = { λ s. record {
       device_is : s.book.device ≡ s.setup.serial;
       kept : IsKept s.setup (reverse s.book.entries) s.kept.life s.kept.queue s.kept.errors s.kept.maps;
+      gone_is : s.kept.life.gone ≡ s.book.gone;
       book_fits : s.spare ≤ s.book.spare;
       life_fits : s.spare ≤ s.kept.life.spare;
       queue_fits : s.spare ≤ s.kept.queue.spare;
@@ -131,6 +138,7 @@ impl State {
     pub fn new(alloc: Global, setup: Setup) -> State
         ensures setup { result.setup ≡ setup }
         ensures history { result.history ≡ [] }
+        ensures gone { result.gone ≡ [] }
     {
         State {
             setup,
@@ -182,7 +190,8 @@ impl State {
 
     /// The entries, with the objects that they made.
     pub fn book(&self) -> &Book
-        ensures { result.now.entries ≡ self.now.history }
+        ensures entries { result.now.entries ≡ self.now.history }
+        ensures gone { result.now.gone ≡ self.now.gone }
     {
         &self.book
     }
@@ -275,6 +284,7 @@ impl State {
 
     /// Whether the buffer is destroyed, or mapped, or a map of it is pending.
     pub fn is_busy(&self, buffer: u64) -> bool
+        requires { was_let_go self.now.gone buffer ≡ false }
         ensures { result ≡ is_busy self.now.setup (reverse self.now.history) buffer }
     {
         self.is_destroyed(buffer) || self.is_mapping(buffer)
@@ -282,20 +292,22 @@ impl State {
 
     /// Whether the object is destroyed.
     pub fn is_destroyed(&self, number: u64) -> bool
+        requires { was_let_go self.now.gone number ≡ false }
         ensures { result ≡ is_destroyed self.now.setup (reverse self.now.history) number }
     {
         self.kept.life.row(number).destroyed
     }
 
-    /// Whether the object is dropped.
+    /// Whether the object is dropped, be it let go.
     pub fn is_dropped(&self, number: u64) -> bool
         ensures { result ≡ is_dropped self.now.setup (reverse self.now.history) number }
     {
-        self.kept.life.mark(number).dropped.is_some()
+        self.kept.life.is_dropped(number)
     }
 
     /// Whether commands of the encoder may name the object: it was not dropped before that was made.
     pub fn may_name(&self, encoder: u64, number: u64) -> bool
+        requires { was_let_go self.now.gone number ≡ false }
         ensures { result ≡ may_name self.now.setup (reverse self.now.history) encoder number }
     {
         match self.kept.life.mark(number).dropped {
@@ -313,6 +325,7 @@ impl State {
 
     /// Whether the encoder has ended.
     pub fn has_finished(&self, number: u64) -> bool
+        requires { was_let_go self.now.gone number ≡ false }
         ensures { result ≡ has_finished self.now.setup (reverse self.now.history) number }
     {
         self.kept.life.mark(number).ended
@@ -320,6 +333,7 @@ impl State {
 
     /// Whether the command buffer was consumed.
     pub fn is_consumed(&self, number: u64) -> bool
+        requires { was_let_go self.now.gone number ≡ false }
         ensures { result ≡ is_consumed self.now.setup (reverse self.now.history) number }
     {
         self.kept.life.mark(number).consumed
@@ -327,6 +341,7 @@ impl State {
 
     /// The last operation that uses the object, or 0.
     pub fn last_use(&self, number: u64) -> u64
+        requires { was_let_go self.now.gone number ≡ false }
         ensures { result ≡ last_use (reverse self.now.history) number }
     {
         self.kept.life.row(number).last
@@ -335,6 +350,7 @@ impl State {
     /// What is known of the object that an event makes. It takes memory for the lists of what a pipeline
     /// layout or a bind group is made of.
     pub fn info_made(&self, alloc: Global, event: &Event) -> Result<Option<Info>, NoMemory>
+        requires { names_gone self.now.gone event.now ≡ false }
         ensures { IfOk result (λ made. made ≡ made_info (reverse self.now.history) event.now) }
     {
         self.book.info_made(alloc, event)
@@ -369,6 +385,7 @@ impl State {
         ensures setup { self.new.setup ≡ self.old.setup }
         ensures history { self.new.history ≡ self.old.history }
         ensures live { self.new.live ≡ self.old.live }
+        ensures gone { self.new.gone ≡ self.old.gone }
         ensures room { OnOk result (0 < self.new.spare) }
         ensures links { OnOk result (links_of made.now < self.new.room) }
         ensures small { OnOk result (length self.new.history + 1 < 2 ^ 64) }
@@ -396,6 +413,8 @@ impl State {
         trace: &mut Vec<Item>,
         spent: &mut Spent,
     ) -> Reply
+        requires names { names_gone self.old.gone entry.event ≡ false }
+        requires here { uses_gone self.old.gone uses.now ≡ false }
         requires answers { entry.reply ≡ reply_to self.old.setup (reverse self.old.history) entry.event }
         requires used { AreUsed (reverse self.old.history) entry.reply.answer entry.event uses.now }
         requires info { info ≡ made_info (reverse self.old.history) entry.event }
@@ -407,6 +426,7 @@ impl State {
         requires spent { most_spent entry.event ≤ spent.old.room }
         ensures setup { self.new.setup ≡ self.old.setup }
         ensures history { self.new.history ≡ self.old.history ++ entry ∷ [] }
+        ensures gone { self.new.gone ≡ self.old.gone }
         ensures reply { result ≡ entry.reply }
         ensures trace { trace.new.items ≡ trace.old.items ++ map free (freed self.old.setup (entry ∷ reverse self.old.history)) }
         ensures spent { HandsOutSpent self.old.setup (entry ∷ reverse self.old.history) spent.old.handed spent.new.handed }
@@ -435,5 +455,46 @@ impl State {
         keep(number, event, &mut self.recordings);
         self.spare -= 1;
         reply
+    }
+
+    /// Whether an object was made and not let go.
+    pub fn is_kept(&self, number: u64) -> bool
+        ensures { result ≡ is_here self.now.gone (reverse self.now.history) number }
+    {
+        self.book.is_kept(number)
+    }
+
+    /// What was let go is dead.
+    pub fn dead_holds(&self)
+        ensures { AreDead self.now.setup (reverse self.now.history) self.now.gone }
+    {
+        self.kept.life.dead_holds();
+    }
+
+    /// Lets one object go of those that were noted as maybe dead, if it is.
+    fn let_one_go(&mut self)
+        ensures setup { self.new.setup ≡ self.old.setup }
+        ensures history { self.new.history ≡ self.old.history }
+        ensures live { self.new.live ≡ self.old.live }
+    {
+        let Some(number) = self.kept.life.next_hint() else {
+            return;
+        };
+        if !self.kept.life.is_dead(number) {
+            return;
+        }
+        self.kept.life.let_go(number);
+        let _ = self.book.let_go(number);
+    }
+
+    /// Lets all go that is dead of what was noted as such. What was known of it is dropped.
+    pub fn let_go_dead(&mut self)
+        ensures setup { self.new.setup ≡ self.old.setup }
+        ensures history { self.new.history ≡ self.old.history }
+        ensures live { self.new.live ≡ self.old.live }
+    {
+        for _ in 0..self.kept.life.hints() {
+            self.let_one_go();
+        }
     }
 }

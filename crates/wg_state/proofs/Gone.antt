@@ -1,0 +1,247 @@
+-- What an event names was not let go, and what was let go is dead.
+use Rattle.std.proofs.Common.{◌≡◌, ℕ, suc, zero, ◌+◌, ◌-◌, ◌<◌, Bool, true, false, not, ◌&&◌, ◌||◌, nat_lt, List, [], ◌∷◌, ◌++◌, length, map, get_or, slice_index, Option, Some, None, is_some, is_none, option_map, option_to_list, unwrap_or, IfOk, IfSome, reverse, inl, inr, refl, sym, ap, ap₂, ◌∙◌, arith, subst, if◌then◌else◌, true≢false}
+use Rattle.std.specs.Option.{option_map_or}
+use Rattle.std.specs.List.{list_any}
+use Rattle.std.proofs.lemmas.Bool.{cases_lt, lt-ltb, and_parts, ltb-true}
+use Rattle.std.proofs.lemmas.List.Folds.{list_any-append}
+use Rattle.wg_fading.specs.Fading.{was_let_go}
+use Rattle.wg_types.specs.declared.handles.Info.{Info}
+use Rattle.wg_types.specs.declared.handles.Info.TheVariants.{View as ViewKind, PipelineLayout as PipelineLayoutKind, Group as GroupKind, GroupLayout as GroupLayoutKind, Compute as ComputeKind, Render as RenderKind}
+use Rattle.wg_types.specs.declared.handles.ObjRef.{ObjRef}
+use Rattle.wg_trace.specs.declared.steps.Used.{Used}
+use Rattle.wg_types.specs.declared.bindings.IfaceEntry.{IfaceEntry}
+use Rattle.wg_types.specs.declared.bindings.GroupEntryOf.{GroupEntryOf}
+use Rattle.wg_types.specs.declared.bindings.ResourceOf.{ResourceOf}
+use Rattle.wg_types.specs.declared.bindings.ResourceOf.TheVariants.{Buffer, View, Sampler}
+use Rattle.wg_types.specs.declared.bindings.BoundEntry.{BoundEntry}
+use Rattle.wg_types.specs.declared.bindings.BoundResource.{BoundResource}
+use Rattle.wg_types.specs.declared.bindings.BoundResource.TheVariants.{Buffer as BoundBuffer, View as BoundView, Sampler as BoundSampler}
+use Rattle.wg_types.specs.declared.groups.GroupLayoutInfo.{GroupLayoutInfo}
+use Rattle.wg_types.specs.declared.groups.PipelineLayoutInfo.{PipelineLayoutInfo}
+use Rattle.wg_types.specs.Bindings.{resource_named, entries_named}
+use Rattle.wg_model.specs.Automatic.{automatic_layouts, entries_at, known_layouts}
+use Rattle.wg_model.specs.Bound.{is_automatic}
+use Rattle.wg_model.specs.Making.{known_buffer, known_texture, known_view, known_sampler, known_group_layout, known_pipeline_layout, bound_resource, bound_entry, layout_made}
+use Rattle.wg_model.specs.Views.{view_info}
+use Rattle.wg_history.specs.declared.events.Setup.{Setup}
+use Rattle.wg_history.specs.declared.events.Form.{Form}
+use Rattle.wg_history.specs.declared.events.Form.TheVariants.{Promise as Promising}
+use Rattle.wg_history.specs.declared.events.Promise.TheVariants.{Map as ForMap}
+use Rattle.wg_history.specs.declared.events.Event.{Event}
+use Rattle.wg_history.specs.declared.events.Event.TheVariants.{CreateBuffer, CreateTexture, CreateView, CreateSampler, CreateBindGroupLayout, CreatePipelineLayout, CreateBindGroup, CreateComputePipeline, CreateRenderPipeline, GetBindGroupLayout, CreateQuerySet, CreateEncoder, CreateBundleEncoder, Finish, FinishBundle, Late, Submit, WriteBuffer, WriteTexture, Destroy, Drop, Complete, PushErrorScope, PopErrorScope, Lose, WorkDone, MapAsync, Unmap}
+use Rattle.wg_history.specs.Entries.{Past, effects_of, submitted}
+use Rattle.wg_history.specs.Objects.{count, info_at, info_made, known_in, made_info, resource_at}
+use Rattle.wg_history.specs.Releases.{is_released}
+use Rattle.wg_holders.specs.Holders.{Holdings, mark_at, list_at}
+use Rattle.wg_life.specs.Lives.{LifeValue, AreDead as AreDeadIn, row_at, is_live}
+use Rattle.wg_life.specs.declared.rows.Resource.{Resource}
+use Rattle.wg_life.specs.declared.rows.Row.{Row}
+use Rattle.wg_state.specs.Gone.{touched, asked_by, made_of, written_to, any_gone, names_gone, uses_gone, is_here, info_here, known_here, IsDead, AreDead}
+use Rattle.wg_state.specs.Rows.{memory_at, row_of, IsLifeOf}
+use Rattle.wg_state.proofs.LifeLemmas.{sort_at, held_same, holdings_of}
+use Rattle.wg_state.proofs.KeptLemmas.{reads_dropped}
+use Rattle.wg_state.proofs.Places.{info_none}
+
+record Both (a b : Bool) : Type 0 where
+  left : a ≡ false
+  right : b ≡ false
+
+or_parts : (a b : Bool) → (a || b) ≡ false → Both a b
+or_parts false false e = record { left = refl; right = refl }
+or_parts true b e = absurd (true≢false e)
+or_parts false true e = absurd (true≢false e)
+
+parts : (gone : List ℕ) (a b : List ObjRef) → any_gone gone (a ++ b) ≡ false → Both (any_gone gone a) (any_gone gone b)
+parts gone a b none = or_parts (any_gone gone a) (any_gone gone b) (sym (list_any-append (λ (object : ObjRef). was_let_go gone object.number) a b) ∙ none)
+
+-- one of a list
+pub any_here : (gone : List ℕ) (objects : List ObjRef) (i : ℕ) (d : ObjRef) → any_gone gone objects ≡ false → i < length objects → was_let_go gone (get_or objects i d).number ≡ false
+any_here gone [] i d none lt = absurd (omega (arith, lt))
+any_here gone (object ∷ objects) zero d none lt = (or_parts (was_let_go gone object.number) (any_gone gone objects) none).left
+any_here gone (object ∷ objects) (suc i) d none lt = any_here gone objects i d (or_parts (was_let_go gone object.number) (any_gone gone objects) none).right (omega (arith, lt))
+
+pub uses_here : (gone : List ℕ) (uses : List Used) (i : ℕ) (d : Used) → uses_gone gone uses ≡ false → i < length uses → was_let_go gone (get_or uses i d).number ≡ false
+uses_here gone [] i d none lt = absurd (omega (arith, lt))
+uses_here gone (used ∷ uses) zero d none lt = (or_parts (was_let_go gone used.number) (uses_gone gone uses) none).left
+uses_here gone (used ∷ uses) (suc i) d none lt = uses_here gone uses i d (or_parts (was_let_go gone used.number) (uses_gone gone uses) none).right (omega (arith, lt))
+
+one_here : (gone : List ℕ) (o : Option ObjRef) (object : ObjRef) → o ≡ Some object → any_gone gone (option_to_list o) ≡ false → was_let_go gone object.number ≡ false
+one_here gone o object e none = (or_parts (was_let_go gone object.number) false (sym (ap (λ (o : Option ObjRef). any_gone gone (option_to_list o)) e) ∙ none)).left
+
+-- the parts of what an event names
+record NamesHere (gone : List ℕ) (event : Event) : Type 0 where
+  ended : any_gone gone (option_to_list (effects_of event).ended) ≡ false
+  destroyed : any_gone gone (option_to_list (effects_of event).destroyed) ≡ false
+  dropped : any_gone gone (option_to_list (effects_of event).dropped) ≡ false
+  unmapped : any_gone gone (option_to_list (effects_of event).unmapped) ≡ false
+  asked : any_gone gone (asked_by (effects_of event).form) ≡ false
+  submits : any_gone gone (submitted event) ≡ false
+  made : any_gone gone (made_of event) ≡ false
+  written : any_gone gone (written_to event) ≡ false
+
+names_here : (gone : List ℕ) (event : Event) → names_gone gone event ≡ false → NamesHere gone event
+names_here gone event none =
+    let fx = effects_of event in
+    let all = parts gone (touched fx) (submitted event ++ (made_of event ++ written_to event)) none in
+    let first = parts gone (option_to_list fx.ended) (option_to_list fx.destroyed ++ (option_to_list fx.dropped ++ (option_to_list fx.unmapped ++ asked_by fx.form))) all.left in
+    let second = parts gone (option_to_list fx.destroyed) (option_to_list fx.dropped ++ (option_to_list fx.unmapped ++ asked_by fx.form)) first.right in
+    let third = parts gone (option_to_list fx.dropped) (option_to_list fx.unmapped ++ asked_by fx.form) second.right in
+    let fourth = parts gone (option_to_list fx.unmapped) (asked_by fx.form) third.right in
+    let later = parts gone (submitted event) (made_of event ++ written_to event) all.right in
+    let last = parts gone (made_of event) (written_to event) later.right in
+    record {
+      ended = first.left;
+      destroyed = second.left;
+      dropped = third.left;
+      unmapped = fourth.left;
+      asked = fourth.right;
+      submits = later.left;
+      made = last.left;
+      written = last.right;
+    }
+
+pub ended_here : (gone : List ℕ) (event : Event) (object : ObjRef) → names_gone gone event ≡ false → (effects_of event).ended ≡ Some object → was_let_go gone object.number ≡ false
+ended_here gone event object none e = one_here gone (effects_of event).ended object e (names_here gone event none).ended
+
+pub destroyed_here : (gone : List ℕ) (event : Event) (object : ObjRef) → names_gone gone event ≡ false → (effects_of event).destroyed ≡ Some object → was_let_go gone object.number ≡ false
+destroyed_here gone event object none e = one_here gone (effects_of event).destroyed object e (names_here gone event none).destroyed
+
+pub dropped_here : (gone : List ℕ) (event : Event) (object : ObjRef) → names_gone gone event ≡ false → (effects_of event).dropped ≡ Some object → was_let_go gone object.number ≡ false
+dropped_here gone event object none e = one_here gone (effects_of event).dropped object e (names_here gone event none).dropped
+
+pub unmapped_here : (gone : List ℕ) (event : Event) (object : ObjRef) → names_gone gone event ≡ false → (effects_of event).unmapped ≡ Some object → was_let_go gone object.number ≡ false
+unmapped_here gone event object none e = one_here gone (effects_of event).unmapped object e (names_here gone event none).unmapped
+
+pub asked_here : (gone : List ℕ) (event : Event) (buffer : ObjRef) (mode offset size : ℕ) → names_gone gone event ≡ false → (effects_of event).form ≡ Promising (ForMap buffer mode offset size) → was_let_go gone buffer.number ≡ false
+asked_here gone event buffer mode offset size none e = (or_parts (was_let_go gone buffer.number) false (sym (ap (λ (form : Form). any_gone gone (asked_by form)) e) ∙ (names_here gone event none).asked)).left
+
+pub submitted_here : (gone : List ℕ) (event : Event) → names_gone gone event ≡ false → any_gone gone (submitted event) ≡ false
+submitted_here gone event none = (names_here gone event none).submits
+
+-- what is known of what is named
+
+known_same : (gone : List ℕ) (past : Past) (object : ObjRef) → was_let_go gone object.number ≡ false → known_here gone past object ≡ known_in past object
+known_same gone past object here = ap (λ b. if b then None else info_at past object.number) here
+
+layouts_same : (gone : List ℕ) (past : Past) (layouts : List ObjRef) → any_gone gone layouts ≡ false → map (λ layout. known_group_layout (known_here gone past layout)) layouts ≡ map (λ layout. known_group_layout (known_in past layout)) layouts
+layouts_same gone past [] none = refl
+layouts_same gone past (layout ∷ layouts) none =
+    let both = or_parts (was_let_go gone layout.number) (any_gone gone layouts) none in
+    ap₂ (λ (info : GroupLayoutInfo) (rest : List GroupLayoutInfo). info ∷ rest) (ap known_group_layout (known_same gone past layout both.left)) (layouts_same gone past layouts both.right)
+
+resource_same : (gone : List ℕ) (past : Past) (resource : ResourceOf ObjRef) → was_let_go gone (resource_named resource).0.number ≡ false → bound_resource (λ r. r) (known_here gone past) resource ≡ bound_resource (λ r. r) (known_in past) resource
+resource_same gone past (Buffer buffer offset size) here = ap (λ (o : Option Info). BoundBuffer buffer (known_buffer o) offset (unwrap_or size ((known_buffer o).size - offset))) (known_same gone past buffer here)
+resource_same gone past (View view) here = ap (λ (o : Option Info). BoundView view (known_view o)) (known_same gone past view here)
+resource_same gone past (Sampler sampler) here = ap (λ (o : Option Info). BoundSampler sampler (known_sampler o)) (known_same gone past sampler here)
+
+entries_same : (gone : List ℕ) (past : Past) (entries : List (GroupEntryOf ObjRef)) → any_gone gone (map (λ named. named.0) (entries_named entries)) ≡ false → map (bound_entry (λ r. r) (known_here gone past)) entries ≡ map (bound_entry (λ r. r) (known_in past)) entries
+entries_same gone past [] none = refl
+entries_same gone past (entry ∷ entries) none =
+    let both = or_parts (was_let_go gone (resource_named entry.resource).0.number) (any_gone gone (map (λ named. named.0) (entries_named entries))) none in
+    ap₂ (λ (resource : BoundResource) (rest : List BoundEntry). record { binding = entry.binding; resource = resource } ∷ rest) (resource_same gone past entry.resource both.left) (entries_same gone past entries both.right)
+
+layout_same : (gone : List ℕ) (past : Past) (layout : Option ObjRef) (iface : List IfaceEntry) → any_gone gone (option_to_list layout) ≡ false → layout_made (known_here gone past) layout iface ≡ layout_made (known_in past) layout iface
+layout_same gone past None iface none = refl
+layout_same gone past (Some layout) iface none = ap known_pipeline_layout (known_same gone past layout (or_parts (was_let_go gone layout.number) false none).left)
+
+-- What is made of objects that were not let go is made of what is known of them.
+pub made_same : (gone : List ℕ) (past : Past) (event : Event) → any_gone gone (made_of event) ≡ false → info_made (known_here gone past) event ≡ made_info past event
+made_same gone past (CreateBuffer info) none = refl
+made_same gone past (CreateTexture info) none = refl
+made_same gone past (CreateView texture desc) none = ap (λ (o : Option Info). Some (ViewKind (view_info (known_texture o) texture desc))) (known_same gone past texture (or_parts (was_let_go gone texture.number) false none).left)
+made_same gone past (CreateSampler kind) none = refl
+made_same gone past (CreateBindGroupLayout entries) none = refl
+made_same gone past (CreatePipelineLayout layouts) none = ap (λ (infos : List GroupLayoutInfo). Some (PipelineLayoutKind (record { layouts = map (λ r. r) layouts; layouts_info = infos }))) (layouts_same gone past layouts none)
+made_same gone past (CreateBindGroup layout entries) none =
+    let both = or_parts (was_let_go gone layout.number) (any_gone gone (map (λ named. named.0) (entries_named entries))) none in
+    ap₂ (λ (o : Option Info) (bound : List BoundEntry). Some (GroupKind (record { layout = layout; layout_info = known_group_layout o; entries = bound }))) (known_same gone past layout both.left) (entries_same gone past entries both.right)
+made_same gone past (CreateComputePipeline layout iface) none = ap (λ (info : PipelineLayoutInfo). Some (ComputeKind (record { layout = option_map (λ r. r) layout; layout_info = info; auto = is_none layout; iface = iface }))) (layout_same gone past layout iface.entries none)
+made_same gone past (CreateRenderPipeline layout desc) none = ap (λ (info : PipelineLayoutInfo). Some (RenderKind (record { layout = option_map (λ r. r) layout; layout_info = info; auto = is_none layout; desc = desc }))) (layout_same gone past layout desc.iface none)
+made_same gone past (GetBindGroupLayout pipeline index) none = ap (λ (o : Option Info). Some (GroupLayoutKind (record { entries = entries_at (known_layouts o) index; exclusive = if option_map_or is_automatic o false then Some pipeline.number else None; pipeline = Some pipeline }))) (known_same gone past pipeline (or_parts (was_let_go gone pipeline.number) false none).left)
+made_same gone past (CreateQuerySet info) none = refl
+made_same gone past CreateEncoder none = refl
+made_same gone past (CreateBundleEncoder targets) none = refl
+made_same gone past (Finish encoder recording) none = refl
+made_same gone past (FinishBundle encoder recording) none = refl
+made_same gone past (Late encoder) none = refl
+made_same gone past (Submit buffers) none = refl
+made_same gone past (WriteBuffer buffer offset size) none = refl
+made_same gone past (WriteTexture texture spot layout size data_size) none = refl
+made_same gone past (Destroy object) none = refl
+made_same gone past (Drop object) none = refl
+made_same gone past (Complete op) none = refl
+made_same gone past (PushErrorScope filter) none = refl
+made_same gone past PopErrorScope none = refl
+made_same gone past Lose none = refl
+made_same gone past WorkDone none = refl
+made_same gone past (MapAsync buffer mode offset size) none = refl
+made_same gone past (Unmap buffer) none = refl
+
+pub made_here : (gone : List ℕ) (past : Past) (event : Event) → names_gone gone event ≡ false → info_made (known_here gone past) event ≡ made_info past event
+made_here gone past event none = made_same gone past event (names_here gone event none).made
+
+-- one that is not kept
+pub unkept : (gone : List ℕ) (past : Past) (n : ℕ) → is_here gone past n ≡ false → None ≡ info_here gone past n
+unkept gone past n out = by (was_let_go gone n) refl
+  where
+    by : (b : Bool) → was_let_go gone n ≡ b → None ≡ (if b then None else info_at past n)
+    by true e = refl
+    by false e = elim (cases_lt n (count past)) [
+      | inl less ↦ absurd (true≢false (sym (ap₂ (λ (a b : Bool). a && not b) (lt-ltb n (count past) less) e) ∙ out))
+      | inr more ↦ sym (info_none past n more)
+    ]
+
+pub kept_here : (gone : List ℕ) (past : Past) (n : ℕ) → is_here gone past n ≡ true → was_let_go gone n ≡ false
+kept_here gone past n here = not_true (was_let_go gone n) (and_parts (nat_lt n (count past)) (not (was_let_go gone n)) here).1
+  where
+    not_true : (b : Bool) → not b ≡ true → b ≡ false
+    not_true true e = absurd (true≢false (sym e))
+    not_true false e = refl
+
+-- what was let go is dead
+
+pub life_dead : (setup : Setup) (past : Past) (life : LifeValue) → IsLifeOf setup past life → AreDeadIn life.rows life.holdings life.gone → AreDead setup past life.gone
+life_dead setup past life is dead n went = record {
+  made = made;
+  dropped = sym (reads_dropped setup past life n is) ∙ dead.dropped n went;
+  unheld = sym (held_same setup past life.holdings n (holdings_of setup past life is)) ∙ dead.unheld n went;
+  over = λ some. released (is_some (memory_at past n)) (is_released setup past n) (sym (ap is_live (is.row_is n made)) ∙ dead.over n went) (some_same (memory_at past n) ∙ (ap is_some (sort_at past n) ∙ some));
+}
+  where
+    made : n < count past
+    made = let lt = dead.made n went in let len = is.rows_len in omega (arith, lt, len)
+
+    some_same : (o : Option Resource) → is_some o ≡ is_some (option_map (λ (resource : Resource). resource.sort) o)
+    some_same None = refl
+    some_same (Some resource) = refl
+
+    released : (r l : Bool) → (r && not l) ≡ false → r ≡ true → l ≡ true
+    released r true e some = refl
+    released true false e some = absurd (true≢false e)
+    released false false e some = absurd (true≢false (sym some))
+
+-- the same life, of which more was let go
+pub life_as : (setup : Setup) (past : Past) (old new : LifeValue) → new.rows ≡ old.rows → new.holdings ≡ old.holdings → new.budget ≡ old.budget → IsLifeOf setup past old → IsLifeOf setup past new
+life_as setup past old new rows holdings budget is = record {
+  rows_len = ap length rows ∙ is.rows_len;
+  marks_len = ap (λ (h : Holdings). length h.marks) holdings ∙ is.marks_len;
+  names_len = ap (λ (h : Holdings). length h.names) holdings ∙ is.names_len;
+  refers_len = ap (λ (h : Holdings). length h.refers) holdings ∙ is.refers_len;
+  row_is = λ n lt. ap (λ (list : List Row). row_at list n) rows ∙ is.row_is n lt;
+  mark_is = λ n lt. ap (λ (h : Holdings). mark_at h.marks n) holdings ∙ is.mark_is n lt;
+  names_are = λ n lt. ap (λ (h : Holdings). list_at h.names n) holdings ∙ is.names_are n lt;
+  refers_are = λ n lt. ap (λ (h : Holdings). list_at h.refers n) holdings ∙ is.refers_are n lt;
+  budget_is = budget ∙ is.budget_is;
+}
+
+-- where nothing was let go
+
+any_none : (objects : List ObjRef) → any_gone [] objects ≡ false
+any_none [] = refl
+any_none (object ∷ objects) = any_none objects
+
+pub names_none : (gone : List ℕ) (event : Event) → gone ≡ [] → names_gone gone event ≡ false
+names_none gone event none = ap (λ (gone : List ℕ). names_gone gone event) none ∙ any_none (touched (effects_of event) ++ (submitted event ++ (made_of event ++ written_to event)))
+
+pub none_dead : (setup : Setup) (past : Past) (gone : List ℕ) → gone ≡ [] → AreDead setup past gone
+none_dead setup past gone none n went = absurd (true≢false (sym went ∙ ap (λ (gone : List ℕ). was_let_go gone n) none))
