@@ -1,25 +1,67 @@
 -- Where what is kept stands, by number.
-use Rattle.std.specs.Prelude.{ℕ, ◌/◌, ◌%◌, ◌<◌, List, [], length, map, slice_index_or}
-use Rattle.wg_fading.specs.declared.places.Page.{Page}
+use Rattle.std.specs.Prelude.{◌≡◌, ℕ, zero, suc, ◌+◌, ◌-◌, ◌/◌, ◌%◌, ◌≤◌, Bool, true, false, nat_lt, List, [], ◌∷◌, length, slice_index_or, Option, Some, None, if◌then◌else◌}
+use Rattle.std.specs.Global.{Global}
+use Rattle.std.specs.declared.boxed.Box.{Box}
+use Rattle.wg_fading.specs.declared.pages.Page.{Page}
+use Rattle.wg_fading.specs.declared.floors.Floor.{Floor}
 use Rattle.wg_fading.specs.declared.places.Places.{Places}
 
--- the places of a page
-abbrev pub places_of : Page → List ℕ
-places_of page = page.places.items
+-- what is read at j of the element at i, and none where there is no element
+abbrev pub at_in : {X V : Type 0} → V → (X → ℕ → V) → List X → ℕ → ℕ → V
+at_in none read [] i j = none
+at_in none read (x ∷ xs) zero j = read x j
+at_in none read (x ∷ xs) (suc i) j = at_in none read xs i j
 
--- where the one at a slot of a page stands
-abbrev pub in_page : List ℕ → ℕ → ℕ
-in_page places slot = slice_index_or places slot 4294967295
+-- where those of a page stand: the greatest 32-bit number stands for nowhere
+abbrev pub in_page : Page → ℕ → ℕ
+in_page page j = slice_index_or page.places.items j 4294967295
 
--- where number n stands by the places of all pages: the greatest 32-bit number stands for nowhere
-abbrev pub spot : List (List ℕ) → ℕ → ℕ
-spot lists n = in_page (slice_index_or lists (n / 256) []) (n % 256)
+-- the same of a page that may be none
+abbrev pub page_place : Option (Box Page Global) → ℕ → ℕ
+page_place None j = 4294967295
+page_place (Some page) j = in_page page.value j
+
+-- whether a page has a slot
+abbrev pub has_in_page : Page → ℕ → Bool
+has_in_page page j = nat_lt j (length page.places.items)
+
+-- whether a page that may be none has a slot
+abbrev pub page_has : Option (Box Page Global) → ℕ → Bool
+page_has None j = false
+page_has (Some page) j = has_in_page page.value j
+
+-- where those of a floor stand
+abbrev pub in_floor : Floor → ℕ → ℕ
+in_floor floor j = at_in 4294967295 page_place floor.pages.items (j / 64) (j % 64)
+
+-- the same of a floor that may be none
+abbrev pub floor_place : Option (Box Floor Global) → ℕ → ℕ
+floor_place None j = 4294967295
+floor_place (Some floor) j = in_floor floor.value j
+
+-- whether a floor has a slot
+abbrev pub has_in_floor : Floor → ℕ → Bool
+has_in_floor floor j = at_in false page_has floor.pages.items (j / 64) (j % 64)
+
+-- whether a floor that may be none has a slot
+abbrev pub floor_has : Option (Box Floor Global) → ℕ → Bool
+floor_has None j = false
+floor_has (Some floor) j = has_in_floor floor.value j
+
+-- where number n stands by the floors behind those that were cut off in front
+abbrev pub spot : ℕ → List (Option (Box Floor Global)) → ℕ → ℕ
+spot first floors n = if nat_lt (n / 2048) first then 4294967295 else at_in 4294967295 floor_place floors (n / 2048 - first) (n % 2048)
 
 -- where number n stands
 abbrev pub place_at : Places → ℕ → ℕ
-place_at p n = spot (map places_of p.pages.items) n
+place_at p n = spot p.first p.floors.items n
 
 -- There is a slot for number n.
 pub record HasSlot (p : Places) (n : ℕ) : Type 0 where
-  pub to : n / 256 < length p.pages.items
-  pub slot : n % 256 < length (slice_index_or (map places_of p.pages.items) (n / 256) [])
+  pub past : p.first ≤ n / 2048
+  pub slot : at_in false floor_has p.floors.items (n / 2048 - p.first) (n % 2048) ≡ true
+
+-- Number n, which is the next one, is of one of the floors or of the next floor.
+pub record Reaches (p : Places) (n : ℕ) : Type 0 where
+  pub past : p.first ≤ n / 2048
+  pub to : n / 2048 ≤ p.first + length p.floors.items

@@ -1,67 +1,44 @@
-//! Where what is kept stands, by number, in pages that are given back once nothing of them is kept.
-ghost use Rattle.std.specs.Prelude.{◌≡◌, ℕ, ◌+◌, ◌/◌, ◌<◌, ◌≤◌, ◌==◌, [], if◌then◌else◌, false, length, slice_set, OnOk};
-ghost use Rattle.wg_fading.specs.Places.{in_page, place_at, HasSlot};
+//! Where what is kept stands, by number, in floors of pages that are given back once nothing of them is kept.
+ghost use Rattle.std.specs.Prelude.{◌≡◌, ℕ, ◌+◌, ◌-◌, ◌/◌, ◌<◌, ◌≤◌, ◌==◌, [], if◌then◌else◌, false, true, length, slice_index_or, OnOk, Option};
+ghost use Rattle.std.specs.Global.{Global};
+ghost use Rattle.std.specs.declared.boxed.Box.{Box};
+ghost use Rattle.wg_fading.specs.declared.floors.Floor.{Floor};
+ghost use Rattle.wg_fading.specs.Places.{place_at, HasSlot, Reaches};
 
+use super::floors;
+use super::floors::Floor;
+use super::pages::GONE;
 use std::alloc::Global;
+use std::collections::VecDeque;
 use wg_entry::NoMemory;
 
-/// So many numbers have a page.
-const PAGE: u64 = 256;
+/// So many numbers have a floor.
+const FLOOR: u64 = 2048;
 
-/// The place of what is not kept.
-pub const GONE: u32 = 4294967295;
-
-/// Where those of a run of numbers stand; none of a page that was given back.
-#[derive(Drop)]
-pub struct Page {
-    pub places: Vec<u32>,
-    /// How many of them were let go.
-    pub lost: u32,
-}
-
-/// Where each number stands.
+/// Where each number stands, by the floor. A floor that was given back is none; such floors in front are cut off.
 #[derive(Drop)]
 pub struct Places {
-    pub pages: Vec<Page>,
+    /// How many floors were cut off.
+    pub first: u64,
+    pub floors: VecDeque<Option<Box<Floor>>>,
 }
 
-/// Puts one in its place of a page.
-fn put_in(page: &mut Page, slot: usize, place: u32)
-    requires { slot < length page.old.places.items }
-    ensures { page.new.places.items ≡ slice_set page.old.places.items slot place }
+/// Whether the floor of a number is past.
+fn is_floor_past(number: u64, next: u64) -> bool
+    ensures { number / 2048 ≡ next / 2048 → result ≡ false }
 {
-    page.places[slot] = place;
-}
-
-/// Notes that one of a page was let go, and gives the page back if it is past and nothing of it is kept.
-fn lose_in(page: &mut Page, is_past: bool)
-    ensures each { (j : ℕ) → in_page page.new.places.items j ≡ in_page page.old.places.items j }
-    ensures stays { is_past ≡ false → page.new.places.items ≡ page.old.places.items }
-{
-    page.lost = page.lost.saturating_add(1);
-    if is_past && page.lost as u64 >= PAGE && page.places.iter().all(|place| *place == GONE) {
-        page.places = Vec::new(*page.places.allocator());
-    }
-}
-
-/// Makes a page whole.
-fn fill(page: &mut Page) -> Result<(), NoMemory>
-    ensures same { (j : ℕ) → in_page page.new.places.items j ≡ in_page page.old.places.items j }
-    ensures whole { OnOk result (256 ≤ length page.new.places.items) }
-{
-    if page.places.len() < PAGE as usize {
-        page.places.resize(PAGE as usize, GONE)?;
-    }
-    Ok(())
+    number / FLOOR != next / FLOOR
 }
 
 impl Places {
     /// No numbers.
     pub fn new(alloc: Global) -> Places
-        ensures { result.pages.items ≡ [] }
+        ensures first { result.first ≡ 0 }
+        ensures floors { result.floors.items ≡ [] }
     {
         Places {
-            pages: Vec::new(alloc),
+            first: 0,
+            floors: VecDeque::new(alloc),
         }
     }
 
@@ -70,23 +47,23 @@ impl Places {
         requires { HasSlot self.now number }
         ensures { result ≡ place_at self.now number }
     {
-        self.pages[(number / PAGE) as usize].places[(number % PAGE) as usize]
+        let floor = (number / FLOOR - self.first) as usize;
+        floors::find(&self.floors[floor], (number % FLOOR) as usize)
     }
 
     /// Where any number stands.
     pub fn look(&self, number: u64) -> u32
         ensures { result ≡ place_at self.now number }
     {
-        let page = (number / PAGE) as usize;
-        if page >= self.pages.len() {
+        let floor = number / FLOOR;
+        if floor < self.first {
             return GONE;
         }
-        let places = self.pages[page].places.as_slice();
-        let slot = (number % PAGE) as usize;
-        if slot >= places.len() {
+        let floor = (floor - self.first) as usize;
+        if floor >= self.floors.len() {
             return GONE;
         }
-        places[slot]
+        floors::look(&self.floors[floor], (number % FLOOR) as usize)
     }
 
     /// Puts a number in its place.
@@ -94,51 +71,51 @@ impl Places {
         requires { HasSlot self.old number }
         ensures each { (m : ℕ) → place_at self.new m ≡ (if m == number then place else place_at self.old m) }
         ensures slots { (m : ℕ) → HasSlot self.old m → HasSlot self.new m }
-        ensures len { length self.new.pages.items ≡ length self.old.pages.items }
+        ensures first { self.new.first ≡ self.old.first }
+        ensures len { length self.new.floors.items ≡ length self.old.floors.items }
     {
-        put_in(
-            &mut self.pages[(number / PAGE) as usize],
-            (number % PAGE) as usize,
-            place,
-        );
+        let floor = (number / FLOOR - self.first) as usize;
+        floors::put(&mut self.floors[floor], (number % FLOOR) as usize, place);
     }
 
     /// Takes room for a number that is the next one.
     pub fn reserve(&mut self, alloc: Global, next: u64) -> Result<(), NoMemory>
-        requires { next / 256 ≤ length self.old.pages.items }
+        requires { Reaches self.old next }
         ensures each { (m : ℕ) → place_at self.new m ≡ place_at self.old m }
-        ensures len { length self.old.pages.items ≤ length self.new.pages.items }
+        ensures reach { Reaches self.new next }
         ensures slot { OnOk result (HasSlot self.new next) }
     {
-        let page = (next / PAGE) as usize;
-        if page == self.pages.len() {
-            self.add_page(alloc)?;
+        let floor = (next / FLOOR - self.first) as usize;
+        if floor == self.floors.len() {
+            self.add_floor()?;
         }
-        self.fill(page)?;
+        self.fill(floor, alloc, next)?;
         Ok(())
     }
 
-    /// Adds a page that has no places yet.
-    fn add_page(&mut self, alloc: Global) -> Result<(), NoMemory>
+    /// Adds a floor that is none yet.
+    fn add_floor(&mut self) -> Result<(), NoMemory>
         ensures each { (m : ℕ) → place_at self.new m ≡ place_at self.old m }
-        ensures len { length self.old.pages.items ≤ length self.new.pages.items }
-        ensures more { OnOk result (length self.new.pages.items ≡ length self.old.pages.items + 1) }
+        ensures first { self.new.first ≡ self.old.first }
+        ensures len { length self.old.floors.items ≤ length self.new.floors.items }
+        ensures more { OnOk result (length self.new.floors.items ≡ length self.old.floors.items + 1) }
     {
-        self.pages.push(Page {
-            places: Vec::new(alloc),
-            lost: 0,
-        })?;
+        self.floors.reserve(1)?;
+        self.floors.push_back_reserved(None);
         Ok(())
     }
 
-    /// Makes a page whole.
-    fn fill(&mut self, page: usize) -> Result<(), NoMemory>
-        requires { page < length self.old.pages.items }
+    /// Makes the slot of a number in its floor.
+    fn fill(&mut self, floor: usize, alloc: Global, number: u64) -> Result<(), NoMemory>
+        requires past { self.old.first ≤ number / 2048 }
+        requires is { floor ≡ number / 2048 - self.old.first }
+        requires inside { floor < length self.old.floors.items }
         ensures each { (m : ℕ) → place_at self.new m ≡ place_at self.old m }
-        ensures len { length self.new.pages.items ≡ length self.old.pages.items }
-        ensures slots { OnOk result ((m : ℕ) → m / 256 ≡ page → HasSlot self.new m) }
+        ensures first { self.new.first ≡ self.old.first }
+        ensures len { length self.new.floors.items ≡ length self.old.floors.items }
+        ensures slot { OnOk result (HasSlot self.new number) }
     {
-        fill(&mut self.pages[page])?;
+        floors::fill(&mut self.floors[floor], alloc, (number % FLOOR) as usize)?;
         Ok(())
     }
 
@@ -147,20 +124,48 @@ impl Places {
         requires { HasSlot self.old number }
         ensures each { (m : ℕ) → place_at self.new m ≡ (if m == number then 4294967295 else place_at self.old m) }
         ensures slot { HasSlot self.old next → HasSlot self.new next }
-        ensures len { length self.new.pages.items ≡ length self.old.pages.items }
+        ensures reach { Reaches self.old next → Reaches self.new next }
     {
         self.put(number, GONE);
-        let is_past = number / PAGE != next / PAGE;
-        self.lose_in((number / PAGE) as usize, is_past);
+        self.lose_in(number, next);
+        self.cut(next);
     }
 
-    /// Notes that one of a page was let go, and gives the page back if it is past and nothing of it is kept.
-    fn lose_in(&mut self, page: usize, is_past: bool)
-        requires { page < length self.old.pages.items }
+    /// Notes that a number was let go, and gives back its page and its floor if they are past and nothing of
+    /// them is kept.
+    fn lose_in(&mut self, number: u64, next: u64)
+        requires { HasSlot self.old number }
         ensures each { (m : ℕ) → place_at self.new m ≡ place_at self.old m }
-        ensures slots { (m : ℕ) → (m / 256 ≡ page → is_past ≡ false) → HasSlot self.old m → HasSlot self.new m }
-        ensures len { length self.new.pages.items ≡ length self.old.pages.items }
+        ensures slot { HasSlot self.old next → HasSlot self.new next }
+        ensures first { self.new.first ≡ self.old.first }
+        ensures len { length self.new.floors.items ≡ length self.old.floors.items }
     {
-        lose_in(&mut self.pages[page], is_past);
+        let floor = (number / FLOOR - self.first) as usize;
+        floors::lose(
+            &mut self.floors[floor],
+            (number % FLOOR) as usize,
+            (next % FLOOR) as usize,
+            is_floor_past(number, next),
+        );
+    }
+
+    /// Cuts off the floor in front, if it was given back and is not that of the next number.
+    fn cut(&mut self, next: u64)
+        ensures each { (m : ℕ) → place_at self.new m ≡ place_at self.old m }
+        ensures slot { HasSlot self.old next → HasSlot self.new next }
+        ensures reach { Reaches self.old next → Reaches self.new next }
+    {
+        if self.first < next / FLOOR && self.is_free() {
+            let _ = self.floors.pop_front();
+            self.first += 1;
+        }
+    }
+
+    /// Whether the floor in front was given back.
+    fn is_free(&self) -> bool
+        ensures some { result ≡ true → 0 < length self.now.floors.items }
+        ensures none { result ≡ true → (d : Option (Box Floor Global)) → slice_index_or self.now.floors.items 0 d ≡ None }
+    {
+        matches!(self.floors.front(), Some(None))
     }
 }

@@ -5,12 +5,12 @@ ghost use Rattle.wg_fading.specs.Fading.{was_let_go};
 ghost use Rattle.wg_model.specs.Holding.{is_among};
 ghost use Rattle.wg_orders.specs.Trace.{free};
 ghost use Rattle.wg_holders.specs.Holders.{HoldersValue, no_holdings, mark_at, is_held, with_ended, with_consumed, with_dropped, Marks, Falls, AreHere};
-ghost use Rattle.wg_life.specs.Lives.{LifeValue, new_row, row_at, with_destroyed, with_use, with_release, is_due, releases, live_bytes, live_count, with_object, is_live, is_dead, Notes, AreDead};
+ghost use Rattle.wg_life.specs.Lives.{LifeValue, new_row, row_at, with_destroyed, with_use, with_release, is_due, releases, live_bytes, live_count, with_object, is_dead, Notes, AreDead};
 ghost use Rattle.wg_life.specs.Waits.{IsGone, IsTidy};
 
 use crate::live::{Live, add_row, let_key_go};
 use crate::rows::{Made, Row, mark_destroyed, mark_use, row_in};
-use crate::waiting::{self, Wait, Waiting, lose, lose_all};
+use crate::waiting::{self, Waiting, lose, lose_all};
 use std::alloc::Global;
 use std::collections::VecDeque;
 use std::marker::Model;

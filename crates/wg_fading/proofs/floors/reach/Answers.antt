@@ -1,0 +1,8 @@
+use Rattle.std.proofs.Common.{◌/◌, ◌%◌, refl, ◌∙◌}
+use Rattle.std.specs.Prelude.{None}
+use Rattle.wg_fading.specs.Places.{page_place}
+use Rattle.wg_fading.proofs.Reading.{at_more}
+use Rattle.wg_fading.proofs.floors.reach.Goals as goal
+
+pub loop-floor-preserved : goal.loop-floor-preserved
+loop-floor-preserved c = λ j. rw (c.push_reserved.ensures.items, c.reserve.ensures.items) (at_more 4294967295 page_place c.loop-floor.floor.pages.items (j / 64) None (j % 64) refl ∙ c.loop-floor.invariant j)
