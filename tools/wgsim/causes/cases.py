@@ -233,7 +233,7 @@ class Causes:
 
 def of_report(data, beside):
     """The causes of the faults of a report that stands beside its script; none where it has no script, or no fault."""
-    if beside.script is None or not any(entry.fault for entry in beside.report.entries):
+    if beside.known is None or not any(entry.fault for entry in beside.report.entries):
         return Causes({})
     play, told = Play(data, beside.script), {}
     last = max(entry.number for entry in beside.report.entries if entry.fault)

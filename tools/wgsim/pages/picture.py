@@ -296,7 +296,7 @@ def page_of_steps(name, lines, picture, legend=LEGEND):
 
 def canvases(beside):
     """A list of the frames of each canvas, which opens on a click."""
-    found = frames.listed(beside) if beside.script is not None else []
+    found = frames.listed(beside) if beside.known is not None else []
     if not found:
         return []
     items = [f"<li>{escape(head)}<ul>{''.join(f'<li>{escape(line)}</li>' for line in lines)}</ul></li>" for head, lines in found]
