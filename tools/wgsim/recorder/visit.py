@@ -9,6 +9,7 @@ import json
 import os
 import pathlib
 import re
+import shutil
 import tempfile
 import threading
 import time
@@ -109,10 +110,20 @@ class Visit:
                 self.said.append(details.get("exception", {}).get("description") or details["text"])
 
 
+@contextlib.contextmanager
+def profile():
+    """A folder for a browser, which may still write in it while it is taken away."""
+    folder = tempfile.mkdtemp(prefix="wgsim-record-")
+    try:
+        yield folder
+    finally:
+        shutil.rmtree(folder, ignore_errors=True)
+
+
 def recorded(page, named, frames=FRAMES, seconds=SECONDS):
     """What a browser recorded of a page. A page that cannot be had is told before a browser is looked for."""
     asked = {"frames": frames, "seconds": seconds, "idle": IDLE, "hand": HAND}
-    with tempfile.TemporaryDirectory(prefix="wgsim-record-", ignore_cleanup_errors=True) as folder, served(page) as address:
+    with profile() as folder, served(page) as address:
         path = browser.found(named)
         if path is None:
             raise exit_status.End(
