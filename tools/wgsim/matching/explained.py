@@ -139,6 +139,7 @@ class Explained:
         told = self.causes.of(entry)
         by = f" in the {told.command.word} at {self.place(told.command).strip()}" if told.command else ""
         where = f"entry {entry.number}, {self.beside.script.where(call)}"
+        assert told.cause is not None
         why = f"{told.cause.condition} (rule {entry.own_fault().rule})"
         self.say("", f"follows from entry {self.causes.root(entry)}: {where}: {entry.word}{by}: {why}")
         self.say(*[f"    {line}" for line in self.pages.said(call)])

@@ -1,6 +1,8 @@
 """`wgsim record`: what a page asks of WebGPU in a browser is written down as a script, with what the browser answered and from where it was
 called."""
 
+from __future__ import annotations
+
 import contextlib
 import functools
 import http.server
@@ -14,6 +16,7 @@ import tempfile
 import threading
 import time
 import urllib.parse
+from typing import Any, Iterator
 
 from wgsim import exit_status
 from wgsim.recorder import browser, whole_text
@@ -24,7 +27,7 @@ BESIDE = 45
 HAND = "wgsimRecordHand"
 
 
-def is_here(address):
+def is_here(address: str) -> bool:
     """Whether an address is of this machine."""
     host = urllib.parse.urlsplit(address).hostname or ""
     with contextlib.suppress(ValueError):
@@ -43,16 +46,16 @@ class Files(http.server.SimpleHTTPRequestHandler):
         ".wgsl": "text/plain",
     }
 
-    def log_message(self, *words):
+    def log_message(self, *words: Any) -> None:
         pass
 
-    def end_headers(self):
+    def end_headers(self) -> None:
         self.send_header("Cache-Control", "no-store")
         super().end_headers()
 
 
 @contextlib.contextmanager
-def served(page):
+def served(page: str) -> Iterator[str]:
     """The address at which a browser finds a page: its own, or that of its folder, which is served on this machine meanwhile."""
     if re.match(r"https?://", page):
         if not is_here(page):
@@ -78,18 +81,19 @@ def served(page):
 class Visit:
     """One visit of a page, with the recorder put before its scripts."""
 
-    def __init__(self, browsing, address, asked):
-        self.browsing, self.address, self.elsewhere, self.said = browsing, address, [], []
+    def __init__(self, browsing: browser.Browser, address: str, asked: dict[str, Any]) -> None:
+        self.browsing, self.address = browsing, address
+        self.elsewhere: list[str] = []
+        self.said: list[str] = []
         target = browsing.ask("Target.createTarget", url="about:blank")["targetId"]
         self.session = browsing.ask("Target.attachToTarget", targetId=target, flatten=True)["sessionId"]
-        for method, words in (
-            ("Page.enable", {}), ("Runtime.enable", {}), ("Network.enable", {}), ("Runtime.addBinding", {"name": HAND}),
-            ("Page.addScriptToEvaluateOnNewDocument", {"source": whole_text.text(asked)}),
-        ):
-            browsing.ask(method, self.session, **words)
+        for method in ("Page.enable", "Runtime.enable", "Network.enable"):
+            browsing.ask(method, self.session)
+        browsing.ask("Runtime.addBinding", self.session, name=HAND)
+        browsing.ask("Page.addScriptToEvaluateOnNewDocument", self.session, source=whole_text.text(asked))
         self.failed = browsing.ask("Page.navigate", self.session, url=address).get("errorText")
 
-    def handed(self, seconds):
+    def handed(self, seconds: float) -> dict[str, Any] | None:
         """What the recorder handed over, or None where it did not within some seconds."""
         until = time.monotonic() + seconds
         while True:
@@ -111,7 +115,7 @@ class Visit:
 
 
 @contextlib.contextmanager
-def profile():
+def profile() -> Iterator[str]:
     """A folder for a browser, which may still write in it while it is taken away."""
     folder = tempfile.mkdtemp(prefix="wgsim-record-")
     try:
@@ -120,7 +124,7 @@ def profile():
         shutil.rmtree(folder, ignore_errors=True)
 
 
-def recorded(page, named, frames=FRAMES, seconds=SECONDS):
+def recorded(page: str, named: str | None, frames: int = FRAMES, seconds: int = SECONDS) -> dict[str, Any]:
     """What a browser recorded of a page. A page that cannot be had is told before a browser is looked for."""
     asked = {"frames": frames, "seconds": seconds, "idle": IDLE, "hand": HAND}
     with profile() as folder, served(page) as address:
@@ -152,7 +156,7 @@ def recorded(page, named, frames=FRAMES, seconds=SECONDS):
     return found
 
 
-def saved(data, name):
+def saved(data: bytes, name: str) -> dict[str, Any]:
     """What was saved by hand, of the bytes of a file."""
     try:
         found = json.loads(data)
@@ -163,18 +167,18 @@ def saved(data, name):
     raise exit_status.End(exit_status.UNREAD, f"{name} is no recording that `wgsimRecord.save()` saved")
 
 
-def listed(items):
+def listed(items: list[Any]) -> str:
     """A list with an item in each line."""
     return "[\n" + ",\n".join(json.dumps(item, ensure_ascii=False) for item in items) + "\n]" if items else "[]"
 
 
-def script_of(script):
+def script_of(script: dict[str, Any]) -> str:
     """A script with a call in each line."""
     limits = f'"limits":{json.dumps(script["limits"])},' if "limits" in script else ""
     return f'{{"budget":{script["budget"]},{limits}"phases":[[{listed(script["phases"][0][0])}]]}}\n'
 
 
-def object_of(told):
+def object_of(told: dict[str, Any]) -> str:
     """An object with a key in each line, and an item of its lists too."""
     return (
         "{\n"
@@ -186,7 +190,7 @@ def object_of(told):
     )
 
 
-def write(found, name, folder):
+def write(found: dict[str, Any], name: str, folder: str) -> list[tuple[pathlib.Path, dict[str, Any]]]:
     """Writes the files of each device of a page, and returns the names and what is in them."""
     out, written = pathlib.Path(folder), []
     try:
@@ -206,7 +210,7 @@ def write(found, name, folder):
     return written
 
 
-def told(found, written):
+def told(found: dict[str, Any], written: list[tuple[pathlib.Path, dict[str, Any]]]) -> str:
     """What was recorded, in lines."""
     lines = []
     for path, one in written:
@@ -223,7 +227,7 @@ def told(found, written):
     return "".join(line + "\n" for line in lines)
 
 
-def name_of(page):
+def name_of(page: str) -> str:
     """The name of a recording, by the last part of its page's address."""
     last = urllib.parse.unquote(urllib.parse.urlsplit(page).path if re.match(r"https?://", page) else page).rstrip("/").split("/")[-1]
     return re.sub(r"[^\w.-]", "_", re.sub(r"\.(?:recording\.json|\w+)$", "", last)) or "page"

@@ -1,7 +1,10 @@
 """The recorder as one text: its parts, in the order in which they are read, and the tables that they go by."""
 
+from __future__ import annotations
+
 import json
 import pathlib
+from typing import Any
 
 from wgsim.reading import calls, limits
 
@@ -18,7 +21,7 @@ HEAD = """\
 OUTSIDE = json.loads((FOLDER / "outside.json").read_text(encoding="utf-8"))["words"]
 
 
-def tables():
+def tables() -> dict[str, Any]:
     """What a script can say, for the parts: formats, limits, and what is left out without harm."""
     return {
         "formats": calls.WORDS["format"],
@@ -32,7 +35,7 @@ def tables():
     }
 
 
-def text(asked=None):
+def text(asked: dict[str, Any] | None = None) -> str:
     """The recorder. `asked` is what the tool asks of it where it opens the page itself."""
     parts = [(FOLDER / name).read_text(encoding="utf-8") for name in PARTS]
     first = f"globalThis.wgsimRecordAsked = {json.dumps(asked)};\n" if asked is not None else ""
