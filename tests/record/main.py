@@ -8,6 +8,7 @@ Recordings are kept, so that `judge` is tested without a browser. Where node is 
 with a WebGPU that does nothing; where Chromium is installed, they are recorded and judged anew. What is not installed is skipped, and that
 is said. Without --program the program is compiled without its proofs. Prints a line for each finding, and fails if there is one. """
 
+import base64
 import contextlib
 import json
 import os
@@ -141,6 +142,56 @@ def test_null(folder):
             len(found) == len(list(KEPT.glob(f"{page.stem}.json")) + list(KEPT.glob(f"{page.stem}-[0-9].json"))),
             f"null: {page.name}: {len(found)} devices",
         )
+
+
+# What names a map in a script, and what stands there in its place: the map itself, one that is not there, and one that is none.
+NAMED = "//# sourceMappingURL=page.js.map\n"
+INLINE = "//# sourceMappingURL=data:application/json;base64,{}\n"
+
+
+def places_found(page, one_file):
+    """The places of a page's calls, recorded under node, saved beside the page and taken over, each with the word of its call."""
+    ran = subprocess.run([NODE, PARTS / "null.js", one_file, page], capture_output=True, timeout=LONGEST)
+    check(ran.returncode == 0 and not ran.stderr, f"null: {page}: {ran.stderr.decode()[-400:]}")
+    one = visit.saved(ran.stdout, str(page.parent / "bundled.recording.json"))["recordings"][0]
+    calls = zip(one["script"]["phases"][0][0], one["calls"])
+    return [(call["do"], told) for call, told in calls if "at" in told and not told.get("implied")]
+
+
+def test_source_maps(folder):
+    """Calls of a script that was put together are told by the lines of its sources, where a map beside it, or in it, tells them.
+
+    `bundled/dist` is what esbuild 0.17 of Debian made: esbuild src/main.ts --bundle --minify --sourcemap --outfile=dist/page.js"""
+    one_file, own = folder / whole_text.NAME, folder / "bundled"
+    one_file.write_text(wgsim("record", "--one-file")[0], encoding="utf-8")
+    shutil.copytree(PARTS / "bundled", own)
+    script, page = own / "dist/page.js", own / "bundled.html"
+    text, kept = script.read_text(encoding="utf-8"), json.loads((own / "dist/page.js.map").read_text(encoding="utf-8"))
+    wanted = places_found(page, one_file)
+    check(len(wanted) > 20, f"bundled: {len(wanted)} calls have a place")
+    for word, told in wanted:
+        file, line, column = told["at"].split(":")
+        stands = (own / file).read_text(encoding="utf-8").splitlines()[int(line) - 1][int(column) - 1 :]
+        check(stands.startswith(IN_PAGES.get(word, word)), f"bundled: {word} is said to be at {told['at']}, where `{stands[:40]}` stands")
+        check(told["built"].startswith("dist/page.js:1:"), f"bundled: {word}: {told}")
+    by = [told["by"] for word, told in wanted if word == "writeBuffer"]
+    check(by == [["src/main.ts:9:19"]], f"bundled: the writeBuffer is called from {by}")
+    sections = {"version": 3, "sections": [{"offset": {"line": 0, "column": 0}, "map": kept}]}
+    inside = {**kept, "sources": ["src/frame.ts", "webpack://app/./src/main.ts"], "sourceRoot": ".."}
+    for told, is_same in ((kept, True), (sections, True), (inside, True), ({**kept, "mappings": "MAAA,!"}, False), ([], False)):
+        data = base64.b64encode(json.dumps(told).encode()).decode()
+        script.write_text(text.replace(NAMED, INLINE.format(data)), encoding="utf-8")
+        found = places_found(page, one_file)
+        same = [told for _, told in found] == [told for _, told in wanted]
+        check(same == is_same and (is_same or "built" not in found[0][1]), f"bundled: with a map in the script: {found[:2]}")
+    with visit.served(str(page)) as address:
+        has = visit.at_address(address)
+        check(has("dist/page.js") == script.read_bytes(), "bundled: a script of a server on this machine is not had")
+        check(has("none.js") is None and has("http://192.0.2.1/page.js") is None, "bundled: what is not there, or elsewhere, is had")
+    for name in ("none.map", "../../../outside.map", "http://192.0.2.1/page.js.map"):
+        script.write_text(text.replace("page.js.map", name), encoding="utf-8")
+        found = places_found(page, one_file)
+        check(all(told["at"].startswith("dist/page.js:1:") for _, told in found), f"bundled: with the map {name}: {found[:2]}")
 
 
 # Pages that present one frame and go on, each with how many frames are asked for, and why its recording has to end.
@@ -509,7 +560,8 @@ def main():
             (test_no_browser, ()),
             (test_saved, (folder / "saved",)),
         ]
-        tests += [(test_wgsl, ()), (test_null, (folder / "null",)), (test_frames, (folder / "frames",))] if NODE else []
+        by_node = ((test_null, "null"), (test_frames, "frames"), (test_source_maps, "maps"))
+        tests += [(test_wgsl, ()), *((test, (folder / name,)) for test, name in by_node)] if NODE else []
         tests += [(test_browser, (folder / "browser",))] if path else []
         for test, given in tests:
             for each in given:

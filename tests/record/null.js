@@ -113,9 +113,9 @@ async function main(recorder, page, frames = 3) {
   vm.runInContext(`globalThis.wgsimRecordAsked = ${JSON.stringify({ frames: Number(frames), seconds: 30, idle: 500, hand: 'hand' })};`, world);
   vm.runInContext(fs.readFileSync(recorder, 'utf8'), world, { filename: 'wgsim-record.js' });
   const text = fs.readFileSync(page, 'utf8');
-  const parts = [...text.matchAll(/<script src="([^"]+)"><\/script>/g)].map(found => fs.readFileSync(path.join(path.dirname(page), found[1]), 'utf8'));
-  const lines = text.slice(0, text.indexOf('<script type="module">')).split('\n').length - 1, module = /<script type="module">([^]*?)<\/script>/.exec(text)[1];
-  for (const part of parts) vm.runInContext(part, world, { filename: 'http://127.0.0.1/common.js' });
+  const parts = [...text.matchAll(/<script src="([^"]+)"><\/script>/g)].map(found => found[1]);
+  const lines = text.slice(0, text.indexOf('<script type="module">')).split('\n').length - 1, [, module] = /<script type="module">([^]*?)<\/script>/.exec(text) || [null, ''];
+  for (const part of parts) vm.runInContext(fs.readFileSync(path.join(path.dirname(page), part), 'utf8'), world, { filename: `http://127.0.0.1/${part}` });
   const whole = `(async () => {${module}\n})()`;
   vm.runInContext(whole, world, { filename: 'http://127.0.0.1/null.html', lineOffset: lines }).catch(error => process.stderr.write(`${error.stack}\n`));
   process.stdout.write(await handed, () => process.exit(0));

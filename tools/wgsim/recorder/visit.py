@@ -16,10 +16,11 @@ import tempfile
 import threading
 import time
 import urllib.parse
+import urllib.request
 from typing import Any, Iterator
 
 from wgsim import exit_status
-from wgsim.recorder import browser, whole_text
+from wgsim.recorder import browser, source_maps, whole_text
 
 FRAMES, SECONDS, IDLE = 3, 30, 1000
 # What a browser takes to start and to hand over what was recorded, in seconds.
@@ -150,17 +151,58 @@ def recorded(page: str, named: str | None, frames: int = FRAMES, seconds: int = 
             exit_status.NO_ANSWER,
             f"{page}: the browser told nothing within {seconds + BESIDE} seconds" + "".join(f"\n    {line}" for line in visit.said[:3]),
         )
-    if address != page:
+    is_file = address != page
+    source_maps.Sources(in_folder(pathlib.Path(page).parent) if is_file else at_address(page)).of_recordings(found)
+    if is_file:
         found["page"] = os.path.basename(page)
     found["elsewhere"], found["said"] = list(dict.fromkeys(visit.elsewhere)), visit.said[:10]
     return found
 
 
+def in_folder(folder: pathlib.Path) -> source_maps.Has:
+    """What has the files of a folder, and of those in it, by their names there."""
+    top = folder.resolve()
+
+    def has(name: str) -> bytes | None:
+        try:
+            path = (top / urllib.parse.unquote(name.partition("?")[0])).resolve()
+            return path.read_bytes() if top in path.parents else None
+        except (OSError, ValueError):
+            return None
+
+    return has
+
+
+class Here(urllib.request.HTTPRedirectHandler):
+    """Goes on to no address but those of this machine."""
+
+    def redirect_request(self, *words: Any) -> urllib.request.Request | None:
+        return super().redirect_request(*words) if is_here(words[-1]) else None
+
+
+def at_address(page: str) -> source_maps.Has:
+    """What has the files of a page at an address of this machine, by their names beside it or by their own addresses."""
+    opener = urllib.request.build_opener(urllib.request.ProxyHandler({}), Here)
+
+    def has(name: str) -> bytes | None:
+        address = urllib.parse.urljoin(page, name)
+        if not re.match(r"https?://", address) or not is_here(address):
+            return None
+        try:
+            with opener.open(address, timeout=10) as answer:
+                return answer.read()
+        except (OSError, ValueError):
+            return None
+
+    return has
+
+
 def saved(data: bytes, name: str) -> dict[str, Any]:
-    """What was saved by hand, of the bytes of a file."""
+    """What was saved by hand, of the bytes of a file, by the sources that maps tell beside that."""
     try:
         found = json.loads(data)
         if found["form"] == 1 and isinstance(found["recordings"], list):
+            source_maps.Sources(in_folder(pathlib.Path(name).parent)).of_recordings(found)
             return {"elsewhere": [], "said": [], **found}
     except (ValueError, KeyError, TypeError):
         pass
