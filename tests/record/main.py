@@ -19,6 +19,8 @@ import subprocess
 import sys
 import tempfile
 import time
+import urllib.parse
+import urllib.request
 
 from wgsim import exit_status
 from wgsim.matching import compared
@@ -149,11 +151,26 @@ NAMED = "//# sourceMappingURL=page.js.map\n"
 INLINE = "//# sourceMappingURL=data:application/json;base64,{}\n"
 
 
-def places_found(page, one_file):
-    """The places of a page's calls, recorded under node, saved beside the page and taken over, each with the word of its call."""
+def places_differ(found, top):
+    """The calls of a recording whose places are not those of their words in the files of a folder."""
+    for call, told in zip(found["script"]["phases"][0][0], found["calls"]):
+        if "at" in told and not told.get("implied"):
+            file, line, column = re.match(r"([\w./-]+):(\d+):(\d+)", told["at"]).groups()
+            stands = (top / file).read_text(encoding="utf-8").splitlines()[int(line) - 1][int(column) - 1 :]
+            if not stands.startswith(IN_PAGES.get(call["do"], call["do"])):
+                yield f"{call['do']} is said to be at {told['at']}, where `{stands[:40]}` stands"
+
+
+def played(page, one_file):
+    """What is recorded of a page under node."""
     ran = subprocess.run([NODE, PARTS / "null.js", one_file, page], capture_output=True, timeout=LONGEST)
     check(ran.returncode == 0 and not ran.stderr, f"null: {page}: {ran.stderr.decode()[-400:]}")
-    one = visit.saved(ran.stdout, str(page.parent / "bundled.recording.json"))["recordings"][0]
+    return ran.stdout or b'{"form": 1, "page": "", "browser": "", "recordings": []}'
+
+
+def places_found(page, one_file):
+    """The places of a page's calls, recorded under node, saved beside the page and taken over, each with the word of its call."""
+    one = visit.saved(played(page, one_file), str(page.parent / "bundled.recording.json"))["recordings"][0]
     calls = zip(one["script"]["phases"][0][0], one["calls"])
     return [(call["do"], told) for call, told in calls if "at" in told and not told.get("implied")]
 
@@ -169,10 +186,10 @@ def test_source_maps(folder):
     text, kept = script.read_text(encoding="utf-8"), json.loads((own / "dist/page.js.map").read_text(encoding="utf-8"))
     wanted = places_found(page, one_file)
     check(len(wanted) > 20, f"bundled: {len(wanted)} calls have a place")
+    one = visit.saved(played(page, one_file), str(own / "bundled.recording.json"))["recordings"][0]
+    for differs in places_differ(one, own):
+        check(False, f"bundled: {differs}")
     for word, told in wanted:
-        file, line, column = told["at"].split(":")
-        stands = (own / file).read_text(encoding="utf-8").splitlines()[int(line) - 1][int(column) - 1 :]
-        check(stands.startswith(IN_PAGES.get(word, word)), f"bundled: {word} is said to be at {told['at']}, where `{stands[:40]}` stands")
         check(told["built"].startswith("dist/page.js:1:"), f"bundled: {word}: {told}")
     by = [told["by"] for word, told in wanted if word == "writeBuffer"]
     check(by == [["src/main.ts:9:19"]], f"bundled: the writeBuffer is called from {by}")
@@ -192,6 +209,43 @@ def test_source_maps(folder):
         script.write_text(text.replace("page.js.map", name), encoding="utf-8")
         found = places_found(page, one_file)
         check(all(told["at"].startswith("dist/page.js:1:") for _, told in found), f"bundled: with the map {name}: {found[:2]}")
+
+
+# A worker that knows nothing of the recorder, in one line.
+WORKER = (
+    "'use strict'; onmessage = async ({ data }) => { if (!data.size) return; const device = await (await navigator.gpu.requestAdapter())"
+    ".requestDevice(), buffer = device.createBuffer({ size: data.size, usage: GPUBufferUsage.COPY_DST });"
+    " device.queue.writeBuffer(buffer, 0, new Float32Array(16)); postMessage('done'); };\n"
+)
+
+
+def test_workers(folder):
+    """What workers do is recorded beside the page, each device as a script of its own: of a worker that takes the recorder in by itself,
+    and of one before which the tool's server puts it."""
+    one_file, own = folder / whole_text.NAME, folder / "workers"
+    one_file.write_text(wgsim("record", "--one-file")[0], encoding="utf-8")
+    shutil.copytree(PARTS / "workers", own)
+    page, path = own / "workers.html", own / "src/served.js"
+    path.write_text(WORKER, encoding="utf-8")
+    with visit.served(str(page)) as address:
+        asked = urllib.request.Request(urllib.parse.urljoin(address, "src/served.js"))
+        check(urllib.request.urlopen(asked).read().decode() == WORKER, "workers: a script that no worker asks for is another")
+        asked.add_header("Sec-Fetch-Dest", "worker")
+        served = urllib.request.urlopen(asked).read().decode()
+    check(served.startswith("'use strict';") and served.endswith(WORKER) and served.count("\n") == 1, f"workers: {served[:200]}")
+    text = page.read_text(encoding="utf-8")
+    for name in ("src/sum.js", "src/served.js"):
+        page.write_text(text.replace("src/sum.js", name), encoding="utf-8")
+        path.write_text(served, encoding="utf-8")
+        found = json.loads(played(page, one_file))["recordings"]
+        path.write_text(WORKER, encoding="utf-8")
+        shutil.copy(page, own / "null.html")
+        calls = [[call["do"] for call in calls_of(one["script"])] for one in found]
+        check(calls[1:] == [["createBuffer", "writeBuffer"]] * 2 and len(calls[0]) > 10, f"workers: {name}: {calls}")
+        for differs in (differs for one in found for differs in places_differ(one, own)):
+            check(False, f"workers: {name}: {differs}")
+        sizes = [one["script"]["phases"][0][0][0].get("size") for one in found]
+        check(sorted(sizes[1:]) == [16, 64], f"workers: {name}: buffers of {sizes}")
 
 
 # Pages that present one frame and go on, each with how many frames are asked for, and why its recording has to end.
@@ -560,7 +614,7 @@ def main():
             (test_no_browser, ()),
             (test_saved, (folder / "saved",)),
         ]
-        by_node = ((test_null, "null"), (test_frames, "frames"), (test_source_maps, "maps"))
+        by_node = ((test_null, "null"), (test_frames, "frames"), (test_source_maps, "maps"), (test_workers, "workers"))
         tests += [(test_wgsl, ()), *((test, (folder / name,)) for test, name in by_node)] if NODE else []
         tests += [(test_browser, (folder / "browser",))] if path else []
         for test, given in tests:

@@ -47,6 +47,20 @@ class Files(http.server.SimpleHTTPRequestHandler):
         ".wgsl": "text/plain",
     }
 
+    def do_GET(self) -> None:
+        """Gives a file. The script of a worker comes with the recorder before it."""
+        path = pathlib.Path(self.translate_path(self.path))
+        if self.headers.get("Sec-Fetch-Dest") != "worker" or not path.is_file():
+            super().do_GET()
+            return
+        script = path.read_bytes()
+        data = whole_text.before_worker(script) + script
+        self.send_response(200)
+        self.send_header("Content-Type", self.guess_type(str(path)))
+        self.send_header("Content-Length", str(len(data)))
+        self.end_headers()
+        self.wfile.write(data)
+
     def log_message(self, *words: Any) -> None:
         pass
 

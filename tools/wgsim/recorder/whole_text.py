@@ -4,12 +4,13 @@ from __future__ import annotations
 
 import json
 import pathlib
+import re
 from typing import Any
 
 from wgsim.reading import calls, limits
 
 FOLDER = pathlib.Path(__file__).resolve().parent
-PARTS = ("wgsl.js", "device.js", "descriptors.js", "calls.js", "wrap.js", "canvas.js", "save.js")
+PARTS = ("wgsl.js", "device.js", "descriptors.js", "calls.js", "wrap.js", "canvas.js", "workers.js", "save.js")
 NAME = "wgsim-record.js"
 HEAD = """\
 // Records what a page asks of WebGPU, as a script of wgsim. It is put into the page before the page's own scripts:
@@ -41,3 +42,12 @@ def text(asked: dict[str, Any] | None = None) -> str:
     first = f"globalThis.wgsimRecordAsked = {json.dumps(asked)};\n" if asked is not None else ""
     inside = "\n".join(["'use strict';", f"const TABLES = {json.dumps(tables())};", *parts])
     return f"{HEAD}{first}if (!globalThis.wgsimRecord) (() => {{\n{inside}}})();\n//# sourceURL={NAME}\n"
+
+
+def before_worker(script: bytes) -> bytes:
+    """What a server puts before the script of a worker: the recorder, in the same line, so that all others stay as they are. The recorder
+    is told how many columns that takes. Whether the script is a module is not known, so that it imports nothing."""
+    strict = "'use strict';" if re.match(rb"\s*(?:'use strict'|\"use strict\")", script) else ""
+    recorder = json.dumps(text())
+    begin, end = f"{strict}globalThis.wgsimRecordAhead=", f";(0,eval)({recorder});"
+    return f"{begin}{len(begin) + 8 + len(end):8}{end}".encode()
