@@ -248,6 +248,28 @@ def test_workers(folder):
         check(sorted(sizes[1:]) == [16, 64], f"workers: {name}: buffers of {sizes}")
 
 
+IMAGE = """<script type="module">
+const device = await (await navigator.gpu.requestAdapter()).requestDevice();
+const texture = device.createTexture({ size: [8, 8], format: 'rgba8unorm', usage: GPUTextureUsage.TEXTURE_BINDING });
+device.queue.copyExternalImageToTexture({ source: {} }, { texture }, [8, 8]);
+</script>"""
+
+
+def test_stand_ins(folder):
+    """A copy of an image is told by its own name, and not as the writeTexture that stands for it."""
+    one_file, page = folder / whole_text.NAME, folder / "null.html"
+    one_file.write_text(wgsim("record", "--one-file")[0], encoding="utf-8")
+    page.write_text(IMAGE, encoding="utf-8")
+    saved = folder / "null.recording.json"
+    saved.write_bytes(played(page, one_file))
+    wgsim("record", "--saved", "--out", folder / "out", saved)
+    told = wgsim("judge", folder / "out", status=1)[0]
+    check("null.html:4:14: copyExternalImageToTexture: core refuses it by rule 205" in told, f"judge of an image: {told}")
+    told = wgsim("explain", folder / "out/null.json")[0]
+    words = "call 1, in the page: null.html:4:14: copyExternalImageToTexture, for which this writeTexture stands\n"
+    check(words in told, f"explain of an image: {told}")
+
+
 # Pages that present one frame and go on, each with how many frames are asked for, and why its recording has to end.
 FRAMES = [
     ("context.configure({ device, format: 'rgba8unorm' }); context.getCurrentTexture();", 3, "3 frames"),
@@ -614,7 +636,9 @@ def main():
             (test_no_browser, ()),
             (test_saved, (folder / "saved",)),
         ]
-        by_node = ((test_null, "null"), (test_frames, "frames"), (test_source_maps, "maps"), (test_workers, "workers"))
+        by_node = (
+            (test_null, "null"), (test_frames, "frames"), (test_source_maps, "maps"), (test_workers, "workers"), (test_stand_ins, "images"),
+        )
         tests += [(test_wgsl, ()), *((test, (folder / name,)) for test, name in by_node)] if NODE else []
         tests += [(test_browser, (folder / "browser",))] if path else []
         for test, given in tests:

@@ -144,7 +144,7 @@ class Compared:
             how, why = FOLLOWS, "an earlier difference was caught by this scope, or was not"
         self.tainted |= self.names(call)
         words = f"settles {core}" if core is not None else "does not settle it"
-        self.verdicts.append(Verdict(number, call, self.pages.at(call), how, words, f"settles {browser}", why))
+        self.add(number, call, how, words, f"settles {browser}", why)
 
     def reason(
         self, call: Call, fault: Fault | None, answer: Answer, settled: tuple[str | None, str] | None = None
@@ -170,7 +170,7 @@ class Compared:
     def note(self, number: int, call: Call, how: str, core: str, browser: str, reason: tuple[str, str | None] | None) -> None:
         """Adds a verdict. What comes of a call on which the two differ differs too."""
         how, why = reason if reason is not None else (how, None)
-        self.verdicts.append(Verdict(number, call, self.pages.at(call), how, core, browser, why))
+        self.add(number, call, how, core, browser, why)
         if how == AGREES:
             return
         if call.gives:
@@ -181,6 +181,11 @@ class Compared:
             self.tainted.add(scripts.string_of(call.value, "on"))
         self.is_count_off = self.is_count_off or call.word in QUEUING
         self.is_scope_off = self.is_scope_off or " scope " in f"{core} {browser}"
+
+    def add(self, number: int, call: Call, how: str, core: str, browser: str, why: str | None) -> None:
+        """Adds a verdict, of the call as the page made it."""
+        self.verdicts.append(Verdict(number, call, self.pages.at(call), how, core, browser, why))
+        self.verdicts[-1].word = self.pages.word(call)
 
     def names(self, call: Call) -> set[str]:
         """The names that a call uses, and of a finish those that its commands use."""

@@ -85,11 +85,20 @@ class Pages:
         beside = path.with_name(path.stem + CALLS)
         self.calls = read(beside).get("calls", []) if path.suffix == ".json" and not is_beside(path.name) and beside.is_file() else []
 
+    def told(self, call: Call) -> dict[str, Any]:
+        """What is told of a call."""
+        phase, lane, number = call.place
+        found = self.calls[number] if (phase, lane) == (0, 0) and number < len(self.calls) else {}
+        return found if isinstance(found, dict) else {}
+
     def of(self, call: Call) -> list[str]:
         """The place of a call and those from which that was called, or none."""
-        phase, lane, number = call.place
-        told = self.calls[number] if (phase, lane) == (0, 0) and number < len(self.calls) else {}
-        return [told["at"], *told.get("by", [])] if isinstance(told, dict) and "at" in told else []
+        told = self.told(call)
+        return [told["at"], *told.get("by", [])] if "at" in told else []
+
+    def word(self, call: Call) -> str:
+        """What the page called, where a call of the script stands for one that no script has."""
+        return self.told(call).get("standsFor", call.word)
 
     def at(self, call: Call) -> str | None:
         """The place of a call, or None."""
@@ -100,7 +109,8 @@ class Pages:
         """The same in words, in a line or none."""
         found = self.of(call)
         by = f", called from {', '.join(found[1:])}" if len(found) > 1 else ""
-        return [f"call {call.place[2]}, in the page: {found[0]}{by}"] if found else []
+        stands = f": {self.word(call)}, for which this {call.word} stands" if self.word(call) != call.word else ""
+        return [f"call {call.place[2]}, in the page: {found[0]}{by}{stands}"] if found else []
 
     def made(self, words: str, script: Script) -> list[str]:
         """Where in the page the objects come from that some words name with their places in the script, in lines."""

@@ -30,12 +30,12 @@ async function toldOf(recording) {
   const before = n => { const next = at.findIndex(each => each >= n); return next < 0 ? at.length : next; };
   const script = { budget: 2 ** 53 - 1, phases: [[found.map(each => each.call)]] };
   if (Object.keys(recording.limits).length) script.limits = recording.limits;
-  const answers = found.map(({ answer: { modules, implied, ...answer } }, call) => {
+  const answers = found.map(({ answer: { modules, implied, standsFor, ...answer } }, call) => {
     if ((modules || []).some(module => module && module.told.error)) answer.left = [...answer.left || [], 'shader'];
     return { call, ...answer };
   }).filter(answer => Object.keys(answer).length > 2);
   const noted = list => list.map(({ before: n, place, told, ...note }) => ({ before: before(n), ...note, ...told, ...placed(place) }));
-  const calls = found.map(({ place, answer }) => ({ ...placed(place), ...answer.implied ? { implied: true } : {} }));
+  const calls = found.map(({ place, answer }) => ({ ...placed(place), ...answer.implied ? { implied: true } : {}, ...answer.standsFor ? { standsFor: answer.standsFor } : {} }));
   return {
     script, calls, answers, passed: noted(recording.passed), notes: noted(recording.notes), ended: { call: found.length, why: recording.ended.why },
     left: Object.fromEntries(recording.left), device: recording.ofDevice,
