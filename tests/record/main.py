@@ -23,8 +23,9 @@ import urllib.parse
 import urllib.request
 
 from wgsim import exit_status
-from wgsim.matching import compared
+from wgsim.matching import compared, fault_objects
 from wgsim.program import program as programs
+from wgsim.reading import places
 from wgsim.recorder import browser, visit, whole_text
 
 TOP = pathlib.Path(__file__).resolve().parents[2]
@@ -268,6 +269,36 @@ def test_stand_ins(folder):
     told = wgsim("explain", folder / "out/null.json")[0]
     words = "call 1, in the page: null.html:4:14: copyExternalImageToTexture, for which this writeTexture stands\n"
     check(words in told, f"explain of an image: {told}")
+
+
+def test_mistakes(folder):
+    """Four samples make no fault; with a mistake, each of the table, `explain` tells its rule and its cause, at the line of the page that
+    makes the call."""
+    one_file, asked = folder / whole_text.NAME, programs.Program(False)
+    one_file.write_text(wgsim("record", "--one-file")[0], encoding="utf-8")
+    texts = {path.stem: path.read_text(encoding="utf-8") for path in sorted((PARTS / "samples").glob("*.html"))}
+    right = [{"page": name, "was": "", "is": ""} for name in texts]
+    table = json.loads((PARTS / "samples/mistakes.json").read_text(encoding="utf-8"))
+    counts = {name: sum(row["page"] == name for row in table) for name in texts}
+    recording = (TOP / "docs/recording.md").read_text(encoding="utf-8")
+    for name, many in counts.items():
+        told = re.search(rf"^\| `{name}`: .* \| {many} \| {many} \|$", recording, re.M)
+        check(told is not None, f"docs/recording.md does not tell that {name} has {many} mistakes")
+    for row in right + table:
+        sample, page = texts[row["page"]], folder / "null.html"
+        check(sample.count(row["was"]) == 1 or not row["was"], f"samples: {row['page']} has not {row['was']!r} once")
+        page.write_text(sample.replace(row["was"], row["is"]) if row["was"] else sample, encoding="utf-8")
+        ((path, _),) = visit.write(visit.saved(played(page, one_file), str(folder / "null.recording.json")), "null", str(folder / "out"))
+        text, data = places.Text(path.read_bytes(), str(path)), path.read_bytes()
+        faults = [one for one in fault_objects.listed(text, data, asked)[0] if one["kind"] == "fault"]
+        if "rule" not in row:
+            check(not faults, f"samples: {row['page']} has faults: {faults[:1]}")
+            continue
+        found = faults[0] if faults else {"rule": None, "condition": "", "page": ":0:"}
+        place = found.get("commandPage") or found["page"]
+        line = page.read_text(encoding="utf-8").splitlines()[int(place.split(":")[1]) - 1]
+        is_told = found["rule"] == row["rule"] and row["says"] in found["condition"] and row["call"] in line and found["remedy"]
+        check(is_told, f"samples: {row['page']} with {row['is']!r} for {row['was']!r}: {found}, at `{line}`")
 
 
 # Pages that present one frame and go on, each with how many frames are asked for, and why its recording has to end.
@@ -638,6 +669,7 @@ def main():
         ]
         by_node = (
             (test_null, "null"), (test_frames, "frames"), (test_source_maps, "maps"), (test_workers, "workers"), (test_stand_ins, "images"),
+            (test_mistakes, "mistakes"),
         )
         tests += [(test_wgsl, ()), *((test, (folder / name,)) for test, name in by_node)] if NODE else []
         tests += [(test_browser, (folder / "browser",))] if path else []
