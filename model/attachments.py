@@ -13,6 +13,7 @@ from .limits import of_all as limits_of_all
 from .rules import at_most
 
 if TYPE_CHECKING:
+    from model.forms import Call, Touch
     from model.history import Played
 
 MOST_COLORS = limits_of_all("maxColorAttachments")
@@ -26,7 +27,7 @@ ACCESSES = {("load", "store"): "both", ("load", "discard"): "readdrop", ("clear"
 ASPECT_KEYS = {"depth": ("depthLoad", "depthStore", "depthReadOnly"), "stencil": ("stencilLoad", "stencilStore", "stencilReadOnly")}
 
 
-def colors_of(begin: Played) -> list[tuple[dict[str, str | None], Played, None]]:
+def colors_of(begin: Played) -> list[tuple[Call, Played, Played | None]]:
     """The colors of a pass that are not null, each with its view, and its resolve view or None."""
     views = iter(begin.uses["colors"])
     colors = [color for color in begin.call["colors"] if color is not None]
@@ -162,7 +163,7 @@ def without_last_nulls(items: list[Any] | tuple[()]) -> list[Any]:
     return items
 
 
-def touches(begin):
+def touches(begin: Played) -> list[Touch]:
     """What a pass touches of what is attached to it."""
     found = []
     for color, view, resolve in colors_of(begin):

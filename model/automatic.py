@@ -13,6 +13,7 @@ from .pipelines import kind_rules
 from .rules import at_most
 
 if TYPE_CHECKING:
+    from model.forms import Call
     from model.history import Played
 
 AUTO = "auto"
@@ -62,17 +63,18 @@ def stage_of(used: dict[str, Any]) -> int:
     return STAGES[used["stage"]] if "stage" in used else COMPUTE
 
 
-def merged(iface):
+def merged(iface: list[Call]) -> list[list[Call]]:
     """The layouts of an interface in which no two entries of one binding differ in kind. A layout has its bindings in ascending order, and
     each is seen by just the stages that name it."""
     visibility, kinds = {}, {}
     for used in iface:
         place = used["group"], used["binding"]
         visibility[place] = visibility.get(place, 0) | stage_of(used)
-        kinds.setdefault(place, {key: value for key, value in used.items() if key not in NOT_OF_KIND} | never_dynamic(used))
-    layouts = [[] for _ in range(1 + max((group for group, _ in visibility), default=-1))]
+        of_kind = {key: value for key, value in used.items() if key not in NOT_OF_KIND}
+        kinds.setdefault(place, {**of_kind, **never_dynamic(used)})
+    layouts: list[list[Call]] = [[] for _ in range(1 + max((group for group, _ in visibility), default=-1))]
     for group, binding in sorted(visibility):
-        layouts[group].append(kinds[group, binding] | {"visibility": visibility[group, binding]})
+        layouts[group].append({**kinds[group, binding], "visibility": visibility[group, binding]})
     return layouts
 
 

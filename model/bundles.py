@@ -9,6 +9,7 @@ from .limits import of_all as limits_of_all
 from .rules import at_most
 
 if TYPE_CHECKING:
+    from model.forms import Rules
     from model.history import Played
 
 MOST_COLORS = limits_of_all("maxColorAttachments")
@@ -38,6 +39,13 @@ def targets_of(place: Played) -> Targets | None:
     samples = attachments.texture_of(attachments.attached_views(place)[0])["samples"]
     read_only = {aspect for aspect in ASPECTS if call["depth"] is not None and call["depth"][f"{aspect}ReadOnly"]}
     return Targets(attachments.color_formats(place), depth, samples, read_only)
+
+
+def drawn_in(place: Played) -> Targets:
+    """The same of a bundle encoder or a render pass."""
+    targets = targets_of(place)
+    assert targets is not None
+    return targets
 
 
 def create_rules(call: dict[str, Any]) -> Iterator[tuple[int, str, bool]]:
@@ -72,9 +80,9 @@ def pipeline_rules(pipeline: dict[Any, Any], place: Played) -> Iterator[tuple[in
                 yield 321, aspect, not (asked[f"{aspect}Write"] and aspect in targets.read_only)
 
 
-def execute_rules(bundles, begin):
+def execute_rules(bundles: list[Played], begin: Played) -> Rules:
     """The own rules of executeBundles in a render pass: the first is asked of all bundles, and then the second."""
-    targets, each = targets_of(begin), [targets_of(bundle.uses["on"]) for bundle in bundles]
+    targets, each = drawn_in(begin), [drawn_in(bundle.uses["on"]) for bundle in bundles]
     for own in each:
         yield 370, "colors", own.colors == targets.colors
         yield 370, "has depth", (own.depth is not None) == (targets.depth is not None)

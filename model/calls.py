@@ -6,8 +6,9 @@ uses stand in the order in which script rules 10, 11 and 12 look at them.
 
 from __future__ import annotations
 
-from typing import Any
+from typing import Any, Dict, List
 
+from .forms import Call, Key
 from .formats import ACCESS_WORDS, ASPECT_WORDS, FORMATS, SAMPLE_WORDS, TEXTURE_DIMS, VERTEX_FORMATS, VIEW_DIMS
 from .scopes import FILTERS
 
@@ -80,10 +81,10 @@ SAMPLER_WORDS = ("filtering", "non-filtering", "comparison")
 CANVAS_FORMATS = ("rgba8unorm", "bgra8unorm", "rgba16float")
 LOAD = word(("load", "clear"))
 STORE = word(("store", "discard"))
-BUFFER_KEYS = [("dynamic", FLAG, False), ("minSize", WHOLE, 0)]
+BUFFER_KEYS: List[Key] = [("dynamic", FLAG, False), ("minSize", WHOLE, 0)]
 
 # The further keys that an entry of a layout or an interface has, by its kind.
-KIND_KEYS = {
+KIND_KEYS: Dict[str, List[Key]] = {
     "uniform": BUFFER_KEYS,
     "storage": BUFFER_KEYS,
     "read-only-storage": BUFFER_KEYS,
@@ -94,26 +95,26 @@ KIND_KEYS = {
 KIND = ("kind", word(KIND_KEYS), NEEDED)
 
 # The further keys that an entry of a bind group has, by the one of these keys that it has.
-BOUND_KEYS = {
+BOUND_KEYS: Dict[str, List[Key]] = {
     "buffer": [("buffer", BUFFER, NEEDED), ("offset", WHOLE, 0), ("size", WHOLE, None)],
     "view": [("view", VIEW, NEEDED)],
     "sampler": [("sampler", SAMPLER, NEEDED)],
 }
 
 
-def layout_entry_keys(item):
+def layout_entry_keys(item: Call) -> list[Key]:
     return [("binding", WORD32, NEEDED), ("visibility", WORD32, NEEDED), KIND, *KIND_KEYS[item["kind"]]]
 
 
-def iface_entry_keys(item):
+def iface_entry_keys(item: Call) -> list[Key]:
     return [("group", WORD32, NEEDED), ("binding", WORD32, NEEDED), KIND, *KIND_KEYS[item["kind"]]]
 
 
-def render_iface_entry_keys(item: dict[Any, Any]) -> list[Any]:
+def render_iface_entry_keys(item: Call) -> list[Key]:
     return [("stage", word(("vertex", "fragment")), NEEDED), *iface_entry_keys(item)]
 
 
-def group_entry_keys(item):
+def group_entry_keys(item: Call) -> list[Key]:
     return [("binding", WORD32, NEEDED), *BOUND_KEYS[bound_by(item)]]
 
 
@@ -164,7 +165,7 @@ WITH_KIND = (layout_entry_keys, iface_entry_keys, render_iface_entry_keys)
 WITH_NAMES = ("name", "name or auto", "names", "object", "objects", "objects or nulls")
 ONE_NAME = ("name", "name or auto")
 
-CALLS = {
+CALLS: Dict[str, List[Key]] = {
     "createBuffer": [("size", WHOLE, NEEDED), ("usage", WORD32, NEEDED), ("mapped", FLAG, False), AS],
     "createTexture": [
         ("size", THREE, NEEDED), ("usage", WORD32, NEEDED), ("format", word(FORMATS), NEEDED), ("dim", word(TEXTURE_DIMS), "2d"),
@@ -308,7 +309,7 @@ def is_auto(sort: tuple[Any, ...], value: str) -> bool:
     return sort[0] == "name or auto" and value == "auto"
 
 
-def name_keys(do):
+def name_keys(do: str) -> list[tuple[str, Any]]:
     """The keys of a call whose values use names, in order, each with its sort."""
     return [(key, sort) for key, sort, _ in CALLS[do] if sort[0] in WITH_NAMES]
 

@@ -29,18 +29,18 @@ class Played:
         self.do = call["do"]
         self.uses = uses
         self.on_lost = False
-        self.entry = None
-        self.rule = None
-        self.answer = None
-        self.fault = None
-        self.catcher = None
-        self.settled = []
-        self.made = None
-        self.op = None
-        self.awaited = None
-        self.ended = None
-        self.commands = []
-        self.released = []
+        self.entry: int | None = None
+        self.rule: int | None = None
+        self.answer: str | None = None
+        self.fault: tuple[str, int] | None = None
+        self.catcher: int | None = None
+        self.settled: list[tuple[Played, str]] = []
+        self.made: int | None = None
+        self.op: int | None = None
+        self.awaited: int | None = None
+        self.ended: tuple[int, int, int] | None = None
+        self.commands: list[Played] = []
+        self.released: list[Played] = []
 
     @property
     def is_met(self) -> bool:

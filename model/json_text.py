@@ -10,7 +10,7 @@ that a value is written as a whole number.
 from __future__ import annotations
 
 import re
-from typing import Any
+from typing import Any, Match, Pattern
 
 MOST_NESTED = 127
 SPACE = re.compile(r"[ \t\n\r]*")
@@ -37,8 +37,8 @@ class Text:
         """The next character, or nothing at the end."""
         return self.text[self.at:self.at + 1]
 
-    def skip_space(self):
-        self.at = SPACE.match(self.text, self.at).end()
+    def skip_space(self) -> None:
+        self.at = matched(SPACE, self.text, self.at).end()
 
     def take(self, wanted: str) -> None:
         """Goes past the text that is wanted here."""
@@ -47,7 +47,14 @@ class Text:
         self.at += len(wanted)
 
 
-def read(data: bytes) -> dict[str, int | list[list[list[Any]]]]:
+def matched(pattern: Pattern[str], text: str, at: int) -> Match[str]:
+    """What a pattern matches at a place, where it always does, be it with nothing."""
+    found = pattern.match(text, at)
+    assert found is not None
+    return found
+
+
+def read(data: bytes) -> Any:
     """The value that some bytes stand for."""
     try:
         text = Text(data.decode("utf-8", "strict"))
@@ -122,12 +129,12 @@ def read_object(text: Text, nested: int) -> Any:
             return members
 
 
-def read_string(text):
+def read_string(text: Text) -> str:
     """A string; characters below the space stand in it only as escapes."""
     text.take('"')
     pieces = []
     while True:
-        plain = PLAIN.match(text.text, text.at)
+        plain = matched(PLAIN, text.text, text.at)
         pieces.append(plain.group())
         text.at = plain.end()
         letter = text.peek()

@@ -117,13 +117,13 @@ def cells_of(items: Any) -> Iterator[Cell]:
         yield from pieces_of(owner, accesses[owner], bars[("t", *owner[1:]) if owner[0] == "s" else owner])
 
 
-def pieces_of(owner, accesses, bars):
+def pieces_of(owner: tuple[Any, ...], accesses: list[tuple[int, int, int, str]], bars: list[Any]) -> list[Cell]:
     """The cells of one owner, cut at the ends of all its runs. Layers have parts of their own; all bytes, queries or slices lie in one, of
     place 0."""
-    ends = {end for _, low, high, _ in accesses for end in (low, high)}
+    cuts = {end for _, low, high, _ in accesses for end in (low, high)}
     if owner[0] == "t":
-        ends |= {end for _, low, high in bars for end in (low, high)}
-    ends = sorted(ends)
+        cuts |= {end for _, low, high in bars for end in (low, high)}
+    ends = sorted(cuts)
     at_first = [step for step, low, high in bars if low <= 0 < high]
     cells = [Cell((*owner, end), at_first if owner[0] != "t" else [step for step, low, high in bars if low <= end < high]) for end in ends]
     for step, low, high, kind in accesses:

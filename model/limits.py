@@ -32,7 +32,7 @@ def is_alignment(value: Any) -> Any:
     return 0 < value < ALIGNMENTS_END and value & (value - 1) == 0
 
 
-def given(asked):
+def given(asked: dict[str, int]) -> dict[str, int]:
     """The limits of a device for what was asked, which is at most the best. What is worse than the default gives the default."""
     better = {name: value for name, value in asked.items() if is_better(name, value, DEFAULTS[name])}
-    return DEFAULTS | better
+    return {**DEFAULTS, **better}

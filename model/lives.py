@@ -34,7 +34,7 @@ class Lives:
         self.under_encoders = collections.deque()
         self.until = collections.defaultdict(list)
 
-    def follow(self, played):
+    def follow(self, played: Played) -> list[Played]:
         """Notes an entry that the history has, and answers with what it gives back, in the order of numbers."""
         if played.do in RESOURCES and played.is_valid:
             self.kept.add(played)
@@ -44,7 +44,7 @@ class Lives:
         if played.is_valid and (played.do in REFERRING or played.do in FINISHES):
             for thing in dict.fromkeys(self.held_by(played)):
                 self.holders[thing].append(played)
-        released = sorted({thing for thing in self.looked_at(played) if self.is_due(thing)}, key=lambda thing: thing.made)
+        released = sorted({thing for thing in self.looked_at(played) if self.is_due(thing)}, key=lambda thing: thing.made or 0)
         for thing in released:
             self.kept.remove(thing)
             self.bytes -= memory.bytes_of(thing.call)

@@ -29,14 +29,14 @@ class Walk:
     """
 
     def __init__(self, commands: list[Played] | tuple[()] = ()) -> None:
-        self.open_pass = None
-        self.ended = set()
-        self.on = collections.defaultdict(list)
+        self.open_pass: Played | None = None
+        self.ended: set[Played] = set()
+        self.on: dict[Played, list[Played]] = collections.defaultdict(list)
         self.groups = collections.Counter()
         for command in commands:
             self.take(command)
 
-    def take(self, command: Any) -> None:
+    def take(self, command: Played) -> None:
         place = command.uses["on"]
         self.on[place].append(command)
         self.groups[place] = groups_after(self.groups[place], command)
@@ -58,12 +58,12 @@ class Settings:
         self.is_active = False
 
     def unset(self) -> None:
-        self.pipeline = None
-        self.groups = {}
-        self.vertex_buffers = {}
-        self.index_buffer = None
+        self.pipeline: Played | None = None
+        self.groups: dict[int, Played] = {}
+        self.vertex_buffers: dict[int, Played] = {}
+        self.index_buffer: Played | None = None
 
-    def take(self, command: Any) -> None:
+    def take(self, command: Played) -> None:
         self.open_groups = groups_after(self.open_groups, command)
         if command.do == "setPipeline":
             self.pipeline = command.uses["pipeline"]

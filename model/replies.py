@@ -27,6 +27,7 @@ from .history import Played, resources_in
 from .rules import first_unmet, note
 
 if TYPE_CHECKING:
+    from model.forms import Call
     from model.history import History
 
 BUDGET_RULE, LATE_RULE = 13, 14
@@ -35,7 +36,7 @@ BUDGET_RULE, LATE_RULE = 13, 14
 AS_EVER = {"unmap", "destroy", "drop"}
 
 
-def answer_call(history, call, caller):
+def answer_call(history: History, call: Call, caller: int) -> Played:
     """Plays one call of a caller. A command that comes in time makes no entry; all else does."""
     played = Played(call, history.uses_of(call), caller)
     if played.do in BEGINS:

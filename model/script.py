@@ -6,11 +6,14 @@ is gone through in order, of each phase and of each lane 4 is tested when it is 
 
 from __future__ import annotations
 
-from typing import Any, Callable
+from typing import TYPE_CHECKING, Any, Callable
 
 from . import json_text, limits
 from .calls import CALLS, FLAG, KIND, NAME, NEEDED, ONE_NAME, THREE, WHOLE, WITH_KIND, WORD32, WORDS32
 from .rules import note
+
+if TYPE_CHECKING:
+    from model.forms import Call
 
 MOST_BYTES = 4_194_304
 MOST_PHASES = 1_024
@@ -37,7 +40,7 @@ def ask(rule: int, what: str, is_met: bool, place: Any = ()) -> None:
         raise Refused(rule, place)
 
 
-def read(data):
+def read(data: bytes) -> tuple[int, dict[str, int], list[Any]]:
     """The budget of a script, its limits, and its phases, each a list of lanes, and each lane a list of pairs of a place and a call whose
     left out keys have their values."""
     top = read_json(data)
@@ -68,7 +71,7 @@ def read_limits(asked: Any) -> dict[str, int]:
     return limits.given(asked)
 
 
-def read_json(data: bytes) -> dict[str, int | list[list[list[Any]]]]:
+def read_json(data: bytes) -> Any:
     try:
         top = json_text.read(data)
     except json_text.NoJson:
@@ -93,7 +96,7 @@ def read_phase(number: int, phase: Any, calls_before: int) -> Any:
     return lanes
 
 
-def read_call(place, call):
+def read_call(place: tuple[int, int, int], call: Any) -> Call:
     """A call with all its keys; a key that is left out has the value of the table."""
     ask(6, "object", type(call) is dict, place)
     do = call.get("do")

@@ -8,19 +8,21 @@ from . import formats
 from .rules import at_most
 
 if TYPE_CHECKING:
+    from model.forms import Call, Rules
     from model.history import Played
 
 COPY_SRC, COPY_DST, TEXTURE_BINDING, STORAGE_BINDING, RENDER_ATTACHMENT = 1, 2, 4, 8, 16
 ALL_USAGES = 31
 
 
-def create_rules(call, limits):
+def create_rules(call: Call, limits: dict[str, int]) -> Rules:
     usage = call["usage"]
     yield 110, "some usage", usage != 0
     yield 110, "known usages", usage <= ALL_USAGES
     for name, length in zip(("width", "height", "depth"), call["size"]):
         yield 111, name, length >= 1
-    yield from limit_rules(call["dim"], *call["size"], limits)
+    width, height, depth = call["size"]
+    yield from limit_rules(call["dim"], width, height, depth, limits)
     yield from mip_rules(call)
     yield 114, "samples", call["samples"] in (1, 4)
     if call["samples"] == 4:
@@ -82,12 +84,12 @@ def view_of(call: dict[str, Any], texture: dict[str, Any], is_valid: bool) -> di
     return {**call, **{key: value for key, value in left_out.items() if call[key] is None}}
 
 
-def told(view: Played) -> dict[str, int | str]:
+def told(view: Played) -> Call:
     """What a valid view is, with the keys that were left out."""
     return view_of(view.call, view.uses["texture"].call, True)
 
 
-def subresources_of_view(view):
+def subresources_of_view(view: Played) -> list[tuple[str, int, int]]:
     """The subresources of a valid view, as triples of aspect, mip level and layer. One of a 3D texture has the layer 0."""
     known = told(view)
     aspects = formats.named_aspects(view.uses["texture"].call["format"], known["aspect"])

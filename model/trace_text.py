@@ -44,7 +44,7 @@ class NoForm(Exception):
     """A line is none of a trace."""
 
 
-def read(data):
+def read(data: bytes) -> list[tuple[int, Any]]:
     """The items of the trace in a text, each with the number of its line, that of a step with that of its step line."""
     lines = lines_of(data)
     first = lines.index(b"trace")
@@ -73,7 +73,7 @@ def read(data):
     return items
 
 
-def lines_of(data: bytes) -> list[bytes] | None:
+def lines_of(data: bytes) -> list[bytes]:
     """Rule 1, on the text as a whole. The answer is its lines."""
     if not data.endswith(b"\n") or re.search(rb"[^\n -~]", data):
         raise Refused(1, 0)

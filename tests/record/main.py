@@ -8,6 +8,7 @@ Recordings are kept, so that `judge` is tested without a browser. Where node is 
 with a WebGPU that does nothing; where Chromium is installed, they are recorded and judged anew. What is not installed is skipped, and that
 is said. Without --program the program is compiled without its proofs. Prints a line for each finding, and fails if there is one. """
 
+import base64
 import contextlib
 import json
 import os
@@ -18,10 +19,13 @@ import subprocess
 import sys
 import tempfile
 import time
+import urllib.parse
+import urllib.request
 
 from wgsim import exit_status
-from wgsim.matching import compared
+from wgsim.matching import compared, fault_objects
 from wgsim.program import program as programs
+from wgsim.reading import places
 from wgsim.recorder import browser, visit, whole_text
 
 TOP = pathlib.Path(__file__).resolve().parents[2]
@@ -141,6 +145,160 @@ def test_null(folder):
             len(found) == len(list(KEPT.glob(f"{page.stem}.json")) + list(KEPT.glob(f"{page.stem}-[0-9].json"))),
             f"null: {page.name}: {len(found)} devices",
         )
+
+
+# What names a map in a script, and what stands there in its place: the map itself, one that is not there, and one that is none.
+NAMED = "//# sourceMappingURL=page.js.map\n"
+INLINE = "//# sourceMappingURL=data:application/json;base64,{}\n"
+
+
+def places_differ(found, top):
+    """The calls of a recording whose places are not those of their words in the files of a folder."""
+    for call, told in zip(found["script"]["phases"][0][0], found["calls"]):
+        if "at" in told and not told.get("implied"):
+            file, line, column = re.match(r"([\w./-]+):(\d+):(\d+)", told["at"]).groups()
+            stands = (top / file).read_text(encoding="utf-8").splitlines()[int(line) - 1][int(column) - 1 :]
+            if not stands.startswith(IN_PAGES.get(call["do"], call["do"])):
+                yield f"{call['do']} is said to be at {told['at']}, where `{stands[:40]}` stands"
+
+
+def played(page, one_file):
+    """What is recorded of a page under node."""
+    ran = subprocess.run([NODE, PARTS / "null.js", one_file, page], capture_output=True, timeout=LONGEST)
+    check(ran.returncode == 0 and not ran.stderr, f"null: {page}: {ran.stderr.decode()[-400:]}")
+    return ran.stdout or b'{"form": 1, "page": "", "browser": "", "recordings": []}'
+
+
+def places_found(page, one_file):
+    """The places of a page's calls, recorded under node, saved beside the page and taken over, each with the word of its call."""
+    one = visit.saved(played(page, one_file), str(page.parent / "bundled.recording.json"))["recordings"][0]
+    calls = zip(one["script"]["phases"][0][0], one["calls"])
+    return [(call["do"], told) for call, told in calls if "at" in told and not told.get("implied")]
+
+
+def test_source_maps(folder):
+    """Calls of a script that was put together are told by the lines of its sources, where a map beside it, or in it, tells them.
+
+    `bundled/dist` is what esbuild 0.17 of Debian made: esbuild src/main.ts --bundle --minify --sourcemap --outfile=dist/page.js"""
+    one_file, own = folder / whole_text.NAME, folder / "bundled"
+    one_file.write_text(wgsim("record", "--one-file")[0], encoding="utf-8")
+    shutil.copytree(PARTS / "bundled", own)
+    script, page = own / "dist/page.js", own / "bundled.html"
+    text, kept = script.read_text(encoding="utf-8"), json.loads((own / "dist/page.js.map").read_text(encoding="utf-8"))
+    wanted = places_found(page, one_file)
+    check(len(wanted) > 20, f"bundled: {len(wanted)} calls have a place")
+    one = visit.saved(played(page, one_file), str(own / "bundled.recording.json"))["recordings"][0]
+    for differs in places_differ(one, own):
+        check(False, f"bundled: {differs}")
+    for word, told in wanted:
+        check(told["built"].startswith("dist/page.js:1:"), f"bundled: {word}: {told}")
+    by = [told["by"] for word, told in wanted if word == "writeBuffer"]
+    check(by == [["src/main.ts:9:19"]], f"bundled: the writeBuffer is called from {by}")
+    sections = {"version": 3, "sections": [{"offset": {"line": 0, "column": 0}, "map": kept}]}
+    inside = {**kept, "sources": ["src/frame.ts", "webpack://app/./src/main.ts"], "sourceRoot": ".."}
+    for told, is_same in ((kept, True), (sections, True), (inside, True), ({**kept, "mappings": "MAAA,!"}, False), ([], False)):
+        data = base64.b64encode(json.dumps(told).encode()).decode()
+        script.write_text(text.replace(NAMED, INLINE.format(data)), encoding="utf-8")
+        found = places_found(page, one_file)
+        same = [told for _, told in found] == [told for _, told in wanted]
+        check(same == is_same and (is_same or "built" not in found[0][1]), f"bundled: with a map in the script: {found[:2]}")
+    with visit.served(str(page)) as address:
+        has = visit.at_address(address)
+        check(has("dist/page.js") == script.read_bytes(), "bundled: a script of a server on this machine is not had")
+        check(has("none.js") is None and has("http://192.0.2.1/page.js") is None, "bundled: what is not there, or elsewhere, is had")
+    for name in ("none.map", "../../../outside.map", "http://192.0.2.1/page.js.map"):
+        script.write_text(text.replace("page.js.map", name), encoding="utf-8")
+        found = places_found(page, one_file)
+        check(all(told["at"].startswith("dist/page.js:1:") for _, told in found), f"bundled: with the map {name}: {found[:2]}")
+
+
+# A worker that knows nothing of the recorder, in one line.
+WORKER = (
+    "'use strict'; onmessage = async ({ data }) => { if (!data.size) return; const device = await (await navigator.gpu.requestAdapter())"
+    ".requestDevice(), buffer = device.createBuffer({ size: data.size, usage: GPUBufferUsage.COPY_DST });"
+    " device.queue.writeBuffer(buffer, 0, new Float32Array(16)); postMessage('done'); };\n"
+)
+
+
+def test_workers(folder):
+    """What workers do is recorded beside the page, each device as a script of its own: of a worker that takes the recorder in by itself,
+    and of one before which the tool's server puts it."""
+    one_file, own = folder / whole_text.NAME, folder / "workers"
+    one_file.write_text(wgsim("record", "--one-file")[0], encoding="utf-8")
+    shutil.copytree(PARTS / "workers", own)
+    page, path = own / "workers.html", own / "src/served.js"
+    path.write_text(WORKER, encoding="utf-8")
+    with visit.served(str(page)) as address:
+        asked = urllib.request.Request(urllib.parse.urljoin(address, "src/served.js"))
+        check(urllib.request.urlopen(asked).read().decode() == WORKER, "workers: a script that no worker asks for is another")
+        asked.add_header("Sec-Fetch-Dest", "worker")
+        served = urllib.request.urlopen(asked).read().decode()
+    check(served.startswith("'use strict';") and served.endswith(WORKER) and served.count("\n") == 1, f"workers: {served[:200]}")
+    text = page.read_text(encoding="utf-8")
+    for name in ("src/sum.js", "src/served.js"):
+        page.write_text(text.replace("src/sum.js", name), encoding="utf-8")
+        path.write_text(served, encoding="utf-8")
+        found = json.loads(played(page, one_file))["recordings"]
+        path.write_text(WORKER, encoding="utf-8")
+        shutil.copy(page, own / "null.html")
+        calls = [[call["do"] for call in calls_of(one["script"])] for one in found]
+        check(calls[1:] == [["createBuffer", "writeBuffer"]] * 2 and len(calls[0]) > 10, f"workers: {name}: {calls}")
+        for differs in (differs for one in found for differs in places_differ(one, own)):
+            check(False, f"workers: {name}: {differs}")
+        sizes = [one["script"]["phases"][0][0][0].get("size") for one in found]
+        check(sorted(sizes[1:]) == [16, 64], f"workers: {name}: buffers of {sizes}")
+
+
+IMAGE = """<script type="module">
+const device = await (await navigator.gpu.requestAdapter()).requestDevice();
+const texture = device.createTexture({ size: [8, 8], format: 'rgba8unorm', usage: GPUTextureUsage.TEXTURE_BINDING });
+device.queue.copyExternalImageToTexture({ source: {} }, { texture }, [8, 8]);
+</script>"""
+
+
+def test_stand_ins(folder):
+    """A copy of an image is told by its own name, and not as the writeTexture that stands for it."""
+    one_file, page = folder / whole_text.NAME, folder / "null.html"
+    one_file.write_text(wgsim("record", "--one-file")[0], encoding="utf-8")
+    page.write_text(IMAGE, encoding="utf-8")
+    saved = folder / "null.recording.json"
+    saved.write_bytes(played(page, one_file))
+    wgsim("record", "--saved", "--out", folder / "out", saved)
+    told = wgsim("judge", folder / "out", status=1)[0]
+    check("null.html:4:14: copyExternalImageToTexture: core refuses it by rule 205" in told, f"judge of an image: {told}")
+    told = wgsim("explain", folder / "out/null.json")[0]
+    words = "call 1, in the page: null.html:4:14: copyExternalImageToTexture, for which this writeTexture stands\n"
+    check(words in told, f"explain of an image: {told}")
+
+
+def test_mistakes(folder):
+    """Four samples make no fault; with a mistake, each of the table, `explain` tells its rule and its cause, at the line of the page that
+    makes the call."""
+    one_file, asked = folder / whole_text.NAME, programs.Program(False)
+    one_file.write_text(wgsim("record", "--one-file")[0], encoding="utf-8")
+    texts = {path.stem: path.read_text(encoding="utf-8") for path in sorted((PARTS / "samples").glob("*.html"))}
+    right = [{"page": name, "was": "", "is": ""} for name in texts]
+    table = json.loads((PARTS / "samples/mistakes.json").read_text(encoding="utf-8"))
+    counts = {name: sum(row["page"] == name for row in table) for name in texts}
+    recording = (TOP / "docs/recording.md").read_text(encoding="utf-8")
+    for name, many in counts.items():
+        told = re.search(rf"^\| `{name}`: .* \| {many} \| {many} \|$", recording, re.M)
+        check(told is not None, f"docs/recording.md does not tell that {name} has {many} mistakes")
+    for row in right + table:
+        sample, page = texts[row["page"]], folder / "null.html"
+        check(sample.count(row["was"]) == 1 or not row["was"], f"samples: {row['page']} has not {row['was']!r} once")
+        page.write_text(sample.replace(row["was"], row["is"]) if row["was"] else sample, encoding="utf-8")
+        ((path, _),) = visit.write(visit.saved(played(page, one_file), str(folder / "null.recording.json")), "null", str(folder / "out"))
+        text, data = places.Text(path.read_bytes(), str(path)), path.read_bytes()
+        faults = [one for one in fault_objects.listed(text, data, asked)[0] if one["kind"] == "fault"]
+        if "rule" not in row:
+            check(not faults, f"samples: {row['page']} has faults: {faults[:1]}")
+            continue
+        found = faults[0] if faults else {"rule": None, "condition": "", "page": ":0:"}
+        place = found.get("commandPage") or found["page"]
+        line = page.read_text(encoding="utf-8").splitlines()[int(place.split(":")[1]) - 1]
+        is_told = found["rule"] == row["rule"] and row["says"] in found["condition"] and row["call"] in line and found["remedy"]
+        check(is_told, f"samples: {row['page']} with {row['is']!r} for {row['was']!r}: {found}, at `{line}`")
 
 
 # Pages that present one frame and go on, each with how many frames are asked for, and why its recording has to end.
@@ -509,7 +667,11 @@ def main():
             (test_no_browser, ()),
             (test_saved, (folder / "saved",)),
         ]
-        tests += [(test_wgsl, ()), (test_null, (folder / "null",)), (test_frames, (folder / "frames",))] if NODE else []
+        by_node = (
+            (test_null, "null"), (test_frames, "frames"), (test_source_maps, "maps"), (test_workers, "workers"), (test_stand_ins, "images"),
+            (test_mistakes, "mistakes"),
+        )
+        tests += [(test_wgsl, ()), *((test, (folder / name,)) for test, name in by_node)] if NODE else []
         tests += [(test_browser, (folder / "browser",))] if path else []
         for test, given in tests:
             for each in given:

@@ -5,7 +5,7 @@
 // It refuses everything with a message while the page has put one into `refused`.
 // So the recorder is tested where there is no browser. Of the page its scripts alone are run: those that it loads, and the module in it.
 'use strict';
-const fs = require('fs'), path = require('path'), vm = require('vm');
+const fs = require('fs'), path = require('path'), vm = require('vm'), threads = require('worker_threads');
 
 const COMMANDS = 'pushDebugGroup popDebugGroup insertDebugMarker';
 const DRAWS = 'setPipeline setBindGroup setVertexBuffer setIndexBuffer draw drawIndexed drawIndirect drawIndexedIndirect';
@@ -107,17 +107,45 @@ function open() {
   vm.createContext(world);
 }
 
+// A worker is a thread of node that runs this file too. It has no document, and begins with the script that it is given.
+function workerOf(recorder, page) {
+  return class {
+    constructor(url) {
+      this.thread = new threads.Worker(__filename, { workerData: { recorder, page, url } });
+      this.thread.on('message', data => this.onmessage && this.onmessage({ data }));
+      this.thread.on('error', error => process.stderr.write(`${error.stack}\n`));
+    }
+    postMessage(data) { this.thread.postMessage(data); }
+    terminate() { this.thread.terminate(); }
+  };
+}
+function work({ recorder, page, url }) {
+  open();
+  const folder = path.dirname(path.join(path.dirname(page), url)), address = `http://127.0.0.1/${url}`;
+  world.WorkerGlobalScope = class { static [Symbol.hasInstance]() { return true; } };
+  world.BroadcastChannel = BroadcastChannel;
+  Object.assign(world, { document: undefined, location: { href: address, pathname: `/${url}` }, postMessage: data => threads.parentPort.postMessage(data) });
+  world.importScripts = name => {
+    const isRecorder = name === 'wgsim-record.js', file = isRecorder ? recorder : path.join(folder, name);
+    vm.runInContext(fs.readFileSync(file, 'utf8'), world, { filename: isRecorder ? name : new URL(name, address).href });
+  };
+  threads.parentPort.on('message', data => world.onmessage && world.onmessage({ data }));
+  world.importScripts(path.basename(url));
+}
+
 async function main(recorder, page, frames = 3) {
   open();
+  Object.assign(world, { BroadcastChannel, Worker: workerOf(recorder, page) });
   const handed = new Promise(hand => { world.hand = hand; });
   vm.runInContext(`globalThis.wgsimRecordAsked = ${JSON.stringify({ frames: Number(frames), seconds: 30, idle: 500, hand: 'hand' })};`, world);
   vm.runInContext(fs.readFileSync(recorder, 'utf8'), world, { filename: 'wgsim-record.js' });
   const text = fs.readFileSync(page, 'utf8');
-  const parts = [...text.matchAll(/<script src="([^"]+)"><\/script>/g)].map(found => fs.readFileSync(path.join(path.dirname(page), found[1]), 'utf8'));
-  const lines = text.slice(0, text.indexOf('<script type="module">')).split('\n').length - 1, module = /<script type="module">([^]*?)<\/script>/.exec(text)[1];
-  for (const part of parts) vm.runInContext(part, world, { filename: 'http://127.0.0.1/common.js' });
+  const parts = [...text.matchAll(/<script src="([^"]+)"><\/script>/g)].map(found => found[1]);
+  const lines = text.slice(0, text.indexOf('<script type="module">')).split('\n').length - 1, [, module] = /<script type="module">([^]*?)<\/script>/.exec(text) || [null, ''];
+  for (const part of parts) vm.runInContext(fs.readFileSync(path.join(path.dirname(page), part), 'utf8'), world, { filename: `http://127.0.0.1/${part}` });
   const whole = `(async () => {${module}\n})()`;
   vm.runInContext(whole, world, { filename: 'http://127.0.0.1/null.html', lineOffset: lines }).catch(error => process.stderr.write(`${error.stack}\n`));
   process.stdout.write(await handed, () => process.exit(0));
 }
-main(...process.argv.slice(2));
+if (threads.isMainThread) main(...process.argv.slice(2));
+else work(threads.workerData);

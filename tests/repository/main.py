@@ -1,5 +1,6 @@
 """Checks of the repository that the gate does not make: the examples have their reports by the program that the gate
-built, the documents name what exists, must-fail edits can be applied, and what is written in Python is in order.
+built, the documents name what exists, must-fail edits can be applied, crates import what they use and no more, and what is
+written in Python is in order.
 
     tests/repository/run [--documents]    all checks, or with --documents those that need no program
     tests/repository/run --imports        imports of crates that nothing uses, and nothing else
@@ -177,6 +178,7 @@ def main():
         check()
     findings.extend(documents.findings_of(TOP, crates()) + pages.findings_of(TOP, crates()) + map_of_calls.findings_of(TOP))
     findings.extend(rule_numbers.findings_of(TOP) + python_code.findings_of(TOP))
+    findings.extend(imports.unused(TOP, crates()))
     return told(findings)
 
 

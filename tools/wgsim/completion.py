@@ -1,7 +1,7 @@
 """What a shell is told to complete the words of the tool, made of the same parsers that read them."""
 
 import argparse
-from typing import Dict, List, NamedTuple, Sequence
+from typing import Dict, List, Mapping, NamedTuple, Sequence
 
 NAME = "wgsim"
 # What stands for a word in the help, where that is a file or a folder.
@@ -37,7 +37,7 @@ def command_of(name: str, said: str, parser: argparse.ArgumentParser) -> Command
     return Command(name, said, [word for word in words if word.names], [word for word in words if not word.names])
 
 
-def commands_of(parser: argparse.ArgumentParser, each: Dict[str, argparse.ArgumentParser], said: Dict[str, str]) -> List[Command]:
+def commands_of(parser: argparse.ArgumentParser, each: Mapping[str, argparse.ArgumentParser], said: Dict[str, str]) -> List[Command]:
     """The tool without a command, which has no name, and each command."""
     return [command_of("", "", parser), *(command_of(name, said[name], one) for name, one in each.items())]
 

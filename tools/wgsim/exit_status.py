@@ -1,5 +1,7 @@
 """How the tool may end: the exit statuses, and an end with a message."""
 
+from __future__ import annotations
+
 # Those of the program, up to BAD_TRACE, with DIFFERENT in a place that it leaves free, and then those of the tool.
 
 SAME, DIFFERENT, WORDS, REFUSED, UNREAD, UNWRITTEN, NO_MEMORY, TOO_LARGE, DIFFERS, BAD_TRACE, TOO_MANY, NOT_BUILT, NO_ANSWER = range(13)
@@ -16,7 +18,7 @@ SILENT = {
 class End(Exception):
     """The tool ends with a status, and says why on standard error."""
 
-    def __init__(self, status, why):
+    def __init__(self, status: int, why: str) -> None:
         super().__init__(why)
         self.status = status
         self.why = why

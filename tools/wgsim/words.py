@@ -1,9 +1,14 @@
 """The words of the command line, read by argparse. Which commands there are is read off the folder commands/."""
 
+from __future__ import annotations
+
 import argparse
 import os
+import pathlib
 import signal
 import sys
+from types import ModuleType
+from typing import Any, Callable, NoReturn
 
 from wgsim import TOP, commands, exit_status
 from wgsim.inputs import STANDARD, write
@@ -39,7 +44,7 @@ and docs/rules.md every rule. examples/README.md says what each example shows.
 class Wrong(Exception):
     """The words are not as the usage has them. `usage` is what helps."""
 
-    def __init__(self, why, usage):
+    def __init__(self, why: str, usage: str) -> None:
         super().__init__(why)
         self.usage = usage
 
@@ -47,11 +52,11 @@ class Wrong(Exception):
 class Parser(argparse.ArgumentParser):
     """A reader of words that ends the tool with its own status, and in its own way."""
 
-    def error(self, message):
+    def error(self, message: str) -> NoReturn:
         raise Wrong(message, self.format_usage())
 
 
-def which_program():
+def which_program() -> argparse.ArgumentParser:
     """The words for which program answers, which may stand before the command and behind it."""
     parser = Parser(add_help=False, argument_default=argparse.SUPPRESS)
     which = parser.add_mutually_exclusive_group()
@@ -60,9 +65,9 @@ def which_program():
     return parser
 
 
-def parser_of(found):
+def parser_of(found: dict[str, ModuleType]) -> tuple[Parser, dict[str, Parser]]:
     """The reader of all words, and that of each command by its name."""
-    def shared():
+    def shared() -> dict[str, Any]:
         # The parent is another one for each, since a parser changes what it takes of its parent.
         return {"formatter_class": argparse.RawDescriptionHelpFormatter, "allow_abbrev": False, "parents": [which_program()]}
 
@@ -77,12 +82,12 @@ def parser_of(found):
     return parser, each
 
 
-def read(parser, each, found, given):
+def read(parser: Parser, each: dict[str, Parser], found: dict[str, ModuleType], given: list[str]) -> argparse.Namespace:
     """What was asked for."""
     words, more = parser.parse_known_args(given)
     own = each.get(words.command, parser)
 
-    def wrong(why):
+    def wrong(why: str) -> NoReturn:
         raise Wrong(why, own.format_usage())
 
     for word in more:
@@ -99,7 +104,7 @@ def read(parser, each, found, given):
     return words
 
 
-def test(words, module, wrong):
+def test(words: argparse.Namespace, module: ModuleType, wrong: Callable[[str], None]) -> None:
     """What is asked of the words together, of any command and by the command itself."""
     if words.is_proved and words.is_unproved:
         wrong("--proved and --unproved ask for two programs")
@@ -112,11 +117,11 @@ def test(words, module, wrong):
         module.test(words, wrong)
 
 
-def version():
+def version() -> str:
     """Which version and sources this is, which programs there are of them, and by which toolchain one would be proved."""
     from wgsim.program import unproved
 
-    def of(is_current, program, done):
+    def of(is_current: bool, program: pathlib.Path, done: str) -> str:
         return f"{done} from these sources" if is_current else f"{done} from other sources" if program.exists() else f"not {done}"
 
     by = "the proved program" if building.is_built() else "the program without proofs; `./wgsim prove` proves and builds it"
@@ -130,7 +135,7 @@ def version():
     return "".join(line + "\n" for line in lines)
 
 
-def act(given):
+def act(given: list[str]) -> int:
     """Reads the words, and does what they ask."""
     found = commands.found()
     parser, each = parser_of(found)
@@ -146,7 +151,7 @@ def act(given):
     return found[words.command].act(words)
 
 
-def main(given):
+def main(given: list[str]) -> int:
     """Does what the words ask, and returns the exit status."""
     try:
         return act(given)

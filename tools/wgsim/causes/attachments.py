@@ -1,30 +1,40 @@
 """The rules of what is attached to a render pass, and of a pipeline that is set in one."""
 
+from __future__ import annotations
+
+from typing import TYPE_CHECKING, Any
+
 from .making import Cause, first, lacks, plural, rule
+
+if TYPE_CHECKING:
+    from model.forms import Cell
+    from model.history import Played
+    from wgsim.causes.cases import Case
 
 RENDER_ATTACHMENT = 16
 FLAT = ("2d", "2d-array")
 ASPECT_KEYS = {"depth": ("depthLoad", "depthStore", "depthReadOnly"), "stencil": ("stencilLoad", "stencilStore", "stencilReadOnly")}
 
 
-def colors(case):
+def colors(case: Case) -> list[tuple[int, dict[str, Any], Played, Played | None]]:
     """The colors that are not null, each with its place, itself, its view and its resolve view or None."""
     places = [place for place, color in enumerate(case.call["colors"]) if color is not None]
-    return [(place, *found) for place, found in zip(places, case.second.attachments.colors_of(case.played))]
+    found = case.second.attachments.colors_of(case.played)
+    return [(place, color, view, resolve) for place, (color, view, resolve) in zip(places, found)]
 
 
-def depth_view(case):
+def depth_view(case: Case) -> Played | None:
     return next(iter(case.second.attachments.depth_of(case.played)), None)
 
 
-def attached(case):
+def attached(case: Case) -> list[tuple[str, Played]]:
     """All that is attached but resolve views: words and view."""
     views = [(f"color {place}", view) for place, _, view, _ in colors(case)]
     return views + [("depth", view) for view in case.second.attachments.depth_of(case.played)]
 
 
 @rule(300)
-def most_colors(case):
+def most_colors(case: Case) -> Cause | None:
     count = len(case.call["colors"])
     if count <= 8:
         return None
@@ -34,7 +44,7 @@ def most_colors(case):
 
 
 @rule(301)
-def something(case):
+def something(case: Case) -> Cause | None:
     if colors(case) or depth_view(case):
         return None
     given = "colors is empty" if not case.call["colors"] else "each color is null"
@@ -45,7 +55,7 @@ def something(case):
     )
 
 
-def color_view(case, where, view, dims):
+def color_view(case: Case, where: str, view: Played, dims: tuple[str, ...]) -> Cause | None:
     """What rule 302 asks of the view of a color, and rule 307, of fewer dimensions, of a resolve view."""
     texture = view.uses["texture"]
     lacking = lacks(case, texture, RENDER_ATTACHMENT, f"{where}: ")
@@ -61,7 +71,7 @@ def color_view(case, where, view, dims):
     return flat(case, where, view, dims)
 
 
-def flat(case, where, view, dims):
+def flat(case: Case, where: str, view: Played, dims: tuple[str, ...]) -> Cause | None:
     """A view that is attached is of one of some dimensions, with one mip level and one layer."""
     told = case.second.textures.told(view)
     if told["dim"] not in dims:
@@ -82,16 +92,16 @@ def flat(case, where, view, dims):
 
 
 @rule(302)
-def color_views(case):
+def color_views(case: Case) -> Cause | None:
     return first(color_view(case, f"color {place}", view, ("2d", "2d-array", "3d")) for place, _, view, _ in colors(case))
 
 
 @rule(308)
-def slices(case):
+def slices(case: Case) -> Cause | None:
     return first(slice_of(case, place, color["depthSlice"], view) for place, color, view, _ in colors(case))
 
 
-def slice_of(case, place, number, view):
+def slice_of(case: Case, place: int, number: int | None, view: Played) -> Cause | None:
     """A slice is given of a 3d view alone, and the mip level has it."""
     told = case.second.textures.told(view)
     dim, depth = told["dim"], case.second.attachments.depth_of_level(view)
@@ -113,7 +123,7 @@ def slice_of(case, place, number, view):
 
 
 @rule(303)
-def depth_views(case):
+def depth_views(case: Case) -> Cause | None:
     view = depth_view(case)
     if view is None:
         return None
@@ -138,7 +148,7 @@ def depth_views(case):
 
 
 @rule(304)
-def load_and_store(case):
+def load_and_store(case: Case) -> Cause | None:
     view = depth_view(case)
     if view is None:
         return None
@@ -169,12 +179,13 @@ def load_and_store(case):
 
 
 @rule(305)
-def alike(case):
+def alike(case: Case) -> Cause | None:
     views = attached(case)
     width_and_height = case.second.attachments.width_and_height
     for where, view in views[1:]:
         pairs = list(zip(("width", "height"), width_and_height(views[0][1]), width_and_height(view)))
-        pairs.append(("samples", *(each.uses["texture"].call["samples"] for each in (views[0][1], view))))
+        samples, others = (each.uses["texture"].call["samples"] for each in (views[0][1], view))
+        pairs.append(("samples", samples, others))
         for what, one, other in pairs:
             if one != other:
                 said = (
@@ -186,7 +197,7 @@ def alike(case):
     return None
 
 
-def to_be_alike(case, what, one, other):
+def to_be_alike(case: Case, what: str, one: Played, other: Played) -> str:
     """What to do where two views that are attached differ: what stands beside a canvas has to change its size with that."""
     if what == "samples":
         return "Make both textures with the same samples."
@@ -196,12 +207,12 @@ def to_be_alike(case, what, one, other):
     return f"Make both with the same {what}."
 
 
-def the(what):
+def the(what: str) -> str:
     return "samples" if what == "samples" else f"the {what}"
 
 
 @rule(306)
-def apart(case):
+def apart(case: Case) -> Cause | None:
     """No cell is attached twice, be it a subresource or a slice: colors come first, then resolve views, then depth."""
     found, cells_of = colors(case), case.second.attachments.cells_of
     views = [(f"color {place}", view, cells_of(view, color["depthSlice"])) for place, color, view, _ in found]
@@ -221,7 +232,7 @@ def apart(case):
     return None
 
 
-def common(case, one, other):
+def common(case: Case, one: Cell, other: Cell) -> Cell | None:
     """What two attached cells have in common: the subresource that they both are, or the slices that are in both; or None."""
     if not case.second.cells.do_meet(one, other):
         return None
@@ -229,11 +240,11 @@ def common(case, one, other):
 
 
 @rule(307)
-def resolves(case):
+def resolves(case: Case) -> Cause | None:
     return first(resolve_of(case, place, view, resolve) for place, _, view, resolve in colors(case) if resolve is not None)
 
 
-def resolve_of(case, place, view, resolve):
+def resolve_of(case: Case, place: int, view: Played, resolve: Played) -> Cause | None:
     """What is wrong with the resolve view of a color."""
     where, color, target = f"the resolve view of color {place}", view.uses["texture"].call, resolve.uses["texture"].call
     values = {"color": place, "view": view.call["as"], "resolve": resolve.call["as"]}

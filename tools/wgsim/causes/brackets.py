@@ -1,9 +1,17 @@
 """The rules of what is opened and closed: encoders, passes and debug groups; and of calls that come too late."""
 
+from __future__ import annotations
+
+from typing import TYPE_CHECKING
+
 from .making import Cause, plural, rule
 
+if TYPE_CHECKING:
+    from model.history import Played
+    from wgsim.causes.cases import Case
 
-def ended_by(case, place):
+
+def ended_by(case: Case, place: Played) -> tuple[Played, Played]:
     """The call that ended a pass or its encoder: the end of a pass while it is open, or the first finish of the encoder."""
     encoder = case.second.history.encoder_of(place)
     walk = case.history.walks[encoder]
@@ -13,7 +21,7 @@ def ended_by(case, place):
 
 
 @rule(14)
-def late(case):
+def late(case: Case) -> Cause | None:
     place = case.uses["on"]
     what, by = ended_by(case, place)
     through = "" if what is place else f", on which {case.named(place)} was begun,"
@@ -27,7 +35,7 @@ def late(case):
 
 
 @rule(180)
-def finished(case):
+def finished(case: Case) -> Cause | None:
     encoder = case.uses["on"]
     by = case.history.finishes(encoder)[0]
     return Cause(
@@ -38,7 +46,7 @@ def finished(case):
 
 
 @rule(182)
-def open_pass(case):
+def open_pass(case: Case) -> Cause | None:
     found = case.second.passes.Walk(case.commands).open_pass
     if found is None:
         return None
@@ -50,7 +58,7 @@ def open_pass(case):
     )
 
 
-def open_groups(commands):
+def open_groups(commands: list[Played]) -> list[Played]:
     """The pushes of some commands that no pop has closed."""
     opened = []
     for command in commands:
@@ -61,7 +69,7 @@ def open_groups(commands):
     return opened
 
 
-def left_open(case, place, opened):
+def left_open(case: Case, place: Played, opened: list[Played]) -> Cause | None:
     if not opened:
         return None
     many = (
@@ -74,18 +82,18 @@ def left_open(case, place, opened):
 
 
 @rule(183)
-def groups_of_encoder(case):
+def groups_of_encoder(case: Case) -> Cause | None:
     encoder = case.entry.uses["on"]
     return left_open(case, encoder, open_groups(case.second.passes.Walk(case.commands).on[encoder]))
 
 
 @rule(310)
-def groups_of_pass(case):
+def groups_of_pass(case: Case) -> Cause | None:
     return left_open(case, case.uses["on"], open_groups(case.earlier))
 
 
 @rule(285)
-def no_group(case):
+def no_group(case: Case) -> Cause | None:
     place = case.uses["on"]
     pushed = sum(command.do == "pushDebugGroup" for command in case.earlier)
     told = (
@@ -101,7 +109,7 @@ def no_group(case):
 
 
 @rule(240)
-def locked(case):
+def locked(case: Case) -> Cause | None:
     found = case.open_pass
     if found is None:
         return None

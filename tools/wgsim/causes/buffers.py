@@ -1,8 +1,15 @@
 """The rules of createBuffer, and the budget, which textures have as well."""
 
+from __future__ import annotations
+
+from typing import TYPE_CHECKING
+
 from wgsim.reading import bits
 
 from .making import Cause, at_most, known_usage, limited, listed, multiple, plural, rule
+
+if TYPE_CHECKING:
+    from wgsim.causes.cases import Case
 
 MAP_READ, MAP_WRITE, COPY_SRC, COPY_DST = 1, 2, 4, 8
 # How many of the things that take most of the budget are named.
@@ -10,11 +17,11 @@ LARGEST = 3
 
 
 @rule(100)
-def usage(case):
+def usage(case: Case) -> Cause | None:
     return known_usage(case, bits.BUFFER, "a buffer")
 
 
-def beside(case, mode, may):
+def beside(case: Case, mode: int, may: int) -> Cause | None:
     """Beside a usage for maps one other alone may stand."""
     has = case.call["usage"]
     others = has & ~(mode | may)
@@ -34,28 +41,28 @@ def beside(case, mode, may):
 
 
 @rule(101)
-def map_read(case):
+def map_read(case: Case) -> Cause | None:
     return beside(case, MAP_READ, COPY_DST)
 
 
 @rule(102)
-def map_write(case):
+def map_write(case: Case) -> Cause | None:
     return beside(case, MAP_WRITE, COPY_SRC)
 
 
 @rule(103)
-def size(case):
+def size(case: Case) -> Cause | None:
     asked = case.call["size"]
     return limited("maxBufferSize", asked, at_most("size", asked, case.history.limits["maxBufferSize"], remedy="Take several buffers."))
 
 
 @rule(104)
-def mapped_size(case):
+def mapped_size(case: Case) -> Cause | None:
     return multiple("size", case.call["size"], 4, why=", and mapped is true") if case.call["mapped"] else None
 
 
 @rule(13)
-def budget(case):
+def budget(case: Case) -> Cause | None:
     """The budget has no room: what is asked for, what is left, and what takes most."""
     asked, total = case.second.memory.bytes_of(case.call), case.history.budget
     taken = case.history.live_bytes()

@@ -1,7 +1,16 @@
 """The rules of bundle encoders, and those that ask that a pipeline, a pass and bundles draw to the same."""
 
+from __future__ import annotations
+
+from typing import TYPE_CHECKING
+
 from .making import Cause, first, plural, rule
 from .pipelines import nothing, wrong_colors, wrong_samples
+
+if TYPE_CHECKING:
+    from model.bundles import Targets
+    from model.history import Played
+    from wgsim.causes.cases import Case
 
 READ_ONLY = {"depth": "depthReadOnly", "stencil": "stencilReadOnly"}
 WRITES = {"depth": "depthWrite", "stencil": "stencilWrite"}
@@ -10,7 +19,7 @@ WRITES = {"depth": "depthWrite", "stencil": "stencilWrite"}
 class Drawn:
     """To what a pipeline, a pass or a bundle draws, with its name, and what it is called in the values of a cause."""
 
-    def __init__(self, case, thing, word, targets):
+    def __init__(self, case: Case, thing: Played, word: str, targets: Targets) -> None:
         self.name = case.named(thing)
         self.thing = thing
         self.word = word
@@ -20,7 +29,7 @@ class Drawn:
         self.read_only = targets.read_only
 
 
-def place_drawn(case):
+def place_drawn(case: Case) -> Drawn | None:
     """To what the place of a command draws, a render pass or a bundle encoder; None of a compute pass."""
     place = case.uses["on"]
     targets = case.second.bundles.targets_of(place)
@@ -28,7 +37,14 @@ def place_drawn(case):
     return Drawn(case, place, word, targets) if targets is not None else None
 
 
-def pipeline_drawn(case, pipeline):
+def pass_drawn(case: Case) -> Drawn:
+    """The same of a render pass or a bundle encoder."""
+    drawn = place_drawn(case)
+    assert drawn is not None
+    return drawn
+
+
+def pipeline_drawn(case: Case, pipeline: Played) -> Drawn:
     call = pipeline.call
     return Drawn(
         case,
@@ -38,11 +54,11 @@ def pipeline_drawn(case, pipeline):
     )
 
 
-def bundle_drawn(case, bundle):
+def bundle_drawn(case: Case, bundle: Played) -> Drawn:
     return Drawn(case, bundle, "bundle", case.second.bundles.targets_of(bundle.uses["on"]))
 
 
-def difference(one, other, made):
+def difference(one: Drawn, other: Drawn, made: str) -> Cause | None:
     """In what two things do not draw to the same, as a cause, or None. `made` is what is to be made otherwise, in words."""
     values = {one.word: one.thing.call["as"], other.word: other.thing.call["as"]}
     for place, (mine, theirs) in enumerate(zip(one.colors, other.colors)):
@@ -75,7 +91,7 @@ def difference(one, other, made):
 
 
 @rule(175)
-def colors(case):
+def colors(case: Case) -> Cause | None:
     depth = case.call["depth"]
     wrong = wrong_colors(case, "color", case.call["colors"])
     if wrong is None and depth is not None and case.second.formats.is_color(depth):
@@ -86,27 +102,29 @@ def colors(case):
 
 
 @rule(176)
-def something(case):
+def something(case: Case) -> Cause | None:
     return nothing(case, "color", case.call["colors"])
 
 
 @rule(177)
-def samples(case):
+def samples(case: Case) -> Cause | None:
     return wrong_samples(case, "color", case.call["colors"], case.call["depth"])
 
 
 @rule(320)
-def pipeline_fits(case):
+def pipeline_fits(case: Case) -> Cause | None:
     """A pipeline draws to what the pass has attached, or to what the bundle encoder was made with."""
     place = place_drawn(case)
     return difference(pipeline_drawn(case, case.uses["pipeline"]), place, "the pipeline") if place else None
 
 
 @rule(321)
-def pipeline_spares(case):
+def pipeline_spares(case: Case) -> Cause | None:
     pipeline, place = case.uses["pipeline"], place_drawn(case)
     state = pipeline.call["depth"]
-    for aspect, write in WRITES.items() if place and state else ():
+    if place is None or not state:
+        return None
+    for aspect, write in WRITES.items():
         key = READ_ONLY[aspect]
         if state[write] and aspect in place.read_only:
             return Cause(
@@ -118,15 +136,15 @@ def pipeline_spares(case):
 
 
 @rule(370)
-def bundles_fit(case):
-    place = place_drawn(case)
+def bundles_fit(case: Case) -> Cause | None:
+    place = pass_drawn(case)
     return first(difference(bundle_drawn(case, bundle), place, "the bundle encoder") for bundle in case.uses["bundles"])
 
 
 @rule(371)
-def bundles_spare(case):
+def bundles_spare(case: Case) -> Cause | None:
     """What a pass only reads a bundle only reads, by the keys as they are given."""
-    place = place_drawn(case)
+    place = pass_drawn(case)
     for bundle in case.uses["bundles"]:
         encoder, own = bundle.uses["on"], bundle_drawn(case, bundle)
         for aspect, key in READ_ONLY.items():

@@ -1,11 +1,23 @@
 """Plays a script by the second reading, in the order of a report, and finds the cause of each fault of it."""
 
+from __future__ import annotations
+
 import bisect
 import functools
+from typing import TYPE_CHECKING, Any, Iterable
 
 from wgsim.matching import second
 
 from .making import RULES, listed
+
+if TYPE_CHECKING:
+    from model.forms import Cell
+    from model.history import Played
+    from model.turns import Turns
+    from wgsim.causes.making import Cause, Values
+    from wgsim.matching.beside import Beside
+    from wgsim.reading.report import Entry
+    from wgsim.reading.script import Call, Script
 
 # How a thing stands in a call, by the key of a list, and what it is called where it stands alone under a key that is no word for it.
 IN_LISTS = {"entries": "bound by entry {}", "colors": "among the colors", "depth": "the view of depth"}
@@ -22,7 +34,10 @@ class Case:
     encoder, pass or bundle encoder, `open_pass` the pass that is open where it comes, and `commands` all of the encoder that a finish
     ends."""
 
-    def __init__(self, play, entry, played=None, earlier=(), open_pass=None, commands=()):
+    def __init__(
+        self, play: Play, entry: Played, played: Played | None = None, earlier: Iterable[Played] = (),
+        open_pass: Played | None = None, commands: Iterable[Played] = (),
+    ) -> None:
         self.play = play
         self.second = play.second
         self.history = play.turns.history
@@ -32,37 +47,37 @@ class Case:
         self.earlier = list(earlier)
         self.open_pass = open_pass
         self.commands = list(commands)
-        self.call = self.played.call
-        self.uses = self.played.uses
-        self.do = self.played.do
+        self.call: dict[str, Any] = self.played.call
+        self.uses: dict[str, Any] = self.played.uses
+        self.do: str = self.played.do
 
     @property
-    def is_of_commands(self):
+    def is_of_commands(self) -> bool:
         """Whether the rule is the finish's own, on what its commands are."""
         return not self.is_of_command and bool(self.commands)
 
-    def place(self, thing):
+    def place(self, thing: Played) -> str:
         """The line and column of a call that was played."""
         return self.play.place(thing)
 
-    def name(self, thing):
+    def name(self, thing: Played) -> str:
         return f'"{thing.call["as"]}"'
 
-    def named(self, thing):
+    def named(self, thing: Played) -> str:
         """What a call made, with the line and column of that call."""
         return f"{self.name(thing)} ({self.place(thing)})"
 
-    def called(self, key):
+    def called(self, key: str) -> str:
         """What a thing is called that stands under a key."""
         return CALLED.get(key, key)
 
-    def aspects(self, format):
+    def aspects(self, format: str) -> str:
         return listed(self.second.formats.aspects_of(format))
 
-    def object_of(self, part):
+    def object_of(self, part: Cell) -> Played:
         return self.history.objects[part[1]]
 
-    def part(self, part):
+    def part(self, part: Cell) -> str:
         """A part or a cell in words: a buffer, bytes of it, a subresource of a texture, or slices of one. No rule tells of queries by their
         cells."""
         named = self.named(self.object_of(part))
@@ -75,7 +90,7 @@ class Case:
             return f"{named} {self.second.formats.ASPECTS[aspect]} mip {mip} layer {layer}"
         return f"{named} bytes {part[2]} to {part[3] - 1}" if len(part) > 2 else named
 
-    def part_values(self, part):
+    def part_values(self, part: Cell) -> Values:
         values = {"object": self.object_of(part).call["as"]}
         if part[0] == "s":
             return {
@@ -89,15 +104,21 @@ class Case:
             return {**values, "aspect": self.second.formats.ASPECTS[part[2]], "mip": part[3], "layer": part[4]}
         return {**values, "firstByte": part[2], "lastByte": part[3] - 1} if len(part) > 2 else values
 
+    @property
+    def pipeline(self) -> Played:
+        """The pipeline that is set where the command comes, where one is."""
+        assert self.settings.pipeline is not None
+        return self.settings.pipeline
+
     @functools.cached_property
-    def settings(self):
+    def settings(self) -> second.passes.Settings:
         """What is set of the pass or the bundle where the command comes."""
         found = self.second.passes.Settings()
         for command in self.earlier:
             found.take(command)
         return found
 
-    def named_things(self):
+    def named_things(self) -> list[tuple[str, Played]]:
         """The objects that the call names, each with words for where it stands in it; those of a command without what it stands on."""
         found = []
         for key, value in self.uses.items():
@@ -112,23 +133,31 @@ class Case:
 class Play:
     """A script that is played, beside the script as the tool reads it."""
 
-    def __init__(self, data, script):
+    def __init__(self, data: bytes, script: Script) -> None:
         self.second = second
         self.script = script
         self.read = second.Played(data, script.text.name)
-        self.destroyed_by, self.submitted_by, self.mapped_by = {}, {}, {}
-        self.live = []
-        self.turns = None if self.read.refusal else self.read.begin()
+        self.destroyed_by: dict[Played, Played] = {}
+        self.submitted_by: dict[Played, Played] = {}
+        self.mapped_by: dict[Played, Played] = {}
+        self.live: list[tuple[int, int]] = []
+        self.known = None if self.read.refusal else self.read.begin()
 
-    def call_of(self, played):
+    @property
+    def turns(self) -> Turns:
+        """The turns that are taken, of a script that is not refused."""
+        assert self.known is not None
+        return self.known
+
+    def call_of(self, played: Played) -> Call:
         """A call as the tool reads it."""
         phase, lane, number = self.read.place(played)
         return self.script.lanes[phase, lane][number]
 
-    def place(self, played):
+    def place(self, played: Played) -> str:
         return "{}:{}".format(*self.script.text.place(self.call_of(played).value.start))
 
-    def take(self, caller):
+    def take(self, caller: int) -> Played | None:
         """Plays the next event of a caller; None where it has none."""
         if caller not in self.turns.open_lanes():
             return None
@@ -137,7 +166,7 @@ class Play:
         self.note(played)
         return played
 
-    def note(self, played):
+    def note(self, played: Played) -> None:
         """Notes which entry destroyed, submitted or mapped a thing, and what takes memory, the largest first: causes tell of these."""
         if played.do == "destroy" and played.is_met:
             self.destroyed_by.setdefault(played.uses["object"], played)
@@ -149,20 +178,22 @@ class Play:
         for thing in played.released:
             del self.live[bisect.bisect_left(self.live, self.taken_by(thing))]
 
-    def taken_by(self, thing):
+    def taken_by(self, thing: Played) -> tuple[int, int]:
         """How much memory a thing takes, below 0, and its entry: what takes most has the least such pair."""
+        assert thing.entry is not None
         return -second.memory.bytes_of(thing.call), thing.entry
 
-    def case(self, played):
+    def case(self, played: Played) -> Case:
         """The case of an entry that has a fault."""
         history, encoder = self.turns.history, played.uses.get("on")
-        is_finish = played.do in second.calls.FINISHES and encoder.is_valid
-        if not is_finish or history.is_dropped(encoder) or history.finishes(encoder)[0] is not played:
+        if played.do not in second.calls.FINISHES or encoder is None or not encoder.is_valid:
+            return Case(self, played)
+        if history.is_dropped(encoder) or history.finishes(encoder)[0] is not played:
             return Case(self, played)
         commands = history.commands_on(encoder)
         return self.blamed(played, commands) or Case(self, played, commands=commands)
 
-    def blamed(self, finish, commands):
+    def blamed(self, finish: Played, commands: list[Played]) -> Case | None:
         """The case of the command that invalidated an encoder, or None where none did."""
         if finish.uses["on"].do == "createBundleEncoder":
             return self.blamed_among(finish, None, commands, commands)
@@ -179,14 +210,14 @@ class Play:
             walk.take(command)
         return None
 
-    def blamed_in_pass(self, finish, begin, inside, commands):
+    def blamed_in_pass(self, finish: Played, begin: Played, inside: list[Played], commands: list[Played]) -> Case | None:
         """The same of the commands of a pass, beside its begin."""
         passes, first_unmet = second.passes, second.rules.first_unmet
         if first_unmet(begin.do, passes.begin_rules(begin)) is not None:
             return Case(self, finish, begin, [], None, commands)
         return self.blamed_among(finish, begin, inside, commands)
 
-    def blamed_among(self, finish, begin, inside, commands):
+    def blamed_among(self, finish: Played, begin: Played | None, inside: list[Played], commands: list[Played]) -> Case | None:
         """The same of the commands of a pass alone, or of those of a bundle encoder, which have no begin."""
         settings = second.passes.Settings()
         for number, command in enumerate(inside):
@@ -200,7 +231,10 @@ class Told:
     """What is told of a fault: its cause, or None with the reason why there is none; the command that invalidated the encoder, if one did;
     and the command that a fault of a finish is about, with its number among those of the encoder and how many these are, or None."""
 
-    def __init__(self, cause=None, why_none=None, command=None, about=None):
+    def __init__(
+        self, cause: Cause | None = None, why_none: str | None = None, command: Call | None = None,
+        about: tuple[Call, int, int] | None = None,
+    ) -> None:
         self.cause = cause
         self.why_none = why_none
         self.command = command
@@ -210,34 +244,34 @@ class Told:
 class Causes:
     """The causes of the faults of a report, by the numbers of their entries."""
 
-    def __init__(self, told):
+    def __init__(self, told: dict[int, Told]) -> None:
         self.told = told
 
-    def of(self, entry):
+    def of(self, entry: Entry) -> Told:
         return self.told.get(entry.number) or Told()
 
-    def root(self, entry):
+    def root(self, entry: Entry) -> int | None:
         """The entry whose fault brought that of another, or None where a fault is a cause of its own."""
         number = self.step(entry.number)
         while number is not None and self.step(number) is not None:
             number = self.step(number)
         return number
 
-    def step(self, number):
+    def step(self, number: int) -> int | None:
         told = self.told.get(number)
         return told.cause.follows_from if told and told.cause else None
 
-    def follows(self, entry):
+    def follows(self, entry: Entry) -> bool:
         return self.root(entry) is not None
 
 
-def of_report(data, beside):
+def of_report(data: bytes, beside: Beside) -> Causes:
     """The causes of the faults of a report that stands beside its script; none where it has no script, or no fault."""
-    if beside.script is None or not any(entry.fault for entry in beside.report.entries):
+    if beside.known is None or not any(entry.fault for entry in beside.report.entries):
         return Causes({})
     play, told = Play(data, beside.script), {}
     last = max(entry.number for entry in beside.report.entries if entry.fault)
-    for entry in beside.report.entries[: last + 1] if play.turns else []:
+    for entry in beside.report.entries[: last + 1] if play.known else []:
         played = play.take(entry.lane)
         if played is None:
             break
@@ -246,7 +280,7 @@ def of_report(data, beside):
     return Causes(told)
 
 
-def told_of(play, played, rule):
+def told_of(play: Play, played: Played, rule: int) -> Told:
     """What is told of a fault with a rule, where the second reading has just played its entry."""
     if played.fault is None or played.fault[1] != rule:
         other = f"rule {played.fault[1]}" if played.fault else "no fault"

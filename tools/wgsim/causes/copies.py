@@ -1,35 +1,43 @@
 """The rules of copies and clears, and what writeTexture has in common with them: places in textures, and layouts of texels."""
 
-from .making import Cause, first, fits, lacks, listed, multiple, plural, rule
+from __future__ import annotations
+
+from typing import TYPE_CHECKING, Any
+
+from .making import Cause, Values, first, fits, lacks, listed, multiple, plural, rule
 from .textures import EXTENTS
+
+if TYPE_CHECKING:
+    from model.history import Played
+    from wgsim.causes.cases import Case
 
 COPY_SRC, COPY_DST = 4, 8
 TEXTURE_SRC, TEXTURE_DST = 1, 2
 
 
 @rule(250)
-def source_buffer(case):
+def source_buffer(case: Case) -> Cause | None:
     return lacks(case, case.uses["source"], COPY_SRC)
 
 
 @rule(251)
-def target_buffer(case):
+def target_buffer(case: Case) -> Cause | None:
     return lacks(case, case.uses["target"], COPY_DST)
 
 
 @rule(252)
-def aligned(case):
+def aligned(case: Case) -> Cause | None:
     return first(multiple(key, case.call[key], 4) for key in ("sourceOffset", "targetOffset", "size"))
 
 
 @rule(253)
-def ranges(case):
+def ranges(case: Case) -> Cause | None:
     size = case.call["size"]
     return first(fits(case, case.uses[key], case.call[f"{key}Offset"], size, (f"{key}Offset", "size")) for key in ("source", "target"))
 
 
 @rule(254)
-def two_buffers(case):
+def two_buffers(case: Case) -> Cause | None:
     source = case.uses["source"]
     if source is not case.uses["target"]:
         return None
@@ -39,32 +47,32 @@ def two_buffers(case):
 
 
 @rule(255)
-def read_buffer(case):
+def read_buffer(case: Case) -> Cause | None:
     return lacks(case, case.uses["buffer"], COPY_SRC)
 
 
 @rule(256)
-def written_texture(case):
+def written_texture(case: Case) -> Cause | None:
     return lacks(case, case.uses["texture"], TEXTURE_DST)
 
 
 @rule(265)
-def read_texture(case):
+def read_texture(case: Case) -> Cause | None:
     return lacks(case, case.uses["texture"], TEXTURE_SRC)
 
 
 @rule(266)
-def written_buffer(case):
+def written_buffer(case: Case) -> Cause | None:
     return lacks(case, case.uses["buffer"], COPY_DST)
 
 
 @rule(275)
-def cleared_buffer(case):
+def cleared_buffer(case: Case) -> Cause | None:
     return lacks(case, case.uses["buffer"], COPY_DST)
 
 
 @rule(257, 206)
-def one_sample(case):
+def one_sample(case: Case) -> Cause | None:
     texture = case.uses["texture"]
     if texture.call["samples"] == 1:
         return None
@@ -77,7 +85,7 @@ def one_sample(case):
 
 
 @rule(258, 207)
-def spots(case):
+def spots(case: Case) -> Cause | None:
     """The place of a copy in its texture; of two textures the source comes first."""
     call = case.call
     if case.do != "copyTextureToTexture":
@@ -87,7 +95,7 @@ def spots(case):
     )
 
 
-def spot(case, texture, mip, origin):
+def spot(case: Case, texture: Played, mip: tuple[str, int], origin: tuple[str, list[int]]) -> Cause | None:
     """The place of a copy is not in its texture: the level, or an extent of it; or it covers only some of what is copied whole."""
     call, size = texture.call, case.call["size"]
     (mip_key, level), (_, start) = mip, origin
@@ -119,15 +127,22 @@ def spot(case, texture, mip, origin):
     return None
 
 
-def texel(case):
+def texel(case: Case) -> int | None:
     """The bytes of a texel in a copy between bytes and a texture, or None."""
     texture, formats = case.uses["texture"].call, case.second.formats
     by = formats.texel_from if case.do == "copyTextureToBuffer" else formats.texel_to
     return by(texture["format"], case.call["aspect"])
 
 
+def texel_bytes(case: Case) -> int:
+    """The same where there are such."""
+    found = texel(case)
+    assert found is not None
+    return found
+
+
 @rule(259, 267, 208)
-def aspect(case):
+def aspect(case: Case) -> Cause | None:
     """The aspect is none that can be copied: it is not one alone, or not there, or its texels have no bytes of a copy."""
     if texel(case) is not None:
         return None
@@ -153,23 +168,23 @@ def aspect(case):
 
 
 @rule(260)
-def row_alignment(case):
+def row_alignment(case: Case) -> Cause | None:
     row = case.call["bytesPerRow"]
     return multiple("bytesPerRow", row, 256) if row is not None else None
 
 
 @rule(261)
-def offset_alignment(case):
+def offset_alignment(case: Case) -> Cause | None:
     texture, formats = case.uses["texture"].call, case.second.formats
     if formats.is_color(texture["format"]):
-        return multiple("offset", case.call["offset"], texel(case), why=f", the bytes of a texel of {texture['format']}")
+        return multiple("offset", case.call["offset"], texel_bytes(case), why=f", the bytes of a texel of {texture['format']}")
     return multiple("offset", case.call["offset"], 4, why=f", as {texture['format']} asks")
 
 
 @rule(262, 209)
-def texel_layout(case):
+def texel_layout(case: Case) -> Cause | None:
     """The layout of texels is not right, or takes more bytes than are there."""
-    call, size = case.call, texel(case)
+    call, size = case.call, texel_bytes(case)
     (width, height, depth), row, rows = call["size"], call["bytesPerRow"], call["rowsPerImage"]
     values = {"size": list(call["size"]), "texel": size, "bytesPerRow": row, "rowsPerImage": rows}
     if row is None and (height > 1 or depth > 1):
@@ -194,7 +209,7 @@ def texel_layout(case):
     return too_few(case, values)
 
 
-def too_few(case, values):
+def too_few(case: Case, values: Values) -> Cause | None:
     """The bytes that a layout takes end past what is there: a buffer, or the data of a write."""
     call, size = case.call, values["texel"]
     taken, offset = case.second.copies.bytes_of(call, size), call["offset"]
@@ -208,7 +223,7 @@ def too_few(case, values):
     return Cause(said, {**values, "offset": offset, "taken": taken, "end": offset + taken, "bytes": there}, remedy)
 
 
-def product(call, size):
+def product(call: dict[str, Any], size: int) -> str:
     """The bytes of a layout, spelled out."""
     (width, height, depth), row, rows = call["size"], call["bytesPerRow"] or 0, call["rowsPerImage"] or 0
     parts = [f"{row} * {rows} * {depth - 1}"] if depth > 1 else []
@@ -218,16 +233,16 @@ def product(call, size):
 
 
 @rule(270)
-def source_texture(case):
+def source_texture(case: Case) -> Cause | None:
     return lacks(case, case.uses["source"], TEXTURE_SRC)
 
 
 @rule(271)
-def target_texture(case):
+def target_texture(case: Case) -> Cause | None:
     return lacks(case, case.uses["target"], TEXTURE_DST)
 
 
-def differ(case, key, why):
+def differ(case: Case, key: str, why: str) -> Cause:
     source, target = case.uses["source"], case.uses["target"]
     said = f"{case.named(source)} has {why} {source.call[key]}, and {case.named(target)} has {target.call[key]}"
     return Cause(
@@ -243,18 +258,18 @@ def differ(case, key, why):
 
 
 @rule(272)
-def formats(case):
+def formats(case: Case) -> Cause | None:
     source, target = case.uses["source"].call["format"], case.uses["target"].call["format"]
     return None if case.second.formats.are_copy_compatible(source, target) else differ(case, "format", "the format")
 
 
 @rule(273)
-def samples(case):
+def samples(case: Case) -> Cause | None:
     return None if case.uses["source"].call["samples"] == case.uses["target"].call["samples"] else differ(case, "samples", "samples")
 
 
 @rule(274)
-def apart(case):
+def apart(case: Case) -> Cause | None:
     source, call, copies = case.uses["source"], case.call, case.second.copies
     if source is not case.uses["target"]:
         return None
@@ -274,19 +289,19 @@ def apart(case):
 
 
 @rule(276)
-def clear_aligned(case):
+def clear_aligned(case: Case) -> Cause | None:
     cause = multiple("offset", case.call["offset"], 4)
     return cause or multiple(with_key(case), clear_size(case), 4)
 
 
-def clear_size(case):
+def clear_size(case: Case) -> int:
     return case.second.recording.clear_size(case.played)
 
 
-def with_key(case):
+def with_key(case: Case) -> str:
     return "size" if case.call["size"] is not None else "size, left out,"
 
 
 @rule(277)
-def clear_range(case):
+def clear_range(case: Case) -> Cause | None:
     return fits(case, case.uses["buffer"], case.call["offset"], clear_size(case), is_left_out=case.call["size"] is None)

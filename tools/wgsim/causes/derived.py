@@ -1,11 +1,18 @@
 """The rules of layouts that a pipeline derives, and of getBindGroupLayout."""
 
+from __future__ import annotations
+
+from typing import TYPE_CHECKING
+
 from . import layouts
 from .making import Cause, at_most, first, plural, rule
 from .pipelines import OF_KINDS, told
 
+if TYPE_CHECKING:
+    from wgsim.causes.cases import Case
 
-def naming(case):
+
+def naming(case: Case) -> dict[tuple[int, int], list[int]]:
     """Of each group and binding that an interface names the numbers of its entries that do so."""
     found = {}
     for number, used in enumerate(case.call["iface"]):
@@ -14,7 +21,7 @@ def naming(case):
 
 
 @rule(167)
-def one_kind(case):
+def one_kind(case: Case) -> Cause | None:
     """The least binding that is named with two kinds, and the first two entries that do so."""
     iface = case.call["iface"]
     for (group, binding), numbers in sorted(naming(case).items()):
@@ -41,7 +48,7 @@ OF_LAYOUTS = {131: layouts.binding_limit, 133: layouts.vertex_writes, 134: layou
 
 
 @rule(168)
-def can_be_made(case):
+def can_be_made(case: Case) -> Cause | None:
     remedy = "Groups are numbered from 0 to 3."
     found = first(
         at_most("group", used["group"], 3, remedy, f"entry {number} of iface: ") for number, used in enumerate(case.call["iface"])
@@ -56,16 +63,16 @@ def can_be_made(case):
             if cause:
                 return of_derived(cause, number)
     cause = layouts.seen(case, [(f"group {group}", items) for group, items in enumerate(derived)])
-    return of_derived(cause, 136 if any(layouts.seen(case, [(None, items)]) for items in derived) else 141)
+    return cause and of_derived(cause, 136 if any(layouts.seen(case, [(None, items)]) for items in derived) else 141)
 
 
-def of_derived(cause, number):
+def of_derived(cause: Cause, number: int) -> Cause:
     """A cause of a rule of layouts as one of the pipeline that derives them."""
     return Cause(f"the layouts that it derives break rule {number}: {cause.condition}", {**cause.values, "breaks": number}, cause.remedy)
 
 
 @rule(169)
-def group_of_pipeline(case):
+def group_of_pipeline(case: Case) -> Cause | None:
     pipeline, index = case.uses["pipeline"], case.call["index"]
     count = len(pipeline.layouts)
     derives = case.second.automatic.is_automatic(pipeline)

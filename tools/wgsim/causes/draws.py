@@ -1,68 +1,76 @@
 """The rules of vertex and index buffers, and of indirect and other draws."""
 
+from __future__ import annotations
+
+from typing import TYPE_CHECKING, Any
+
 from .making import Cause, at_most, first, fits, lacks, multiple, plural, rule
 from .settings import unset_before
+
+if TYPE_CHECKING:
+    from model.history import Played
+    from wgsim.causes.cases import Case
 
 INDEX, VERTEX, INDIRECT = 16, 32, 256
 
 
-def is_left_out(case):
+def is_left_out(case: Case) -> bool:
     return case.call["size"] is None
 
 
-def set_range(case):
+def set_range(case: Case) -> Cause | None:
     offset, size = case.second.draws.range_set(case.played)
     return fits(case, case.uses["buffer"], offset, size, is_left_out=is_left_out(case))
 
 
 @rule(330)
-def vertex_usage(case):
+def vertex_usage(case: Case) -> Cause | None:
     return lacks(case, case.uses["buffer"], VERTEX)
 
 
 @rule(331)
-def slot(case):
+def slot(case: Case) -> Cause | None:
     return at_most("slot", case.call["slot"], 7, "Slots are numbered from 0 to 7.")
 
 
 @rule(332)
-def vertex_offset(case):
+def vertex_offset(case: Case) -> Cause | None:
     return multiple("offset", case.call["offset"], 4)
 
 
 @rule(333)
-def vertex_range(case):
+def vertex_range(case: Case) -> Cause | None:
     return set_range(case)
 
 
 @rule(335)
-def index_usage(case):
+def index_usage(case: Case) -> Cause | None:
     return lacks(case, case.uses["buffer"], INDEX)
 
 
 @rule(336)
-def index_offset(case):
+def index_offset(case: Case) -> Cause | None:
     format = case.call["format"]
     return multiple("offset", case.call["offset"], case.second.draws.INDEX_BYTES[format], why=f", the bytes of a {format}")
 
 
 @rule(337)
-def index_range(case):
+def index_range(case: Case) -> Cause | None:
     return set_range(case)
 
 
 @rule(344)
-def indirect_usage(case):
+def indirect_usage(case: Case) -> Cause | None:
     return lacks(case, case.uses["buffer"], INDIRECT)
 
 
 @rule(345)
-def indirect_offset(case):
+def indirect_offset(case: Case) -> Cause | None:
     return multiple("offset", case.call["offset"], 4)
 
 
 @rule(346)
-def indirect_range(case):
+def indirect_range(case: Case) -> Cause | None:
     buffer, offset, length = case.uses["buffer"], case.call["offset"], case.second.draws.INDIRECT_BYTES[case.do]
     there = buffer.call["size"]
     if offset + length <= there:
@@ -75,14 +83,13 @@ def indirect_range(case):
     return Cause(said, {"object": buffer.call["as"], "offset": offset, "reads": length, "end": offset + length, "bytes": there}, remedy)
 
 
-def wanted(case):
+def wanted(case: Case) -> tuple[Played, list[tuple[int, dict[str, Any]]]]:
     """The pipeline that is set, and the slots and vertex buffers that it asks for."""
-    pipeline = case.settings.pipeline
-    return pipeline, list(enumerate(pipeline.call["buffers"]))
+    return case.pipeline, list(enumerate(case.pipeline.call["buffers"]))
 
 
 @rule(350)
-def vertex_buffers_set(case):
+def vertex_buffers_set(case: Case) -> Cause | None:
     pipeline, asked = wanted(case)
     missing = [at for at, _ in asked if at not in case.settings.vertex_buffers]
     if not missing:
@@ -95,7 +102,7 @@ def vertex_buffers_set(case):
 
 
 @rule(352)
-def index_buffer_set(case):
+def index_buffer_set(case: Case) -> Cause | None:
     if case.settings.index_buffer is not None:
         return None
     unset, again = unset_before(case, "setIndexBuffer")
@@ -107,8 +114,9 @@ def index_buffer_set(case):
 
 
 @rule(353)
-def indices(case):
+def indices(case: Case) -> Cause | None:
     setting = case.settings.index_buffer
+    assert setting is not None
     size, there = case.second.draws.INDEX_BYTES[setting.call["format"]], case.second.draws.range_set(setting)[1]
     low, count = case.call["firstIndex"], case.call["indices"]
     asked = (low + count) * size
@@ -136,18 +144,18 @@ def indices(case):
     )
 
 
-def bytes_set(case, setting, there):
+def bytes_set(case: Case, setting: Played, there: int) -> str:
     return f"{plural(there, 'byte')} of {case.named(setting.uses['buffer'])} {'is' if there == 1 else 'are'} set"
 
 
 @rule(351)
-def elements(case):
+def elements(case: Case) -> Cause | None:
     _, asked = wanted(case)
     found = [(at, one) for at, one in asked if case.do == "draw" or one["step"] == "instance"]
     return first(elements_of(case, at, one) for at, one in found)
 
 
-def elements_of(case, at, one):
+def elements_of(case: Case, at: int, one: dict[str, Any]) -> Cause | None:
     """What a draw asks of a vertex buffer goes past what is set at its slot."""
     draws = case.second.draws
     setting = case.settings.vertex_buffers[at]
@@ -176,7 +184,7 @@ def elements_of(case, at, one):
     return Cause(said, values, remedy_of(one["stride"], last, there, one["step"], f"set at least {asked} bytes"))
 
 
-def remedy_of(stride, last, there, step, more):
+def remedy_of(stride: int, last: int, there: int, step: str, more: str) -> str:
     """How many elements are there, and to set more bytes where they are to be drawn."""
     if there < last:
         return f"No whole element for each {step} is there: {more}."

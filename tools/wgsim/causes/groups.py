@@ -1,7 +1,15 @@
 """The rules of createBindGroup."""
 
+from __future__ import annotations
+
+from typing import TYPE_CHECKING, Any
+
 from .layouts import twice
-from .making import Cause, first, fits, lacks, limited, listed, multiple, rule, with_left_out
+from .making import Cause, Values, first, fits, lacks, limited, listed, multiple, rule, with_left_out
+
+if TYPE_CHECKING:
+    from model.history import Played
+    from wgsim.causes.cases import Case
 
 # In words, what an entry of a bind group may hold.
 HOLDS = {"buffer": "a buffer", "view": "a view", "sampler": "a sampler"}
@@ -11,7 +19,7 @@ TEXTURE_BINDING, STORAGE_BINDING = 4, 8
 class Bound:
     """An entry of a bind group: its number, the layout's entry of its binding, what it holds, and words for it."""
 
-    def __init__(self, number, asked, entry, thing):
+    def __init__(self, number: int, asked: dict[str, Any], entry: dict[str, Any], thing: Played) -> None:
         self.number = number
         self.asked = asked
         self.entry = entry
@@ -19,11 +27,11 @@ class Bound:
         self.words = f"entry {number} (binding {entry['binding']}): "
         self.values = {"entry": number, "binding": entry["binding"]}
 
-    def cause(self, condition, values, remedy):
+    def cause(self, condition: str, values: Values, remedy: str | None) -> Cause:
         return Cause(self.words + condition, {**self.values, **values}, remedy)
 
 
-def bound(case, *kinds):
+def bound(case: Case, *kinds: str) -> list[Bound]:
     """The entries of a bind group whose layout asks for some kinds, or all."""
     asked = {entry["binding"]: entry for entry in case.uses["layout"].entries}
     pairs = zip(case.call["entries"], case.uses["entries"])
@@ -31,7 +39,7 @@ def bound(case, *kinds):
     return [each for each in found if not kinds or each.asked["kind"] in kinds]
 
 
-def with_values(cause, one):
+def with_values(cause: Cause | None, one: Bound) -> Cause | None:
     """A cause with the numbers of its entry."""
     if cause is not None:
         cause.values = {**one.values, **cause.values}
@@ -39,7 +47,7 @@ def with_values(cause, one):
 
 
 @rule(150)
-def bindings(case):
+def bindings(case: Case) -> Cause | None:
     layout = case.uses["layout"]
     asked, given = [entry["binding"] for entry in layout.entries], [entry["binding"] for entry in case.call["entries"]]
     missing = [binding for binding in asked if binding not in given]
@@ -70,7 +78,7 @@ def bindings(case):
 
 
 @rule(151)
-def holds(case):
+def holds(case: Case) -> Cause | None:
     for one in bound(case):
         key, wanted = case.second.calls.bound_by(one.entry), case.second.groups.WANTED[one.asked["kind"]]
         if key != wanted:
@@ -83,19 +91,20 @@ def holds(case):
 
 
 @rule(152)
-def buffer_usage(case):
+def buffer_usage(case: Case) -> Cause | None:
     kinds = case.second.groups.BUFFER_KINDS
     return first(with_values(lacks(case, one.thing, kinds[one.asked["kind"]][0], one.words), one) for one in bound(case, *kinds))
 
 
-def ranges(case):
+def ranges(case: Case) -> list[tuple[Bound, int, int, bool]]:
     """The entries that bind buffers, each with its offset, size, and whether the size is left out."""
     groups = case.second.groups
-    return [(one, *groups.range_of(one.entry, one.thing)[:2], one.entry["size"] is None) for one in bound(case, *groups.BUFFER_KINDS)]
+    found = [(one, groups.range_of(one.entry, one.thing)) for one in bound(case, *groups.BUFFER_KINDS)]
+    return [(one, offset, size, one.entry["size"] is None) for one, (offset, size, _) in found]
 
 
 @rule(153)
-def buffer_range(case):
+def buffer_range(case: Case) -> Cause | None:
     for one, offset, size, is_left_out in ranges(case):
         cause = multiple("offset", offset, 256, one.words)
         if cause is None and size == 0:
@@ -114,7 +123,7 @@ def buffer_range(case):
 
 
 @rule(154)
-def buffer_size(case):
+def buffer_size(case: Case) -> Cause | None:
     groups, layout = case.second.groups, case.uses["layout"]
     for one, offset, size, is_left_out in ranges(case):
         kind, limit = one.asked["kind"], groups.BUFFER_KINDS[one.asked["kind"]][1]
@@ -142,7 +151,7 @@ def buffer_size(case):
     return None
 
 
-def to_be_large(case, one, offset):
+def to_be_large(case: Case, one: Bound, offset: int) -> str:
     """What to do where fewer bytes are bound than the shader reads: the buffer may have them, or has to be made with them."""
     least = one.asked["minSize"]
     if offset + least <= one.thing.call["size"]:
@@ -151,11 +160,11 @@ def to_be_large(case, one, offset):
 
 
 @rule(155)
-def sampled(case):
+def sampled(case: Case) -> Cause | None:
     return first(sampled_one(case, one) for one in bound(case, "texture"))
 
 
-def sampled_one(case, one):
+def sampled_one(case: Case, one: Bound) -> Cause | None:
     """What is wrong with a view that is to be sampled."""
     formats, layout = case.second.formats, case.uses["layout"]
     texture, view = one.thing.uses["texture"], case.second.textures.told(one.thing)
@@ -196,7 +205,7 @@ def sampled_one(case, one):
 
 
 @rule(156)
-def stored(case):
+def stored(case: Case) -> Cause | None:
     layout = case.uses["layout"]
     for one in bound(case, "storage-texture"):
         texture, view, name = one.thing.uses["texture"], case.second.textures.told(one.thing), case.named(one.thing)
@@ -220,7 +229,7 @@ def stored(case):
 
 
 @rule(157)
-def samplers(case):
+def samplers(case: Case) -> Cause | None:
     for one in bound(case, "sampler"):
         kind, asked = one.thing.call["kind"], one.asked["type"]
         if not case.second.groups.takes_sampler(asked, kind):

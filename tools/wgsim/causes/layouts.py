@@ -1,38 +1,49 @@
 """The rules of createBindGroupLayout and createPipelineLayout."""
 
+from __future__ import annotations
+
+from typing import TYPE_CHECKING, Any, Dict, List, Optional, Tuple
+
 from wgsim.reading import bits
 
-from .making import Cause, limited, listed, plural, rule
+from .making import Cause, Values, limited, listed, plural, rule
+
+if TYPE_CHECKING:
+    from wgsim.causes.cases import Case
+
+
+# Words for some layouts, or None, each with the entries.
+Layouts = List[Tuple[Optional[str], List[Dict[str, Any]]]]
 
 
 class Derived:
     """A layout that a pipeline derives, in place of a case of createBindGroupLayout: its entries, and of each binding the numbers of the
     entries of the interface that name it."""
 
-    def __init__(self, case, group, items, naming):
+    def __init__(self, case: Case, group: int, items: list[dict[str, Any]], naming: dict[tuple[int, int], list[int]]) -> None:
         self.second = case.second
         self.history = case.history
         self.group = group
         self.call = {"entries": items}
         self.naming = naming
 
-    def entries(self):
+    def entries(self) -> list[tuple[str, int, dict[str, Any]]]:
         """The entries with the words and numbers that a cause tells of them: those of the entry of the interface that names each first."""
         return [(self.said(entry["binding"]), self.naming[self.group, entry["binding"]][0], entry) for entry in self.call["entries"]]
 
-    def said(self, binding):
+    def said(self, binding: int) -> str:
         numbers = self.naming[self.group, binding]
         return f"binding {binding} of group {self.group} ({'entry' if len(numbers) == 1 else 'entries'} {listed(numbers)} of iface)"
 
 
-def entries(case):
+def entries(case: Case | Derived) -> list[tuple[str, int, dict[str, Any]]]:
     """The entries of a bind group layout, each with words for it."""
     if isinstance(case, Derived):
         return case.entries()
     return [(f"entry {number} (binding {entry['binding']})", number, entry) for number, entry in enumerate(case.call["entries"])]
 
 
-def twice(numbers):
+def twice(numbers: list[int]) -> tuple[int, int] | None:
     """The places of the first two of some numbers that are equal, or None."""
     seen = {}
     for place, number in enumerate(numbers):
@@ -43,7 +54,7 @@ def twice(numbers):
 
 
 @rule(130)
-def distinct(case):
+def distinct(case: Case | Derived) -> Cause | None:
     found = twice([entry["binding"] for _, _, entry in entries(case)])
     if found is None:
         return None
@@ -56,7 +67,7 @@ def distinct(case):
 
 
 @rule(131)
-def binding_limit(case):
+def binding_limit(case: Case | Derived) -> Cause | None:
     most = case.history.limits["maxBindingsPerBindGroup"] - 1
     for _, number, entry in entries(case):
         if entry["binding"] > most:
@@ -69,12 +80,12 @@ def binding_limit(case):
     return None
 
 
-def of_iface(case):
+def of_iface(case: Case | Derived) -> str:
     return " of iface" if isinstance(case, Derived) else ""
 
 
 @rule(132)
-def visibility(case):
+def visibility(case: Case | Derived) -> Cause | None:
     for said, number, entry in entries(case):
         seen, unknown = entry["visibility"], entry["visibility"] & ~7
         if seen > 7:
@@ -87,7 +98,7 @@ def visibility(case):
 
 
 @rule(133)
-def vertex_writes(case):
+def vertex_writes(case: Case | Derived) -> Cause | None:
     for said, number, entry in entries(case):
         if entry["visibility"] & 1 and case.second.groups.is_written(entry):
             what = "kind storage" if entry["kind"] == "storage" else f"kind storage-texture, the access {entry['access']}"
@@ -111,7 +122,7 @@ def vertex_writes(case):
 
 
 @rule(134)
-def multisampled(case):
+def multisampled(case: Case | Derived) -> Cause | None:
     for said, number, entry in entries(case):
         if entry["kind"] == "texture" and entry["multi"]:
             values = {"entry": number, "binding": entry["binding"], "dim": entry["dim"], "sample": entry["sample"]}
@@ -127,7 +138,7 @@ def multisampled(case):
 
 
 @rule(135)
-def storage_texture(case):
+def storage_texture(case: Case | Derived) -> Cause | None:
     for said, number, entry in entries(case):
         if entry["kind"] != "storage-texture":
             continue
@@ -145,7 +156,7 @@ def storage_texture(case):
     return None
 
 
-def seen(case, layouts):
+def seen(case: Case | Derived, layouts: Layouts) -> Cause | None:
     """Rules 136 and 141: what a stage sees too much of. `layouts` are pairs of words for a layout, or None, and its entries."""
     groups = case.second.groups
     for stage, bit in groups.STAGES.items():
@@ -164,7 +175,7 @@ def seen(case, layouts):
     return None
 
 
-def dynamic(case, layouts):
+def dynamic(case: Case | Derived, layouts: Layouts) -> Cause | None:
     """Rules 137 and 142: what is dynamic too often."""
     for kinds, limit in case.second.groups.DYNAMIC_LIMITS.values():
         counts = [(said, sum(entry["kind"] in kinds and entry["dynamic"] for entry in items)) for said, items in layouts]
@@ -174,7 +185,9 @@ def dynamic(case, layouts):
     return None
 
 
-def too_many(case, counts, limit, before, after, values):
+def too_many(
+    case: Case | Derived, counts: list[tuple[str | None, int]], limit: str, before: str, after: str, values: Values
+) -> Cause | None:
     total, most = sum(number for _, number in counts), case.history.limits[limit]
     if total <= most:
         return None
@@ -185,21 +198,21 @@ def too_many(case, counts, limit, before, after, values):
 
 
 @rule(136)
-def seen_of_one(case):
+def seen_of_one(case: Case) -> Cause | None:
     return seen(case, [(None, case.call["entries"])])
 
 
 @rule(137)
-def dynamic_of_one(case):
+def dynamic_of_one(case: Case) -> Cause | None:
     return dynamic(case, [(None, case.call["entries"])])
 
 
-def layouts_of(case):
+def layouts_of(case: Case) -> Layouts:
     return [(case.named(layout), layout.entries) for layout in case.uses["layouts"]]
 
 
 @rule(140)
-def layouts(case):
+def layouts(case: Case) -> Cause | None:
     count = len(case.uses["layouts"])
     if count <= 4:
         return None
@@ -211,17 +224,17 @@ def layouts(case):
 
 
 @rule(141)
-def seen_of_all(case):
+def seen_of_all(case: Case) -> Cause | None:
     return seen(case, layouts_of(case))
 
 
 @rule(142)
-def dynamic_of_all(case):
+def dynamic_of_all(case: Case) -> Cause | None:
     return dynamic(case, layouts_of(case))
 
 
 @rule(143)
-def exclusive(case):
+def exclusive(case: Case) -> Cause | None:
     for place, layout in enumerate(case.uses["layouts"]):
         if layout.owner is not None:
             return Cause(

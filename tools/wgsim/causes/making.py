@@ -1,6 +1,20 @@
 """What a cause is, which function finds that of each rule, and conditions that many rules have in common."""
 
+from __future__ import annotations
+
+from typing import TYPE_CHECKING, Any, Callable, Dict, Iterable, Optional, TypeVar
+
 from wgsim.reading import bits, limits
+
+if TYPE_CHECKING:
+    from model.history import Played
+    from wgsim.causes.cases import Case
+
+
+# The values on both sides of a condition, by names that tell what each is.
+Values = Dict[str, Any]
+CauseOf = TypeVar("CauseOf", bound=Callable[..., Any])
+Item = TypeVar("Item")
 
 
 class Cause:
@@ -10,47 +24,49 @@ class Cause:
     `follows_from` is the entry whose fault brought this one, where it is nothing but a consequence, and `about` the command that a rule of
     the finish itself is about."""
 
-    def __init__(self, condition, values, remedy, follows_from=None, about=None):
+    def __init__(
+        self, condition: str, values: Values, remedy: str | None, follows_from: int | None = None, about: Played | None = None
+    ) -> None:
         self.condition = condition
         self.values = values
         self.remedy = remedy
         self.follows_from = follows_from
         self.about = about
 
-    def text(self):
+    def text(self) -> str:
         return f"{self.condition}." + (f" {self.remedy}" if self.remedy else "")
 
 
 # Of each rule the function that finds the cause; it takes a Case, and gives None where the rule is met.
-RULES = {}
+RULES: Dict[int, Callable[[Any], Optional[Cause]]] = {}
 
 
-def rule(*numbers):
+def rule(*numbers: int) -> Callable[[CauseOf], CauseOf]:
     """Names a function as the one that finds the cause of some rules."""
 
-    def named(function):
+    def named(function: CauseOf) -> CauseOf:
         RULES.update(dict.fromkeys(numbers, function))
         return function
 
     return named
 
 
-def first(causes):
+def first(causes: Iterable[Item | None]) -> Item | None:
     """The first of some causes that is one."""
     return next((cause for cause in causes if cause is not None), None)
 
 
-def plural(number, word):
+def plural(number: int, word: str) -> str:
     return f"{number} {word}" if number == 1 else f"{number} {word}s"
 
 
-def listed(words):
+def listed(words: Iterable[object]) -> str:
     """Words in a row, as `a, b and c`."""
-    words = [str(word) for word in words]
-    return words[0] if len(words) == 1 else f"{', '.join(words[:-1])} and {words[-1]}" if words else "none"
+    told = [str(word) for word in words]
+    return told[0] if len(told) == 1 else f"{', '.join(told[:-1])} and {told[-1]}" if told else "none"
 
 
-def lacks(case, thing, bit, where=""):
+def lacks(case: Case, thing: Played, bit: int, where: str = "") -> Cause | None:
     """A buffer or texture lacks a usage."""
     names = bits.BUFFER if thing.do == "createBuffer" else bits.TEXTURE
     usage = thing.call["usage"]
@@ -61,7 +77,7 @@ def lacks(case, thing, bit, where=""):
     return Cause(said, values, to_add(case, thing, bit, names))
 
 
-def to_add(case, thing, bit, names):
+def to_add(case: Case, thing: Played, bit: int, names: dict[int, str]) -> str:
     """What to do where a usage is missing. Beside MAP_READ only COPY_DST may stand, and beside MAP_WRITE only COPY_SRC."""
     usage = thing.call["usage"]
     for mode, may in ((1, 8), (2, 4)) if names is bits.BUFFER else ():
@@ -72,12 +88,12 @@ def to_add(case, thing, bit, names):
                 " has it."
             )
     frame = case.play.call_of(thing).frame
-    if frame is not None:
+    if frame is not None and frame.configured is not None:
         return f'Add it where "{frame.canvas.name}" is configured, at {case.play.script.at(frame.configured)}.'
     return f"Add it where {case.name(thing)} is made."
 
 
-def known_usage(case, names, what):
+def known_usage(case: Case, names: dict[int, str], what: str) -> Cause | None:
     """A usage is not 0, and has no bits but those of a table."""
     usage = case.call["usage"]
     unknown = usage & ~sum(names)
@@ -89,7 +105,7 @@ def known_usage(case, names, what):
     return None
 
 
-def multiple(key, number, of, where="", why=""):
+def multiple(key: str, number: int, of: int, where: str = "", why: str = "") -> Cause | None:
     """A number is no multiple of another."""
     if number % of == 0:
         return None
@@ -101,14 +117,14 @@ def multiple(key, number, of, where="", why=""):
     )
 
 
-def at_most(key, number, most, remedy, where=""):
+def at_most(key: str, number: int, most: int, remedy: str, where: str = "") -> Cause | None:
     """A number is above a limit."""
     if number <= most:
         return None
     return Cause(f"{where}{key} is {number}, and at most {most} is allowed", {key: number, "most": most}, remedy)
 
 
-def limited(name, needed, cause):
+def limited(name: str, needed: int, cause: Cause | None) -> Cause | None:
     """A cause that a limit of the device brings, which may have no remedy yet, with the limit by its name, and whether a script may ask for
     as much as is needed."""
     if cause is None:
@@ -121,11 +137,14 @@ def limited(name, needed, cause):
     return Cause(cause.condition, {**cause.values, "limit": name, "best": limit.best}, f"{cause.remedy} {told}" if cause.remedy else told)
 
 
-def with_left_out(key, number, is_left_out):
+def with_left_out(key: str, number: int, is_left_out: bool) -> str:
     return f"{key} {number}" + (" (left out: what remains)" if is_left_out else "")
 
 
-def fits(case, thing, offset, size, keys=("offset", "size"), is_left_out=False, where=""):
+def fits(
+    case: Case, thing: Played, offset: int, size: int, keys: tuple[str, str] = ("offset", "size"), is_left_out: bool = False,
+    where: str = "",
+) -> Cause | None:
     """A range ends past its buffer."""
     there = thing.call["size"]
     if offset + size <= there:

@@ -1,25 +1,33 @@
 """The rules of mapAsync, and those of all calls that ask how a buffer is mapped."""
 
+from __future__ import annotations
+
+from typing import TYPE_CHECKING
+
 from wgsim.reading import bits
 
 from .making import Cause, fits, multiple, rule, to_add
+
+if TYPE_CHECKING:
+    from model.history import Played
+    from wgsim.causes.cases import Case
 
 MAP_READ, MAP_WRITE = 1, 2
 MODES = {1: "reading", 2: "writing"}
 
 
-def asked(case):
+def asked(case: Case) -> tuple[int, int, int]:
     """The mode, the offset and the size of a mapAsync."""
     return case.second.maps.asked_by(case.call, case.uses["buffer"])
 
 
 @rule(220)
-def offset(case):
+def offset(case: Case) -> Cause | None:
     return multiple("offset", case.call["offset"], 8)
 
 
 @rule(221)
-def size(case):
+def size(case: Case) -> Cause | None:
     is_left_out = case.call["size"] is None
     cause = multiple("size", asked(case)[2], 4, why=" (left out: what remains)" if is_left_out else "")
     if cause is not None and is_left_out:
@@ -28,13 +36,13 @@ def size(case):
 
 
 @rule(222)
-def map_range(case):
+def map_range(case: Case) -> Cause | None:
     _, start, length = asked(case)
     return fits(case, case.uses["buffer"], start, length, is_left_out=case.call["size"] is None)
 
 
 @rule(223)
-def mode(case):
+def mode(case: Case) -> Cause | None:
     number = case.call["mode"]
     if number in (1, 2):
         return None
@@ -43,7 +51,7 @@ def mode(case):
 
 
 @rule(224)
-def map_usage(case):
+def map_usage(case: Case) -> Cause | None:
     buffer, number = case.uses["buffer"], case.call["mode"]
     usage = buffer.call["usage"]
     if usage & number:
@@ -64,11 +72,11 @@ def map_usage(case):
 
 
 @rule(203, 225)
-def idle(case):
+def idle(case: Case) -> Cause | None:
     return busy(case, case.uses["buffer"])
 
 
-def busy(case, buffer, where=""):
+def busy(case: Case, buffer: Played, where: str = "") -> Cause | None:
     """A buffer is pending, mapped or destroyed: by which call, and what to do."""
     history, name, maps = case.history, f"{case.named(buffer)}{where}", case.second.maps
     values = {"object": buffer.call["as"]}
@@ -82,9 +90,9 @@ def busy(case, buffer, where=""):
         )
     mapping = maps.mapping_of(history, buffer)
     if mapping is not None:
-        by = case.play.mapped_by.get(buffer, buffer)
-        said = f"{name} is mapped for {MODES[mapping[0]]}, by the {by.do} at {case.place(by)}"
-        return Cause(said, {**values, "state": "mapped", "mode": mapping[0], "by": case.place(by)}, "Unmap it before.")
+        mapper = case.play.mapped_by.get(buffer, buffer)
+        said = f"{name} is mapped for {MODES[mapping[0]]}, by the {mapper.do} at {case.place(mapper)}"
+        return Cause(said, {**values, "state": "mapped", "mode": mapping[0], "by": case.place(mapper)}, "Unmap it before.")
     if history.is_destroyed(buffer):
         by = case.place(case.play.destroyed_by[buffer])
         return Cause(f"{name} was destroyed at {by}", {**values, "state": "destroyed", "by": by}, "Destroy it after its last use.")

@@ -1,21 +1,31 @@
 """The rules of createComputePipeline and createRenderPipeline."""
 
+from __future__ import annotations
+
+from typing import TYPE_CHECKING, Any, Dict, Tuple
+
 from wgsim.reading import bits
 
 from .layouts import twice
-from .making import Cause, first, limited, listed, plural, rule
+from .making import Cause, Values, first, limited, listed, plural, rule
+
+if TYPE_CHECKING:
+    from model.history import Played
+    from wgsim.causes.cases import Case
 
 MOST_COLORS = 8
+# An attribute: words for it, the numbers of its buffer and of itself, itself, and its buffer.
+Attribute = Tuple[str, int, int, Dict[str, Any], Dict[str, Any]]
 OF_KINDS = ("type", "sample", "dim", "multi", "access", "format")
 
 
-def told(value):
+def told(value: object) -> object:
     """A value as a script has it."""
     return str(value).lower() if isinstance(value, bool) else value
 
 
 @rule(160)
-def interface(case):
+def interface(case: Case) -> Cause | None:
     layout = case.uses["layout"]
     for number, used in enumerate(case.call["iface"]):
         where = f"entry {number} of iface (group {used['group']}, binding {used['binding']}): "
@@ -26,7 +36,7 @@ def interface(case):
     return None
 
 
-def unused(case, layout, used):
+def unused(case: Case, layout: Played, used: dict[str, Any]) -> tuple[str, Values, str] | None:
     """What a pipeline layout does not offer to an entry of the interface: a condition with its values and a remedy, or None."""
     layouts = layout.uses["layouts"]
     if used["group"] >= len(layouts):
@@ -69,11 +79,11 @@ def unused(case, layout, used):
     return None
 
 
-def buffers_of(case):
+def buffers_of(case: Case) -> list[tuple[int, dict[str, Any]]]:
     return list(enumerate(case.call["buffers"]))
 
 
-def attributes_of(case):
+def attributes_of(case: Case) -> list[Attribute]:
     """All attributes, each with the numbers of its buffer and of itself, words for it, and its buffer."""
     return [
         (f"attribute {number} of buffer {place}: ", place, number, attribute, one)
@@ -83,7 +93,7 @@ def attributes_of(case):
 
 
 @rule(161)
-def vertex_buffers(case):
+def vertex_buffers(case: Case) -> Cause | None:
     buffers, attributes = case.call["buffers"], attributes_of(case)
     if len(buffers) > 8:
         return Cause(
@@ -110,7 +120,7 @@ def vertex_buffers(case):
 
 
 @rule(162)
-def attributes(case):
+def attributes(case: Case) -> Cause | None:
     found, most = attributes_of(case), case.history.limits["maxVertexAttributes"] - 1
     for where, place, number, attribute, _ in found:
         if attribute["location"] > most:
@@ -132,7 +142,7 @@ def attributes(case):
     return first(placed(case, *each) for each in found)
 
 
-def placed(case, where, place, number, attribute, one):
+def placed(case: Case, where: str, place: int, number: int, attribute: dict[str, Any], one: dict[str, Any]) -> Cause | None:
     """An attribute ends past its stride, or stands at an odd offset."""
     size, offset = case.second.formats.VERTEX_FORMATS[attribute["format"]], attribute["offset"]
     values, widest = {
@@ -162,11 +172,11 @@ def placed(case, where, place, number, attribute, one):
 
 
 @rule(163)
-def targets(case):
+def targets(case: Case) -> Cause | None:
     return wrong_colors(case, "target", case.call["targets"])
 
 
-def wrong_colors(case, word, formats):
+def wrong_colors(case: Case, word: str, formats: list[str | None]) -> Cause | None:
     """What is wrong with the formats of targets of a pipeline, or of colors of a bundle encoder, where some may be null: there are too
     many, or one has no color."""
     if len(formats) > MOST_COLORS:
@@ -186,7 +196,7 @@ def wrong_colors(case, word, formats):
 
 
 @rule(164)
-def depth(case):
+def depth(case: Case) -> Cause | None:
     state = case.call["depth"]
     if state is None:
         return None
@@ -208,11 +218,11 @@ def depth(case):
 
 
 @rule(165)
-def something(case):
+def something(case: Case) -> Cause | None:
     return nothing(case, "target", case.call["targets"])
 
 
-def nothing(case, word, formats):
+def nothing(case: Case, word: str, formats: list[str | None]) -> Cause | None:
     """Nothing is drawn to."""
     if case.call["depth"] is not None or any(format is not None for format in formats):
         return None
@@ -225,12 +235,12 @@ def nothing(case, word, formats):
 
 
 @rule(166)
-def samples(case):
+def samples(case: Case) -> Cause | None:
     depth = case.call["depth"]
     return wrong_samples(case, "target", case.call["targets"], depth and depth["format"])
 
 
-def wrong_samples(case, word, formats, depth):
+def wrong_samples(case: Case, word: str, formats: list[str | None], depth: str | None) -> Cause | None:
     """What is wrong with a count of samples: it is none, or a format does not allow it."""
     count = case.call["samples"]
     if count not in (1, 4):

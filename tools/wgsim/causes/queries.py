@@ -1,33 +1,41 @@
 """The rules of query sets: of their making, of what is resolved, and of the occlusion queries of a render pass."""
 
+from __future__ import annotations
+
+from typing import TYPE_CHECKING
+
 from .making import Cause, at_most, lacks, multiple, plural, rule
+
+if TYPE_CHECKING:
+    from model.history import Played
+    from wgsim.causes.cases import Case
 
 QUERY_RESOLVE = 512
 MOST_QUERIES = 4096
 QUERY_BYTES = 8
 
 
-def queries(count):
+def queries(count: int) -> str:
     return "1 query" if count == 1 else f"{count} queries"
 
 
-def greatest(count):
+def greatest(count: int) -> str:
     """What to do where a query is named that a set of so many does not have."""
     return f"The greatest is {count - 1}; make the query set with more where that is wanted." if count else "Make the query set with more."
 
 
 @rule(170)
-def count_of_set(case):
+def count_of_set(case: Case) -> Cause | None:
     return at_most("count", case.call["count"], MOST_QUERIES, remedy="Take several query sets.")
 
 
 @rule(280)
-def resolved_to(case):
+def resolved_to(case: Case) -> Cause | None:
     return lacks(case, case.uses["buffer"], QUERY_RESOLVE)
 
 
 @rule(281)
-def resolved_from(case):
+def resolved_from(case: Case) -> Cause | None:
     made, first, count = case.uses["queries"], case.call["first"], case.call["count"]
     there = made.call["count"]
     values = {"object": made.call["as"], "first": first, "count": count, "queries": there}
@@ -44,12 +52,12 @@ def resolved_from(case):
 
 
 @rule(282)
-def resolved_at(case):
+def resolved_at(case: Case) -> Cause | None:
     return multiple("offset", case.call["offset"], 256)
 
 
 @rule(283)
-def resolved_bytes(case):
+def resolved_bytes(case: Case) -> Cause | None:
     buffer, offset, count = case.uses["buffer"], case.call["offset"], case.call["count"]
     there, end = buffer.call["size"], offset + QUERY_BYTES * count
     if end <= there:
@@ -67,39 +75,46 @@ def resolved_bytes(case):
     return Cause(said, values, remedy)
 
 
-def set_of(begin):
+def set_of(begin: Played) -> Played | None:
     """The query set of a render pass, or None."""
     return begin.uses.get("queries") or None
 
 
-def active(case):
+def own_set(begin: Played) -> Played:
+    """The query set of a render pass that has one."""
+    found = set_of(begin)
+    assert found is not None
+    return found
+
+
+def active(case: Case) -> Played | None:
     """The begin of the query that is active where a command comes, or None."""
     last = [command for command in case.earlier if command.do in ("beginOcclusionQuery", "endOcclusionQuery")][-1:]
     return last[0] if last and last[0].do == "beginOcclusionQuery" else None
 
 
-def query(case, begun):
+def query(case: Case, begun: Played) -> str:
     """A query that was begun, in words."""
-    return f"query {begun.call['index']} of {case.named(set_of(begun.uses['on']))}"
+    return f"query {begun.call['index']} of {case.named(own_set(begun.uses['on']))}"
 
 
-def still_active(case, where, remedy):
+def still_active(case: Case, where: str, remedy: str) -> Cause | None:
     """A query is active where none is to be."""
     begun = active(case)
     if begun is None:
         return None
     place = case.uses["on"]
-    values = {"pass": place.call["as"], "object": set_of(place).call["as"], "active": begun.call["index"], "begun": case.place(begun)}
+    values = {"pass": place.call["as"], "object": own_set(place).call["as"], "active": begun.call["index"], "begun": case.place(begun)}
     return Cause(f"{query(case, begun)} is active{where}, begun at {case.place(begun)}", values, remedy)
 
 
 @rule(311)
-def query_left_active(case):
+def query_left_active(case: Case) -> Cause | None:
     return still_active(case, f" in {case.named(case.uses['on'])}", "End it before.")
 
 
 @rule(360)
-def pass_with_queries(case):
+def pass_with_queries(case: Case) -> Cause | None:
     place = case.uses["on"]
     if set_of(place) is not None:
         return None
@@ -111,8 +126,8 @@ def pass_with_queries(case):
 
 
 @rule(361)
-def index(case):
-    made, number = set_of(case.uses["on"]), case.call["index"]
+def index(case: Case) -> Cause | None:
+    made, number = own_set(case.uses["on"]), case.call["index"]
     there = made.call["count"]
     if number < there:
         return None
@@ -124,23 +139,23 @@ def index(case):
 
 
 @rule(362)
-def one_at_a_time(case):
+def one_at_a_time(case: Case) -> Cause | None:
     return still_active(case, "", "End it before.")
 
 
 @rule(363)
-def begun_once(case):
+def begun_once(case: Case) -> Cause | None:
     place, number = case.uses["on"], case.call["index"]
     before = next((command for command in case.earlier if command.do == "beginOcclusionQuery" and command.call["index"] == number), None)
     if before is None:
         return None
     said = f"{query(case, before)} was begun before in {case.named(place)}, at {case.place(before)}"
-    values = {"pass": place.call["as"], "object": set_of(place).call["as"], "index": number, "begun": case.place(before)}
+    values = {"pass": place.call["as"], "object": own_set(place).call["as"], "index": number, "begun": case.place(before)}
     return Cause(said, values, "Take another query, or begin it in another pass.")
 
 
 @rule(364)
-def none_to_end(case):
+def none_to_end(case: Case) -> Cause | None:
     if active(case) is not None:
         return None
     place = case.uses["on"]

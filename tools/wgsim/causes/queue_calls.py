@@ -1,15 +1,23 @@
 """The rules of submit, writeBuffer and writeTexture, and those of objects that a call names."""
 
+from __future__ import annotations
+
+from typing import TYPE_CHECKING
+
 from .layouts import twice
 from .making import Cause, first, fits, lacks, multiple, rule
 from .maps import busy
+
+if TYPE_CHECKING:
+    from model.history import Played
+    from wgsim.causes.cases import Case
 
 COPY_DST = 8
 TEXTURE_DST = 2
 
 
 @rule(11)
-def dropped(case):
+def dropped(case: Case) -> Cause | None:
     """A call names what was dropped; a finish, of a bundle too, that a command of its encoder names what was dropped before the encoder was
     made."""
     if case.is_of_commands:
@@ -26,7 +34,7 @@ def dropped(case):
     return None
 
 
-def dropped_before(case, command):
+def dropped_before(case: Case, command: Played) -> Cause | None:
     encoder = case.entry.uses["on"]
     for key, thing in command.named():
         if case.history.was_dropped_before(thing, encoder):
@@ -41,7 +49,7 @@ def dropped_before(case, command):
 
 
 @rule(12)
-def invalid(case):
+def invalid(case: Case) -> Cause | None:
     """A call or command names what is invalid, which follows from the fault with which that was made."""
     for key, thing in case.named_things():
         if not thing.is_valid:
@@ -52,7 +60,7 @@ def invalid(case):
 
 
 @rule(190)
-def consumed(case):
+def consumed(case: Case) -> Cause | None:
     for buffer in case.uses["buffers"]:
         by = case.play.submitted_by[buffer]
         if by is not case.entry:
@@ -67,7 +75,7 @@ def consumed(case):
 
 
 @rule(191)
-def named_twice(case):
+def named_twice(case: Case) -> Cause | None:
     pair = twice([id(buffer) for buffer in case.uses["buffers"]])
     if pair is None:
         return None
@@ -79,7 +87,7 @@ def named_twice(case):
     )
 
 
-def used(case, *words):
+def used(case: Case, *words: str) -> list[tuple[Played, str]]:
     """What a submit uses that some calls made, each with words for the command through which it does."""
     found = {}
     for commands in case.uses["buffers"]:
@@ -91,7 +99,7 @@ def used(case, *words):
     return [(thing, by) for thing, by in found.items() if thing.do in words]
 
 
-def in_bundle(case, bundle, resource):
+def in_bundle(case: Case, bundle: Played, resource: Played) -> str:
     """The first command of a bundle that uses a resource, in words; none of what is no bundle."""
     for command in case.history.commands_of(bundle):
         for _, thing in command.named():
@@ -101,16 +109,16 @@ def in_bundle(case, bundle, resource):
 
 
 @rule(192)
-def buffers_at_rest(case):
+def buffers_at_rest(case: Case) -> Cause | None:
     return first(busy(case, buffer, by) for buffer, by in used(case, "createBuffer"))
 
 
 @rule(193)
-def others_there(case):
+def others_there(case: Case) -> Cause | None:
     return first(gone(case, thing, by) for thing, by in used(case, "createTexture", "createQuerySet"))
 
 
-def gone(case, thing, by=""):
+def gone(case: Case, thing: Played, by: str = "") -> Cause | None:
     if not case.history.is_destroyed(thing):
         return None
     ending = case.play.call_of(case.play.destroyed_by[thing])
@@ -135,25 +143,25 @@ def gone(case, thing, by=""):
 
 
 @rule(200)
-def written_buffer(case):
+def written_buffer(case: Case) -> Cause | None:
     return lacks(case, case.uses["buffer"], COPY_DST)
 
 
 @rule(201)
-def write_aligned(case):
+def write_aligned(case: Case) -> Cause | None:
     return first(multiple(key, case.call[key], 4) for key in ("offset", "size"))
 
 
 @rule(202)
-def write_range(case):
+def write_range(case: Case) -> Cause | None:
     return fits(case, case.uses["buffer"], case.call["offset"], case.call["size"])
 
 
 @rule(205)
-def written_texture(case):
+def written_texture(case: Case) -> Cause | None:
     return lacks(case, case.uses["texture"], TEXTURE_DST)
 
 
 @rule(210)
-def texture_there(case):
+def texture_there(case: Case) -> Cause | None:
     return gone(case, case.uses["texture"])

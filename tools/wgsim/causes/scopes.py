@@ -1,8 +1,16 @@
 """The rule of usage scopes: which two uses of a part clash, each with the command that brought it."""
 
+from __future__ import annotations
+
 import collections
+from typing import TYPE_CHECKING, Any, Iterator, List, Tuple
 
 from .making import Cause, rule
+
+if TYPE_CHECKING:
+    from model.forms import Cell
+    from model.history import Played
+    from wgsim.causes.cases import Case
 
 # What has one scope as a whole, in words, by the call that begins or makes it.
 WHOLE = {"beginRenderPass": "the render pass", "finishBundle": "the bundle that is finished"}
@@ -12,7 +20,7 @@ class Use:
     """A use of a part in a scope: the usage, the words that tell of what it comes, the command with its place, and the view that is bound,
     if one is."""
 
-    def __init__(self, case, usage, words, command, bound=None):
+    def __init__(self, case: Case, usage: str, words: str, command: Played, bound: Played | None = None) -> None:
         self.bound = bound
         self.usage = usage
         self.words = words
@@ -20,7 +28,11 @@ class Use:
         self.at = case.place(command)
 
 
-def of_setting(case, setting):
+# Cells, each with a use of it.
+Uses = List[Tuple[Tuple[Any, ...], Use]]
+
+
+def of_setting(case: Case, setting: Played) -> Uses:
     """What a setBindGroup brings: pairs of a cell and its use."""
     group, found = setting.uses["group"], []
     for asked, entry, thing, move in case.second.bound_groups.bindings(group, setting.call["offsets"]):
@@ -32,7 +44,7 @@ def of_setting(case, setting):
     return found
 
 
-def seen_by(case, view):
+def seen_by(case: Case, view: Played) -> str:
     """A view that is bound, with its mip levels and layers."""
     told = case.second.textures.told(view)
     runs = [run("mip level", told["baseMip"], told["mips"])]
@@ -41,17 +53,17 @@ def seen_by(case, view):
     return f"{case.named(view)} of {' and '.join(runs)}"
 
 
-def run(what, base, count):
+def run(what: str, base: int, count: int) -> str:
     return f"{what} {base}" if count == 1 else f"{what}s {base} to {base + count - 1}"
 
 
-def of_command(case, command):
+def of_command(case: Case, command: Played) -> Uses:
     """What a setVertexBuffer, a setIndexBuffer or an indirect command brings."""
     touches = case.second.draws.touches_of_range(command) + case.second.draws.touches_of_indirect(command)
     return [(cell, Use(case, usage, f"the {command.do} at {case.place(command)}", command)) for cell, usage, _ in touches]
 
 
-def of_executed(case, command):
+def of_executed(case: Case, command: Played) -> Uses:
     """What an executeBundles brings: what the bundles use, each bundle once, with the command that brought it there."""
     found = []
     for bundle in dict.fromkeys(command.uses["bundles"]):
@@ -61,13 +73,13 @@ def of_executed(case, command):
     return found
 
 
-def of_drawing(case, commands):
+def of_drawing(case: Case, commands: list[Played]) -> Uses:
     """What the commands of a render pass or of a bundle bring, in their order."""
     of = {"setBindGroup": of_setting, "executeBundles": of_executed}
     return [use for command in commands for use in of.get(command.do, of_command)(case, command)]
 
 
-def of_attachments(case, begin):
+def of_attachments(case: Case, begin: Played) -> Uses:
     """What is attached to a render pass."""
     found, at = [], case.place(begin)
     attachments = case.second.attachments
@@ -84,7 +96,7 @@ def of_attachments(case, begin):
     return found
 
 
-def scopes_of(case):
+def scopes_of(case: Case) -> Iterator[tuple[Played, Uses]]:
     """Each dispatch and each render pass of an encoder, with all uses of its scope; of a bundle encoder the one scope, with its finish."""
     if case.entry.do == "finishBundle":
         yield case.entry, of_drawing(case, case.commands)
@@ -101,13 +113,13 @@ def scopes_of(case):
         settings[place].take(command)
 
 
-def clash(case, uses):
+def clash(case: Case, uses: list[Use]) -> tuple[Use, Use] | None:
     """The first of some uses of one part, and the first that does not go with it, or None. What goes with it goes with each other."""
     one, together = uses[0], case.second.passes.READ_TOGETHER
     return next(((one, other) for other in uses if other.usage != one.usage and not {one.usage, other.usage} <= together), None)
 
 
-def brought_by(case, command, uses):
+def brought_by(case: Case, command: Played, uses: Uses) -> Played:
     """The command with which a scope is no longer compatible: of a render pass or a bundle that of the first use that clashes with one
     before it."""
     first = {}
@@ -118,7 +130,7 @@ def brought_by(case, command, uses):
 
 
 @rule(184)
-def scope(case):
+def scope(case: Case) -> Cause | None:
     for command, uses in scopes_of(case):
         parts = {}
         for cell, use in uses:
@@ -130,7 +142,7 @@ def scope(case):
     return None
 
 
-def clashing(case, command, part, one, other, about):
+def clashing(case: Case, command: Played, part: Cell, one: Use, other: Use, about: Played) -> Cause:
     what = WHOLE.get(command.do, f"the {command.do}")
     said = (
         f"{case.part(part)} is used as {one.usage} by {one.words}, and as {other.usage} by {other.words}, in the one scope of {what} at"
@@ -153,7 +165,7 @@ def clashing(case, command, part, one, other, about):
     return Cause(said, values, apart(case, bound) or remedy if bound else remedy, about=about)
 
 
-def apart(case, bound):
+def apart(case: Case, bound: Played) -> str | None:
     """What to do where a view is bound that has more mip levels or layers than the part that clashes; None where it has that alone."""
     told = case.second.textures.told(bound)
     what = "mip level" if told["mips"] > 1 else "layer" if told["layers"] > 1 and told["dim"] != "3d" else None

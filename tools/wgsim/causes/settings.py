@@ -1,17 +1,28 @@
 """The rules of bind groups that are set in a pass, and of what is set where a dispatch or a draw comes."""
 
+from __future__ import annotations
+
+from typing import TYPE_CHECKING, Any, Dict, List, Tuple
+
 from wgsim.reading import bits
 
-from .making import Cause, at_most, first, listed, plural, rule
+from .making import Cause, Values, at_most, first, listed, plural, rule
+
+if TYPE_CHECKING:
+    from model.history import Played
+    from wgsim.causes.cases import Case
+
+# A binding of a group that is set: the index and the group, what is asked of it, and what it touches.
+Bound = Tuple[int, Any, Dict[str, Any], List[Any]]
 
 
 @rule(325)
-def index(case):
+def index(case: Case) -> Cause | None:
     return at_most("index", case.call["index"], 3, "Bind groups are set at 0 to 3.")
 
 
 @rule(326)
-def offsets(case):
+def offsets(case: Case) -> Cause | None:
     group = case.uses["group"]
     layout, given = group.uses["layout"], len(case.call["offsets"])
     bindings = sorted(entry["binding"] for entry in layout.entries if entry.get("dynamic"))
@@ -27,7 +38,7 @@ def offsets(case):
 
 
 @rule(327)
-def offset_alignment(case):
+def offset_alignment(case: Case) -> Cause | None:
     for place, offset in enumerate(case.call["offsets"]):
         if offset % 256:
             low = offset - offset % 256
@@ -40,7 +51,7 @@ def offset_alignment(case):
 
 
 @rule(328)
-def moved(case):
+def moved(case: Case) -> Cause | None:
     """A range of a group does not fit its buffer, moved by its offset."""
     groups, group = case.second.groups, case.uses["group"]
     for asked, entry, thing, move in case.second.bound_groups.bindings(group, case.call["offsets"]):
@@ -70,7 +81,7 @@ def moved(case):
 
 
 @rule(340)
-def pipeline(case):
+def pipeline(case: Case) -> Cause | None:
     if case.settings.pipeline is not None:
         return None
     place = case.uses["on"]
@@ -79,7 +90,7 @@ def pipeline(case):
     return Cause(f"no pipeline is set on {case.named(place)} where the {case.do} comes{unset}", values, f"Set one {again}.")
 
 
-def unset_before(case, word, **keys):
+def unset_before(case: Case, word: str, **keys: int) -> tuple[str, str]:
     """Words for the bundles that unset what a command has set before, if there are such; and whether it is to be set before or again."""
     was_set, by = False, None
     for command in case.earlier:
@@ -92,8 +103,8 @@ class Asked:
     """A layout that a pipeline asks a group for: its index and entries, words for it, its name or None where it is derived, and the
     setBindGroup there, or None."""
 
-    def __init__(self, case, at, entries):
-        pipeline = case.settings.pipeline
+    def __init__(self, case: Case, at: int, entries: list[dict[str, Any]]) -> None:
+        pipeline = case.pipeline
         self.at = at
         self.entries = entries
         self.owner = case.second.automatic.owner_in_use(pipeline)
@@ -103,14 +114,14 @@ class Asked:
         self.words = f"{case.named(pipeline)} asks there for " + (case.named(layout) if layout else "the layout that it derives")
 
 
-def asked_groups(case):
+def asked_groups(case: Case) -> list[Asked]:
     """Of each index at which the pipeline asks for a group what it asks."""
-    return [Asked(case, at, entries) for at, entries in enumerate(case.settings.pipeline.layouts) if entries]
+    return [Asked(case, at, entries) for at, entries in enumerate(case.pipeline.layouts) if entries]
 
 
 @rule(341)
-def groups_set(case):
-    pipeline = case.settings.pipeline
+def groups_set(case: Case) -> Cause | None:
+    pipeline = case.pipeline
     for asked in asked_groups(case):
         values = {"index": asked.at, "pipeline": pipeline.call["as"], "layout": asked.name}
         if asked.setting is None:
@@ -130,11 +141,11 @@ def groups_set(case):
     return None
 
 
-def of_another(case, asked, other, set_there, values):
+def of_another(case: Case, asked: Asked, other: Played, set_there: str, values: Values) -> Cause | None:
     """A group's layout is one that another pipeline derived, or that none did where the one in use derives its own; or None."""
     if other.owner is asked.owner:
         return None
-    pipeline = case.settings.pipeline
+    pipeline = case.pipeline
     why = f"{case.named(other)} was got of {case.named(other.owner)}, which derived it for itself" if other.owner else "it takes no other's"
     owner = other.owner.call["as"] if other.owner else None
     remedy = (
@@ -145,13 +156,13 @@ def of_another(case, asked, other, set_there, values):
     return Cause(set_there + why, {**values, "groupPipeline": owner, "difference": why}, remedy)
 
 
-def difference(asked, given):
+def difference(asked: list[dict[str, Any]], given: list[dict[str, Any]]) -> str | None:
     """In what the entries of two layouts differ, or None."""
-    given = {entry["binding"]: entry for entry in given}
-    if len(asked) != len(given):
-        return f"{plural(len(asked), 'entry') if len(asked) == 1 else f'{len(asked)} entries'} there, and {len(given)} here"
+    here = {entry["binding"]: entry for entry in given}
+    if len(asked) != len(here):
+        return f"{plural(len(asked), 'entry') if len(asked) == 1 else f'{len(asked)} entries'} there, and {len(here)} here"
     for entry in asked:
-        other = given.get(entry["binding"])
+        other = here.get(entry["binding"])
         if other is None:
             return f"binding {entry['binding']} there, and none here"
         if other["kind"] != entry["kind"]:
@@ -162,17 +173,18 @@ def difference(asked, given):
     return None
 
 
-def told(key, value):
+def told(key: str, value: Any) -> object:
     if key == "visibility":
         return bits.said(value, bits.STAGES)
     return str(value).lower() if isinstance(value, bool) else value
 
 
 @rule(342)
-def overlaps(case):
+def overlaps(case: Case) -> Cause | None:
     """Two bindings overlap that one stage sees and of which one is written."""
     bound = []
     for place in asked_groups(case):
+        assert place.setting is not None
         group = place.setting.uses["group"]
         for asked, entry, thing, move in case.second.bound_groups.bindings(group, place.setting.call["offsets"]):
             bound.append((place.at, group, asked, case.second.bound_groups.touches_of(asked, entry, thing, move)))
@@ -184,7 +196,7 @@ def overlaps(case):
     return None
 
 
-def overlap(case, one, other):
+def overlap(case: Case, one: Bound, other: Bound) -> Cause | None:
     (at, group, asked, touches), (other_at, other_group, other_asked, others) = one, other
     seen = asked["visibility"] & other_asked["visibility"]
     is_written = case.second.groups.is_written(asked) or case.second.groups.is_written(other_asked)
@@ -217,6 +229,6 @@ def overlap(case, one, other):
 
 
 @rule(343)
-def counts(case):
+def counts(case: Case) -> Cause | None:
     remedy = "Spread the workgroups over x, y and z, or over several dispatches."
     return first(at_most(key, case.call[key], 65535, remedy) for key in ("x", "y", "z"))

@@ -1,8 +1,15 @@
 """The rules of createTexture."""
 
+from __future__ import annotations
+
+from typing import TYPE_CHECKING
+
 from wgsim.reading import bits
 
 from .making import Cause, first, known_usage, limited, listed, rule
+
+if TYPE_CHECKING:
+    from wgsim.causes.cases import Case
 
 # What the three numbers of a size are called, by the dimension.
 EXTENTS = {"1d": ("width", "height", "depth"), "2d": ("width", "height", "layers"), "3d": ("width", "height", "depth")}
@@ -13,16 +20,16 @@ STORAGE_BINDING, RENDER_ATTACHMENT = 8, 16
 
 
 @rule(110)
-def usage(case):
+def usage(case: Case) -> Cause | None:
     return known_usage(case, bits.TEXTURE, "a texture")
 
 
-def extents(case):
+def extents(case: Case) -> list[tuple[str, int, str | None]]:
     return list(zip(EXTENTS[case.call["dim"]], case.call["size"], LIMITS[case.call["dim"]]))
 
 
 @rule(111)
-def no_extent(case):
+def no_extent(case: Case) -> Cause | None:
     for name, length, _ in extents(case):
         if length < 1:
             said = f"{name} is 0 in the size {case.call['size']}, and at least 1 is asked for"
@@ -31,7 +38,7 @@ def no_extent(case):
 
 
 @rule(112)
-def extent_limits(case):
+def extent_limits(case: Case) -> Cause | None:
     dim = case.call["dim"]
     for name, length, limit in extents(case):
         most = case.history.limits[limit] if limit else 1
@@ -47,7 +54,7 @@ def extent_limits(case):
 
 
 @rule(113)
-def mips(case):
+def mips(case: Case) -> Cause | None:
     count, dim, size = case.call["mips"], case.call["dim"], case.call["size"]
     counted = size if dim == "3d" else size[:2]
     most = 1 if dim == "1d" else max(counted).bit_length()
@@ -60,20 +67,20 @@ def mips(case):
 
 
 @rule(114)
-def samples(case):
+def samples(case: Case) -> Cause | None:
     count = case.call["samples"]
     if count in (1, 4):
         return None
     return Cause(f"samples is {count}, and 1 or 4 is asked for", {"samples": count, "allowed": [1, 4]}, "Take 1 or 4.")
 
 
-def four(key, value, asked, is_met):
+def four(key: str, value: object, asked: object, is_met: bool) -> Cause | None:
     said = f"with 4 samples {key} is to be {asked}, and it is {value}"
     return None if is_met else Cause(said, {"samples": 4, key: value, "asked": asked}, f"Give {key} {asked}, or samples 1.")
 
 
 @rule(115)
-def four_samples(case):
+def four_samples(case: Case) -> Cause | None:
     call, has = case.call, case.call["usage"]
     allowed = [name for name, (_, _, may) in case.second.formats.FORMATS.items() if may]
     usage = {"usage": has, "usageWords": bits.words(has, bits.TEXTURE)}
@@ -108,7 +115,7 @@ def four_samples(case):
 
 
 @rule(116)
-def color_alone(case):
+def color_alone(case: Case) -> Cause | None:
     format, dim = case.call["format"], case.call["dim"]
     if dim == "2d" or case.second.formats.is_color(format):
         return None
@@ -120,7 +127,7 @@ def color_alone(case):
 
 
 @rule(117)
-def attached_1d(case):
+def attached_1d(case: Case) -> Cause | None:
     has = case.call["usage"]
     if case.call["dim"] != "1d" or not has & RENDER_ATTACHMENT:
         return None
@@ -133,7 +140,7 @@ def attached_1d(case):
 
 
 @rule(118)
-def storage_format(case):
+def storage_format(case: Case) -> Cause | None:
     format, has = case.call["format"], case.call["usage"]
     allowed = [name for name in case.second.formats.FORMATS if case.second.formats.has_storage_access(name)]
     if not has & STORAGE_BINDING or format in allowed:

@@ -1,27 +1,35 @@
 """The rules of createView."""
 
+from __future__ import annotations
+
+from typing import TYPE_CHECKING, Any
+
 from .making import Cause, plural, rule
+
+if TYPE_CHECKING:
+    from model.history import Played
+    from wgsim.causes.cases import Case
 
 # How many layers a dimension of a view has, where that is fixed.
 LAYERS = {"1d": 1, "2d": 1, "3d": 1, "cube": 6}
 
 
-def known(case):
+def known(case: Case) -> tuple[Played, dict[str, Any], dict[str, Any]]:
     """The texture, its call, and the view with the keys that were left out."""
     texture = case.uses["texture"]
     return texture, texture.call, case.second.textures.view_of(case.call, texture.call, texture.is_valid)
 
 
-def told(case, view, key):
+def told(case: Case, view: dict[str, Any], key: str) -> str:
     return f"{key} {view[key]}" + (" (left out)" if case.call[key] is None else "")
 
 
-def that_is(case, view, key):
+def that_is(case: Case, view: dict[str, Any], key: str) -> str:
     return f"{key} is {view[key]}" if case.call[key] is not None else f"{key}, which is left out, is {view[key]}"
 
 
 @rule(120)
-def aspect(case):
+def aspect(case: Case) -> Cause | None:
     texture, call, view = known(case)
     if case.second.formats.named_aspects(call["format"], view["aspect"]):
         return None
@@ -36,7 +44,7 @@ def aspect(case):
     )
 
 
-def run_of(case, key, base, count, of):
+def run_of(case: Case, key: str, base: str, count: str, of: str) -> Cause | None:
     """A run of mip levels or layers is empty, or ends past those of the texture."""
     texture, call, view = known(case)
     have = call["mips"] if key == "mips" else case.second.formats.layer_count(call)
@@ -61,17 +69,17 @@ def run_of(case, key, base, count, of):
 
 
 @rule(121)
-def mips(case):
+def mips(case: Case) -> Cause | None:
     return run_of(case, "mips", "baseMip", "mips", "mip level")
 
 
 @rule(122)
-def layers(case):
+def layers(case: Case) -> Cause | None:
     return run_of(case, "layers", "baseLayer", "layers", "layer")
 
 
 @rule(123)
-def dimension(case):
+def dimension(case: Case) -> Cause | None:
     texture, call, view = known(case)
     wanted = view["dim"] if view["dim"] in ("1d", "3d") else "2d"
     if call["dim"] == wanted:
@@ -85,7 +93,7 @@ def dimension(case):
 
 
 @rule(124)
-def layers_of_dimension(case):
+def layers_of_dimension(case: Case) -> Cause | None:
     _, _, view = known(case)
     asked = LAYERS.get(view["dim"])
     if view["dim"] == "cube-array" and view["layers"] % 6:
@@ -105,7 +113,7 @@ def layers_of_dimension(case):
 
 
 @rule(125)
-def square(case):
+def square(case: Case) -> Cause | None:
     texture, call, view = known(case)
     width, height = call["size"][:2]
     if view["dim"] not in ("cube", "cube-array") or width == height:
@@ -118,7 +126,7 @@ def square(case):
 
 
 @rule(126)
-def four_samples(case):
+def four_samples(case: Case) -> Cause | None:
     texture, call, view = known(case)
     if call["samples"] != 4 or view["dim"] == "2d":
         return None

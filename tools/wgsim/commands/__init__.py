@@ -9,11 +9,14 @@ A command has
 Its first docstring is its help. What it takes long to read is imported where it acts.
 """
 
+from __future__ import annotations
+
 import importlib
 import pathlib
+from types import ModuleType
 
 
-def found():
+def found() -> dict[str, ModuleType]:
     """Each command by its name."""
     names = sorted(path.stem for path in pathlib.Path(__file__).parent.glob("*.py") if path.stem != "__init__")
     return {name: importlib.import_module(f"{__name__}.{name}") for name in names}

@@ -3,17 +3,21 @@
 For bash `source <(./wgsim completion bash)`, for zsh `source <(./wgsim completion zsh)`, for fish `./wgsim completion fish | source`.
 """
 
+from __future__ import annotations
+
+import argparse
+
 from wgsim import commands, completion, exit_status, inputs
 
 HELP = "what a shell needs to complete these words"
 BY_PROGRAM = False
 
 
-def add_words(parser):
+def add_words(parser: argparse.ArgumentParser) -> None:
     parser.add_argument("shell", choices=sorted(completion.SHELLS), help="which shell")
 
 
-def act(words):
+def act(words: argparse.Namespace) -> int:
     from wgsim import words as command_line
 
     found = commands.found()

@@ -1,5 +1,9 @@
 """Proves and builds the program, and tells how far it is."""
 
+from __future__ import annotations
+
+import argparse
+
 from wgsim import exit_status
 from wgsim.program import building
 
@@ -7,11 +11,11 @@ HELP = "proves and builds the program"
 BY_PROGRAM = False
 
 
-def add_words(parser):
+def add_words(parser: argparse.ArgumentParser) -> None:
     """It takes none."""
 
 
-def act(words):
+def act(words: argparse.Namespace) -> int:
     if building.is_built():
         building.say("the proved program is built from these sources already")
     else:

@@ -4,7 +4,11 @@ NAME.answers.json and NAME.calls.json.
 --saved writes these of a file that wgsimRecord.save() saved, and --one-file writes wgsim-record.js, the recorder for a page of any browser.
 """
 
+from __future__ import annotations
+
+import argparse
 import re
+from typing import Callable
 
 from wgsim import exit_status, inputs
 
@@ -12,7 +16,7 @@ HELP = "what a page asks of WebGPU, as a script"
 BY_PROGRAM = False
 
 
-def add_words(parser):
+def add_words(parser: argparse.ArgumentParser) -> None:
     parser.add_argument("--out", metavar="FOLDER", help="where the files are written; else here")
     parser.add_argument("--browser", metavar="PATH", help="another browser than the Chromium that is installed")
     parser.add_argument("--frames", metavar="N", help="after how many frames it ends: 3")
@@ -22,7 +26,7 @@ def add_words(parser):
     parser.add_argument("page", nargs="?", metavar="PAGE", help="a page, or a file that was saved")
 
 
-def test(words, wrong):
+def test(words: argparse.Namespace, wrong: Callable[[str], None]) -> None:
     """The words that go together: a page, a file that was saved, or neither."""
     of_browser = [words.browser, words.frames, words.seconds]
     if words.one_file and (words.page is not None or words.saved or any(word is not None for word in [words.out, *of_browser])):
@@ -36,7 +40,7 @@ def test(words, wrong):
             wrong(f"{name} has a number from 1 to 99999, and not {word}")
 
 
-def act(words):
+def act(words: argparse.Namespace) -> int:
     from wgsim.recorder import visit, whole_text
 
     if words.one_file:

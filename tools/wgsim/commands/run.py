@@ -3,6 +3,8 @@
 With --callers it is the report for this order of turns, by the second reading, which is not proved.
 """
 
+from __future__ import annotations
+
 import argparse
 
 from wgsim import inputs
@@ -12,7 +14,7 @@ HELP = "the program's report of a script, byte for byte"
 BY_PROGRAM = True
 
 
-def callers_in(word):
+def callers_in(word: str) -> list[int]:
     """The callers of a list as `0,1,0`, which may be empty."""
     callers = word.split(",") if word else []
     if not all(caller.isascii() and caller.isdigit() and len(caller) < 9 for caller in callers):
@@ -20,12 +22,12 @@ def callers_in(word):
     return [int(caller) for caller in callers]
 
 
-def add_words(parser):
+def add_words(parser: argparse.ArgumentParser) -> None:
     parser.add_argument("--callers", metavar="0,1,0", type=callers_in, help="the order of turns: a caller for each entry")
     parser.add_argument("file", nargs="?", default=inputs.STANDARD, metavar="FILE", help="a script")
 
 
-def act(words):
+def act(words: argparse.Namespace) -> int:
     if words.callers is not None:
         return forced(words)
     file = inputs.opened(words.file)
@@ -37,7 +39,7 @@ def act(words):
     return status
 
 
-def forced(words):
+def forced(words: argparse.Namespace) -> int:
     from wgsim.matching import orders, second
 
     status, text = orders.forced(*inputs.read(words.file), words.callers)

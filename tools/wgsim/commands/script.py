@@ -1,17 +1,21 @@
 """Writes the generated script that `gen N L` plays, as text."""
 
+from __future__ import annotations
+
+import argparse
+
 from wgsim import exit_status, inputs
 
 HELP = "the generated script of `gen`, as text"
 BY_PROGRAM = False
 
 
-def add_words(parser):
+def add_words(parser: argparse.ArgumentParser) -> None:
     parser.add_argument("count", metavar="N", help="how many iterations")
     parser.add_argument("lanes", nargs="?", default="1", metavar="L", help="how many lanes")
 
 
-def act(words):
+def act(words: argparse.Namespace) -> int:
     from wgsim.reading import generated
 
     count, lanes = generated.number(words.count), generated.number(words.lanes)

@@ -4,6 +4,8 @@
     tools/python -m wgsim.generated --check     says what of these is not as it would be written, and which definition has no sentence
 """
 
+from __future__ import annotations
+
 import argparse
 import sys
 
@@ -13,7 +15,7 @@ from wgsim.generated import definitions, rule_page, tables
 GENERATED = (rule_page, definitions, tables)
 
 
-def main():
+def main() -> int:
     parser = argparse.ArgumentParser(prog="tools/python -m wgsim.generated", description=__doc__.split("\n\n", maxsplit=1)[0])
     which = parser.add_mutually_exclusive_group(required=True)
     which.add_argument("--write", action="store_true", help="write it")

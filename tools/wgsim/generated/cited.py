@@ -5,8 +5,14 @@ module is public, or its crate passes it, or the type that it is a method of, on
 definition is cited where a clause of such a call (`requires`, `ensures`) has its name, and the file brings that in by `ghost use`.
 """
 
-import re
+from __future__ import annotations
 
+import pathlib
+import re
+from typing import Match, Tuple
+
+# A definition: its crate, its file and its name.
+Definition = Tuple[str, str, str]
 DECLARED = re.compile(r"^(?:(?:abbrev|unfoldable) pub|pub (?:record|data)) ([^\s:({]+)", re.M)
 BROUGHT = re.compile(r"ghost use Rattle\.(wg_\w+)\.specs\.(\w+)\.\{([^}]*)\}")
 PASSED_ON = re.compile(r"^pub use \w+(?:::\w+)*::(?:\{([^}]*)\}|(\w+));", re.M)
@@ -16,7 +22,7 @@ HEAD = re.compile(
 )
 
 
-def declared(top):
+def declared(top: pathlib.Path) -> set[Definition]:
     """The public definitions, as crate, file and name."""
     found = set()
     for path in sorted(top.glob("crates/*/specs/*.antt")):
@@ -25,7 +31,7 @@ def declared(top):
     return found
 
 
-def exported(crate):
+def exported(crate: pathlib.Path) -> tuple[set[str], set[str]]:
     """The modules of a crate that are public, and the names that it passes on."""
     text = (crate / "src/lib.rt").read_text(encoding="utf-8")
     modules = {"lib", *re.findall(r"^pub mod (\w+);", text, re.M)}
@@ -35,7 +41,7 @@ def exported(crate):
     return modules, names
 
 
-def clause_at(text, start):
+def clause_at(text: str, start: int) -> set[str]:
     """The words of a clause, from behind its brace up to the one that closes it."""
     depth, end = 1, start
     while depth and end < len(text):
@@ -44,7 +50,7 @@ def clause_at(text, start):
     return set(WORD.findall(text[start : end - 1]))
 
 
-def public_words(text, is_public_module, names):
+def public_words(text: str, is_public_module: bool, names: set[str]) -> set[str]:
     """All words in clauses of the public calls of a file."""
     words, block, public = set(), ("", False), False
     for head in HEAD.finditer(text):
@@ -54,14 +60,14 @@ def public_words(text, is_public_module, names):
         elif head["sort"] == "fn":
             named = WORD.search(head["rest"])
             inside, whole = block if head["indent"] else ("", False)
-            known = bool(named) and (named[0] in names or inside in names)
+            known = named is not None and (named[0] in names or inside in names)
             public = whole if whole else bool(head["public"]) and (is_public_module or known)
         else:
             block = block_of(head, is_public_module, names)
     return words
 
 
-def block_of(head, is_public_module, names):
+def block_of(head: Match[str], is_public_module: bool, names: set[str]) -> tuple[str, bool]:
     """The type or trait that a block of functions is of, and whether all of its functions are public."""
     rest = re.sub(r"<[^>]*>", "", head["rest"])
     named = WORD.findall(rest)
@@ -70,7 +76,7 @@ def block_of(head, is_public_module, names):
     return ("" if " for " in rest or not named else named[0]), False
 
 
-def brought_in(text):
+def brought_in(text: str) -> dict[str, Definition]:
     """What each name of a file stands for, as crate, file and name of the definition."""
     found = {}
     for crate, stem, names in BROUGHT.findall(text):
@@ -80,7 +86,7 @@ def brought_in(text):
     return found
 
 
-def cited(top):
+def cited(top: pathlib.Path) -> dict[Definition, pathlib.Path]:
     """Each definition that a public contract cites, with a file that does so."""
     known, found = declared(top), {}
     for crate in sorted((top / "crates").glob("*/")):

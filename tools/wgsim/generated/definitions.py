@@ -4,10 +4,17 @@ What stands before the mark, how to read the page and its glossary, is kept by h
 definitions as they stand in their files. One that a clause of a public call names is bold.
 """
 
+from __future__ import annotations
+
+import pathlib
 import re
 import textwrap
+from typing import TYPE_CHECKING, Collection
 
 from wgsim.generated import cited
+
+if TYPE_CHECKING:
+    from wgsim.generated.cited import Definition
 
 PAGE = "docs/definitions.md"
 MARK = "<!-- What follows is written by `tools/python -m wgsim.generated --write`. -->"
@@ -17,7 +24,7 @@ COMMENT = "--"
 WIDTH = 140
 
 
-def words_above(lines, number):
+def words_above(lines: list[str], number: int) -> str:
     """The comment that stands above a line, or above the notation of an operator there, as one line."""
     start = number
     while start and lines[start - 1].startswith((COMMENT, "infix")):
@@ -25,7 +32,7 @@ def words_above(lines, number):
     return " ".join(line[len(COMMENT) :].strip() for line in lines[start:number] if line.startswith(COMMENT))
 
 
-def head_of(lines):
+def head_of(lines: list[str]) -> str:
     """The comment at the head of a file, as one line."""
     end = 0
     while end < len(lines) and lines[end].startswith(COMMENT):
@@ -33,7 +40,7 @@ def head_of(lines):
     return words_above(lines, end)
 
 
-def definitions_of(path):
+def definitions_of(path: pathlib.Path) -> tuple[str, list[tuple[str, str]]]:
     """The head of a file of specs, and its public definitions in order, each with its sentence."""
     lines = path.read_text(encoding="utf-8").splitlines()
     found = []
@@ -44,7 +51,7 @@ def definitions_of(path):
     return head_of(lines), found
 
 
-def floors(top):
+def floors(top: pathlib.Path) -> list[tuple[str, list[str]]]:
     """The floors of crates.txt with what they have, and the crates of each, in order."""
     found = []
     for line in (top / "crates.txt").read_text(encoding="utf-8").splitlines():
@@ -56,25 +63,25 @@ def floors(top):
     return found
 
 
-def files_of(top, crate):
+def files_of(top: pathlib.Path, crate: str) -> list[tuple[pathlib.Path, str, list[tuple[str, str]]]]:
     """The files of specs of a crate that define something."""
     paths = sorted((top / "crates" / crate / "specs").glob("*.antt"))
     return [(path, *definitions_of(path)) for path in paths if definitions_of(path)[1]]
 
 
-def purpose_of(top, crate):
+def purpose_of(top: pathlib.Path, crate: str) -> str:
     """What a crate is, in the words at the head of its code."""
     roots = [top / "crates" / crate / "src" / name for name in ("lib.rt", "main.rt")]
     lines = [line for root in roots if root.is_file() for line in root.read_text(encoding="utf-8").splitlines()]
     return " ".join(line[3:].strip() for line in lines if line.startswith("//!"))
 
 
-def told(text):
+def told(text: str) -> str:
     """A sentence as a cell of a table."""
     return text.replace("|", "\\|")
 
 
-def table_of(crate, path, found, named):
+def table_of(crate: str, path: pathlib.Path, found: list[tuple[str, str]], named: Collection[Definition]) -> list[str]:
     """The lines of the table of a file."""
     lines = ["| Definition | In words |", "|---|---|"]
     for name, words in found:
@@ -83,14 +90,14 @@ def table_of(crate, path, found, named):
     return lines
 
 
-def wrapped(text, indent=""):
+def wrapped(text: str, indent: str = "") -> list[str]:
     """A text in lines that are not too long, none of which ends inside of backticks."""
     whole = re.sub(r"`[^`]*`", lambda span: span[0].replace(" ", "\0"), text)
     lines = textwrap.wrap(whole, WIDTH, subsequent_indent=indent, break_long_words=False, break_on_hyphens=False)
     return [line.replace("\0", " ") for line in lines]
 
 
-def part_of_crate(top, crate, named):
+def part_of_crate(top: pathlib.Path, crate: str, named: Collection[Definition]) -> list[str]:
     """The lines of a crate."""
     lines = [f"### `{crate}`", "", *wrapped(purpose_of(top, crate)), ""]
     for path, head, found in files_of(top, crate):
@@ -98,7 +105,7 @@ def part_of_crate(top, crate, named):
     return lines
 
 
-def several(top, named):
+def several(top: pathlib.Path, named: Collection[Definition]) -> list[tuple[str, list[str]]]:
     """The names that stand for several things, of which a public contract names one: each with its files and sentences."""
     uses, wanted = {}, {name for _, _, name in named}
     for _, crates in floors(top):
@@ -109,7 +116,7 @@ def several(top, named):
     return sorted((name, found) for name, found in uses.items() if name in wanted and len(found) > 1)
 
 
-def written(top):
+def written(top: pathlib.Path) -> str:
     """What stands behind the mark."""
     named = cited.cited(top)
     every = [(floor, [crate for crate in crates if files_of(top, crate)]) for floor, crates in floors(top)]
@@ -129,19 +136,19 @@ def written(top):
     return "\n".join(lines) + "\n"
 
 
-def page(top):
+def page(top: pathlib.Path) -> str:
     """The page as it should be: what is kept by hand, the mark, and what is written."""
     text = (top / PAGE).read_text(encoding="utf-8")
     return text.partition(MARK)[0] + MARK + "\n" + written(top)
 
 
-def write(top):
+def write(top: pathlib.Path) -> None:
     """Writes the part of the page behind its mark."""
     wanted = page(top)
     (top / PAGE).write_text(wanted, encoding="utf-8")
 
 
-def findings_of(top):
+def findings_of(top: pathlib.Path) -> list[str]:
     """The definitions that have no sentence, and whether the page is another one."""
     found = []
     for path in sorted(top.glob("crates/*/specs/*.antt")):

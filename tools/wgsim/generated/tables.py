@@ -6,8 +6,12 @@
 - docs/map.md, what a crate stands on, where its cell lists that and says no more: by crates.txt.
 """
 
+from __future__ import annotations
+
 import collections
+import pathlib
 import re
+from typing import Callable, Match
 
 from wgsim.reading import rules
 
@@ -28,7 +32,7 @@ CALLS = (
 )
 
 
-def sources(top):
+def sources(top: pathlib.Path) -> list[tuple[str, set[str]]]:
     """The files that are searched, with the names of their crates and their words."""
     found = []
     for path in sorted(top.glob("crates/*/s*/**/*")):
@@ -38,20 +42,20 @@ def sources(top):
     return found
 
 
-def row(call, searched):
+def row(call: str, searched: list[tuple[str, set[str]]]) -> str:
     """The row of a call: how many files name it, in all and by crate."""
     variant = call[0].upper() + call[1:]
     counts = collections.Counter(crate for crate, words in searched if variant in words)
     return f"| {call} | {sum(counts.values())} | {', '.join(f'`{crate}` {count}' for crate, count in sorted(counts.items()))} |"
 
 
-def calls_table(top):
+def calls_table(top: pathlib.Path) -> list[str]:
     """How many files name each call."""
     searched = sources(top)
     return ["| Call | Files | By crate |", "|---|--:|---|"] + [row(call, searched) for call in CALLS]
 
 
-def refusals_table(top):
+def refusals_table(top: pathlib.Path) -> list[str]:
     """What each rule of scripts refuses, and with which place."""
     lines = [f"| {row['rule']} | {rules.refused_by(row)} | {row['place']} |" for row in rules.TABLE["scripts"]]
     return ["| Rule | What is refused | Place |", "|---|---|---|", *lines]
@@ -60,24 +64,24 @@ def refusals_table(top):
 TABLES = (("docs/map.md", "calls", calls_table), ("docs/script.md", "refusals", refusals_table))
 
 
-def used(top):
+def used(top: pathlib.Path) -> dict[str, list[str]]:
     """What each crate uses, by crates.txt."""
     rows = [line for line in (top / "crates.txt").read_text(encoding="utf-8").splitlines() if line and not line.startswith("#")]
     return {row.partition(":")[0].split()[0]: row.partition(":")[2].split() for row in rows}
 
 
-def stood_on(top, text):
+def stood_on(top: pathlib.Path, text: str) -> str:
     """A text in whose rows of crates the last cell has what the crate uses."""
     known = used(top)
 
-    def row(found):
+    def row(found: Match[str]) -> str:
         libraries = ", ".join(f"`{library}`" for library in known.get(found[2], [])) or "nothing"
         return f"{found[1]}{libraries} |"
 
     return STANDS_ON.sub(row, text)
 
 
-def page(top, name, mark, table):
+def page(top: pathlib.Path, name: str, mark: str, table: Callable[[pathlib.Path], list[str]]) -> str | None:
     """A page with its table as that should be, or None where its marks are missing."""
     text = (top / name).read_text(encoding="utf-8")
     begin, end = f"<!-- {mark}: begin -->", f"<!-- {mark}: end -->"
@@ -87,7 +91,7 @@ def page(top, name, mark, table):
     return stood_on(top, f"{text.partition(begin)[0]}{begin}\n\n{lines}\n\n{end}{text.partition(end)[2]}")
 
 
-def write(top):
+def write(top: pathlib.Path) -> None:
     """Writes the tables whose marks are there."""
     for name, mark, table in TABLES:
         wanted = page(top, name, mark, table)
@@ -95,7 +99,7 @@ def write(top):
             (top / name).write_text(wanted, encoding="utf-8")
 
 
-def findings_of(top):
+def findings_of(top: pathlib.Path) -> list[str]:
     """The pages whose tables are others, or have no marks."""
     found = []
     for name, mark, table in TABLES:

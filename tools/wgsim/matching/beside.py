@@ -2,15 +2,15 @@
 
 from __future__ import annotations
 
-from typing import TYPE_CHECKING, Any
+from typing import TYPE_CHECKING
 
 from wgsim.reading import calls
 from wgsim.reading import report as reports
 
 if TYPE_CHECKING:
     from wgsim.reading.frames import Frame
-    from wgsim.reading.report import Report, Step
-    from wgsim.reading.script import Script
+    from wgsim.reading.report import Entry, Part, Report, Step
+    from wgsim.reading.script import Call, Script
 
 
 class DoNotMatch(Exception):
@@ -18,30 +18,37 @@ class DoNotMatch(Exception):
 
 
 class Beside:
-    """A report with the script that it is of, or with none."""
+    """A report with the script that it is of, or with none: `known` is that or None."""
 
     def __init__(self, report: Report, script: Script | None = None) -> None:
         self.report = report
-        self.script = script
-        self.call_of = {}
-        self.entry_of = {}
-        self.turns = []
-        self.names = {}
-        self.makers = {}
-        self.operations = {}
+        self.known = script
+        self.call_of: dict[int, Call] = {}
+        self.entry_of: dict[Call | None, Entry] = {}
+        self.turns: list[Call] = []
+        self.names: dict[int, str] = {}
+        self.makers: dict[int, Entry] = {}
+        self.operations: dict[int, Entry] = {}
         self.promises = {entry.number: n for n, entry in enumerate(each for each in report.entries if each.answer == ["promise"])}
-        self.command_of = {}
+        self.command_of: dict[int, Call] = {}
         if script is not None:
             self.match_entries()
         for entry in report.entries:
-            if entry.object() is not None:
-                self.makers[entry.object()] = entry
-            if entry.operation() is not None:
-                self.operations[entry.operation()] = entry
+            number, operation = entry.object(), entry.operation()
+            if number is not None:
+                self.makers[number] = entry
+            if operation is not None:
+                self.operations[operation] = entry
         if script is not None:
             self.match_steps()
 
-    def match_entries(self):
+    @property
+    def script(self) -> Script:
+        """The script, of a report that has one."""
+        assert self.known is not None
+        return self.known
+
+    def match_entries(self) -> None:
         """Goes through the entries and the lanes of each phase side by side: each entry is of the next call of its lane that makes one.
 
         `turns` gets the calls in the order in which the device took them, recording calls right before the next entry of their lane."""
@@ -58,19 +65,20 @@ class Beside:
                 raise DoNotMatch(f"entry {entry.number} is of {entry.word}, and the call at {self.script.where(call)} is {call.word}")
             self.call_of[entry.number] = call
             self.entry_of[call] = entry
-            own, number = self.script.lanes[call.place[:2]], call.place[2]
-            self.turns += own[after_entry(own[:number]) : number + 1]
-            if entry.object() is not None and call.gives is not None:
-                self.names[entry.object()] = call.gives
+            own, at = self.script.lanes[call.place[:2]], call.place[2]
+            self.turns += own[after_entry(own[:at]) : at + 1]
+            number = entry.object()
+            if number is not None and call.gives is not None:
+                self.names[number] = call.gives
         left = [call for lanes in waiting.values() for lane in lanes.values() for call in lane]
         if left:
             raise DoNotMatch(f"the report has no entry for the call at {self.script.where(left[0])}")
 
-    def events(self, phase, lane):
+    def events(self, phase: int, lane: int) -> list[Call]:
         """The calls of a lane that make an entry."""
         return [call for call in self.script.lanes[phase, lane] if call.event is not None]
 
-    def names_at_the_end(self, phase):
+    def names_at_the_end(self, phase: int) -> list[Call]:
         """The calls of canvases behind the last entry of each lane of a phase: they make none, and what they name may be used in later
         phases."""
         lanes = [lane for (of, _), lane in self.script.lanes.items() if of == phase]
@@ -78,7 +86,7 @@ class Beside:
 
     def match_steps(self) -> None:
         """Finds the call that each step comes from. Where the counts do not fit, none is named for that operation."""
-        by_operation = {}
+        by_operation: dict[int, list[Step]] = {}
         for step in self.report.steps():
             if not step.is_host and step.name != "clear":
                 by_operation.setdefault(step.at, []).append(step)
@@ -95,11 +103,11 @@ class Beside:
         asked = [self.call_of.get(promise) for promise, how in entry.settled if how == "mapped"] if entry else []
         for call in [self.call_of.get(step.at), *asked]:
             if call is not None and calls.step_of(call.word) == step.name:
-                maker = self.object_of(call.value.member("buffer").what)
+                maker = self.object_of(call.value.needed("buffer").what)
                 if maker is not None and any(part.object == maker.object() for _, part in step.accesses):
                     self.command_of[step.number] = call
 
-    def calls_of(self, operation):
+    def calls_of(self, operation: int) -> list[Call]:
         """The calls that make the steps of an operation, in their order."""
         entry = self.operations.get(operation)
         call = self.call_of.get(entry.number) if entry else None
@@ -115,7 +123,7 @@ class Beside:
         """An object by its name in the script, or else by its kind and number."""
         return self.names.get(number) or f"{reports.SORTS.get(sort, sort)} {number}"
 
-    def object_of(self, name):
+    def object_of(self, name: str | None) -> Entry | None:
         """The entry that made the object that a name stands for, or None."""
         return self.entry_of.get(self.script.maker_of(name))
 
@@ -125,28 +133,28 @@ class Beside:
         call = self.call_of.get(entry.number) if entry is not None else None
         return call.frame if call is not None else None
 
-    def part(self, part: Any) -> Any:
+    def part(self, part: Part) -> str:
         """A part or some cells in words."""
         name = self.named(part.sort, part.object)
         if part.aspect is not None:
             piece = "slice" if part.sort == "s" else "layer"
             return f"{name} {part.aspect} mip {part.mip} {piece}{span(part)}"
-        if part.low is not None:
+        if not part.is_whole:
             piece = "query" if part.sort == "q" else "byte"
             many = "queries" if part.sort == "q" else "bytes"
             return f"{name} {piece if part.high - part.low == 1 else many} {ends(part)}"
         return name
 
 
-def after_entry(lane: list[Any]) -> int:
+def after_entry(lane: list[Call]) -> int:
     """The place in the calls of a lane behind the last one that makes an entry."""
     return next((number + 1 for number in reversed(range(len(lane))) if lane[number].event is not None), 0)
 
 
-def span(part: Any) -> Any:
+def span(part: Part) -> str:
     return f" {part.low}" if part.high - part.low == 1 else f"s {ends(part)}"
 
 
-def ends(part: Any) -> Any:
+def ends(part: Part) -> str:
     """The first and the last of a run, as a reader counts them."""
     return f"{part.low}" if part.high - part.low == 1 else f"{part.low} to {part.high - 1}"

@@ -11,7 +11,7 @@ from wgsim.reading.report import count
 
 if TYPE_CHECKING:
     from wgsim.reading.places import Text
-    from wgsim.reading.script import Call
+    from wgsim.reading.script import Call, Script
 
 OF_SHADERS = (
     "no rule of this core is broken: it does not look into shaders. What is made of a shader that is refused is invalid, and what names"
@@ -31,9 +31,10 @@ class BrowserError:
     def __init__(self, number: int, word: str, page: str | None, kind: str, message: str) -> None:
         self.number, self.word, self.page, self.kind, self.message = number, word, page, kind, message.strip()
         self.call: Call | None = None
-        self.why, self.is_first, self.follows = OF_SHADERS, True, False
+        self.why: str | None = OF_SHADERS
+        self.is_first, self.follows = True, False
 
-    def by(self, verdict: Any) -> BrowserError:
+    def by(self, verdict: compared.Verdict) -> BrowserError:
         """The same with what `judge` says of its call."""
         self.call = verdict.call
         self.is_first = verdict.is_too_small()
@@ -41,7 +42,7 @@ class BrowserError:
         self.why = WHY[verdict.how].format(verdict.why) if verdict.how in WHY else verdict.why
         return self
 
-    def lines(self, script: Any, times: int = 1) -> list[str]:
+    def lines(self, script: Script, times: int = 1) -> list[str]:
         """The error in words, with how often it comes."""
         where = "before" if self.call is None else "at"
         place = f": {script.where(self.call)}" if self.call is not None else ""

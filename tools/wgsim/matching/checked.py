@@ -17,6 +17,7 @@ from wgsim.reading.report import NotReport, Report
 
 if TYPE_CHECKING:
     from wgsim.matching.clash import Told
+    from wgsim.program.program import Program
     from wgsim.reading.places import Text
 
 # What the program's own statuses mean where it writes nothing.
@@ -34,7 +35,7 @@ class Checked:
 
     `clash` is what differs, with `beside` the report beside the script where the two belong together, and `why` they do not."""
 
-    def __init__(self, data: bytes, name: str, program: Any, text: Text | None = None) -> None:
+    def __init__(self, data: bytes, name: str, program: Program, text: Text | None = None) -> None:
         self.data, self.name, self.program = data, name, program
         self.status, said = program.check(data)
         if self.status in OF_TRACES:
@@ -43,16 +44,16 @@ class Checked:
         self.beside, self.why = beside_of(data, text) if text is not None and self.status != BAD_TRACE else (None, None)
         self.clash = self.found() if self.status == DIFFERS else None
 
-    def found(self) -> Any:
+    def found(self) -> clash.Clash | None:
         """What differs, as a clash of two steps; None where the trace has no such steps."""
         try:
             return clash.Clash(self.line, self.data.decode("ascii").split("\n"))
         except (ValueError, KeyError, AttributeError, IndexError):
             return None
 
-    def told(self) -> Told:
+    def told(self, found: clash.Clash) -> Told:
         """The clash as it is told: by the names of the script, where there is one."""
-        return clash.Told(self.clash, self.name, clash.ByScript(self.beside) if self.beside else clash.ByNumber())
+        return clash.Told(found, self.name, clash.ByScript(self.beside) if self.beside else clash.ByNumber())
 
     def fault(self) -> list[int]:
         """The rule and the line of a text that is no trace."""
@@ -66,13 +67,13 @@ class Checked:
             return [f"{self.line}: {AGREE} {by}", *self.unmatched()]
         if self.clash is None:
             return [f"{self.line} {by}", "  the steps were not found: the program tells no more than the line above"]
-        told = self.told()
+        told = self.told(self.clash)
         return [f"{self.line}: {told.head()} {by}", *self.unmatched(), *told.lines()]
 
-    def unmatched(self) -> list[Any]:
+    def unmatched(self) -> list[str]:
         return [f"(the steps are told without their calls, since this tool cannot match them: {self.why})"] if self.why else []
 
-    def facts(self) -> dict[str, int | str]:
+    def facts(self) -> dict[str, Any]:
         """All of it as an object, for a machine."""
         found = {
             "kind": self.line.split(" ")[0] if self.status != BAD_TRACE else "bad trace",
@@ -85,11 +86,11 @@ class Checked:
         if self.status == BAD_TRACE:
             found.update(notrace.facts(self.data, *self.fault()))
         elif self.clash is not None:
-            found.update(self.told().facts())
+            found.update(self.told(self.clash).facts())
         return found
 
 
-def beside_of(data: bytes, text: Text) -> Any:
+def beside_of(data: bytes, text: Text) -> tuple[Beside | None, str | None]:
     """A report beside its script, and None; or None, and why they do not belong together."""
     try:
         script = scripts.read(text)
@@ -100,13 +101,13 @@ def beside_of(data: bytes, text: Text) -> Any:
         return None, str(error)
 
 
-def check(data: bytes, name: str, program: Any, text: Text | None = None) -> tuple[str, int]:
+def check(data: bytes, name: str, program: Program, text: Text | None = None) -> tuple[str, int]:
     """The answer in words, and its status."""
     checked = Checked(data, name, program, text)
     return "".join(escaped(line) + "\n" for line in checked.lines()), checked.status
 
 
-def check_json(data: bytes, name: str, program: Any, text: Any = None) -> tuple[str, int]:
+def check_json(data: bytes, name: str, program: Program, text: Text | None = None) -> tuple[str, int]:
     """The answer as one object, and its status."""
     checked = Checked(data, name, program, text)
     return json.dumps(checked.facts(), ensure_ascii=True) + "\n", checked.status

@@ -31,7 +31,7 @@ class Clash:
         self.reader, self.writer = (None if reader == "end" else by_number[int(reader)]), by_number[int(writer)]
         self.writes = [step for step in steps if step.kind in WRITING]
         self.seen = self.last_before(self.reader)
-        self.find()
+        self.case, self.otherwise, self.apart = self.find()
         if self.reader is not None and self.reader.kind not in READING or self.writer.kind not in WRITING:
             raise ValueError(line)
 
@@ -39,26 +39,28 @@ class Clash:
         """The last step before another one, or before the end, that writes the cell; or None."""
         return next((each for each in reversed(self.writes) if step is None or each.number < step.number), None)
 
-    def find(self) -> None:
+    def find(self) -> tuple[str, Touch | None, tuple[Touch, Touch]]:
         """Which of the three cases it is, what the reader may see, and between which two steps a barrier is missing, at the latest in front
         of the second."""
-        if self.writer is self.seen:
-            self.case, self.otherwise, self.apart = LAST, self.last_before(self.writer), (self.writer, self.reader)
-        elif self.reader is None or self.writer.number < self.reader.number:
-            self.case, self.otherwise, self.apart = EARLIER, self.writer, (self.writer, self.seen)
-        else:
-            self.case, self.otherwise, self.apart = LATER, self.writer, (self.reader, self.writer)
+        reader, writer, seen = self.reader, self.writer, self.seen
+        if reader is not None and writer is seen:
+            return LAST, self.last_before(writer), (writer, reader)
+        if reader is not None and writer.number >= reader.number:
+            return LATER, writer, (reader, writer)
+        if seen is None:
+            raise ValueError("nothing before the reader writes the cell")
+        return EARLIER, writer, (writer, seen)
 
-    def barrier(self, part=None):
+    def barrier(self, part: Part | None = None) -> str:
         """The line of the barrier that is enough, on the cell's part or on a larger one."""
         return f"bar {' '.join((part or part_of(self.cell)).words)} {self.apart[0].usages()} {self.apart[1].usages()}"
 
-    def wider(self) -> Any:
+    def wider(self) -> str | None:
         """The line of that barrier on all layers that both steps access, or None where that is no more than one."""
         part = common_part(self.cell, *self.apart)
         return self.barrier(part) if part is not None else None
 
-    def unused(self) -> list[Any]:
+    def unused(self) -> list[Touch]:
         """Which of the two steps have no `use` line of the part, so that their usages are guessed."""
         return [step for step in self.apart if not step.used]
 
@@ -66,7 +68,7 @@ class Clash:
 class Told:
     """The lines that tell of a clash."""
 
-    def __init__(self, clash: Any, name: str, named_so: ByNumber | ByScript) -> None:
+    def __init__(self, clash: Clash, name: str, named_so: ByNumber | ByScript) -> None:
         self.clash = clash
         self.name = name
         self.named_so = named_so
@@ -78,7 +80,7 @@ class Told:
     def head(self) -> str:
         return f"{self.reader} may see {cell_said(self.clash.cell, self.named_so.name)} otherwise than as printed"
 
-    def where(self, step: Any) -> list[str]:
+    def where(self, step: Touch) -> list[str]:
         """A step with its lines, and the call that it is of."""
         lines = [f"{self.name}:{step.at}: {step.line}", f"{self.name}:{step.row_at}: {step.row}", *self.named_so.call(step.number)]
         return [f"    {line}" for line in lines]
@@ -91,7 +93,7 @@ class Told:
         else:
             lines = [f"{self.reader} reads it:", *self.where(clash.reader)]
         lines += [f"{step_said(clash.writer)} {HOW.get(clash.case, last)}:", *self.where(clash.writer)]
-        if clash.seen not in (clash.writer, None):
+        if clash.seen is not None and clash.seen is not clash.writer:
             lines += [f"{step_said(clash.seen)} {last}:", *self.where(clash.seen)]
         return lines
 
@@ -106,7 +108,7 @@ class Told:
         }
         return [f"as printed, {self.reader} sees {what_of(clash.seen)}", f"the barriers let {may[clash.case]}"]
 
-    def missing(self) -> list[Any]:
+    def missing(self) -> list[str]:
         """The barrier that is enough, ready to be pasted, and where."""
         clash = self.clash
         one, other = clash.apart
@@ -122,7 +124,7 @@ class Told:
         lines += [f"(the usage of {unused} is guessed, since no `use` line has it; usages are not judged)"] if unused else []
         return [*lines, "More may differ: put it in and check again."]
 
-    def facts(self) -> dict[Any, Any]:
+    def facts(self) -> dict[str, Any]:
         """The same as an object, for a machine."""
         clash = self.clash
         return {
@@ -143,7 +145,7 @@ class Told:
             },
         }
 
-    def fact(self, step: Any) -> Any:
+    def fact(self, step: Touch | None) -> dict[str, Any] | None:
         """A step as an object; None stands for the end of the trace, or for no write."""
         if step is None:
             return None
@@ -162,13 +164,14 @@ def what_of(step: Touch | None) -> str:
 class ByNumber:
     """Names objects by their kinds and numbers, where no script is known."""
 
-    name = staticmethod(named)
+    def name(self, sort: str, number: int) -> str:
+        return named(sort, number)
 
-    def call(self, number: Any) -> list[Any]:
+    def call(self, number: int) -> list[str]:
         """The lines that tell the call of a step."""
         return []
 
-    def fact(self, number: int) -> dict[Any, Any]:
+    def fact(self, number: int) -> dict[str, Any]:
         return {}
 
 
@@ -178,18 +181,18 @@ class ByScript(ByNumber):
     def __init__(self, beside: Beside) -> None:
         self.beside = beside
 
-    def name(self, sort, number):
+    def name(self, sort: str, number: int) -> str:
         entry = self.beside.makers.get(number)
         call = self.beside.call_of.get(entry.number) if entry is not None else None
         if call is None or call.gives is None:
             return named(sort, number)
         return '"{}" ({}:{})'.format(call.gives, *self.beside.script.text.place(call.value.start))
 
-    def call(self, number):
+    def call(self, number: int) -> list[str]:
         call = self.beside.command_of.get(number)
         return [f"of the call at {self.beside.script.where(call)}: {self.beside.script.said(call)}"] if call is not None else []
 
-    def fact(self, number):
+    def fact(self, number: int) -> dict[str, Any]:
         call = self.beside.command_of.get(number)
         if call is None:
             return {"call": None, "do": None}

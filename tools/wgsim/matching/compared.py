@@ -12,8 +12,9 @@ The verdict of a call is one of
 from __future__ import annotations
 
 import json
+import pathlib
 import re
-from typing import Any
+from typing import TYPE_CHECKING, Any, Iterable
 
 from wgsim.matching.beside import Beside, DoNotMatch
 from wgsim.reading import report as reports
@@ -23,6 +24,11 @@ from wgsim.reading.browser_answers import Answers, Pages
 from wgsim.reading.places import NotJson, Text
 from wgsim.reading.report import count
 from wgsim.recorder import whole_text
+
+if TYPE_CHECKING:
+    from wgsim.reading.browser_answers import Answer, Note, Passed as PassedCall
+    from wgsim.reading.report import Entry, Fault
+    from wgsim.reading.script import Call
 
 AGREES, DIFFERS, KNOWN, OUTSIDE, FOLLOWS = "agrees", "differs", "differs as known", "outside", "follows"
 TABLE = json.loads((whole_text.FOLDER / "known.json").read_text(encoding="utf-8"))
@@ -36,14 +42,14 @@ TOO_SMALL = re.compile(next(row["says"] for row in TABLE["known"] if "createBind
 class Verdict:
     """What is told of one call. `is_alone` says that the browser alone refuses it, with an error of a kind and the message."""
 
-    def __init__(self, number: Any, call: Any, at: Any, how: Any, core: Any, browser: Any, why: Any = None) -> None:
+    def __init__(self, number: int, call: Call | None, at: str | None, how: str, core: str, browser: str, why: str | None = None) -> None:
         self.number, self.call, self.at, self.how, self.core, self.browser, self.why = number, call, at, how, core, browser, why
-        self.word = call.word if call is not None else None
+        self.word = call.word if call is not None else ""
         self.is_alone = False
-        self.kind: str | None = None
+        self.kind = ""
         self.message = ""
 
-    def of_browser(self, answer: dict[str, Any]) -> None:
+    def of_browser(self, answer: Answer) -> None:
         """Takes the error that the browser alone told."""
         self.is_alone = True
         self.kind = "thrown" if "throws" in answer else f"{answer['error']}, {answer['caught']}"
@@ -63,7 +69,7 @@ class Verdict:
         why = f" ({self.why})" if self.why else ""
         return f"{self.how} {where}: {self.word}: core {self.core}; browser {self.browser}{why}"
 
-    def json(self) -> Any:
+    def json(self) -> dict[str, Any]:
         return {
             "call": self.number,
             "do": self.word,
@@ -78,7 +84,7 @@ class Verdict:
 class Passed(Verdict):
     """What is told of a call that the script does not have, and that the browser refused."""
 
-    def __init__(self, passed: Any) -> None:
+    def __init__(self, passed: PassedCall) -> None:
         why = f"no script has it: {listed([passed['outside']])}" + (f", {passed['detail']}" if passed.get("detail") else "")
         super().__init__(passed["before"], None, passed.get("at"), OUTSIDE, "has it not", browser_of(passed), why)
         self.word = passed["do"]
@@ -91,10 +97,12 @@ class Passed(Verdict):
 class Compared:
     """A recording beside the program's report of its script."""
 
-    def __init__(self, path, data, said):
-        self.answers, self.pages, self.verdicts = Answers(path), Pages(str(path)), []
+    def __init__(self, path: pathlib.Path, data: bytes, said: str) -> None:
+        self.answers, self.pages = Answers(path), Pages(str(path))
+        self.verdicts: list[Verdict] = []
         self.refused = said.strip() if said.startswith("bad script") else None
-        self.tainted, self.is_count_off, self.is_scope_off = set(), False, False
+        self.tainted: set[str | None] = set()
+        self.is_count_off, self.is_scope_off = False, False
         if self.refused:
             return
         try:
@@ -109,7 +117,7 @@ class Compared:
         for number, call in enumerate(self.beside.script.calls):
             self.compare(number, call)
 
-    def compare(self, number: Any, call: Any) -> None:
+    def compare(self, number: int, call: Call) -> None:
         """Notes the verdict of a call where there is something to tell."""
         entry, answer = self.beside.entry_of.get(call), self.answers.of.get(number, {})
         fault = entry.fault if entry is not None else None
@@ -125,7 +133,7 @@ class Compared:
         elif entry is not None and "settle" in answer:
             self.settle(number, call, entry, answer)
 
-    def settle(self, number, call, entry, answer):
+    def settle(self, number: int, call: Call, entry: Entry, answer: Answer) -> None:
         """Compares how a promise was settled."""
         core, browser = self.settled.get(entry.number), answer["settle"]
         told = re.sub(r" \d+$", "", core) if core is not None else None
@@ -136,9 +144,11 @@ class Compared:
             how, why = FOLLOWS, "an earlier difference was caught by this scope, or was not"
         self.tainted |= self.names(call)
         words = f"settles {core}" if core is not None else "does not settle it"
-        self.verdicts.append(Verdict(number, call, self.pages.at(call), how, words, f"settles {browser}", why))
+        self.add(number, call, how, words, f"settles {browser}", why)
 
-    def reason(self, call: Any, fault: Any, answer: Any, settled: Any = None) -> Any:
+    def reason(
+        self, call: Call, fault: Fault | None, answer: Answer, settled: tuple[str | None, str] | None = None
+    ) -> tuple[str, str | None]:
         """Why two answers differ, in `settled` how they settle a promise, as far as that is known: the verdict and its words."""
         if self.names(call) & self.tainted:
             return FOLLOWS, "it names what came of an earlier difference"
@@ -157,34 +167,42 @@ class Compared:
         lifted = [word for word in self.answers.device if fault is not None and fault[1] in TABLE["lifted"].get(word, [])]
         return (OUTSIDE, f"the device has {', '.join(lifted)}") if lifted else (DIFFERS, None)
 
-    def note(self, number, call, how, core, browser, reason):
+    def note(self, number: int, call: Call, how: str, core: str, browser: str, reason: tuple[str, str | None] | None) -> None:
         """Adds a verdict. What comes of a call on which the two differ differs too."""
         how, why = reason if reason is not None else (how, None)
-        self.verdicts.append(Verdict(number, call, self.pages.at(call), how, core, browser, why))
+        self.add(number, call, how, core, browser, why)
         if how == AGREES:
             return
-        self.tainted |= {call.gives} if call.gives else self.names(call) if call.word == "mapAsync" else set()
+        if call.gives:
+            self.tainted.add(call.gives)
+        elif call.word == "mapAsync":
+            self.tainted |= self.names(call)
         if call.is_late:
             self.tainted.add(scripts.string_of(call.value, "on"))
         self.is_count_off = self.is_count_off or call.word in QUEUING
         self.is_scope_off = self.is_scope_off or " scope " in f"{core} {browser}"
 
-    def names(self, call):
+    def add(self, number: int, call: Call, how: str, core: str, browser: str, why: str | None) -> None:
+        """Adds a verdict, of the call as the page made it."""
+        self.verdicts.append(Verdict(number, call, self.pages.at(call), how, core, browser, why))
+        self.verdicts[-1].word = self.pages.word(call)
+
+    def names(self, call: Call) -> set[str]:
         """The names that a call uses, and of a finish those that its commands use."""
         commands = [call, *self.beside.script.recorded_in(call)]
         return {name.what for command in commands for _, name in command.names()}
 
-    def how(self) -> Any:
+    def how(self) -> str:
         """The verdict of the whole recording."""
         if self.refused:
             return DIFFERS
         found = {verdict.how for verdict in self.verdicts}
         return next((how for how in (DIFFERS, KNOWN, OUTSIDE) if how in found), AGREES)
 
-    def of(self, how: str) -> list[Any]:
+    def of(self, how: str) -> list[Verdict]:
         return [verdict for verdict in self.verdicts if verdict.how == how]
 
-    def left(self) -> list[Any]:
+    def left(self) -> list[str]:
         """What the page asked for and the script does not say, with how often, in words."""
         found = {}
         for word, times in self.answers.left.items():
@@ -198,7 +216,7 @@ class Compared:
         found = self.of(AGREES)
         return [verdict.text() for verdict in found[:1]] + ([f"and at {count(len(found) - 1, 'further call')}"] if len(found) > 1 else [])
 
-    def lines(self) -> list[Any]:
+    def lines(self) -> list[str]:
         """What is told below the first line: shaders that were refused, and buffers that are too small for one, come first."""
         if self.refused:
             return [self.refused]
@@ -214,7 +232,7 @@ class Compared:
         lines += [f"at {passed.get('at')}: {passed['do']} is not in the script: {passed['detail']}" for passed in unread]
         return lines + ([f"left out, since no script says it: {'; '.join(self.left())}"] if self.left() else [])
 
-    def json(self) -> Any:
+    def json(self) -> dict[str, Any]:
         return {
             "refused": self.refused,
             "calls": len(self.pages.calls),
@@ -224,7 +242,7 @@ class Compared:
         }
 
 
-def same_error(fault: Any, answer: Any) -> Any:
+def same_error(fault: Fault, answer: Answer) -> bool:
     """Whether the browser's error is that of the program: thrown where the standard throws, and else of its kind and in its scope."""
     kind, number, caught = fault
     if "throws" in answer:
@@ -232,14 +250,14 @@ def same_error(fault: Any, answer: Any) -> Any:
     return (kind, caught) == (answer["error"], answer["caught"])
 
 
-def core_of(fault: Any) -> Any:
+def core_of(fault: Fault | None) -> str:
     if fault is None:
         return "takes it"
     kind, number, caught = fault
     return f"refuses it by rule {number} ({kind}, {caught})"
 
 
-def browser_of(answer: Any) -> Any:
+def browser_of(answer: Answer) -> str:
     if "throws" in answer:
         return f"throws {answer['throws']}"
     if "error" not in answer:
@@ -248,7 +266,7 @@ def browser_of(answer: Any) -> Any:
     return f"refuses it ({answer['error']}, {answer['caught']}): {lines[0] if lines else 'it says nothing'}"
 
 
-def is_of(row: Any, call: Any, fault: Any, answer: Any, settled: Any) -> Any:
+def is_of(row: dict[str, Any], call: Call, fault: Fault | None, answer: Answer, settled: tuple[str | None, str] | None) -> bool:
     """Whether a difference is one that is known: by the rule of the program, the words of the browser, and the call, as far as the row has
     them."""
     holds = [
@@ -262,14 +280,14 @@ def is_of(row: Any, call: Any, fault: Any, answer: Any, settled: Any) -> Any:
     return all(holds)
 
 
-def excuses(word: str, call: Any, answer: Any) -> bool:
+def excuses(word: str, call: Call, answer: Answer) -> bool:
     """Whether something that was left out can be why a browser refuses a call: by the call, and by the words of the browser."""
     row = whole_text.OUTSIDE.get(word, {"calls": [call.word], "says": ""})
     message = answer.get("message") or answer.get("throws", "")
     return not row.get("harmless") and call.word in row["calls"] and re.search(row["says"], message, re.IGNORECASE) is not None
 
 
-def told_once(verdicts: list[Any]) -> list[str]:
+def told_once(verdicts: list[Verdict]) -> list[str]:
     """Verdicts in lines, where those that come again at the same place of the page, with the same words, are told once."""
     groups: dict[Any, list[Any]] = {}
     for verdict in verdicts:
@@ -278,18 +296,18 @@ def told_once(verdicts: list[Any]) -> list[str]:
     return [found[0].text(len(found)) for found in groups.values()]
 
 
-def listed(words: Any) -> Any:
+def listed(words: Iterable[str]) -> str:
     """What was left out, in words."""
     return ", ".join(dict.fromkeys(whole_text.OUTSIDE.get(word, {"said": word})["said"] for word in words))
 
 
-def noted(note: Any) -> list[str]:
+def noted(note: Note) -> list[str]:
     """A note of the recorder, in lines: the browser's or the page's words are told whole."""
     lines = [line.rstrip() for line in said_of(note).splitlines() if line.strip()]
     return lines[:1] + [f"    {line}" for line in lines[1:]]
 
 
-def said_of(note: Any) -> str:
+def said_of(note: Note) -> str:
     at = f"at {note['at']}: " if "at" in note else ""
     if "shader" in note:
         return f"{at}the browser refuses a shader: {note['message'].strip()}"

@@ -14,6 +14,9 @@ from wgsim.reading import calls, rules
 from wgsim.reading.report import NotReport, Report
 
 if TYPE_CHECKING:
+    from wgsim.causes.cases import Told
+    from wgsim.matching.beside import Beside
+    from wgsim.matching.given import Asked
     from wgsim.reading.rules import Rule
     from wgsim.reading.script import Call
 
@@ -33,7 +36,7 @@ OF_ENCODER = {180}
 class Found:
     """The command with its number among the encoder's, counted from 1, and how it was found."""
 
-    def __init__(self, call: Call, number: Any, total: int, asked: int, said: str) -> None:
+    def __init__(self, call: Call, number: int, total: int, asked: int, said: str) -> None:
         self.call = call
         self.number = number
         self.total = total
@@ -44,19 +47,20 @@ class Found:
 class Cuts:
     """The shorter recordings of one encoder, in one script, up to its finish."""
 
-    def __init__(self, beside: Any, finish: Any, program: Any) -> None:
+    def __init__(self, beside: Beside, finish: Call, program: Asked) -> None:
         self.beside = beside
         self.script = script = beside.script
         self.finish = finish
         self.program = program
-        self.encoder = script.places[finish.value.member("on").what]
+        self.encoder = script.places[finish.value.needed("on").what]
         self.commands = self.encoder.commands
-        self.asked = {}
-        self.needed = self.makers()
-        if not self.is_as_valid():
+        self.asked: dict[tuple[Any, ...], int | str | None] = {}
+        made = self.makers()
+        self.needed: set[Call] | None = made
+        if not self.is_as_valid(made):
             self.needed = None
 
-    def makers(self) -> Any:
+    def makers(self) -> set[Call]:
         """The calls that make what the encoder's commands name, and what those name in turn, of a bundle what is recorded in it, and the
         drops of all that."""
         found, waiting = {self.encoder.call, *self.commands, self.finish}, [self.encoder.call, *self.commands]
@@ -70,16 +74,16 @@ class Cuts:
         named = {call.gives for call in found}
         return found | {call for call in self.script.calls if call.word == "drop" and {name.what for _, name in call.names()} <= named}
 
-    def is_as_valid(self) -> bool:
-        """Whether the script of these calls alone makes objects as valid as the whole script does."""
+    def is_as_valid(self, calls: set[Call]) -> bool:
+        """Whether the script of some calls alone makes objects as valid as the whole script does."""
         status, out = self.program.ask(self.cut(len(self.commands), []).encode("utf-8"))
         if status != 0:
             return False
         made = [entry.answer[2] for entry in Report(out.decode("utf-8")).entries if entry.object() is not None]
-        kept = [self.beside.entry_of[call] for call in self.beside.turns if call in self.needed and call in self.beside.entry_of]
+        kept = [self.beside.entry_of[call] for call in self.beside.turns if call in calls and call in self.beside.entry_of]
         return made == [entry.answer[2] for entry in kept if entry.object() is not None]
 
-    def rule(self, kept: int, closed: tuple[Any, ...]) -> int | None:
+    def rule(self, kept: int, closed: tuple[str, ...]) -> int | str | None:
         """The rule that the finish has with the first `kept` commands alone; of what they leave open that is closed first which `closed`
         names."""
         closers = self.closers(kept, closed)
@@ -89,14 +93,14 @@ class Cuts:
             self.asked[case] = self.fault(out.decode("utf-8")) if status == 0 else "refused"
         return self.asked[case]
 
-    def fault(self, out: str) -> Any:
+    def fault(self, out: str) -> int | str | None:
         try:
             last = Report(out).entries[-1]
         except (NotReport, IndexError):
             return "refused"
         return last.fault[1] if last.fault else None
 
-    def cut(self, kept: Any, closers: Any) -> Any:
+    def cut(self, kept: int, closers: list[str]) -> str:
         """The calls up to the finish, in the order of the report and as one lane, without late calls and without the later commands of its
         encoder, in place of which the closers stand."""
         gone = set(self.commands[kept:])
@@ -107,16 +111,16 @@ class Cuts:
         joined = ",\n".join(texts)
         return "{" + ",".join([*head, f'"phases":[[[{joined}]]]']) + "}"
 
-    def is_kept(self, call: Call, gone: set[Any]) -> bool:
+    def is_kept(self, call: Call, gone: set[Call]) -> bool:
         """Whether a call stands in a shorter script. A late call does not: what it is late for may not be there."""
         return call not in gone and not call.is_late and (self.needed is None or call in self.needed)
 
-    def opened(self, kept: int) -> Any:
+    def opened(self, kept: int) -> tuple[tuple[str | None, int] | None, dict[str | None, list[int]], bool]:
         """What the first commands leave open: the pass with the number of its begin, or None; by encoder and pass the numbers of the
         commands that opened its debug groups; and whether the pass has a query that is begun and not ended."""
         open_pass, groups, is_active = None, {}, False
         for number, call in enumerate(self.commands[:kept], 1):
-            on = call.value.member("on").what
+            on = call.value.needed("on").what
             if call.word in calls.BEGINS:
                 open_pass = open_pass or (call.gives, number)
             elif call.word == calls.END and open_pass and on == open_pass[0]:
@@ -131,7 +135,7 @@ class Cuts:
                     is_active = calls.query(call.word) == "begins"
         return open_pass, groups, is_active
 
-    def closers(self, kept: int, closed: tuple[Any, ...]) -> list[Any]:
+    def closers(self, kept: int, closed: tuple[str, ...]) -> list[str]:
         """Calls that close what the first commands leave open: the pass with its debug groups and its query (`pass`), the debug groups of
         the encoder (`groups`)."""
         open_pass, groups, is_active = self.opened(kept)
@@ -144,13 +148,13 @@ class Cuts:
             closing += [self.closer("popDebugGroup", self.encoder.name)] * len(groups.get(self.encoder.name, []))
         return closing
 
-    def closer(self, word: str, on: str) -> str:
+    def closer(self, word: str, on: str | None) -> str:
         return f'{{"do":"{word}","on":"{on}"}}'
 
 
-def find(beside: Any, finish: Any, rule: Any, program: Any) -> Any:
+def find(beside: Beside, finish: Call, rule: int, program: Asked) -> Found | None:
     """The command that a finish's fault is about, or None where none is to be found."""
-    place = beside.script.places.get(finish.value.member("on").what)
+    place = beside.script.places.get(finish.value.needed("on").what)
     if place is None or place.finish is not finish or not place.commands or rule in OF_ENCODER:
         return None
     cuts = Cuts(beside, finish, program)
@@ -164,7 +168,7 @@ def find(beside: Any, finish: Any, rule: Any, program: Any) -> Any:
     return Found(call, found, len(cuts.commands), len(cuts.asked), said_of(rule, beside.script.drawn_on(call)))
 
 
-def told(beside: Any, rule: Any, cause: Any) -> Any:
+def told(beside: Beside, rule: int, cause: Told) -> Found | None:
     """The command as the second reading of the rules finds it, where no program is to be asked; or None."""
     if cause.about is None:
         return None
@@ -179,7 +183,7 @@ def broken(rule: int, word: str, found: Found | None) -> list[Rule]:
     return asked[-1:] if found and rule == DROPPED else asked[:1]
 
 
-def first(cuts: Cuts, rule: int, closed: Any) -> Any:
+def first(cuts: Cuts, rule: int, closed: tuple[str, ...]) -> int | None:
     """The least number of commands with which the finish has the rule. Once it has it, more commands do not take it away."""
     low, high = 0, len(cuts.commands)
     if cuts.rule(0, closed) == rule:
@@ -193,7 +197,7 @@ def first(cuts: Cuts, rule: int, closed: Any) -> Any:
     return high
 
 
-def opener(cuts: Cuts, rule: int, closed: tuple[Any, ...]) -> int:
+def opener(cuts: Cuts, rule: int, closed: tuple[str, ...]) -> int | None:
     """The command that opens what is open to the end: with it, and not without it, a recording has the rule."""
     open_pass, groups, _ = cuts.opened(len(cuts.commands))
     opening = [open_pass[1]] if rule == PASS and open_pass else groups.get(cuts.encoder.name, []) if rule == GROUP else []
@@ -201,11 +205,12 @@ def opener(cuts: Cuts, rule: int, closed: tuple[Any, ...]) -> int:
     return opening[0] if is_it else None
 
 
-def said_of(rule: Any, drawn_on: Any) -> str:
+def said_of(rule: int, drawn_on: Call | None) -> str:
     if rule == DROPPED:
         return "names what was dropped before the encoder was made"
     if rule == SCOPE:
-        whole = {None: None, "render pass": "pass", "bundle encoder": "bundle"}[drawn_on and calls.makes(drawn_on.word)]
+        made = calls.makes(drawn_on.word) if drawn_on is not None else None
+        whole = {None: None, "render pass": "pass", "bundle encoder": "bundle"}[made]
         return (
             f"makes the usage scope of its {whole} one that is not compatible"
             if whole

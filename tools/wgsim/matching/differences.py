@@ -3,7 +3,7 @@
 from __future__ import annotations
 
 import difflib
-from typing import TYPE_CHECKING, Any, Callable
+from typing import TYPE_CHECKING, Callable
 
 from wgsim import exit_status
 from wgsim.matching.beside import Beside, DoNotMatch
@@ -21,7 +21,7 @@ if TYPE_CHECKING:
 class Side:
     """One of the two reports, and the words for what is in it."""
 
-    def __init__(self, given: tuple[bytes, str], program: Callable[..., Any]) -> None:
+    def __init__(self, given: tuple[bytes, str], program: Callable[[], Program]) -> None:
         data, self.name = given
         script = places.Text(data, self.name) if data.lstrip()[:1] == b"{" else None
         if script is not None:
@@ -30,22 +30,26 @@ class Side:
                 raise exit_status.End(status, f"{self.name}: {exit_status.SILENT[status]}")
         self.refused = data.decode("utf-8", "replace").strip() if data.startswith(b"bad script ") else None
         self.script = script
-        self.beside = None
-        if self.refused is None:
-            self.beside = Beside(parsed(data, self.name))
+        self.known = Beside(parsed(data, self.name)) if self.refused is None else None
+
+    @property
+    def beside(self) -> Beside:
+        """The report, where the script is not refused."""
+        assert self.known is not None
+        return self.known
 
     def name_by(self, text: Text) -> bool:
         """Takes the names of a script, where the report is one of it."""
-        if self.beside is None:
+        if self.known is None:
             return True
         try:
             script = scripts.read(text)
-            self.beside = Beside(self.beside.report, script) if script else self.beside
+            self.known = Beside(self.beside.report, script) if script else self.known
             return script is not None
         except (NotJson, DoNotMatch):
             return False
 
-    def where(self, entry):
+    def where(self, entry: Entry) -> str:
         call = self.beside.call_of.get(entry.number)
         return f" ({self.beside.script.where(call)})" if call else ""
 
@@ -79,7 +83,7 @@ class Comparison:
     def side(self, side: Side, text: str) -> str:
         return f"{'A' if side is self.one else 'B'}: {text}"
 
-    def entries(self):
+    def entries(self) -> None:
         ours, theirs = [[entry_text(side.beside, entry) for entry in side.beside.report.entries] for side in (self.one, self.other)]
         for way, a, b, c, d in difflib.SequenceMatcher(None, ours, theirs, False).get_opcodes():
             if way == "equal":
@@ -112,7 +116,7 @@ class Comparison:
             for m in right:
                 self.add(f"{self.item(self.other, m)} of B alone", *theirs[m].split("\n"))
 
-    def changed(self, ours: Any, theirs: Any, n: Any, m: Any) -> None:
+    def changed(self, ours: list[str], theirs: list[str], n: int, m: int) -> None:
         """A step that both have, and differ in: only the lines that differ."""
         first, second = ours[n].split("\n"), theirs[m].split("\n")
         lines = [self.side(self.one, line) for line in first if line not in second]
@@ -121,7 +125,7 @@ class Comparison:
             one, other = self.item(self.one, n), self.item(self.other, m)
             self.add(f"{one}, {first_line(ours[n])}" if one == other else f"{one} of A and {other} of B, {first_line(ours[n])}", *lines)
 
-    def item(self, side: Any, n: Any) -> Any:
+    def item(self, side: Side, n: int) -> str:
         item = side.beside.report.items[n]
         return "release" if isinstance(item, Release) else f"step {item.number}"
 
@@ -130,23 +134,23 @@ def heading(what: str, one: int, other: int) -> str:
     return f"{what} {one}" if one == other else f"{what} {one} of A and {what} {other} of B"
 
 
-def first_line(text: Any) -> Any:
+def first_line(text: str) -> str:
     """The line of a step's text that says which step it is."""
     return next((line for line in text.split("\n") if not line.startswith("barrier ")), text)
 
 
-def paired(ours, theirs, some, others):
+def paired(ours: list[str], theirs: list[str], some: range, others: range) -> tuple[list[tuple[int, int]], list[int], list[int]]:
     """Brings together those steps of two runs that are of one name; the others are in one report alone."""
-    names = [[first_line(texts[n]).split(",")[0] for n in run] for texts, run in ((ours, some), (theirs, others))]
+    our_names, their_names = ([first_line(texts[n]).split(",")[0] for n in run] for texts, run in ((ours, some), (theirs, others)))
     pairs = []
-    for way, a, b, c, _ in difflib.SequenceMatcher(None, *names, False).get_opcodes():
+    for way, a, b, c, _ in difflib.SequenceMatcher(None, our_names, their_names, False).get_opcodes():
         if way == "equal":
             pairs += [(some[a + n], others[c + n]) for n in range(b - a)]
     met = [{pair[0] for pair in pairs}, {pair[1] for pair in pairs}]
     return pairs, [n for n in some if n not in met[0]], [n for n in others if n not in met[1]]
 
 
-def entry_text(beside: Any, entry: Entry) -> str:
+def entry_text(beside: Beside, entry: Entry) -> str:
     """An entry without its number, with names in the place of object numbers. Promises go by their number among the promises."""
     words = entry.line.split(" settle ")[0].split(" ")[1:]
     number = entry.object()
@@ -158,7 +162,7 @@ def entry_text(beside: Any, entry: Entry) -> str:
     return "lane " + " ".join(words) + "".join(settled)
 
 
-def item_texts(beside: Any) -> list[Any]:
+def item_texts(beside: Beside) -> list[str]:
     """The steps, each with its barriers, and the releases, with names and without the numbers of steps."""
     texts = []
     for item in beside.report.items:
@@ -174,7 +178,7 @@ def item_texts(beside: Any) -> list[Any]:
     return texts
 
 
-def give_names(one: Any, other: Any, given: Any) -> Any:
+def give_names(one: Side, other: Side, given: Text | None) -> list[str]:
     """Has both sides go by the names of the script that is given, or that one of them is. Returns a note where one is not of it."""
     text = given or one.script or other.script
     if text is None:
@@ -183,17 +187,17 @@ def give_names(one: Any, other: Any, given: Any) -> Any:
     if not any(fits):
         raise exit_status.End(exit_status.UNREAD, f"neither is a report of the script {text.name}")
     for side, named, letter, does_fit in ((one, other, "A", fits[0]), (other, one, "B", fits[1])):
-        if not does_fit and named.beside:
+        if not does_fit and named.known:
             side.beside.names = named.beside.names
             return [f"({letter} does not fit the script {text.name}: its objects go by the names that their numbers have there)"]
     return []
 
 
-def compare(inputs: Any, script: Any, is_unproved: Any) -> tuple[str, int]:
+def compare(inputs: list[tuple[bytes, str]], script: tuple[bytes, str] | None, is_unproved: bool) -> tuple[str, int]:
     """What two reports differ in, and the status."""
-    kept = []
+    kept: list[Program] = []
 
-    def program():
+    def program() -> Program:
         kept[:] = kept or [Program(is_unproved)]
         return kept[0]
 

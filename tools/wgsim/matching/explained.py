@@ -4,7 +4,7 @@ from __future__ import annotations
 
 import functools
 import re
-from typing import TYPE_CHECKING, Any, Callable
+from typing import TYPE_CHECKING, Any, Callable, Iterable
 
 from wgsim import causes
 from wgsim.exit_status import DIFFERENT, REFUSED, SILENT, End
@@ -17,6 +17,8 @@ from wgsim.reading.places import NotJson, escaped
 from wgsim.reading.report import NotReport, Release, Report, count, summary
 
 if TYPE_CHECKING:
+    from wgsim.matching.culprit import Found as Culprit
+    from wgsim.matching.given import Asked
     from wgsim.reading.places import Text
     from wgsim.reading.report import Entry, Step
     from wgsim.reading.script import Call
@@ -48,7 +50,7 @@ class Explained:
     """The lines that explain one script, and the status: that with which the program ended, or, where the browser that played it made
     errors of its own, that of a difference."""
 
-    def __init__(self, text: Text, program: Any, data: bytes) -> None:
+    def __init__(self, text: Text, program: Asked, data: bytes) -> None:
         self.text = text
         self.program = program
         self.lines = []
@@ -83,12 +85,12 @@ class Explained:
         and_follow = f"{count(faults - follow, 'fault')} and {follow} that {'follows' if follow == 1 else 'follow'}"
         return summary(self.beside.report).replace(count(faults, "fault"), and_follow, 1) if follow else summary(self.beside.report)
 
-    def faults(self):
+    def faults(self) -> None:
         """The calls that were wrong, each with the rule that it breaks and why. What only follows from another fault has one line."""
         wrong = [entry for entry in self.beside.report.entries if entry.fault]
         for entry, *others in self.alike(wrong):
             call = self.beside.call_of.get(entry.number)
-            if self.causes.follows(entry):
+            if call is not None and self.causes.follows(entry):
                 self.following(entry, call)
                 self.again(others)
                 continue
@@ -132,24 +134,24 @@ class Explained:
         for error, *others in groups.values():
             self.say(*error.lines(self.beside.script, len(others) + 1))
 
-    def following(self, entry, call):
+    def following(self, entry: Entry, call: Call) -> None:
         """The line of a fault that only follows from another, and the error scope that caught it, if one did."""
         told = self.causes.of(entry)
         by = f" in the {told.command.word} at {self.place(told.command).strip()}" if told.command else ""
         where = f"entry {entry.number}, {self.beside.script.where(call)}"
-        self.say(
-            "", f"follows from entry {self.causes.root(entry)}: {where}: {entry.word}{by}: {told.cause.condition} (rule {entry.fault[1]})"
-        )
+        assert told.cause is not None
+        why = f"{told.cause.condition} (rule {entry.own_fault().rule})"
+        self.say("", f"follows from entry {self.causes.root(entry)}: {where}: {entry.word}{by}: {why}")
         self.say(*[f"    {line}" for line in self.pages.said(call)])
         self.say(*[f"    {line}" for line in self.scopes.of_fault(entry)])
 
-    def history(self):
+    def history(self) -> None:
         self.say("", "HISTORY: what the device answered, with the line and column of each call", "")
         has_phases = len({call.place[0] for call in self.beside.call_of.values()}) > 1
         has_lanes = len({entry.lane for entry in self.beside.report.entries}) > 1
         for entry in self.beside.report.entries:
             call = self.beside.call_of.get(entry.number)
-            turn = (f"phase {call.place[0]}  " if has_phases else "") + (f"lane {entry.lane}  " if has_lanes else "")
+            turn = (f"phase {call.place[0]}  " if has_phases and call else "") + (f"lane {entry.lane}  " if has_lanes else "")
             self.say(f"{entry.number:4}  {self.place(call)}{turn}{self.beside.script.said(call) if call else entry.word}")
             self.say(*[f"      {line}" for line in bits.of_call(call)] if call else [])
             why = f", by rule {entry.fault[1]}" if entry.fault else ""
@@ -157,7 +159,7 @@ class Explained:
             for promise, how in entry.settled:
                 self.say(f"      {self.scopes.settled(entry, promise, how)}")
 
-    def place(self, call: Any) -> str:
+    def place(self, call: Call | None) -> str:
         """The line and column of a call."""
         return "{}:{}  ".format(*self.text.place(call.value.start)) if call is not None else ""
 
@@ -180,8 +182,8 @@ class Explained:
             return "refused" if entry.word != "late" else "late: what it is recorded on has ended"
         return ANSWERS.get(entry.answer[0], " ".join(entry.answer))
 
-    def fault(self, entry: Any, call: Any) -> None:
-        kind, number, caught = entry.fault
+    def fault(self, entry: Entry, call: Call | None) -> None:
+        kind, number, caught = entry.own_fault()
         uncaught = "uncaptured" if caught == "uncaptured" else f"caught by error {caught}"
         self.say(f"    breaks rule {number} ({kind} error, {uncaught})")
         told = self.causes.of(entry)
@@ -197,12 +199,12 @@ class Explained:
             self.say(f"    rule {number} asks of {rule.label}: {rule.asks}", f"    {rules.section(rule)}")
         if found:
             self.command(found, number)
-            if number == culprit.DROPPED:
+            if number == culprit.DROPPED and call is not None:
                 self.before(call, {name.what for _, name in found.call.names()}, ("drop",))
         elif call is not None:
             self.reasons(entry, call, number)
 
-    def command(self, found, number):
+    def command(self, found: Culprit, number: int) -> None:
         script = self.beside.script
         self.say(f"    the command that {found.said} is number {found.number} of {found.total}: {script.where(found.call)}")
         self.say(f"        {script.said(found.call)}", *[f"        {line}" for line in self.pages.said(found.call)])
@@ -223,23 +225,23 @@ class Explained:
         if number in OF_SET:
             self.set_at(found.call, number == culprit.SCOPE)
 
-    def attached_at(self, call):
+    def attached_at(self, call: Call) -> None:
         """What is attached to the render pass of a call, or to what its bundle draws, if it is on one of these."""
         on = self.beside.script.drawn_on(call)
         if on is not None:
             how = "attached there" if on.word in calls.BEGINS else "to be drawn to there"
             self.say(f"    {how}, at {self.beside.script.where(on)}: {self.beside.script.said(on)}")
 
-    def drawn_by(self, call):
+    def drawn_by(self, call: Call) -> None:
         """To what the bundles draw that a call executes, each once."""
         script, executed = self.beside.script, [name.what for _, name in call.names()] if calls.executes(call.word) else []
         for name in dict.fromkeys(executed):
             finish = script.made.get(name)
             place = script.places.get(scripts.string_of(finish.value, "on")) if finish is not None else None
-            if place is not None and calls.ends_encoder(finish.word):
+            if finish is not None and place is not None and calls.ends_encoder(finish.word):
                 self.say(f"    {name}: made by {finish.word} at {script.where(finish)}, of {script.said(place.call)}")
 
-    def set_at(self, call, is_of_scope):
+    def set_at(self, call: Call, is_of_scope: bool) -> None:
         """What is set where a dispatch or a draw comes, with the layouts of it all; of the scope of a render pass or a bundle all that it
         has attached, set and executed."""
         is_whole = is_of_scope and self.beside.script.drawn_on(call) is not None
@@ -270,7 +272,7 @@ class Explained:
             self.before(call, self.reached(call), {180: ("finish", "finishBundle"), 190: ("submit",)}.get(number, ("destroy",)))
             self.say(*[f"    {line}" for line in self.scopes.maps.of_fault(entry, sorted(self.reached(call)))])
 
-    def layouts(self, names):
+    def layouts(self, names: Iterable[str]) -> None:
         """Where the layouts among some names were made, those that a pipeline layout has, and the bind groups and pipelines with theirs."""
         waiting, told = list(names), set()
         while waiting:
@@ -281,14 +283,14 @@ class Explained:
                 waiting = [inner.what for _, inner in maker.names()] + waiting
                 told.add(name)
 
-    def invalid(self, name):
+    def invalid(self, name: str) -> None:
         maker = self.beside.object_of(name)
         if maker is not None and not maker.is_valid():
             call = self.beside.call_of[maker.number]
             why = f", by rule {maker.fault[1]}" if maker.fault else ""
             self.say(f"    {name} is invalid since it was made: entry {maker.number}{why}, {self.beside.script.where(call)}")
 
-    def ended(self, call):
+    def ended(self, call: Call) -> None:
         place = self.beside.script.places.get(scripts.string_of(call.value, "on"))
         if place is not None and place.end is not None:
             self.say(f"    {place.name} was ended at {self.beside.script.where(place.end)}")
@@ -312,14 +314,14 @@ class Explained:
     def turn_of(self) -> dict[Call, int]:
         return {call: turn for turn, call in enumerate(self.beside.turns)}
 
-    def before(self, call, names, words):
+    def before(self, call: Call, names: Iterable[str], words: Iterable[str]) -> None:
         """The first calls that the device took before one, that have one of some words and name one of some names."""
         found = [(*self.first_with[word, name], name) for word in words for name in names if (word, name) in self.first_with]
         for turn, _, other, name in sorted(found, key=lambda each: each[:2]):
             if turn < self.turn_of[call]:
                 self.say(f"    {name}: {other.word} at {self.beside.script.where(other)}")
 
-    def reached(self, call):
+    def reached(self, call: Call) -> set[str]:
         """The names that a call uses, those that the commands of the command buffers and bundles among them use, and what is bound in bind
         groups and of what views are; of the texture of a canvas all its names."""
         script, waiting, names = self.beside.script, [name.what for _, name in call.names()], set()
@@ -339,7 +341,7 @@ class Explained:
 
     def canvases(self) -> None:
         """Which frame of which canvas each texture is, where the script has canvases."""
-        found = frames.listed(self.beside) if self.beside.script is not None else []
+        found = frames.listed(self.beside) if self.beside.known is not None else []
         if found:
             self.say("", "CANVASES: which texture is which frame of which canvas")
         for head, lines in found:
@@ -372,7 +374,7 @@ class Explained:
         return f"step {step.number:<3} {what}, {where}" + (f", of the call at {self.place(call).strip()}" if call else "")
 
 
-def answer(text: Text, data: bytes, program: Any) -> tuple[int, str]:
+def answer(text: Text, data: bytes, program: Asked) -> tuple[int, str]:
     """The status of a script, and what the program says of it. The tool ends where that is nothing."""
     status, out = program.ask(data)
     if status in SILENT:
@@ -380,7 +382,7 @@ def answer(text: Text, data: bytes, program: Any) -> tuple[int, str]:
     return status, out.decode("utf-8", "replace")
 
 
-def set_beside(text: Text, said: str, say: Callable[..., Any]) -> Beside:
+def set_beside(text: Text, said: str, say: Callable[..., None]) -> Beside:
     """The report that the program gave, beside the script; alone where the two cannot be brought together."""
     try:
         report = Report(said)
@@ -397,7 +399,7 @@ def set_beside(text: Text, said: str, say: Callable[..., Any]) -> Beside:
     return Beside(report)
 
 
-def explain(text: Text, data: bytes, program: Any) -> tuple[str, int]:
+def explain(text: Text, data: bytes, program: Asked) -> tuple[str, int]:
     """The explanation of a script, and the program's status."""
     explained = Explained(text, program, data)
     return "".join(escaped(line) + "\n" for line in explained.lines), explained.status

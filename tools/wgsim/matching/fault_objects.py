@@ -17,6 +17,7 @@ from wgsim.reading import browser_answers
 
 if TYPE_CHECKING:
     from wgsim.matching.beside import Beside
+    from wgsim.matching.given import Asked
     from wgsim.reading.places import Text
     from wgsim.reading.report import Entry
     from wgsim.reading.script import Call
@@ -27,9 +28,9 @@ def place(text: Text, call: Call | None) -> str | None:
     return "{}:{}".format(*text.place(call.value.start)) if call is not None else None
 
 
-def of_fault(text: Any, beside: Any, scopes: Any, causes_of: Any, entry: Any) -> Any:
+def of_fault(text: Text, beside: Beside, scopes: Scopes, causes_of: causes.Causes, entry: Entry) -> dict[str, Any]:
     """A fault as an object; where the script was recorded with the places of its call and its command in the page."""
-    kind, number, _ = entry.fault
+    kind, number, _ = entry.own_fault()
     told, call = causes_of.of(entry), beside.call_of.get(entry.number)
     cause = told.cause
     rule = culprit.broken(number, entry.word, culprit.told(beside, number, told))[0]
@@ -80,7 +81,7 @@ def of_promise(text: Text, beside: Beside, scopes: Scopes, entry: Entry) -> Any:
     }
 
 
-def of_status(text: Text, beside: Beside, entry: Entry) -> dict[str, int | str]:
+def of_status(text: Text, beside: Beside, entry: Entry) -> dict[str, Any]:
     """What the device answered at an entry."""
     call, number = beside.call_of.get(entry.number), entry.object()
     words = {"made": entry.answer[-1], "op": "queued", "promise": "promise", "bad": "bad"}
@@ -102,19 +103,18 @@ def of_status(text: Text, beside: Beside, entry: Entry) -> dict[str, int | str]:
     return found
 
 
-def of_refusal(text: Any, line: Any) -> Any:
+def of_refusal(text: Text, line: str) -> dict[str, Any]:
     """A script that is refused, as an object."""
     found = refusal.find(text, line)
     where = dict(zip(refusal.PARTS, found.place))
     call = "{}:{}".format(*text.place(found.offset)) if found.offset is not None else None
-    names = {"phase": None, "lane": None, "call": None, **where}
     return {
         "kind": "refusal",
         "rule": found.rule,
         "at": call,
-        "phase": names["phase"],
-        "lane": names["lane"],
-        "number": names["call"],
+        "phase": where.get("phase"),
+        "lane": where.get("lane"),
+        "number": where.get("call"),
         "asks": found.refuses,
         "condition": found.found,
         "values": {"expected": found.expected},
@@ -122,7 +122,7 @@ def of_refusal(text: Any, line: Any) -> Any:
     }
 
 
-def listed(text: Any, data: Any, program: Any) -> tuple[Any, ...]:
+def listed(text: Text, data: bytes, program: Asked) -> tuple[list[dict[str, Any]], int]:
     """The objects of a script, and the status of its report."""
     status, said = answer(text, data, program)
     if status == REFUSED:
@@ -136,7 +136,7 @@ def listed(text: Any, data: Any, program: Any) -> tuple[Any, ...]:
     return found + browsers + [of_status(text, beside, entry) for entry in entries], DIFFERENT if browsers else status
 
 
-def explained(text: Text, data: bytes, program: Any) -> tuple[str, int]:
+def explained(text: Text, data: bytes, program: Asked) -> tuple[str, int]:
     """The JSON text of a script, an array with an object a line, and the status of its report."""
     found, status = listed(text, data, program)
     return "[" + ",".join("\n" + json.dumps(each, ensure_ascii=True) for each in found) + "\n]\n", status

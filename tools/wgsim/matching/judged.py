@@ -15,7 +15,7 @@ import pathlib
 import subprocess
 import sys
 import time
-from typing import Any
+from typing import TYPE_CHECKING, Callable, Generator
 
 from wgsim import exit_status
 from wgsim.matching import compared
@@ -24,6 +24,9 @@ from wgsim.program.program import OWN
 from wgsim.reading import browser_answers
 from wgsim.reading.places import escaped
 from wgsim.reading.report import count
+
+if TYPE_CHECKING:
+    from wgsim.program.program import Program
 
 SAME, OTHER, DIFFERS, ALONE, FAILED = "as expected", "another order", compared.DIFFERS, "nothing expected", "no answer"
 RECORDED = (compared.AGREES, compared.KNOWN, compared.OUTSIDE)
@@ -41,27 +44,28 @@ WRITTEN = {
 class Result:
     """What came of one script: the status of the program, and how its report stands to the one that is expected."""
 
-    def __init__(self, name: Any, status: Any, how: Any) -> None:
+    def __init__(self, name: str, status: int, how: str) -> None:
         self.name = name
         self.status = status
         self.how = how
-        self.line = None
-        self.wanted = None
-        self.found = None
-        self.entries = None
-        self.faults = None
-        self.compared = None
+        self.line: int | None = None
+        self.wanted: str | None = None
+        self.found: str | None = None
+        self.entries, self.faults = 0, 0
+        self.has_report = False
+        self.compared: compared.Compared | None = None
 
-    def text(self):
+    def text(self) -> str:
         said = WRITTEN.get(self.status, f"status {self.status}")
-        if self.entries is not None:
+        if self.has_report:
             said = f"{count(self.entries, 'entry')}, {count(self.faults, 'fault')}"
         where = f" at line {self.line}: expected `{self.wanted}`, and found `{self.found}`" if self.line is not None else ""
         below = [f"\n    {escaped(line)}" for line in self.compared.lines()] if self.compared is not None else []
         return f"{self.name}: {self.how}{where} ({said})" + "".join(below)
 
-    def json(self):
-        told = {"script": self.name, "status": self.status, "result": self.how, "entries": self.entries, "faults": self.faults}
+    def json(self) -> str:
+        entries, faults = (self.entries, self.faults) if self.has_report else (None, None)
+        told = {"script": self.name, "status": self.status, "result": self.how, "entries": entries, "faults": faults}
         recorded = {"recorded": self.compared.json()} if self.compared is not None else {}
         return json.dumps({**told, "line": self.line, "expected": self.wanted, "found": self.found, **recorded})
 
@@ -69,11 +73,11 @@ class Result:
 class Judge:
     """Runs the program on the scripts of a folder."""
 
-    def __init__(self, folder: Any, program: Any) -> None:
+    def __init__(self, folder: pathlib.Path, program: Program) -> None:
         self.folder = folder
         self.program = program
 
-    def of(self, name):
+    def of(self, name: str) -> Result:
         """The result of one script."""
         path = self.folder / name
         try:
@@ -88,6 +92,7 @@ class Judge:
         result = Result(name, ran.returncode, ALONE)
         if ran.stdout.startswith(b"history\n"):
             history = ran.stdout[: ran.stdout.index(b"trace\n")]
+            result.has_report = True
             result.entries, result.faults = history.count(b"\n") - 1, history.count(b" fault ")
         if path.with_name(path.stem + browser_answers.ANSWERS).exists():
             result.compared = compared.Compared(path, path.read_bytes(), ran.stdout.decode("utf-8"))
@@ -98,7 +103,7 @@ class Judge:
             self.compare(result, path, expected.read_bytes(), ran.stdout)
         return result
 
-    def compare(self, result: Any, path: Any, wanted: Any, found: Any) -> None:
+    def compare(self, result: Result, path: pathlib.Path, wanted: bytes, found: bytes) -> None:
         """Sets what is expected beside what was found, by bytes, and where the turns came in another order by the second reading."""
         result.how = SAME
         if wanted == found:
@@ -110,7 +115,7 @@ class Judge:
         if turns(wanted) != turns(found) and sorted(turns(wanted)) == sorted(turns(found)) and self.are_legal(path, wanted, found):
             result.how, result.line, result.wanted, result.found = OTHER, None, None, None
 
-    def are_legal(self, path: Any, *reports: Any) -> Any:
+    def are_legal(self, path: pathlib.Path, *reports: bytes) -> bool:
         """Whether reports are ones that a script can have."""
         from wgsim.matching import verified
 
@@ -118,7 +123,7 @@ class Judge:
         return all(verified.verify(script, (report, "the report"))[1] == exit_status.SAME for report in reports)
 
 
-def turns(report: Any) -> Any:
+def turns(report: bytes) -> list[bytes]:
     """The callers of the entries of a report."""
     lines = report.split(b"\ntrace\n")[0].split(b"\n")[1:]
     return [line.split(b" ")[1] for line in lines if line.count(b" ") > 1]
@@ -131,9 +136,9 @@ class Progress:
         self.total = total
         self.start = time.monotonic()
         self.is_shown = sys.stderr is not None and sys.stderr.isatty()
-        self.last = 0
+        self.last = 0.0
 
-    def tell(self, done):
+    def tell(self, done: int) -> None:
         if self.is_shown and time.monotonic() - self.last > 0.1:
             self.last = time.monotonic()
             sys.stderr.write(f"\rwgsim: {done} of {self.total} scripts ({building.clock(self.start)})")
@@ -146,7 +151,7 @@ class Progress:
             sys.stderr.flush()
 
 
-def scripts_of(name: str) -> tuple[Any, list[str]]:
+def scripts_of(name: str) -> tuple[pathlib.Path, list[str]]:
     """The scripts of a folder, in the order of their names."""
     folder = pathlib.Path(name)
     if not folder.is_dir():
@@ -162,13 +167,19 @@ def scripts_of(name: str) -> tuple[Any, list[str]]:
     return folder, found
 
 
-def judge(name, is_json, program, write):
+def ran(pool: concurrent.futures.Executor, judged: Judge, names: list[str]) -> Generator[Result, None, None]:
+    """The results of some scripts, in their order, as they come; what has not begun when they are closed does not begin."""
+    yield from pool.map(judged.of, names)
+
+
+def judge(name: str, is_json: bool, program: Callable[[], Program], write: Callable[[str], None]) -> int:
     """Runs the scripts of a folder, writes a line of each in the order of their names, and a summary. Returns the status."""
     folder, names = scripts_of(name)
-    program = program()
-    program.ready()
-    judged, counts, progress = Judge(folder, program), collections.Counter(), Progress(len(names))
-    with concurrent.futures.ThreadPoolExecutor(os.cpu_count() or 1) as pool, contextlib.closing(pool.map(judged.of, names)) as results:
+    asked = program()
+    asked.ready()
+    judged, progress = Judge(folder, asked), Progress(len(names))
+    counts: collections.Counter[str] = collections.Counter()
+    with concurrent.futures.ThreadPoolExecutor(os.cpu_count() or 1) as pool, contextlib.closing(ran(pool, judged, names)) as results:
         for number, result in enumerate(results, 1):
             counts[result.how] += 1
             progress.clear()

@@ -2,7 +2,7 @@
 
 from __future__ import annotations
 
-from typing import TYPE_CHECKING, Any
+from typing import TYPE_CHECKING, Iterable
 
 from wgsim.reading import script as scripts
 
@@ -20,7 +20,7 @@ BUSY = (192, 203, 225)
 class Standing:
     """How a buffer stands that is not unmapped: the entry that asked for the map, and whether it still waits."""
 
-    def __init__(self, asked: Entry, mode: Any, is_pending: bool) -> None:
+    def __init__(self, asked: Entry, mode: str | None, is_pending: bool) -> None:
         self.asked = asked
         self.mode = mode
         self.is_pending = is_pending
@@ -40,7 +40,7 @@ class Maps:
         for entry in beside.report.entries:
             self.take(entry, standing)
 
-    def take(self, entry: Entry, standing: dict[Any, Any]) -> None:
+    def take(self, entry: Entry, standing: dict[int | None, Standing]) -> None:
         """Notes an entry; `standing` has how buffers stand before it by their numbers, and then after it."""
         call = self.beside.call_of.get(entry.number)
         if call is None:
@@ -63,7 +63,7 @@ class Maps:
         if entry.word == "createBuffer" and entry.is_valid() and is_true(call.value.member("mapped")):
             standing[entry.object()] = Standing(entry, "writing", False)
 
-    def settle(self, asked: Entry, how: str, standing: dict[Any, Any], by: Entry) -> None:
+    def settle(self, asked: Entry, how: str, standing: dict[int | None, Standing], by: Entry) -> None:
         call = self.asked.get(asked.number)
         if call is not None and how == "mapped":
             standing[self.buffer_of(call)] = Standing(asked, MODES.get(call.number("mode")), False)
@@ -75,7 +75,7 @@ class Maps:
         maker = self.beside.object_of(scripts.string_of(call.value, "buffer") or scripts.string_of(call.value, "object"))
         return maker.object() if maker is not None else None
 
-    def name_of(self, entry: Entry) -> Any:
+    def name_of(self, entry: Entry) -> str | None:
         call = self.asked.get(entry.number)
         return scripts.string_of(call.value, "buffer") if call else "the buffer"
 
@@ -111,7 +111,7 @@ class Maps:
             return f": {name} was {'unmapped' if by.word == 'unmap' else 'destroyed'} while it waited"
         return ", since the device is lost"
 
-    def of_fault(self, entry, names):
+    def of_fault(self, entry: Entry, names: Iterable[str]) -> list[str]:
         """Lines on the buffers among some names that are pending or mapped where an entry has a fault."""
         lines = []
         for name in names:

@@ -6,7 +6,7 @@ of what is proved; where nothing is found the line alone is shown. """
 from __future__ import annotations
 
 import re
-from typing import Any
+from typing import Any, NoReturn
 
 from wgsim.matching.refusal import marked, near
 from wgsim.reading.report import Part
@@ -35,12 +35,12 @@ class Found(Exception):
     """What of a text breaks a rule: what is refused, the number of the line, the column, what stands there, what was expected, and a
     hint."""
 
-    def __init__(self, refuses: str, line: Any, column: int, found: str, expected: str, hint: str | None = None) -> None:
+    def __init__(self, refuses: str, line: int, column: int, found: str, expected: str, hint: str | None = None) -> None:
         super().__init__(refuses)
         self.refuses, self.line, self.column, self.found, self.expected, self.hint = refuses, line, column, found, expected, hint
 
 
-def find(data: bytes, rule: int, line: int) -> Any:
+def find(data: bytes, rule: int, line: int) -> Found | None:
     """What the text breaks by a rule at a line, or None where that is not found."""
     if rule == 1:
         return of_text(data)
@@ -54,7 +54,7 @@ def find(data: bytes, rule: int, line: int) -> Any:
     return None
 
 
-def of_text(data):
+def of_text(data: bytes) -> Found:
     """Rule 1, of the bytes as a whole."""
     bad = re.search(rb"[^\n -~]", data)
     if bad is not None:
@@ -62,13 +62,13 @@ def of_text(data):
         hint = {13: "lines end with LF alone, and not with CR and LF", 9: "words are parted by one space"}.get(
             byte, "a trace has ASCII letters alone" if byte > 127 else None
         )
-        at = data.count(b"\n", 0, start) + 1, start - data.rfind(b"\n", 0, start)
-        return Found(BYTES, *at, f"the byte 0x{byte:02x}", "LF, or a byte from 32 to 126", hint)
+        place = data.count(b"\n", 0, start) + 1, start - data.rfind(b"\n", 0, start)
+        return Found(BYTES, *place, f"the byte 0x{byte:02x}", "LF, or a byte from 32 to 126", hint)
     if not data.endswith(b"\n"):
-        at = data.count(b"\n") + 1, len(data) - data.rfind(b"\n")
+        place = data.count(b"\n") + 1, len(data) - data.rfind(b"\n")
         return Found(
             ENDED,
-            *at,
+            *place,
             "the end of the text" + (" within a line" if data else ", which is empty"),
             "LF at the end of the last line, which is `end`",
         )
@@ -85,7 +85,7 @@ def of_text(data):
     )
 
 
-def form(lines, line):
+def form(lines: list[str], line: int) -> None:
     """Rule 2, of the words of a line."""
     fields = Fields(lines[line - 1], line)
     if fields.words == ["trace"]:
@@ -104,7 +104,7 @@ class Fields:
         self.line = line
         self.at = 0
 
-    def fail(self, expected: str, hint: str | None = None) -> None:
+    def fail(self, expected: str, hint: str | None = None) -> NoReturn:
         """The word that stands there is not what was expected."""
         column = sum(len(word) + 1 for word in self.words[: self.at]) + 1
         raise Found(FORM, self.line, min(column, len(" ".join(self.words)) + 1), self.here(), expected, hint)
@@ -120,7 +120,7 @@ class Fields:
         """The word that stands there, or nothing behind the end of the line."""
         return self.words[self.at] if self.at < len(self.words) else ""
 
-    def one_of(self, words: tuple[Any, ...], hint: Any = None) -> str | None:
+    def one_of(self, words: tuple[str, ...], hint: str | None = None) -> str:
         if self.word() not in words:
             self.fail("one of " + ", ".join(words), hint or (near(self.word(), words) if self.word() else None))
         self.at += 1
@@ -133,7 +133,7 @@ class Fields:
         self.at += 1
         return int(word)
 
-    def run(self, most: Any) -> None:
+    def run(self, most: int) -> None:
         """LO and HI of cells or layers."""
         low = self.number("LO, the first", most)
         high = self.number("HI, one behind the last", most)
@@ -141,14 +141,14 @@ class Fields:
             self.at -= 1
             self.fail(f"HI above LO, which is {low}: it is one behind the last")
 
-    def image(self, aspects: Any = ASPECTS) -> None:
+    def image(self, aspects: tuple[str, ...] = ASPECTS) -> None:
         """The number of a texture, an aspect of it, a mip level, and layers or slices."""
         self.number("the number of a texture")
         self.one_of(aspects, "slices have the aspect color alone" if len(aspects) == 1 else None)
         self.number("a mip level", WORD32)
         self.run(WORD32)
 
-    def part(self) -> Any:
+    def part(self) -> None:
         hint = "a part of slices is the mip level with all of them, as `t 5 color 0 0 1`" if self.word() == "s" else None
         sort = self.one_of(("b", "q", "t"), hint)
         if sort == "t":
@@ -158,7 +158,7 @@ class Fields:
             self.fail("a set of usages", "a buffer or a query set is one part, without a range")
         return None
 
-    def cells(self) -> Any:
+    def cells(self) -> None:
         sort = self.one_of(("b", "t", "s", "q"))
         if sort in ("b", "q"):
             self.number("the number of a buffer" if sort == "b" else "the number of a query set")
@@ -178,7 +178,7 @@ class Fields:
         self.at += 1
 
 
-def step(fields: Any) -> None:
+def step(fields: Fields) -> None:
     fields.number("the number of the step")
     what = (
         "the number of an entry, or one of your own"
@@ -194,12 +194,12 @@ def use(fields: Fields) -> None:
     fields.set()
 
 
-def access(fields: Any) -> None:
+def access(fields: Fields) -> None:
     fields.one_of(KINDS)
     fields.cells()
 
 
-def barrier(fields: Any) -> None:
+def barrier(fields: Fields) -> None:
     fields.part()
     if fields.word() == "none":
         fields.at += 1
@@ -208,15 +208,15 @@ def barrier(fields: Any) -> None:
     fields.set()
 
 
-def release(fields: Any) -> None:
+def release(fields: Fields) -> None:
     sort = fields.one_of(("b", "t", "q"), "slices are memory of their texture, `t`" if fields.word() == "s" else None)
     fields.number(f"the number of a {dict(b='buffer', t='texture', q='query set')[sort]}")
 
 
-def place(lines: list[Any], line: int) -> None:
+def place(lines: list[str], line: int) -> None:
     """Rule 3, of the place of a line among the others."""
     first = lines.index("trace") + 1
-    text, word, before = lines[line - 1], lines[line - 1].split(" ")[0], lines[line - 2].split(" ")[0] if line > first else None
+    text, word, before = lines[line - 1], lines[line - 1].split(" ")[0], lines[line - 2].split(" ")[0] if line > first else ""
     if before == "end":
         raise Found(BEHIND, line, 1, f"a line behind `end`: `{text}`", f"`end`, at line {line - 1}, as the last line")
     if before == "bar" and word not in ("bar", "step"):
@@ -244,11 +244,11 @@ def place(lines: list[Any], line: int) -> None:
         raise Found(LAST, line, 1, f"`{text}` as the last line", "a further line, `end`")
 
 
-def said_of(word: Any) -> str:
+def said_of(word: str) -> str:
     return "the line `trace`" if word == "trace" else f"{'an' if word == 'acc' else 'a'} `{word}` line"
 
 
-def twice(lines, line):
+def twice(lines: list[str], line: int) -> None:
     """Rule 4, of cells that two lines of a step give: the first line before it that has one of them, and the first of these cells."""
     own, earlier = Part(lines[line - 1].split(" ")[2:]), []
     for at in range(line - 1, 0, -1):
@@ -279,7 +279,7 @@ def explained(name: str, data: bytes, rule: int, line: int) -> list[str]:
     return lines + marked(data.split(b"\n")[found.line - 1].decode("utf-8", "replace"), found.column)
 
 
-def facts(data: Any, rule: Any, line: Any) -> Any:
+def facts(data: bytes, rule: int, line: int) -> dict[str, Any]:
     """The same as an object, for a machine."""
     found = find(data, rule, line)
     return {

@@ -7,22 +7,20 @@ from __future__ import annotations
 
 import itertools
 import math
-from typing import TYPE_CHECKING, Any, Iterator
+from typing import TYPE_CHECKING, Iterator
 
 from wgsim import exit_status
 from wgsim.matching import second
 from wgsim.reading.report import Report, count, summary
 
 if TYPE_CHECKING:
-    from wgsim.matching.second import Played
-
     from model.turns import Turns
 
 # So many orders of turns are listed at most.
 MOST = 10_000
 
 
-def forced(data: bytes, name: str, callers: list[int]) -> Any:
+def forced(data: bytes, name: str, callers: list[int]) -> tuple[int, str]:
     """The status and the report of a script in an order of turns."""
     script = second.Played(data, name)
     if script.refusal is not None:
@@ -79,13 +77,13 @@ def outcomes(data: bytes, name: str) -> Iterator[str]:
         yield f"\noutcome {number} of {total}: callers {','.join(map(str, callers)) or 'none'}: {summary(Report(text))}\n{text}"
 
 
-def told(total: Any) -> Any:
+def told(total: int) -> str:
     return f"{total:,}" if total < 10**15 else "more than 1,000,000,000,000,000"
 
 
-def each_order(script: Played) -> Any:
+def each_order(script: second.Played) -> Iterator[list[int]]:
     """The orders of turns, those first in which low callers come early."""
-    return map(list, map(itertools.chain.from_iterable, itertools.product(*map(in_phase, script.events()))))
+    return (list(itertools.chain.from_iterable(each)) for each in itertools.product(*map(in_phase, script.events())))
 
 
 def in_phase(lanes: list[int]) -> list[list[int]]:

@@ -8,7 +8,7 @@ from __future__ import annotations
 
 import difflib
 import re
-from typing import TYPE_CHECKING, Any
+from typing import TYPE_CHECKING, Collection, Iterable
 
 from wgsim.reading import calls, lacking, limits, rules
 from wgsim.reading import script as scripts
@@ -30,13 +30,13 @@ class Refusal:
     """A refusal: its rule, the offset of its place in the text, what stands there, what was expected, and what of the rule it is that
     refuses."""
 
-    def __init__(self, rule: int, place: Any) -> None:
+    def __init__(self, rule: int, place: tuple[int, ...]) -> None:
         self.rule = rule
         self.place = place
-        self.offset = None
-        self.found = None
-        self.expected = None
-        self.more = []
+        self.offset: int | None = None
+        self.found: str | None = None
+        self.expected: str | None = None
+        self.more: list[str] = []
         self.refuses = sentence(rule, place)
 
     def by(self, part: str) -> Refusal:
@@ -44,12 +44,12 @@ class Refusal:
         self.refuses = rules.part_of(self.rule, part)
         return self
 
-    def at(self, offset: Any, found: Any, expected: Any, *more: Any) -> Any:
+    def at(self, offset: int, found: str, expected: str, *more: str | None) -> Refusal:
         self.offset, self.found, self.expected, self.more = offset, found, expected, [each for each in more if each]
         return self
 
 
-def sentence(rule: int, place: Any) -> Any:
+def sentence(rule: int, place: tuple[int, ...]) -> str | None:
     """The sentence of a rule of scripts; of a rule that has several, that of the kind of place."""
     row = next((row for row in rules.script_rows(rule) if len(rules.place_of(row)) == len(place)), None) or next(
         iter(rules.script_rows(rule)), None
@@ -72,9 +72,9 @@ def find(text: Text, line: str) -> Refusal:
     return refusal
 
 
-def reached(top: Value, place: tuple[Any, ...]) -> Any:
+def reached(top: Value, place: tuple[int, ...]) -> Value:
     """The value at a place of a script: of the phase, the lane or the call."""
-    value = top.member("phases")
+    value = top.needed("phases")
     for number in place:
         value = value.what[number]
     return value
@@ -84,33 +84,33 @@ def at_top(refusal: Refusal, text: Text, top: Value) -> Refusal:
     if top.kind != "object":
         return refusal.at(top.start, kind_of(top), f"an object with {TOP_KEYS}")
     if refusal.rule == 14:
-        return wrong_limits(refusal, text, top.member("limits"))
+        return wrong_limits(refusal, text, top.needed("limits"))
     if refusal.rule == 3:
-        return refusal.at(top.member("phases").start, f"{len(top.member('phases').what)} phases", "at most 1024 phases")
+        return refusal.at(top.needed("phases").start, f"{len(top.needed('phases').what)} phases", "at most 1024 phases")
     for name, expected in TOP.items():
         if top.member(name) is None:
             return refusal.at(top.start, f"no key {name}", f"the key {name}: {expected}")
     for key, _ in top.what:
         if key.what not in TOP and key.what not in MAY_STAND:
             return refusal.at(key.start, f"the key {quoted(key.what)}", TOP_KEYS, near(key.what, [*TOP, *MAY_STAND]))
-    budget, phases = top.member("budget"), top.member("phases")
+    budget, phases = top.needed("budget"), top.needed("phases")
     if not is_whole(budget, 53):
         return refusal.at(budget.start, f"{text.of(budget)[:60]} under budget", TOP["budget"])
     return refusal.at(phases.start, f"{kind_of(phases)} under phases", TOP["phases"])
 
 
-def wrong_limits(refusal: Refusal, text: Text, asked: Any) -> Refusal:
+def wrong_limits(refusal: Refusal, text: Text, asked: Value) -> Refusal:
     """What is wrong with the limits that a script asks for: each name with the number that was asked for, the default and the best."""
     if asked.kind != "object":
         return refusal.by("object").at(
             asked.start, f"{kind_of(asked)} under limits", "an object from names of limits to whole numbers"
         )
     for name in dict.fromkeys(key.what for key, _ in asked.what):
-        key, value, limit = asked.key(name), asked.member(name), limits.TABLE.get(name)
+        value, limit = asked.needed(name), limits.TABLE.get(name)
         if limit is None:
             refusal.by("name")
             return refusal.at(
-                key.start,
+                asked.needed_key(name).start,
                 f"the name {quoted(name)}",
                 "the name of a limit that a script can ask for: docs/script.md has them",
                 near(name, limits.TABLE),
@@ -139,7 +139,7 @@ def at_lane(refusal: Refusal, text: Text, top: Value) -> Refusal:
 
 def at_call(refusal: Refusal, text: Text, top: Value) -> Refusal:
     call = reached(top, refusal.place)
-    refusal.at(call.start, None, None)
+    refusal.offset = call.start
     if refusal.rule == 5:
         return refusal.at(call.start, "the 65537th call", "at most 65536 calls in a script")
     if call.kind != "object":
@@ -162,14 +162,14 @@ def unknown_call(refusal: Refusal, text: Text, call: Value) -> Refusal:
 
 
 def keys_of_call(refusal: Refusal, text: Text, call: Value, top: Value) -> Refusal:
-    word = call.member("do").what
+    word = call.needed("do").what
     keys = calls.keys_of(word)
     if keys is not None:
         wrong_keys(refusal, call, word, keys, {"do"})
     return refusal
 
 
-def wrong_keys(refusal: Refusal, value: Value, word: Any, keys: dict[Any, Any], others: Any = ()) -> Any:
+def wrong_keys(refusal: Refusal, value: Value, word: str, keys: dict[str, Key], others: Collection[str] = ()) -> Refusal | None:
     """Whether a call, or an object in it, has a key that it may not have, or lacks one that it needs. Of a call that is rule 7, and of an
     object rule 8, which have the same parts for it."""
     told = [name + (" (may be left out)" if key.may_be_left_out else "") for name, key in keys.items()]
@@ -188,11 +188,11 @@ def wrong_keys(refusal: Refusal, value: Value, word: Any, keys: dict[Any, Any], 
 
 
 def values_of_call(refusal: Refusal, text: Text, call: Value, top: Value) -> Refusal:
-    wrong_values(refusal, text, call, calls.keys_of(call.member("do").what) or {})
+    wrong_values(refusal, text, call, calls.keys_of(call.needed("do").what) or {})
     return refusal
 
 
-def wrong_values(refusal: Refusal, text: Text, owner: Value, keys: dict[Any, Any]) -> Any:
+def wrong_values(refusal: Refusal, text: Text, owner: Value, keys: dict[str, Key]) -> Refusal | None:
     """Whether a value of a call, or of an object in it, is not what its key's values have to be."""
     for name, key in keys.items():
         value = owner.member(name)
@@ -220,26 +220,26 @@ def why_wrong(wrong: Value, key: Key, is_whole_value: bool) -> str:
     return "word" if key.sort in ("word", "words") and wrong.kind == "string" else "type"
 
 
-def objects_in(value: Any, key: Key) -> list[Any]:
+def objects_in(value: Value | None, key: Key) -> list[Value]:
     """The objects that stand under a key, in a list or alone."""
     if value is None or key.sort not in ("object", "objects"):
         return []
     return [value] if key.sort == "object" else [item for item in value.what if item.kind == "object"]
 
 
-def wrong_object(refusal: Refusal, text: Text, item: Value, sort: str) -> Any:
+def wrong_object(refusal: Refusal, text: Text, item: Value, sort: str) -> Refusal | None:
     """Whether an object in a call has wrong keys or values. Its form is looked at first, since its keys hang on that."""
     said, by, forms = calls.OBJECTS[sort]["said"], calls.form_key(sort), calls.forms_of(sort)
     if not forms:
         keys = calls.keys_of_object(sort, item)
         return wrong_keys(refusal, item, said, keys) or wrong_values(refusal, text, item, keys)
     form = calls.form_of(sort, item)
-    if form is None and by is None:
+    if by is None and form is None:
         refusal.by("missing key")
         return refusal.at(
             item.start, "none of the keys " + ", ".join(forms), f"one of them: {said} has just one", near_key(item, forms, sort)
         )
-    if form is None:
+    if by is not None and form is None:
         kind = calls.Key(calls.OBJECTS[sort]["keys"][by])
         value = item.member(by)
         if value is None:
@@ -254,7 +254,7 @@ def wrong_object(refusal: Refusal, text: Text, item: Value, sort: str) -> Any:
     )
 
 
-def near_key(item: Value, wanted: Any, sort: str) -> Any:
+def near_key(item: Value, wanted: Iterable[str], sort: str) -> str | None:
     """Which key of an object is likely one that it needs, written otherwise, or None."""
     known = {*calls.OBJECTS[sort]["keys"], *(key for form in calls.forms_of(sort).values() for key in form)}
     for key, _ in item.what:
@@ -264,7 +264,7 @@ def near_key(item: Value, wanted: Any, sort: str) -> Any:
     return None
 
 
-def wrong_in(value: Value, key: Key) -> Any:
+def wrong_in(value: Value, key: Key) -> Value | None:
     """The value, or the item of it, that is not what the key's values have to be, or None."""
     if key.sort == "number":
         return None if is_whole(value, int(key.detail)) else value
@@ -295,12 +295,12 @@ ITEMS = {
 }
 
 
-def is_whole(value: Any, bits: int) -> bool:
+def is_whole(value: Value, bits: int) -> bool:
     return value.kind == "number" and value.what.isdigit() and int(value.what) < 2**bits
 
 
 def given_name(refusal: Refusal, text: Text, call: Value, top: Value) -> Refusal:
-    name = call.member("as")
+    name = call.needed("as")
     if not NAME.fullmatch(name.what):
         return refusal.at(name.start, f"the name {quoted(name.what)}", "1 to 64 letters, digits and _, of ASCII")
     first = scripts.Script(text, top).made.get(name.what)
@@ -308,15 +308,15 @@ def given_name(refusal: Refusal, text: Text, call: Value, top: Value) -> Refusal
     return refusal.at(name.start, f"the name {name.what}", "a name that no earlier call gave", where)
 
 
-def used_names(refusal, text, call, top):
+def used_names(refusal: Refusal, text: Text, call: Value, top: Value) -> Refusal:
     """The first name of the call that is unknown, of a wrong kind or of another lane's encoder, by the rule."""
     script = scripts.Script(text, top)
     user = next(each for each in script.calls if each.place == refusal.place)
     for key, value, kinds in user.wanted_names():
         kinds = of_pass(script, user, kinds)
         maker = script.made.get(value.what)
-        is_visible = maker is not None and sees(user, maker)
-        if refusal.rule == 10 and not is_visible:
+        seen = maker if maker is not None and sees(user, maker) else None
+        if refusal.rule == 10 and seen is None:
             may_be_auto = calls.may_be_auto(user.word, key)
             wanted = f"the name of {calls.either(kinds)} that an earlier call gave" + (
                 f', or the word "{calls.AUTO}"' if may_be_auto else ""
@@ -327,13 +327,14 @@ def used_names(refusal, text, call, top):
                 wanted,
                 unseen(script, user, value.what, maker, [calls.AUTO] * may_be_auto),
             )
-        if refusal.rule == 11 and is_visible and calls.makes(maker.word) not in kinds:
-            is_one = f"{value.what} is {calls.either([calls.makes(maker.word)])}, made at {script.where(maker)}: {script.said(maker)}"
-            return refusal.by(why_wrong_kind(user, maker)).at(
-                value.start, f"the name {value.what} under {key}", f"the name of {calls.either(kinds)}", is_one, undropped(user, maker)
+        made_is = calls.makes(seen.word) if seen is not None else None
+        if refusal.rule == 11 and seen is not None and made_is is not None and made_is not in kinds:
+            is_one = f"{value.what} is {calls.either([made_is])}, made at {script.where(seen)}: {script.said(seen)}"
+            return refusal.by(why_wrong_kind(user, seen)).at(
+                value.start, f"the name {value.what} under {key}", f"the name of {calls.either(kinds)}", is_one, undropped(user, seen)
             )
-        if refusal.rule == 12 and is_visible and key in OWN and maker.place[:2] != user.place[:2]:
-            made = f"{value.what} was made in phase {maker.place[0]}, lane {maker.place[1]}, at {script.where(maker)}: {script.said(maker)}"
+        if refusal.rule == 12 and seen is not None and key in OWN and seen.place[:2] != user.place[:2]:
+            made = f"{value.what} was made in phase {seen.place[0]}, lane {seen.place[1]}, at {script.where(seen)}: {script.said(seen)}"
             return refusal.at(value.start, f"the name {value.what} under {key}", f"{OWN[key]} that this lane made in this phase", made)
     return refusal
 
@@ -347,12 +348,12 @@ def is_shown(user: Call, maker: Call) -> bool:
     return user.word == "drop" and calls.canvas(maker.word) is not None and calls.makes(maker.word) == "canvas texture"
 
 
-def why_wrong_kind(user: Call, maker: Any) -> str:
+def why_wrong_kind(user: Call, maker: Call) -> str:
     """The part of rule 11 that refuses a name."""
     return "drop" if is_shown(user, maker) else "kind"
 
 
-def undropped(user: Call, maker: Any) -> Any:
+def undropped(user: Call, maker: Call) -> str | None:
     """What to do in place of a drop of the texture of a canvas, or None."""
     return (
         "the texture of a canvas is not dropped: the next present or configureCanvas destroys it, and so may a destroy"
@@ -361,10 +362,10 @@ def undropped(user: Call, maker: Any) -> Any:
     )
 
 
-def unset_canvas(refusal: Any, text: Any, call: Any, top: Any) -> Any:
+def unset_canvas(refusal: Refusal, text: Text, call: Value, top: Value) -> Refusal:
     """The canvas of a currentTexture that no earlier configureCanvas has set."""
     script = scripts.Script(text, top)
-    value = call.member("canvas")
+    value = call.needed("canvas")
     maker = script.made.get(value.what)
     made = f"{value.what} was made at {script.where(maker)}: {script.said(maker)}" if maker is not None else None
     later = next(
@@ -394,7 +395,7 @@ def sees(user: Call, maker: Call) -> bool:
     return maker.place[0] < user.place[0] or (same and maker.place[2] < user.place[2])
 
 
-def unseen(script: Script, user: Call, name: str, maker: Call | None, words: list[Any]) -> str | None:
+def unseen(script: Script, user: Call, name: str, maker: Call | None, words: list[str]) -> str | None:
     """Why a name is not visible at a call, where some words may stand as well."""
     if maker is user:
         return f"{name} is the name that this very call gives"
@@ -405,17 +406,17 @@ def unseen(script: Script, user: Call, name: str, maker: Call | None, words: lis
     return near(name, words + [call.gives for call in script.calls if call.gives and sees(user, call)])
 
 
-def near(word: Any, words: Any) -> str | None:
+def near(word: object, words: Iterable[str]) -> str | None:
     """The nearest of some words, as a hint, or None."""
     found = difflib.get_close_matches(str(word), list(words), 1, 0.7)
     return f"the nearest is {quoted(found[0])}" if found else None
 
 
-def kind_of(value: Any) -> str:
+def kind_of(value: Value) -> str:
     return {"object": "an object", "list": "a list", "string": "a string", "number": "a number"}.get(value.kind, value.kind)
 
 
-def quoted(word: Any) -> str:
+def quoted(word: str) -> str:
     return '"' + scripts.shown(word, 80) + '"'
 
 

@@ -18,8 +18,8 @@ class Scope:
     def __init__(self, place: int, opened: Entry) -> None:
         self.place = place
         self.opened = opened
-        self.first = None
-        self.closed = None
+        self.first: Entry | None = None
+        self.closed: Entry | None = None
 
 
 class Scopes:
@@ -27,7 +27,7 @@ class Scopes:
 
     def __init__(self, beside: Beside) -> None:
         self.beside = beside
-        self.lost = None
+        self.lost: Entry | None = None
         self.opened = {}
         self.closed = {}
         self.caught = {}
@@ -41,7 +41,7 @@ class Scopes:
             operation = entry.operation() or operation
             self.issued[entry.number] = operation
 
-    def take(self, entry: Any, stack: Any) -> None:
+    def take(self, entry: Entry, stack: list[Scope]) -> None:
         """Notes an entry; `stack` has the scopes that are open before it, and then those after it."""
         if entry.fault:
             words = entry.fault[2].split(" ")
@@ -63,12 +63,12 @@ class Scopes:
     def is_lost_before(self, entry: Entry) -> bool:
         return self.lost is not None and self.lost.number < entry.number
 
-    def at(self, entry):
+    def at(self, entry: Entry) -> str:
         """Where the call of an entry stands: its file, line and column, or else the entry."""
         call = self.beside.call_of.get(entry.number)
         return self.beside.script.where(call) if call else f"entry {entry.number}"
 
-    def numbered(self, entry):
+    def numbered(self, entry: Entry) -> str:
         """An entry with the line and column of its call."""
         call = self.beside.call_of.get(entry.number)
         return f"entry {entry.number}" + (" at {}:{}".format(*self.beside.script.text.place(call.value.start)) if call else "")
@@ -79,12 +79,12 @@ class Scopes:
         word = call.value.member("filter") if call else None
         return f"{word.what} errors" if word is not None else "errors of its filter"
 
-    def of_fault(self, entry: Any) -> list[Any]:
+    def of_fault(self, entry: Entry) -> list[str]:
         """Lines on the scope that caught an entry's fault, or on those that did not."""
         scope = self.caught.get(entry.number)
         if scope is None:
             open_scopes = self.passed.get(entry.number)
-            kind = entry.fault[0]
+            kind = entry.own_fault().kind
             return [f"of {count(open_scopes, 'open error scope')} none catches {kind} errors"] if open_scopes else []
         lines = [f"error scope {scope.place} was opened for {self.errors_of(scope)} at {self.at(scope.opened)}"]
         if scope.first is not entry:
@@ -110,7 +110,7 @@ class Scopes:
         if entry.word == "lose":
             return (
                 "the device is lost from here on"
-                if entry is self.lost
+                if self.lost is None or entry is self.lost
                 else f"done: the device is lost already, since {self.numbered(self.lost)}"
             )
         return self.on_lost(entry) if self.is_lost_before(entry) else None

@@ -5,7 +5,7 @@ It is written in Python, beside the product and not from it, and nothing of it i
 
 from __future__ import annotations
 
-from typing import TYPE_CHECKING, Any
+from typing import TYPE_CHECKING
 
 from wgsim import exit_status
 from wgsim.program import building
@@ -62,7 +62,7 @@ class Played:
     def begin(self) -> Turns:
         return turns.Turns(self.setup, self.phases)
 
-    def place(self, played: Any) -> tuple[int, int, int]:
+    def place(self, played: history.Played) -> tuple[int, int, int]:
         """The phase, the lane and the number of a call that was played."""
         return self.places[id(played.call)]
 

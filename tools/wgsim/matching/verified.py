@@ -6,6 +6,7 @@ as the report goes on, and each line has to be the one that it has. """
 
 from __future__ import annotations
 
+import functools
 import re
 from typing import TYPE_CHECKING, Any, Callable, Iterator
 
@@ -18,7 +19,9 @@ from wgsim.reading import script as scripts
 from wgsim.reading.report import Report, count, summary
 
 if TYPE_CHECKING:
-    from model.history import Played
+    from model.history import History, Played
+    from model.turns import Turns
+    from wgsim.reading.script import Script
 
 ENTRY = re.compile(r"\d+ (\d+) \w+ ")
 LONGEST = 300
@@ -27,7 +30,7 @@ LONGEST = 300
 class Wrong(Exception):
     """A line of a report is wrong: its number from 0, what is right there, or None where that hangs on the turn, and why in lines."""
 
-    def __init__(self, number: int, right: Any, why: list[str]) -> None:
+    def __init__(self, number: int, right: str | None, why: list[str]) -> None:
         super().__init__(number)
         self.number = number
         self.right = right
@@ -37,13 +40,19 @@ class Wrong(Exception):
 class Verified:
     """A report that is gone through beside its script."""
 
-    def __init__(self, script: Any, data: bytes, text: bytes) -> None:
+    def __init__(self, script: second.Played, data: bytes, text: bytes) -> None:
         self.script = script
         self.data = data
         self.lines = text.decode("utf-8", "backslashreplace").split("\n")
         self.at = 0
-        self.history = None
-        self.calls = None
+        self.known: History | None = None
+        self.calls: Script | None = None
+
+    @property
+    def history(self) -> History:
+        """What was played, of a script that is not refused."""
+        assert self.known is not None
+        return self.known
 
     def test(self) -> None:
         """Goes through the report up to its first wrong line, if there is one."""
@@ -53,38 +62,38 @@ class Verified:
             self.want("history", lambda _: ["a report begins with the line `history`, since the script is not refused"])
             self.entries()
             for line, item in second.report.trace_lines(second.traces.trace_of(self.history)):
-                self.want(line, lambda theirs, line=line, item=item: self.why_trace(theirs, line, item))
+                self.want(line, functools.partial(self.why_trace, line=line, item=item))
             self.want("end", lambda _: ["the trace is through: the last line of a report is `end`"])
         if self.at < len(self.lines) - 1 or self.lines[-1]:
             raise Wrong(self.at, "the end of the report", ["nothing comes after that"])
 
-    def line(self) -> Any:
+    def line(self) -> str | None:
         """The line that is looked at; past the last end of a line there is none."""
         return self.lines[self.at] if self.at < len(self.lines) - 1 else None
 
-    def want(self, right: str, why: Callable[..., Any]) -> None:
+    def want(self, right: str, why: Callable[[str | None], list[str]]) -> None:
         """The next line has to be this one."""
         theirs = self.line()
         if theirs != right:
             raise Wrong(self.at, right, why(theirs))
         self.at += 1
 
-    def entries(self):
+    def entries(self) -> None:
         """The entries, in the order of the callers that they name."""
         playing = self.script.begin()
-        self.history = playing.history
+        self.known = playing.history
         while playing.open_lanes():
             caller = self.caller(playing)
             playing.take(caller)
             played = self.history.entries()[-1]
-            self.want(second.report.entry_line(played), lambda theirs, played=played: self.why_entry(theirs, played))
+            self.want(second.report.entry_line(played), functools.partial(self.why_entry, played=played))
         self.want("trace", lambda _: ["the script is through, and the line `trace` comes after its last entry"])
 
-    def caller(self, playing):
+    def caller(self, playing: Turns) -> int:
         """The caller of the next entry: the one that its line names, which has to have a turn; or the only one that may have it."""
         found = ENTRY.match(self.line() or "")
         caller = int(found[1]) if found and len(found[1]) < 9 else None
-        if caller in playing.open_lanes():
+        if caller is not None and caller in playing.open_lanes():
             return caller
         if len(playing.open_lanes()) == 1:
             return playing.open_lanes()[0]
@@ -93,17 +102,17 @@ class Verified:
             raise Wrong(self.at, None, [f"entry {entry} stands there: {orders.may_come(playing)}"])
         raise Wrong(self.at, None, [f"entry {entry} cannot be of caller {found[1]}: {orders.may_come(playing)}"])
 
-    def why_refused(self, _: Any) -> Any:
+    def why_refused(self, _: Any) -> list[str]:
         """Why a script is refused."""
         number = int(self.script.refusal.split()[2])
         return [f"the script is refused; script rule {number} refuses: {each}" for each in rules.script_rules(number)[:1]]
 
-    def why_entry(self, theirs: str, played: Played) -> list[str]:
+    def why_entry(self, theirs: str | None, played: Played) -> list[str]:
         """Why an entry is as the second reading has it: its call, and what of the line is not so."""
         ours = reports.Entry(second.report.entry_line(played))
         lines = [f"entry {played.entry} is of the call at {self.where(played)}"]
         try:
-            other = reports.Entry(theirs)
+            other = reports.Entry(theirs or "")
         except (ValueError, IndexError, AttributeError, KeyError):
             return lines + ["the line is no entry of a report"] + self.of_fault(played)
         if other.number != ours.number:
@@ -124,7 +133,7 @@ class Verified:
             lines += self.of_settled(played)
         return lines
 
-    def of_fault(self, played: Any) -> Any:
+    def of_fault(self, played: Played) -> list[str]:
         """The rule that a call leaves unmet, if it has a fault, and where that goes."""
         if played.fault is None:
             return []
@@ -140,10 +149,10 @@ class Verified:
         )
         return [*lines, caught]
 
-    def why_no_fault(self, played: Any) -> Any:
+    def why_no_fault(self, played: Played) -> str:
         return "the device is lost, so no call makes a fault" if played.on_lost else "no rule is unmet"
 
-    def of_answer(self, played):
+    def of_answer(self, played: Played) -> str:
         """What the answer of an entry says."""
         if played.made is not None:
             valid = (
@@ -163,7 +172,7 @@ class Verified:
             ", since a rule is unmet" if played.fault else ", since the device is lost" if played.on_lost else ""
         )
 
-    def of_settled(self, played: Any) -> Any:
+    def of_settled(self, played: Played) -> list[str]:
         """Which promises an entry settles."""
         if not played.settled:
             return ["it settles no promise"]
@@ -173,14 +182,14 @@ class Verified:
         ]
         return found + ([f"and {len(played.settled) - 5} more"] if played.settled[5:] else [])
 
-    def why_free(self, thing, by):
+    def why_free(self, thing: Played, by: Played) -> list[str]:
         """Why something is given back, and when."""
         how = "was destroyed" if self.history.is_destroyed(thing) else "is held by nothing any longer"
         last = self.history.last_use(thing)
         used = f"its last operation, {last}, is complete" if last else "no operation uses it"
         return [f"entry {by.entry}, of the call at {self.where(by)}, gives back what entry {thing.entry} made: it {how}, and {used}"]
 
-    def why_trace(self, theirs, line, item):
+    def why_trace(self, theirs: str | None, line: str, item: tuple[Any, ...]) -> list[str]:
         """Why a line of the trace is as the second reading has it."""
         if item[0] == "free":
             return self.why_free(*item[1:])
@@ -205,10 +214,11 @@ class Verified:
             )
         return lines
 
-    def where(self, played):
+    def where(self, played: Played) -> str:
         """The place and the text of a call in the script."""
         if self.calls is None:
             self.calls = scripts.read(places.Text(self.data, self.script.name))
+        assert self.calls is not None
         phase, lane, number = self.script.place(played)
         call = self.calls.lanes[phase, lane][number]
         return f"{self.calls.where(call)}: {self.calls.said(call)}"
@@ -221,7 +231,7 @@ def verify(script: tuple[bytes, str], report: tuple[bytes, str]) -> tuple[str, i
         verified.test()
     except Wrong as wrong:
         return "\n".join(told(verified, wrong, report[1])) + "\n", exit_status.DIFFERENT
-    if verified.history is None:
+    if verified.known is None:
         return f"{report[1]}: the script is refused so\n", exit_status.SAME
     return f"{report[1]}: a report of the script: {summary(Report(report[0].decode()))}\n", exit_status.SAME
 
@@ -236,7 +246,7 @@ def told(verified: Verified, wrong: Wrong, name: str) -> Iterator[str]:
     if wrong.right is not None:
         yield f"    is to be: {cut(wrong.right)}"
     yield from (f"    {each}" for each in wrong.why)
-    if verified.history is not None and verified.history.entries():
+    if verified.known is not None and verified.known.entries():
         yield f"    ({count(len(verified.history.entries()), 'entry')} of the script played so far, by the callers that the report names)"
 
 

@@ -1,20 +1,28 @@
 """The faults of a report as a picture shows them, since a refused call leaves nothing in the trace."""
 
+from __future__ import annotations
+
 import html
+from typing import TYPE_CHECKING
 
 from wgsim.matching import culprit
 from wgsim.reading import rules
 from wgsim.reading.report import count
 
+if TYPE_CHECKING:
+    from wgsim.causes.cases import Causes, Told
+    from wgsim.matching.beside import Beside
+    from wgsim.reading.report import Entry
+
 # Faults that are shown at once; the others open on a click.
 MOST = 8
 
 
-def escape(text):
+def escape(text: object) -> str:
     return html.escape(str(text), quote=True)
 
 
-def faults(beside, causes_of):
+def faults(beside: Beside, causes_of: Causes) -> str:
     """An item for each fault, and one where the device was lost, since the calls after that leave no fault and no step."""
     items = [fault(beside, entry, causes_of.of(entry)) for entry in beside.report.entries if entry.fault]
     more = items[MOST:] if len(items) > MOST + 1 else []
@@ -25,14 +33,14 @@ def faults(beside, causes_of):
     return "\n".join(texts + loss(beside))
 
 
-def fault(beside, entry, told):
+def fault(beside: Beside, entry: Entry, told: Told) -> str:
     """A fault: its cause, the rule's sentence, its call, and of a finish the command that it is about."""
     call = beside.call_of.get(entry.number)
-    number = entry.fault[1]
+    kind, number, scope = entry.own_fault()
     where = f"line {beside.script.line(call)}" if call else f"entry {entry.number}"
-    caught = "uncaptured" if entry.fault[2] == "uncaptured" else f"caught by error {entry.fault[2]}"
+    caught = "uncaptured" if scope == "uncaptured" else f"caught by error {scope}"
     lines = [
-        f"<p class='fault'><b>Fault at {where}: {escape(entry.word)} breaks rule {number}</b> <small>{entry.fault[0]} error,"
+        f"<p class='fault'><b>Fault at {where}: {escape(entry.word)} breaks rule {number}</b> <small>{kind} error,"
         f" {caught}</small></p>"
     ]
     found = culprit.told(beside, number, told)
@@ -48,7 +56,7 @@ def fault(beside, entry, told):
     return f"<li>{''.join(lines)}</li>\n"
 
 
-def loss(beside):
+def loss(beside: Beside) -> list[str]:
     """A line where the device was lost."""
     for entry in beside.report.entries:
         if entry.word == "lose":

@@ -1,5 +1,9 @@
 """`wgsim picture --check`: the picture of a trace, in which the steps that differ are marked, and the barrier that is missing."""
 
+from __future__ import annotations
+
+from typing import TYPE_CHECKING
+
 from wgsim.matching.beside import Beside
 from wgsim.matching.checked import Checked
 from wgsim.matching.clash import step_said
@@ -8,13 +12,19 @@ from wgsim.pages.picture import Picture, escape
 from wgsim.reading.report import Report, count
 from wgsim.reading.trace_lines import part_of
 
+if TYPE_CHECKING:
+    from wgsim.matching.clash import Clash
+    from wgsim.pages.picture import Column
+    from wgsim.program.program import Program
+    from wgsim.reading.places import Text
+
 MISSING = ("bar missing", "barrier that is missing")
 
 
 class Marks:
     """What is marked of a trace: words for the steps of a clash, by their numbers, and the barrier that is missing, before one of them."""
 
-    def __init__(self, clash):
+    def __init__(self, clash: Clash) -> None:
         seen = {clash.seen.number: f"writes it last before {step_said(clash.reader)}"} if clash.seen else {}
         reader = {clash.reader.number: "may see it otherwise"} if clash.reader else {}
         self.said = {**seen, clash.writer.number: "writes it", **reader}
@@ -22,14 +32,14 @@ class Marks:
         self.before = other.number
         self.barrier = (part_of(clash.cell), one.usages(), other.usages(), True)
 
-    def add(self, columns):
+    def add(self, columns: list[Column]) -> None:
         """Puts the missing barrier in front of its step."""
         for column in columns:
             if column.step is not None and column.step.number == self.before:
                 column.cell(self.barrier[0].row())["barriers"].append(self.barrier)
 
 
-def beside_of(checked):
+def beside_of(checked: Checked) -> Beside:
     """The report beside its script, or the trace alone."""
     if checked.beside is not None:
         return checked.beside
@@ -37,7 +47,7 @@ def beside_of(checked):
     return Beside(Report(f"history\ntrace\n{trace}"))
 
 
-def picture(data, name, program, text=None):
+def picture(data: bytes, name: str, program: Program, text: Text | None = None) -> tuple[str, int]:
     """The page of a trace, with the answer of the check above it, and its status."""
     checked = Checked(data, name, program, text)
     said = checked.lines()

@@ -1,5 +1,7 @@
 """Builds the proved program where its sources are not those that it was built from, and tells how far the proofs are."""
 
+from __future__ import annotations
+
 import contextlib
 import os
 import pathlib
@@ -9,6 +11,7 @@ import signal
 import subprocess
 import sys
 import time
+from typing import Any, Iterator
 
 from wgsim import TOP, exit_status
 from wgsim.program import crates, proof_costs
@@ -23,28 +26,28 @@ SHORTEST, ITS_REPORT = b'{"budget":0,"phases":[]}', b"history\ntrace\nend\n"
 NEEDS_RT = "the toolchain `rt` is needed to {}, and is not on the PATH; README.md says which one"
 
 
-def say(text):
+def say(text: str) -> None:
     print(f"wgsim: {text}", file=sys.stderr, flush=True)
 
 
-def needed():
+def needed() -> dict[str, list[str]]:
     """The crates that the program stands on, itself included, each with those of the repository that it names."""
     listed = crates.listed()
     return {name: listed[name] for name in crates.needed("wgsim")}
 
 
-def sum_of_sources():
+def sum_of_sources() -> str:
     """A checksum of all that the program is made of."""
     return crates.sum_of(needed())
 
 
-def stamp_of(program, sources):
+def stamp_of(program: pathlib.Path, sources: str) -> str:
     """What is kept beside a program: what it was built from, and which file it is."""
     what = program.stat()
     return f"{sources} {what.st_size} {what.st_mtime_ns}\n"
 
 
-def is_built():
+def is_built() -> bool:
     """Whether the program is built from the sources as they are now."""
     try:
         return STAMP.read_text(encoding="utf-8") == stamp_of(PROGRAM, sum_of_sources())
@@ -52,7 +55,7 @@ def is_built():
         return False
 
 
-def jobs():
+def jobs() -> int:
     """How many crates to prove side by side: as many as processors and memory allow."""
     free = 2 * MEMORY
     for line in pathlib.Path("/proc/meminfo").read_text(encoding="utf-8").splitlines():
@@ -61,18 +64,18 @@ def jobs():
     return max(1, min(len(os.sched_getaffinity(0)), free // MEMORY))
 
 
-def clock(since):
+def clock(since: float) -> str:
     seconds = int(time.monotonic() - since)
     return f"{seconds // 60}:{seconds % 60:02}"
 
 
-def from_nothing():
+def from_nothing() -> str:
     """What a proof of the crates that the program stands on takes here, by what each took where they were measured."""
     below, at_once = needed(), jobs()
     return f"some {proof_costs.told(proof_costs.clock_of(set(below), below, at_once))} with {count(at_once, 'crate')} at a time"
 
 
-def toolchain():
+def toolchain() -> str | None:
     """What the toolchain says of itself, or None where it is not there or says nothing."""
     if shutil.which("rt") is None:
         return None
@@ -81,7 +84,7 @@ def toolchain():
 
 
 @contextlib.contextmanager
-def started(words, **how):
+def started(words: list[str], **how: Any) -> Iterator[subprocess.Popen[Any]]:
     """Runs a command with all that it starts in a group of its own, which is stopped where the tool is."""
     with subprocess.Popen(words, start_new_session=True, **how) as run:
         try:
@@ -92,7 +95,7 @@ def started(words, **how):
             raise
 
 
-def build():
+def build() -> None:
     """Proves the crates that the program stands on, side by side, and then links it over what that kept."""
     if shutil.which("rt") is None:
         raise exit_status.End(exit_status.NOT_BUILT, NEEDS_RT.format("prove and build the program"))
@@ -117,13 +120,14 @@ def build():
     say(f"the program is proved and built ({clock(start)}); from now on it answers, until its sources change")
 
 
-def prove(at_once, start):
+def prove(at_once: int, start: float) -> str:
     """Proves the crates that the program stands on and no others, as `rt all` does in its folder, with a line for each.
 
     Returns what the toolchain said where a proof was stopped from outside."""
     words, said, progress = ["rt", "all", "check", "--jobs", str(at_once)], [], Progress(start, at_once)
     how = {"stdin": subprocess.DEVNULL, "stdout": subprocess.PIPE, "stderr": subprocess.STDOUT}
     with started(words, cwd=CRATE, text=True, errors="replace", **how) as run:
+        assert run.stdout is not None
         for line in run.stdout:
             said.append(line)
             progress.take(line)
@@ -139,7 +143,7 @@ def prove(at_once, start):
     )
 
 
-def telling(said):
+def telling(said: list[str]) -> Iterator[str]:
     """What the toolchain said of the crates that failed, without the lines of what is proved."""
     text = "".join(said)
     failed = set(re.findall(r"^(\w+): failed", text, re.M))
@@ -152,30 +156,31 @@ def telling(said):
 class Progress:
     """Prints a line for each crate, from what the toolchain prints when it is done with one, with an estimate of what is left."""
 
-    def __init__(self, start, at_once):
+    def __init__(self, start: float, at_once: int) -> None:
         self.start = start
         # Since when proofs run: before, the toolchain looks through all sources, which tells nothing of their pace.
-        self.proving = None
+        self.proving: float | None = None
         self.total = len(needed())
         self.done = 0
-        self.crate = None
+        self.crate: str | None = None
         self.is_bad = False
         self.estimate = proof_costs.Estimate(needed(), at_once)
 
-    def take(self, line):
+    def take(self, line: str) -> None:
         begins = re.match(r"== (\w+)$", line)
-        self.proving = self.proving or (begins and time.monotonic())
+        self.proving = self.proving or (time.monotonic() if begins else None)
         if begins or line.startswith("logic=proved"):
             if self.crate:
                 # A crate of which an earlier run kept the proofs, here or in another copy, has no line of its own.
-                self.tell("proved" if not begins else "not proved" if self.is_bad else "proved before")
+                self.tell(self.crate, "proved" if not begins else "not proved" if self.is_bad else "proved before")
             self.crate = begins[1] if begins and begins[1] != "summary" else None
             self.is_bad = False
         elif re.search(r"\berror\b|not proved|refused|stopped", line):
             self.is_bad = True
 
-    def tell(self, how):
+    def tell(self, crate: str, how: str) -> None:
         self.done += 1
-        self.estimate.take(self.crate, how == "proved")
-        left = proof_costs.told(self.estimate.seconds(time.monotonic() - self.proving)) if self.estimate.left else "only the build"
-        say(f"{self.done:3} of {self.total}  {self.crate} {how} ({clock(self.start)}; about {left} left)".replace("about only", "only"))
+        self.estimate.take(crate, how == "proved")
+        now = time.monotonic()
+        left = proof_costs.told(self.estimate.seconds(now - (self.proving or now))) if self.estimate.left else "only the build"
+        say(f"{self.done:3} of {self.total}  {crate} {how} ({clock(self.start)}; about {left} left)".replace("about only", "only"))

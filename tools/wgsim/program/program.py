@@ -1,9 +1,12 @@
 """Asks the program: the proved one, the one that was compiled without proofs, or one that is named for a test."""
 
+from __future__ import annotations
+
 import os
 import pathlib
 import signal
 import subprocess
+from typing import BinaryIO, NoReturn
 
 from wgsim import exit_status
 from wgsim.program import building, unproved
@@ -26,7 +29,7 @@ class Program:
 
     plays = True
 
-    def __init__(self, is_unproved):
+    def __init__(self, is_unproved: bool) -> None:
         named = os.environ.get(NAMED)
         self.is_unproved = not named and (is_unproved or not building.is_built())
         self.answers = {}
@@ -40,7 +43,7 @@ class Program:
         if self.is_unproved:
             self.warn(is_unproved)
 
-    def warn(self, is_asked_for):
+    def warn(self, is_asked_for: bool) -> None:
         """Says in a line that the answers are not proved, and what would make them so."""
         first = "" if self.is_ready else "; it is compiled now, once, which takes about a minute"
         if is_asked_for:
@@ -52,27 +55,27 @@ class Program:
             " nothing"
         )
 
-    def is_kept(self):
+    def is_kept(self) -> bool:
         """Whether there is a program to run: the unproved one has to be compiled first."""
         self.is_ready = self.is_ready or unproved.is_kept()
         return self.is_ready
 
-    def ready(self):
+    def ready(self) -> None:
         """Compiles the program first where that is needed."""
         if not self.is_kept():
             self.ask(SHORTEST)
 
-    def ask(self, data):
+    def ask(self, data: bytes) -> tuple[int, bytes]:
         """The status of a run on a script, and what it wrote."""
         if data not in self.answers:
             self.answers[data] = self.run(data)
         return self.answers[data]
 
-    def check(self, data):
+    def check(self, data: bytes) -> tuple[int, bytes]:
         """The status of a check of a trace, and what it wrote."""
         return self.run(data, "check", OF_CHECK)
 
-    def run(self, data, word="run", own=OWN):
+    def run(self, data: bytes, word: str = "run", own: set[int] = OWN) -> tuple[int, bytes]:
         if not self.is_kept():
             answer = unproved.first(data, word)
             if answer is not None:
@@ -86,7 +89,7 @@ class Program:
             raise exit_status.End(exit_status.NO_ANSWER, f"{said}{self.said} had no answer: it ended with {ran.returncode}")
         return ran.returncode, ran.stdout
 
-    def become(self, words, script=None):
+    def become(self, words: list[str], script: BinaryIO | None = None) -> NoReturn:
         """Takes the place of this tool, with an open file as its standard input if there is one, so that bytes and status are its own."""
         if script is not None:
             os.dup2(script.fileno(), 0)

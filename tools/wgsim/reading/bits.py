@@ -3,7 +3,7 @@
 from __future__ import annotations
 
 import difflib
-from typing import TYPE_CHECKING, Any
+from typing import TYPE_CHECKING
 
 from wgsim import exit_status
 
@@ -65,7 +65,7 @@ def each(number: int, names: dict[int, str]) -> str:
     return found[0] if len(found) == 1 else f"{', '.join(found[:-1])} and {found[-1]}"
 
 
-def of_call(call: Call) -> list[Any]:
+def of_call(call: Call) -> list[str]:
     """The numbers of a script's call that have names, but for 0, in words: `usage 12 = COPY_SRC | COPY_DST`, each once, in the order of the
     text."""
     found = []

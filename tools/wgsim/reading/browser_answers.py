@@ -6,14 +6,52 @@ from __future__ import annotations
 import json
 import pathlib
 import re
-from typing import TYPE_CHECKING, Any
+from typing import TYPE_CHECKING, Any, TypedDict
 
 from wgsim import exit_status
 
 if TYPE_CHECKING:
-    from wgsim.reading.script import Call
+    from wgsim.reading.script import Call, Script
 
 ANSWERS, CALLS = ".answers.json", ".calls.json"
+
+
+class Answer(TypedDict, total=False):
+    """What a browser answered to a call: an error that it told or threw, or how it settled a promise; and what a script cannot say of the
+    call."""
+
+    call: int
+    error: str
+    caught: str
+    message: str
+    throws: str
+    settle: str
+    left: list[str]
+
+
+class Passed(Answer, total=False):
+    """A call that no script has, before the call of a number."""
+
+    before: int
+    do: str
+    outside: str
+    detail: str
+    at: str
+
+
+class Note(TypedDict, total=False):
+    """What happened beside the calls, before the call of a number: a shader that was refused, what a call threw, what the page threw, a
+    loss of the device, or an error of no call."""
+
+    before: int
+    at: str
+    do: str
+    shader: str
+    message: str
+    thrown: str
+    lost: str
+    stray: str
+    page: str
 
 
 def is_beside(name: str) -> bool:
@@ -26,7 +64,7 @@ def is_recorded(path: pathlib.Path) -> bool:
     return path.suffix == ".json" and not is_beside(path.name) and path.with_name(path.stem + ANSWERS).is_file()
 
 
-def read(path: Any) -> Any:
+def read(path: pathlib.Path) -> dict[str, Any]:
     """A file of a recording, of the form that is known here."""
     try:
         found = json.loads(path.read_text(encoding="utf-8"))
@@ -47,24 +85,34 @@ class Pages:
         beside = path.with_name(path.stem + CALLS)
         self.calls = read(beside).get("calls", []) if path.suffix == ".json" and not is_beside(path.name) and beside.is_file() else []
 
-    def of(self, call: Call) -> list[Any]:
-        """The place of a call and those from which that was called, or none."""
+    def told(self, call: Call) -> dict[str, Any]:
+        """What is told of a call."""
         phase, lane, number = call.place
-        told = self.calls[number] if (phase, lane) == (0, 0) and number < len(self.calls) else {}
-        return [told["at"], *told.get("by", [])] if isinstance(told, dict) and "at" in told else []
+        found = self.calls[number] if (phase, lane) == (0, 0) and number < len(self.calls) else {}
+        return found if isinstance(found, dict) else {}
 
-    def at(self, call: Any) -> Any:
+    def of(self, call: Call) -> list[str]:
+        """The place of a call and those from which that was called, or none."""
+        told = self.told(call)
+        return [told["at"], *told.get("by", [])] if "at" in told else []
+
+    def word(self, call: Call) -> str:
+        """What the page called, where a call of the script stands for one that no script has."""
+        return self.told(call).get("standsFor", call.word)
+
+    def at(self, call: Call) -> str | None:
         """The place of a call, or None."""
         found = self.of(call)
         return found[0] if found else None
 
-    def said(self, call: Call) -> list[Any]:
+    def said(self, call: Call) -> list[str]:
         """The same in words, in a line or none."""
         found = self.of(call)
         by = f", called from {', '.join(found[1:])}" if len(found) > 1 else ""
-        return [f"call {call.place[2]}, in the page: {found[0]}{by}"] if found else []
+        stands = f": {self.word(call)}, for which this {call.word} stands" if self.word(call) != call.word else ""
+        return [f"call {call.place[2]}, in the page: {found[0]}{by}{stands}"] if found else []
 
-    def made(self, words: Any, script: Any) -> Any:
+    def made(self, words: str, script: Script) -> list[str]:
         """Where in the page the objects come from that some words name with their places in the script, in lines."""
         makers = [(name, script.maker_of(name)) for name in dict.fromkeys(re.findall(r'"(\w+)" \(\d+:\d+\)', words))]
         return [f'in the page "{name}" comes from {self.at(call)}' for name, call in makers if call is not None and self.at(call)]
@@ -73,8 +121,11 @@ class Pages:
 class Answers:
     """What a browser answered to the calls of a script."""
 
-    def __init__(self, path: Any) -> None:
+    def __init__(self, path: pathlib.Path) -> None:
         self.told = read(path.with_name(path.stem + ANSWERS))
-        self.of = {answer["call"]: answer for answer in self.told["answers"]}
-        self.passed, self.notes, self.device = (self.told.get(key, []) for key in ("passed", "notes", "device"))
-        self.left, self.ended = self.told.get("left", {}), self.told.get("ended")
+        self.of: dict[int, Answer] = {answer["call"]: answer for answer in self.told["answers"]}
+        self.passed: list[Passed] = self.told.get("passed", [])
+        self.notes: list[Note] = self.told.get("notes", [])
+        self.device: list[str] = self.told.get("device", [])
+        self.left: dict[str, int] = self.told.get("left", {})
+        self.ended = self.told.get("ended")

@@ -4,7 +4,7 @@ from __future__ import annotations
 
 import json
 import pathlib
-from typing import TYPE_CHECKING, Any
+from typing import TYPE_CHECKING, Iterable
 
 if TYPE_CHECKING:
     from wgsim.reading.places import Value
@@ -79,7 +79,7 @@ class Key:
         return ", or null" if self.may_have_null else ""
 
 
-def quoted(words: Any) -> str:
+def quoted(words: Iterable[str]) -> str:
     return ", ".join(f'"{word}"' for word in words)
 
 
@@ -89,7 +89,7 @@ def either(kinds: list[str]) -> str:
     return " or ".join(KINDS.get(kind, kind) for kind in told)
 
 
-def keys_of(word: Any) -> Any:
+def keys_of(word: str) -> dict[str, Key] | None:
     """The keys of a call in the order of the table, or None of a call that is not in it."""
     if word not in CALLS:
         return None
@@ -103,12 +103,12 @@ def form_key(sort: str) -> str | None:
     return found[0] if found else None
 
 
-def forms_of(sort: str) -> dict[Any, Any]:
+def forms_of(sort: str) -> dict[str, dict[str, str]]:
     """The further keys that an object of a sort has by its form; no forms where all of them have the same keys."""
     return FORMS.get(OBJECTS[sort].get("forms"), {})
 
 
-def form_of(sort: str, item: Value) -> Any:
+def form_of(sort: str, item: Value) -> str | None:
     """The form of an object in a call, a word that tells its further keys, or None where it has none."""
     forms, by = forms_of(sort), form_key(sort)
     if by is None:
@@ -117,9 +117,10 @@ def form_of(sort: str, item: Value) -> Any:
     return value.what if value is not None and value.kind == "string" and value.what in forms else None
 
 
-def keys_of_object(sort: str, item: Any) -> dict[str, Key]:
+def keys_of_object(sort: str, item: Value) -> dict[str, Key]:
     """The keys of an object in a call: those of its sort, and those of its form if it has one."""
-    further = forms_of(sort).get(form_of(sort, item), {})
+    form = form_of(sort, item)
+    further = forms_of(sort)[form] if form is not None else {}
     return {name: Key(text) for name, text in {**OBJECTS[sort]["keys"], **further}.items()}
 
 
@@ -129,9 +130,9 @@ def may_be_auto(word: str, key: str) -> bool:
     return found is not None and found.may_be_auto
 
 
-def makes(word: str) -> str | None:
+def makes(word: str | None) -> str | None:
     """The kind of what the call makes: an object, or a pass; None where it makes neither."""
-    return CALLS.get(word, {}).get("makes")
+    return CALLS[word].get("makes") if word in CALLS else None
 
 
 def records(word: str) -> bool:
@@ -153,17 +154,17 @@ def groups(word: str) -> int:
     return CALLS.get(word, {}).get("groups", 0)
 
 
-def query(word: str) -> Any:
+def query(word: str) -> str | None:
     """Whether the call `begins` or `ends` an occlusion query; None where it does neither."""
     return CALLS.get(word, {}).get("query")
 
 
-def canvas(word: str) -> Any:
+def canvas(word: str) -> str | None:
     """What the call does to a canvas: `makes` or `configures` it, `gives` its texture or `presents` that; None of another call."""
     return CALLS.get(word, {}).get("canvas")
 
 
-def executes(word: Any) -> Any:
+def executes(word: str) -> bool:
     """Whether the call executes bundles, which unsets what is set."""
     return CALLS.get(word, {}).get("executes", False)
 

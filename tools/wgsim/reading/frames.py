@@ -5,12 +5,13 @@ names that the currentTextures between the two gave. """
 
 from __future__ import annotations
 
-from typing import TYPE_CHECKING, Any
+from typing import TYPE_CHECKING
 
 from wgsim.reading import bits, calls
 
 if TYPE_CHECKING:
-    from wgsim.reading.script import Call
+    from wgsim.matching.beside import Beside
+    from wgsim.reading.script import Call, Script
 
 MAKES, CONFIGURES, GIVES = "makes", "configures", "gives"
 
@@ -22,9 +23,9 @@ class Canvas:
         self.name = call.gives
         self.call = call
         self.calls = [call]
-        self.configured = None
-        self.frames = []
-        self.current = None
+        self.configured: Call | None = None
+        self.frames: list[Frame] = []
+        self.current: Frame | None = None
 
 
 class Frame:
@@ -35,11 +36,11 @@ class Frame:
         self.canvas = canvas
         self.number = len(canvas.frames) + 1
         self.configured = canvas.configured
-        self.calls = []
-        self.ended = None
+        self.calls: list[Call] = []
+        self.ended: Call | None = None
 
     def names(self) -> list[str]:
-        return [call.gives for call in self.calls]
+        return [call.gives for call in self.calls if call.gives is not None]
 
     def event_of(self, call: Call) -> str | None:
         """The word of the entry that a call of it makes, or None."""
@@ -75,14 +76,14 @@ class Canvases:
         if does == CONFIGURES:
             canvas.configured = call
 
-    def give(self, canvas: Any, call: Any) -> None:
+    def give(self, canvas: Canvas, call: Call) -> None:
         if canvas.current is None:
             canvas.current = Frame(canvas)
             canvas.frames.append(canvas.current)
         call.frame = canvas.current
         call.frame.calls.append(call)
 
-    def with_frames(self) -> list[Any]:
+    def with_frames(self) -> list[Canvas]:
         return [canvas for canvas in self.of_name.values() if canvas.frames]
 
 
@@ -90,9 +91,10 @@ def extent(canvas: Canvas) -> str:
     return f"{canvas.call.number('width')} by {canvas.call.number('height')}"
 
 
-def texture(script: Any, frame: Any) -> Any:
+def texture(script: Script, frame: Frame) -> str:
     """Of what the texture of a frame is made: what its canvas and the configure say."""
-    format, usage = frame.configured.value.member("format").what, frame.configured.number("usage", 16)
+    assert frame.configured is not None
+    format, usage = frame.configured.value.needed("format").what, frame.configured.number("usage", 16)
     made, configured = script.at(frame.canvas.call), script.at(frame.configured)
     return (
         f"the texture of {frame.canvas.name}: {extent(frame.canvas)} (made at {made}), of {format} with usage"
@@ -100,12 +102,12 @@ def texture(script: Any, frame: Any) -> Any:
     )
 
 
-def of_fault(script: Any, call: Call) -> list[Any]:
+def of_fault(script: Script, call: Call) -> list[str]:
     """A line on what a currentTexture makes, which its own text does not say."""
     return [texture(script, call.frame)] if call.frame is not None and call.event == "createTexture" else []
 
 
-def listed(beside: Any) -> Any:
+def listed(beside: Beside) -> list[tuple[str, list[str]]]:
     """Each canvas that has frames, as a line, with a line for each of them."""
     return [
         (f"{canvas.name}, {extent(canvas)}, made at {beside.script.at(canvas.call)}", [line(beside, frame) for frame in canvas.frames])
@@ -113,10 +115,10 @@ def listed(beside: Any) -> Any:
     ]
 
 
-def line(beside: Any, frame: Any) -> Any:
+def line(beside: Beside, frame: Frame) -> str:
     """A frame in a line: its texture by its names and number, and from where up to where it is current."""
     first, *others = frame.calls
     entry, script = beside.entry_of[first], beside.script
-    also = f" (also {', '.join(call.gives for call in others)})" if others else ""
+    also = f" (also {', '.join(frame.names()[1:])})" if others else ""
     until = f"up to the {frame.ended.word} at {script.at(frame.ended)}" if frame.ended else "to the end of its phase"
     return f"frame {frame.number}: {first.gives}{also}, object {entry.object()}, {entry.answer[2]}, from {script.at(first)} {until}"

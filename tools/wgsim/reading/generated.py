@@ -11,21 +11,21 @@ from typing import Any, Iterator
 BUDGET, BUFFERS, MOST, MOST_LANES = 1_000_000, 8, 8_000, 64
 
 
-def fits(count: int, lanes: Any) -> bool:
+def fits(count: int, lanes: int) -> bool:
     """Whether the program generates a script of so many iterations in each of so many lanes."""
     return 1 <= count and 1 <= lanes <= MOST_LANES and count * lanes <= MOST
 
 
-def number(word: str) -> Any:
+def number(word: str) -> int | None:
     """A number in decimal digits without leading zeros, or None."""
     return int(word) if word.isascii() and word.isdigit() and str(int(word)) == word else None
 
 
-def spots(lane: Any) -> Iterator[tuple[str, str, int]]:
+def spots(lane: int) -> Iterator[tuple[str, str, int]]:
     """Where the iterations of a lane write, and from which buffer to which they copy there."""
     state = lane + 1
 
-    def draw():
+    def draw() -> int:
         nonlocal state
         state = (state * 1_103_515_245 + 12_345) % 2**31
         return state // 65_536
@@ -36,7 +36,7 @@ def spots(lane: Any) -> Iterator[tuple[str, str, int]]:
         yield f"b{source}", f"b{target}", 4 * (draw() % 256)
 
 
-def iteration(name: int, spot: tuple[str, str, int]) -> list[Any]:
+def iteration(name: int, spot: tuple[str, str, int]) -> list[dict[str, Any]]:
     """The calls of an iteration, whose encoder and command buffer have names with a number of their own."""
     source, target, offset = spot
     return [
@@ -56,7 +56,7 @@ def iteration(name: int, spot: tuple[str, str, int]) -> list[Any]:
     ]
 
 
-def phases(count: Any, lanes: Any) -> list[Any]:
+def phases(count: int, lanes: int) -> list[list[list[dict[str, Any]]]]:
     """The calls of each lane of each phase."""
     made = []
     for lane in range(lanes):

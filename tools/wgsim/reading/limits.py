@@ -13,11 +13,11 @@ ROWS = json.loads((TOP / "docs/limits.json").read_text(encoding="utf-8"))["limit
 class Limit:
     """A limit: its default, the best, and whether it is an alignment, of which the smaller is the better."""
 
-    def __init__(self, row: Any) -> None:
+    def __init__(self, row: dict[str, Any]) -> None:
         self.name, self.default, self.best = row["name"], row["default"], row["best"]
         self.is_alignment = row.get("better") == "smaller"
 
-    def wrong(self, value: int) -> Any:
+    def wrong(self, value: int) -> str | None:
         """The part of script rule 14 by which a script may not ask for a value, or None."""
         if self.is_alignment and (value >= 2**32 or bin(value).count("1") != 1):
             return "alignment"
@@ -29,7 +29,7 @@ class Limit:
             return f"a power of two from {self.best} to {2**31}; what is above {self.default} gives {self.default}"
         return f"at most {self.best}; what is below {self.default} gives {self.default}"
 
-    def may_be_more(self) -> Any:
+    def may_be_more(self) -> str | None:
         """What a script may do that needs more than the limit that it has."""
         return None if self.best == self.default else f'ask for more by "limits": {{"{self.name}": ..}}, up to {self.best}'
 

@@ -5,10 +5,13 @@ from __future__ import annotations
 import bisect
 import re
 import unicodedata
-from typing import Any
+from typing import Any, Match, NoReturn, Pattern
 
 SPACE = re.compile(r"[ \t\n\r]*")
 NUMBER = re.compile(r"-?(?:0|[1-9][0-9]*)(?:\.[0-9]+)?(?:[eE][+-]?[0-9]+)?")
+# A piece of a text as a reader sees it, and what was meant for a number.
+PIECE = re.compile(r"[\w.+-]+|.", re.S)
+LIKE_NUMBER = re.compile(r"[0-9.eE+-]+")
 PLAIN = re.compile(r'[^"\\\x00-\x1f]*')
 ESCAPES = {'"': '"', "\\": "\\", "/": "/", "b": "\b", "f": "\f", "n": "\n", "r": "\r", "t": "\t"}
 WORDS = {"true": True, "false": False, "null": None}
@@ -35,6 +38,13 @@ def escape_of(letter: str) -> str:
     return f"\\x{code:02x}" if code < 256 else f"\\u{code:04x}" if code < 65536 else f"\\U{code:08x}"
 
 
+def matched(pattern: Pattern[str], text: str, at: int = 0) -> Match[str]:
+    """What a pattern matches at a place, where it always does, be it with nothing."""
+    found = pattern.match(text, at)
+    assert found is not None
+    return found
+
+
 class Value:
     """A value of a JSON text: its kind, what it is, and the places in the text where it begins and ends.
 
@@ -47,7 +57,7 @@ class Value:
         self.start = start
         self.end = end
 
-    def member(self, name: Any) -> Any:
+    def member(self, name: str) -> Value | None:
         """The value of a key of an object: of several the last, or None."""
         found = None
         for key, value in self.what:
@@ -55,13 +65,16 @@ class Value:
                 found = value
         return found
 
-    def key(self, name: str) -> Any:
-        """The last key of that name of an object, or None."""
-        found = None
-        for key, _ in self.what:
-            if key.what == name:
-                found = key
+    def needed(self, name: str) -> Value:
+        """The value of a key that is there."""
+        found = self.member(name)
+        if found is None:
+            raise KeyError(name)
         return found
+
+    def needed_key(self, name: str) -> Value:
+        """The last key of that name of an object that has one."""
+        return next(key for key, _ in reversed(self.what) if key.what == name)
 
 
 class Reader:
@@ -71,18 +84,18 @@ class Reader:
         self.text = text
         self.at = 0
 
-    def fail(self, found: str, expected: str, at: int | None = None) -> None:
+    def fail(self, found: str, expected: str, at: int | None = None) -> NoReturn:
         raise NotJson(self.at if at is None else at, found, expected)
 
-    def here(self):
+    def here(self) -> str:
         """What stands at the place, as a reader sees it."""
         if self.next() == "":
             return "the end of the text"
-        piece = re.match(r"[\w.+-]+|.", self.text[self.at : self.at + 40], re.S)[0]
+        piece = matched(PIECE, self.text[self.at : self.at + 40])[0]
         return "the line's end" if piece in "\r\n" else escaped(piece)
 
-    def space(self):
-        self.at = SPACE.match(self.text, self.at).end()
+    def space(self) -> None:
+        self.at = matched(SPACE, self.text, self.at).end()
 
     def next(self) -> str:
         return self.text[self.at] if self.at < len(self.text) else ""
@@ -98,7 +111,7 @@ class Reader:
             self.fail(self.here(), "the end of the text, after its one value")
         return value
 
-    def value(self, depth: Any) -> Any:
+    def value(self, depth: int) -> Value:
         self.space()
         letter = self.next()
         if letter != "" and letter in "{[":
@@ -117,25 +130,25 @@ class Reader:
                 return Value(word, what, start, self.at)
         self.fail(self.here(), "a value: an object, a list, a string, a number, true, false or null")
 
-    def number(self):
+    def number(self) -> Value:
         start = self.at
         found = NUMBER.match(self.text, start)
         if not found:
             self.fail(self.here(), "a digit after the sign")
         self.at = found.end()
         if re.match(r"[0-9.eE+-]", self.next()):
-            whole = re.match(r"[0-9.eE+-]+", self.text[start : start + 60])[0]
+            whole = matched(LIKE_NUMBER, self.text[start : start + 60])[0]
             self.fail(f"the number {whole}", "a number as JSON has it, with no leading zeros, and with digits on both sides of a point")
         if abs(float(found[0])) == float("inf"):
             self.fail(f"the number {found[0][:60]}, which is too large", "a number that a float of 64 bits holds", start)
         return Value("number", found[0], start, self.at)
 
-    def string(self):
+    def string(self) -> Value:
         start = self.at
         self.at += 1
         parts = []
         while True:
-            plain = PLAIN.match(self.text, self.at)
+            plain = matched(PLAIN, self.text, self.at)
             parts.append(plain[0])
             self.at = plain.end()
             letter = self.next()
@@ -254,5 +267,5 @@ class Text:
             raise NotJson(offset, f"the byte 0x{byte:02x}{mark}", "a text in UTF-8")
         return Reader(self.text).whole()
 
-    def of(self, value: Any) -> str:
+    def of(self, value: Value) -> str:
         return self.text[value.start : value.end]

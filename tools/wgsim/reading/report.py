@@ -2,7 +2,7 @@
 
 from __future__ import annotations
 
-from typing import Any
+from typing import NamedTuple, Sequence
 
 SORTS = {"b": "buffer", "t": "texture", "q": "query set", "s": "texture"}
 
@@ -10,8 +10,16 @@ SORTS = {"b": "buffer", "t": "texture", "q": "query set", "s": "texture"}
 class NotReport(Exception):
     """The text is no report: in the line `number`, counted from 1."""
 
-    def __init__(self, number: Any, line: Any) -> None:
+    def __init__(self, number: int, line: str) -> None:
         super().__init__(f"line {number} is none of a report: {line[:80]!r}")
+
+
+class Fault(NamedTuple):
+    """The fault of an entry: its kind, its rule, and which error scope caught it, or that none did."""
+
+    kind: str
+    rule: int
+    caught: str
 
 
 class Entry:
@@ -24,18 +32,23 @@ class Entry:
         rest = words[3:]
         self.answer = rest[: {"made": 3, "op": 2}.get(rest[0], 1)]
         rest = rest[len(self.answer) :]
-        self.fault = None
+        self.fault: Fault | None = None
         if rest[:1] == ["fault"]:
             caught = 2 if rest[3] == "scope" else 1
-            self.fault = (rest[1], int(rest[2]), " ".join(rest[3 : 3 + caught]))
+            self.fault = Fault(rest[1], int(rest[2]), " ".join(rest[3 : 3 + caught]))
             rest = rest[3 + caught :]
-        self.settled = []
+        self.settled: list[tuple[int, str]] = []
         while rest:
             if rest[0] != "settle":
                 raise ValueError(line)
             length = 5 if rest[2] == "error" else 3
             self.settled.append((int(rest[1]), " ".join(rest[2:length])))
             rest = rest[length:]
+
+    def own_fault(self) -> Fault:
+        """The fault, of an entry that has one."""
+        assert self.fault is not None
+        return self.fault
 
     def object(self) -> int | None:
         """The number of the object that was made, or None."""
@@ -44,17 +57,19 @@ class Entry:
     def is_valid(self) -> bool:
         return self.answer[0] != "made" or self.answer[2] == "valid"
 
-    def operation(self) -> Any:
+    def operation(self) -> int | None:
         return int(self.answer[1]) if self.answer[0] == "op" else None
 
 
 class Part:
-    """A part or some cells: sort, object, and for a texture aspect and mip level, and where they lie from and to."""
+    """A part or some cells: sort, object, and for a texture aspect and mip level, and where they lie from and to; 0 of what is whole."""
 
-    def __init__(self, words: Any) -> None:
+    def __init__(self, words: Sequence[str]) -> None:
         self.words = tuple(words)
         self.sort, self.object = words[0], int(words[1])
-        self.aspect, self.mip, self.low, self.high = None, None, None, None
+        self.aspect: str | None = None
+        self.mip: int | None = None
+        self.is_whole, self.low, self.high = len(words) <= 2, 0, 0
         if words[0] in ("t", "s") and len(words) > 2:
             self.aspect, self.mip, self.low, self.high = words[2], int(words[3]), int(words[4]), int(words[5])
         elif len(words) > 2:
@@ -72,13 +87,13 @@ class Part:
 class Step:
     """A step of the trace with the barriers before it."""
 
-    def __init__(self, words: list[str], barriers: list[Any]) -> None:
+    def __init__(self, words: list[str], barriers: list[tuple[Part, str, str]]) -> None:
         self.number, self.is_host, self.at, self.name = int(words[1]), words[2] == "host", int(words[3]), words[4]
         self.barriers = barriers
         self.uses = []
         self.accesses = []
 
-    def head(self) -> Any:
+    def head(self) -> tuple[str, int, str]:
         return ("host" if self.is_host else "op", self.at, self.name)
 
 
@@ -138,7 +153,7 @@ class Report:
         else:
             raise ValueError(words)
 
-    def steps(self) -> list[Any]:
+    def steps(self) -> list[Step]:
         return [item for item in self.items if isinstance(item, Step)]
 
     def counts(self) -> dict[str, int]:

@@ -17,7 +17,7 @@ ABOVE = "as above"
 class Rule:
     """A rule as one call tests it."""
 
-    def __init__(self, call: Any, row: Any) -> None:
+    def __init__(self, call: dict[str, Any], row: dict[str, Any]) -> None:
         self.call = call["call"]
         self.label = call.get("label", self.call)
         self.numbers = row["rules"]
@@ -31,7 +31,7 @@ class Rule:
 RULES = [Rule(call, row) for part in TABLE["parts"] if "calls" in part for call in part["calls"] for row in call["rules"]]
 
 
-def of(number: Any, call: Any = None) -> list[Rule]:
+def of(number: int, call: str | None = None) -> list[Rule]:
     """The rules of a number, those of a call alone if it has one; each with its whole sentence."""
     found = [rule for rule in RULES if number in rule.numbers]
     whole = next((rule for rule in found if not rule.asks.startswith(ABOVE)), None)
@@ -55,17 +55,17 @@ def section(rule: Rule) -> str:
     return "WebGPU, " + ", ".join(f'"{each}"' for each in rule.sections)
 
 
-def notes(titles: set[Any]) -> list[Any]:
+def notes(titles: set[str]) -> list[dict[str, Any]]:
     """The paragraphs of those titles."""
     return [part for part in TABLE["parts"] if part.get("title") in titles]
 
 
-def script_rows(number: int) -> list[Any]:
+def script_rows(number: int) -> list[dict[str, Any]]:
     """The rows of a rule of scripts."""
     return [row for row in TABLE["scripts"] if row["rule"] == number]
 
 
-def refused_by(row: Any) -> str:
+def refused_by(row: dict[str, Any]) -> str:
     """What a row of the rules of scripts refuses, with all its parts."""
     *parts, last = row["parts"].values() if "parts" in row else [row["refuses"]]
     return sentence(f"{', '.join(parts)}, or {last}" if parts else last)
@@ -81,12 +81,12 @@ def sentence(words: str) -> str:
     return words[:1].upper() + words[1:]
 
 
-def place_of(row: Any) -> list[Any]:
+def place_of(row: dict[str, Any]) -> list[str]:
     """The words of the place that a rule of scripts tells: phase, lane and call, as far as it has them."""
     return [] if row["place"] == "none" else row["place"].split(", ")
 
 
-def script_rules(number: int) -> list[Any]:
+def script_rules(number: int) -> list[str]:
     """What a rule of scripts refuses."""
     return [refused_by(row) for row in script_rows(number)]
 
@@ -110,7 +110,7 @@ def page() -> str:
     return "\n".join(lines) + "\n"
 
 
-def shown(number: int) -> Any:
+def shown(number: int) -> str | None:
     """What `wgsim rules N` prints, or None where no rule has that number."""
     found = of(number)
     scripts = script_rules(number)

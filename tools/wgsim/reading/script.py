@@ -24,25 +24,25 @@ class Call:
         self.word = string_of(value, "do") or "?"
         self.gives = string_of(value, "as")
         self.is_late = False
-        self.locked_by = None
-        self.frame = None
+        self.locked_by: Place | None = None
+        self.frame: frames.Frame | None = None
 
     @property
-    def event(self):
+    def event(self) -> str | None:
         """The word of the entry that the call makes, or None where it makes none."""
         if calls.canvas(self.word) is not None:
             return self.frame.event_of(self) if self.frame is not None else None
         return "late" if self.is_late else None if calls.records(self.word) else self.word
 
-    def names(self) -> list[Any]:
+    def names(self) -> list[tuple[str, Value]]:
         """The names that the call uses, in the order of its table's keys: pairs of key and name."""
         return [(key, value) for key, value, _ in self.wanted_names()]
 
-    def wanted_names(self) -> list[Any]:
+    def wanted_names(self) -> list[tuple[str, Value, list[str]]]:
         """The same, each with the kinds of object that it may stand for."""
         return names_in(self.value, calls.keys_of(self.word) or {})
 
-    def number(self, key: str, otherwise: Any = None) -> int:
+    def number(self, key: str, otherwise: Any = None) -> Any:
         value = self.value.member(key)
         return int(value.what) if value is not None and value.kind == "number" and value.what.isdigit() else otherwise
 
@@ -56,7 +56,7 @@ class Call:
         return size.what == "0"
 
 
-def names_in(value: Any, keys: dict[Any, Any]) -> list[Any]:
+def names_in(value: Value, keys: dict[str, calls.Key]) -> list[tuple[str, Value, list[str]]]:
     """The names that a call or an object in it uses, in the order of its table's keys: each with its key and the kinds that will do."""
     found = []
     for key, wanted in keys.items():
@@ -77,7 +77,7 @@ def names_in(value: Any, keys: dict[Any, Any]) -> list[Any]:
     return found
 
 
-def string_of(value: Value, key: str) -> Any:
+def string_of(value: Value, key: str) -> str | None:
     if value.kind != "object":
         return None
     member = value.member(key)
@@ -93,10 +93,10 @@ class Place:
         self.encoder = encoder
         self.name = call.gives
         self.has_ended = False
-        self.finish = None
-        self.end = None
-        self.open_pass = None
-        self.commands = []
+        self.finish: Call | None = None
+        self.end: Call | None = None
+        self.open_pass: Place | None = None
+        self.commands: list[Call] = []
 
 
 class Script:
@@ -105,9 +105,9 @@ class Script:
     def __init__(self, text: Text, top: Value) -> None:
         self.text = text
         self.top = top
-        self.lanes = {}
-        self.made = {}
-        self.phases = top.member("phases").what
+        self.lanes: dict[tuple[int, int], list[Call]] = {}
+        self.made: dict[str | None, Call] = {}
+        self.phases: list[Value] = top.needed("phases").what
         for phase, lanes in enumerate(self.phases):
             for lane, values in enumerate(lanes.what):
                 self.lanes[phase, lane] = [Call(value, (phase, lane, n)) for n, value in enumerate(values.what)]
@@ -115,7 +115,7 @@ class Script:
         for call in self.calls:
             if call.gives is not None:
                 self.made.setdefault(call.gives, call)
-        self.places = {}
+        self.places: dict[str | None, Place] = {}
         self.canvases = frames.Canvases()
         for call in self.calls:
             self.record(call)
@@ -135,7 +135,7 @@ class Script:
         elif calls.canvas(call.word) is not None:
             self.canvases.take(call, string_of(call.value, "canvas"))
 
-    def command(self, call: Any, place: Any) -> None:
+    def command(self, call: Call, place: Place) -> None:
         encoder = place.encoder or place
         call.is_late = place.has_ended or encoder.has_ended
         begun = Place(call, encoder) if call.word in calls.BEGINS else None
@@ -153,7 +153,7 @@ class Script:
             place.end = call
             encoder.open_pass = None
 
-    def set_at(self, call: Any) -> Any:
+    def set_at(self, call: Call) -> list[Call]:
         """What is set of a pass or a bundle where a call records on it: the last setPipeline, the last setBindGroup of each index and
         setVertexBuffer of each slot, least indexes and slots first, and the last setIndexBuffer. Bundles that are executed unset all of it.
         """
@@ -166,7 +166,7 @@ class Script:
                 found = {}
         return [found[at] for at in sorted(found)]
 
-    def recorded_in(self, call: Call) -> list[Any]:
+    def recorded_in(self, call: Call) -> list[Call]:
         """The commands of what a call makes, where it is a finish of an encoder, or of a bundle encoder; else none."""
         place = self.places.get(string_of(call.value, "on")) if calls.ends_encoder(call.word) else None
         return place.commands if place is not None else []
@@ -177,11 +177,11 @@ class Script:
         place = self.places.get(string_of(call.value, "on"))
         return place.call if place is not None and calls.makes(place.call.word) in ("render pass", "bundle encoder") else None
 
-    def set_before(self, call: Any) -> Any:
+    def set_before(self, call: Call) -> list[Call]:
         """What a call's pass or bundle has set or executed before it, overwritten or not, in order."""
         return [command for command in self.before(call) if command.word in SETS or calls.executes(command.word)]
 
-    def before(self, call: Any) -> Any:
+    def before(self, call: Call) -> list[Call]:
         """The commands of the pass or bundle of a call that come before it."""
         place = self.places[string_of(call.value, "on")]
         commands = (place.encoder or place).commands
@@ -193,17 +193,17 @@ class Script:
         call = self.made.get(name)
         return call.frame.calls[0] if call is not None and call.frame is not None else call
 
-    def where(self, call: Any) -> str:
+    def where(self, call: Call) -> str:
         return self.text.where(call.value.start)
 
-    def at(self, call: Any) -> str:
+    def at(self, call: Call) -> str:
         """The line and column of a call."""
         return "{}:{}".format(*self.text.place(call.value.start))
 
     def line(self, call: Call) -> int:
         return self.text.place(call.value.start)[0]
 
-    def said(self, call: Any, most: int = 160) -> str:
+    def said(self, call: Call, most: int = 160) -> str:
         """The text of a call in one line."""
         return shown(self.text.of(call.value), most)
 
@@ -214,12 +214,13 @@ def shown(text: str, most: int = 160) -> str:
     return line if len(line) <= most else line[: most - 2] + ".."
 
 
-def read(text: Text) -> Any:
+def read(text: Text) -> Script | None:
     """The script of a text that the program has played, or None where the text has no such form."""
     top = text.read()
-    if top.kind != "object" or top.member("phases") is None or top.member("phases").kind != "list":
+    phases = top.member("phases") if top.kind == "object" else None
+    if phases is None or phases.kind != "list":
         return None
-    for lanes in top.member("phases").what:
+    for lanes in phases.what:
         if lanes.kind != "list" or any(lane.kind != "list" for lane in lanes.what):
             return None
     return Script(text, top)

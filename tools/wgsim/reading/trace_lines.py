@@ -2,7 +2,7 @@
 
 from __future__ import annotations
 
-from typing import Any, Callable
+from typing import Any, Callable, Sequence
 
 from wgsim.reading.report import SORTS, Part
 
@@ -28,18 +28,14 @@ class Touch:
     """A step that accesses a cell: its number and name, its line and that of the access, both with their numbers, and its usages of the
     cell's part."""
 
-    def __init__(self, number: int, at: int, line: str) -> None:
-        self.number, self.at, self.line = number, at, line
-        self.name = line.split(" ")[-1]
-        self.row_at, self.row, self.kind, self.cells = None, None, None, None
-        self.used = set()
-
-    def access(self, at, row):
-        """Notes the line of its access."""
+    def __init__(self, step: tuple[int, int, str], at: int, row: str, used: set[str]) -> None:
+        self.number, self.at, self.line = step
+        self.name = self.line.split(" ")[-1]
         words = row.split(" ")
         self.row_at, self.row, self.kind, self.cells = at, row, words[1], Part(words[2:])
+        self.used = used
 
-    def usages(self):
+    def usages(self) -> str:
         """How it uses the part of the cell, by its `use` lines, or as its name and access let guess."""
         return "+".join(usage for usage in USAGES if usage in self.used) or guessed(self.name, self.cells.sort, self.kind == "read")
 
@@ -59,21 +55,21 @@ def guessed(name: str, sort: str, only_reads: bool) -> str:
     return reads if only_reads else writes
 
 
-def touches(lines, cell):
+def touches(lines: list[str], cell: Part) -> tuple[list[Touch], int]:
     """The steps of a trace that access a cell, in order, and the number of the line `end`. The lines are those of the whole text, of a
     trace that is one."""
-    first, found, step, used, number = lines.index("trace") + 1, [], None, part_of(cell), -1
-    of_cells, of_part = owner_of(cell), owner_of(used)
+    first, part = lines.index("trace") + 1, part_of(cell)
+    found: list[Touch] = []
+    step, used = (-1, 0, ""), set()
+    of_cells, of_part = owner_of(cell), owner_of(part)
     for at, line in enumerate(lines[first:], first + 1):
         word, _, rest = line.partition(" ")
         if word == "step":
-            number += 1
-            step = Touch(number, at, line)
-        elif word == "use" and rest.startswith(of_part) and has(rest.split(" ")[:-1], used):
-            step.used.update(rest.split(" ")[-1].split("+"))
+            step, used = (step[0] + 1, at, line), set()
+        elif word == "use" and rest.startswith(of_part) and has(rest.split(" ")[:-1], part):
+            used.update(rest.split(" ")[-1].split("+"))
         elif word == "acc" and rest.partition(" ")[2].startswith(of_cells) and has(rest.split(" ")[1:], cell):
-            step.access(at, line)
-            found.append(step)
+            found.append(Touch(step, at, line, used))
         elif word == "end":
             return found, at
     raise ValueError("the text has no trace")
@@ -81,13 +77,13 @@ def touches(lines, cell):
 
 def owner_of(part: Part) -> str:
     """The words with which each line of the same buffer, query set or mip level begins."""
-    return "".join(f"{word} " for word in (part.words if part.low is None else part.words[:-2]))
+    return "".join(f"{word} " for word in (part.words if part.is_whole else part.words[:-2]))
 
 
-def has(words: Any, inner: Any) -> Any:
+def has(words: Sequence[str], inner: Part) -> bool:
     """Whether a part or some cells have another one in them."""
     outer = Part(words)
-    return inner.low is None or outer.low <= inner.low < outer.high
+    return inner.is_whole or outer.low <= inner.low < outer.high
 
 
 def part_of(cell: Part) -> Part:
@@ -99,7 +95,7 @@ def part_of(cell: Part) -> Part:
     return Part(("t", *cell.words[1:4], str(low), str(high)))
 
 
-def common_part(cell: Any, one: Any, other: Any) -> Any:
+def common_part(cell: Part, one: Touch, other: Touch) -> Part | None:
     """The part of all layers that two steps access, where the cell is one of several; else None."""
     if cell.sort != "t":
         return None

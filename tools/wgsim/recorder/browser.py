@@ -4,6 +4,8 @@ Chromium reads commands and writes answers on two pipes (`--remote-debugging-pip
 that ends with a zero byte. The browser reaches no address but those of this machine, whatever a page asks for.
 """
 
+from __future__ import annotations
+
 import contextlib
 import fcntl
 import json
@@ -13,6 +15,7 @@ import shutil
 import signal
 import subprocess
 import time
+from typing import Any, Iterator
 
 from wgsim import exit_status
 
@@ -41,7 +44,7 @@ class Gone(Exception):
     """The browser ended, or does not answer."""
 
 
-def found(named):
+def found(named: str | None) -> str | None:
     """The browser that is named, or one that is installed; None where there is none."""
     if named is not None:
         path = shutil.which(named)
@@ -54,24 +57,25 @@ def found(named):
 class Browser:
     """A browser that was started, and the messages to and from it."""
 
-    def __init__(self, path, folder):
+    def __init__(self, path: str, folder: str) -> None:
         commands, self.out = os.pipe()
         self.answers, answers = os.pipe()
         high = [fcntl.fcntl(file, fcntl.F_DUPFD, 10) for file in (commands, answers)]
 
-        def placed():
+        def placed() -> None:
             os.dup2(high[0], READS)
             os.dup2(high[1], WRITES)
 
         root = ("--no-sandbox",) if os.geteuid() == 0 else ()
         words = [path, *FLAGS, *ALONE, *root, f"--user-data-dir={folder}", "about:blank"]
-        quiet = {"stdin": subprocess.DEVNULL, "stdout": subprocess.DEVNULL, "stderr": subprocess.DEVNULL}
+        quiet: dict[str, Any] = {"stdin": subprocess.DEVNULL, "stdout": subprocess.DEVNULL, "stderr": subprocess.DEVNULL}
         self.run = subprocess.Popen(words, preexec_fn=placed, pass_fds=(READS, WRITES), start_new_session=True, **quiet)
         for file in (commands, answers, *high):
             os.close(file)
-        self.number, self.rest, self.waiting = 0, b"", []
+        self.number, self.rest = 0, b""
+        self.waiting: list[dict[str, Any]] = []
 
-    def ask(self, method, session=None, seconds=60, **words):
+    def ask(self, method: str, session: str | None = None, seconds: float = 60, **words: Any) -> dict[str, Any]:
         """Sends a command, and returns its result; events that come before it are kept."""
         self.number += 1
         message = {"id": self.number, "method": method, "params": words, **({"sessionId": session} if session else {})}
@@ -89,14 +93,14 @@ class Browser:
             if "method" in told:
                 kept.append(told)
 
-    def send(self, data):
+    def send(self, data: bytes) -> None:
         try:
             while data:
                 data = data[os.write(self.out, data[:PIECE]) :]
         except BrokenPipeError:
             raise Gone("it has ended") from None
 
-    def next(self, until):
+    def next(self, until: float) -> dict[str, Any] | None:
         """The next message, or None where there is none up to a time."""
         if self.waiting:
             return self.waiting.pop(0)
@@ -113,7 +117,7 @@ class Browser:
         message, _, self.rest = b"".join(parts).partition(b"\0")
         return json.loads(message)
 
-    def end(self):
+    def end(self) -> None:
         """Ends the browser: by its own word, or else by a signal to what was started here."""
         with contextlib.suppress(Gone, OSError):
             self.ask("Browser.close", seconds=5)
@@ -129,7 +133,7 @@ class Browser:
 
 
 @contextlib.contextmanager
-def opened(path, folder):
+def opened(path: str, folder: str) -> Iterator[Browser]:
     """A browser that ends with what it was started for."""
     browser = Browser(path, folder)
     try:

@@ -105,7 +105,7 @@ const QUEUE = {
     const whole = extent(size), each = TEXEL_BYTES[of(recording, to.texture).format] || 4;
     recording.leave('copyExternalImageToTexture');
     const data = { bytesPerRow: whole[0] * each, rowsPerImage: whole[1], dataSize: whole[0] * whole[1] * whole[2] * each };
-    return { queues: true, call: { do: 'writeTexture', ...spot(recording, to), size: whole, ...data } };
+    return { queues: true, standsFor: 'copyExternalImageToTexture', call: { do: 'writeTexture', ...spot(recording, to), size: whole, ...data } };
   },
   'GPUQueue.onSubmittedWorkDone': () => ({ promise: 'done', call: { do: 'workDone' } }),
   'GPUBuffer.mapAsync': (recording, on, mode, offset, size) => (

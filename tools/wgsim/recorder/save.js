@@ -6,12 +6,14 @@ const IN_WORDS = [/^\s*at (?:async )?(?:(.*?) \()?((?:\w+:|<).*?):(\d+):(\d+)\)?
 
 // The places of a stack that are the page's own, the innermost first.
 function placesOf(error) {
-  const base = location.href.replace(/[^/]*(?:[?#].*)?$/, ''), found = [];
+  const base = (asked.page || location.href).replace(/[^/]*(?:[?#].*)?$/, ''), ahead = globalThis.wgsimRecordAhead || 0, found = [];
   for (const line of String(error && error.stack || '').split('\n')) {
     const place = IN_WORDS.map(words => words.exec(line)).find(Boolean);
     if (!place || OWN.test(place[2].replace(/[?#].*$/, ''))) continue;
     const file = place[2].startsWith(base) ? place[2].slice(base.length) || '(the page)' : place[2];
-    found.push(`${file}:${place[3]}:${place[4]}${place[1] ? ` in ${place[1]}` : ''}`);
+    // What the tool put before the script of a worker stands in its first line.
+    const column = place[3] === '1' && place[2] === location.href ? place[4] - ahead : place[4];
+    found.push(`${file}:${place[3]}:${column}${place[1] ? ` in ${place[1]}` : ''}`);
   }
   return found.slice(0, DEEPEST);
 }
@@ -28,23 +30,27 @@ async function toldOf(recording) {
   const before = n => { const next = at.findIndex(each => each >= n); return next < 0 ? at.length : next; };
   const script = { budget: 2 ** 53 - 1, phases: [[found.map(each => each.call)]] };
   if (Object.keys(recording.limits).length) script.limits = recording.limits;
-  const answers = found.map(({ answer: { modules, implied, ...answer } }, call) => {
+  const answers = found.map(({ answer: { modules, implied, standsFor, ...answer } }, call) => {
     if ((modules || []).some(module => module && module.told.error)) answer.left = [...answer.left || [], 'shader'];
     return { call, ...answer };
   }).filter(answer => Object.keys(answer).length > 2);
   const noted = list => list.map(({ before: n, place, told, ...note }) => ({ before: before(n), ...note, ...told, ...placed(place) }));
-  const calls = found.map(({ place, answer }) => ({ ...placed(place), ...answer.implied ? { implied: true } : {} }));
+  const calls = found.map(({ place, answer }) => ({ ...placed(place), ...answer.implied ? { implied: true } : {}, ...answer.standsFor ? { standsFor: answer.standsFor } : {} }));
   return {
     script, calls, answers, passed: noted(recording.passed), notes: noted(recording.notes), ended: { call: found.length, why: recording.ended.why },
     left: Object.fromEntries(recording.left), device: recording.ofDevice,
   };
 }
 
-async function told(why) {
-  if (why) asked.why = why;
+async function recordingsTold(why) {
+  asked.why = why;
   const found = [];
   for (const recording of recordings) found.push(await toldOf(recording));
-  return JSON.stringify({ form: 1, page: location.href, browser: navigator.userAgent, recordings: found });
+  return found;
+}
+async function told(why = asked.why) {
+  const [own, others] = await Promise.all([recordingsTold(why), ofWorkers(why)]);
+  return JSON.stringify({ form: 1, page: location.href, browser: navigator.userAgent, recordings: [...own, ...others] });
 }
 
 // Ends the recording, and saves it as a file, of which `./wgsim record --saved FILE` makes a folder.
@@ -63,11 +69,9 @@ function noteFaultsOfThePage() {
 
 // Where the tool opened the page: hands the recording over when nothing more comes, or when its time is up.
 function handOver(hand) {
-  const isIdle = ({ ended, last, promises, errors }) => ended || performance.now() - last > asked.idle && !promises.size && !errors.size;
   const begun = performance.now(), timer = setInterval(() => {
-    const now = performance.now(), isOver = recordings.length && recordings.every(recording => recording.ended);
-    const isQuiet = isOver || recordings.length && !asking.size && (!expected.size || recordings.some(({ ended }) => ended)) && recordings.every(isIdle);
-    if (!isQuiet && now - begun <= asked.seconds * 1000) return;
+    const isQuiet = isAllQuiet();
+    if (!isQuiet && performance.now() - begun <= asked.seconds * 1000) return;
     clearInterval(timer);
     told(isQuiet ? 'the page asked for nothing more' : `${asked.seconds} seconds were over`).then(hand);
   }, 100);
@@ -84,5 +88,6 @@ if (globalThis.navigator && navigator.gpu) {
   wrapScopes();
   wrapCanvases();
   noteFaultsOfThePage();
+  if (threads) (isWorker ? tellPage : hearWorkers)();
 }
 if (asked.hand) handOver(text => globalThis[asked.hand](text));

@@ -1,6 +1,8 @@
 """`wgsim record`: what a page asks of WebGPU in a browser is written down as a script, with what the browser answered and from where it was
 called."""
 
+from __future__ import annotations
+
 import contextlib
 import functools
 import http.server
@@ -9,13 +11,16 @@ import json
 import os
 import pathlib
 import re
+import shutil
 import tempfile
 import threading
 import time
 import urllib.parse
+import urllib.request
+from typing import Any, Iterator
 
 from wgsim import exit_status
-from wgsim.recorder import browser, whole_text
+from wgsim.recorder import browser, source_maps, whole_text
 
 FRAMES, SECONDS, IDLE = 3, 30, 1000
 # What a browser takes to start and to hand over what was recorded, in seconds.
@@ -23,7 +28,7 @@ BESIDE = 45
 HAND = "wgsimRecordHand"
 
 
-def is_here(address):
+def is_here(address: str) -> bool:
     """Whether an address is of this machine."""
     host = urllib.parse.urlsplit(address).hostname or ""
     with contextlib.suppress(ValueError):
@@ -42,16 +47,30 @@ class Files(http.server.SimpleHTTPRequestHandler):
         ".wgsl": "text/plain",
     }
 
-    def log_message(self, *words):
+    def do_GET(self) -> None:
+        """Gives a file. The script of a worker comes with the recorder before it."""
+        path = pathlib.Path(self.translate_path(self.path))
+        if self.headers.get("Sec-Fetch-Dest") != "worker" or not path.is_file():
+            super().do_GET()
+            return
+        script = path.read_bytes()
+        data = whole_text.before_worker(script) + script
+        self.send_response(200)
+        self.send_header("Content-Type", self.guess_type(str(path)))
+        self.send_header("Content-Length", str(len(data)))
+        self.end_headers()
+        self.wfile.write(data)
+
+    def log_message(self, *words: Any) -> None:
         pass
 
-    def end_headers(self):
+    def end_headers(self) -> None:
         self.send_header("Cache-Control", "no-store")
         super().end_headers()
 
 
 @contextlib.contextmanager
-def served(page):
+def served(page: str) -> Iterator[str]:
     """The address at which a browser finds a page: its own, or that of its folder, which is served on this machine meanwhile."""
     if re.match(r"https?://", page):
         if not is_here(page):
@@ -77,18 +96,19 @@ def served(page):
 class Visit:
     """One visit of a page, with the recorder put before its scripts."""
 
-    def __init__(self, browsing, address, asked):
-        self.browsing, self.address, self.elsewhere, self.said = browsing, address, [], []
+    def __init__(self, browsing: browser.Browser, address: str, asked: dict[str, Any]) -> None:
+        self.browsing, self.address = browsing, address
+        self.elsewhere: list[str] = []
+        self.said: list[str] = []
         target = browsing.ask("Target.createTarget", url="about:blank")["targetId"]
         self.session = browsing.ask("Target.attachToTarget", targetId=target, flatten=True)["sessionId"]
-        for method, words in (
-            ("Page.enable", {}), ("Runtime.enable", {}), ("Network.enable", {}), ("Runtime.addBinding", {"name": HAND}),
-            ("Page.addScriptToEvaluateOnNewDocument", {"source": whole_text.text(asked)}),
-        ):
-            browsing.ask(method, self.session, **words)
+        for method in ("Page.enable", "Runtime.enable", "Network.enable"):
+            browsing.ask(method, self.session)
+        browsing.ask("Runtime.addBinding", self.session, name=HAND)
+        browsing.ask("Page.addScriptToEvaluateOnNewDocument", self.session, source=whole_text.text(asked))
         self.failed = browsing.ask("Page.navigate", self.session, url=address).get("errorText")
 
-    def handed(self, seconds):
+    def handed(self, seconds: float) -> dict[str, Any] | None:
         """What the recorder handed over, or None where it did not within some seconds."""
         until = time.monotonic() + seconds
         while True:
@@ -109,10 +129,20 @@ class Visit:
                 self.said.append(details.get("exception", {}).get("description") or details["text"])
 
 
-def recorded(page, named, frames=FRAMES, seconds=SECONDS):
+@contextlib.contextmanager
+def profile() -> Iterator[str]:
+    """A folder for a browser, which may still write in it while it is taken away."""
+    folder = tempfile.mkdtemp(prefix="wgsim-record-")
+    try:
+        yield folder
+    finally:
+        shutil.rmtree(folder, ignore_errors=True)
+
+
+def recorded(page: str, named: str | None, frames: int = FRAMES, seconds: int = SECONDS) -> dict[str, Any]:
     """What a browser recorded of a page. A page that cannot be had is told before a browser is looked for."""
     asked = {"frames": frames, "seconds": seconds, "idle": IDLE, "hand": HAND}
-    with tempfile.TemporaryDirectory(prefix="wgsim-record-", ignore_cleanup_errors=True) as folder, served(page) as address:
+    with profile() as folder, served(page) as address:
         path = browser.found(named)
         if path is None:
             raise exit_status.End(
@@ -135,35 +165,76 @@ def recorded(page, named, frames=FRAMES, seconds=SECONDS):
             exit_status.NO_ANSWER,
             f"{page}: the browser told nothing within {seconds + BESIDE} seconds" + "".join(f"\n    {line}" for line in visit.said[:3]),
         )
-    if address != page:
+    is_file = address != page
+    source_maps.Sources(in_folder(pathlib.Path(page).parent) if is_file else at_address(page)).of_recordings(found)
+    if is_file:
         found["page"] = os.path.basename(page)
     found["elsewhere"], found["said"] = list(dict.fromkeys(visit.elsewhere)), visit.said[:10]
     return found
 
 
-def saved(data, name):
-    """What was saved by hand, of the bytes of a file."""
+def in_folder(folder: pathlib.Path) -> source_maps.Has:
+    """What has the files of a folder, and of those in it, by their names there."""
+    top = folder.resolve()
+
+    def has(name: str) -> bytes | None:
+        try:
+            path = (top / urllib.parse.unquote(name.partition("?")[0])).resolve()
+            return path.read_bytes() if top in path.parents else None
+        except (OSError, ValueError):
+            return None
+
+    return has
+
+
+class Here(urllib.request.HTTPRedirectHandler):
+    """Goes on to no address but those of this machine."""
+
+    def redirect_request(self, *words: Any) -> urllib.request.Request | None:
+        return super().redirect_request(*words) if is_here(words[-1]) else None
+
+
+def at_address(page: str) -> source_maps.Has:
+    """What has the files of a page at an address of this machine, by their names beside it or by their own addresses."""
+    opener = urllib.request.build_opener(urllib.request.ProxyHandler({}), Here)
+
+    def has(name: str) -> bytes | None:
+        address = urllib.parse.urljoin(page, name)
+        if not re.match(r"https?://", address) or not is_here(address):
+            return None
+        try:
+            with opener.open(address, timeout=10) as answer:
+                return answer.read()
+        except (OSError, ValueError):
+            return None
+
+    return has
+
+
+def saved(data: bytes, name: str) -> dict[str, Any]:
+    """What was saved by hand, of the bytes of a file, by the sources that maps tell beside that."""
     try:
         found = json.loads(data)
         if found["form"] == 1 and isinstance(found["recordings"], list):
+            source_maps.Sources(in_folder(pathlib.Path(name).parent)).of_recordings(found)
             return {"elsewhere": [], "said": [], **found}
     except (ValueError, KeyError, TypeError):
         pass
     raise exit_status.End(exit_status.UNREAD, f"{name} is no recording that `wgsimRecord.save()` saved")
 
 
-def listed(items):
+def listed(items: list[Any]) -> str:
     """A list with an item in each line."""
     return "[\n" + ",\n".join(json.dumps(item, ensure_ascii=False) for item in items) + "\n]" if items else "[]"
 
 
-def script_of(script):
+def script_of(script: dict[str, Any]) -> str:
     """A script with a call in each line."""
     limits = f'"limits":{json.dumps(script["limits"])},' if "limits" in script else ""
     return f'{{"budget":{script["budget"]},{limits}"phases":[[{listed(script["phases"][0][0])}]]}}\n'
 
 
-def object_of(told):
+def object_of(told: dict[str, Any]) -> str:
     """An object with a key in each line, and an item of its lists too."""
     return (
         "{\n"
@@ -175,7 +246,7 @@ def object_of(told):
     )
 
 
-def write(found, name, folder):
+def write(found: dict[str, Any], name: str, folder: str) -> list[tuple[pathlib.Path, dict[str, Any]]]:
     """Writes the files of each device of a page, and returns the names and what is in them."""
     out, written = pathlib.Path(folder), []
     try:
@@ -195,7 +266,7 @@ def write(found, name, folder):
     return written
 
 
-def told(found, written):
+def told(found: dict[str, Any], written: list[tuple[pathlib.Path, dict[str, Any]]]) -> str:
     """What was recorded, in lines."""
     lines = []
     for path, one in written:
@@ -212,7 +283,7 @@ def told(found, written):
     return "".join(line + "\n" for line in lines)
 
 
-def name_of(page):
+def name_of(page: str) -> str:
     """The name of a recording, by the last part of its page's address."""
     last = urllib.parse.unquote(urllib.parse.urlsplit(page).path if re.match(r"https?://", page) else page).rstrip("/").split("/")[-1]
     return re.sub(r"[^\w.-]", "_", re.sub(r"\.(?:recording\.json|\w+)$", "", last)) or "page"

@@ -53,7 +53,7 @@ function remember(made, recording, outside, on) {
 }
 
 function recorded(recording, on, act, plan) {
-  const { call, as, ends, queues, promise, isAsync, loses, modules } = plan, it = known.get(on), root = call.on === undefined ? null : rootOf(it);
+  const { call, as, ends, queues, promise, isAsync, loses, modules, standsFor } = plan, it = known.get(on), root = call.on === undefined ? null : rootOf(it);
   if (as) call.as = recording.fresh(as);
   slim(call);
   // A command is watched only where it comes late. All other calls make events.
@@ -66,6 +66,7 @@ function recorded(recording, on, act, plan) {
   const left = /^finish/.test(call.do) ? [...root.left || []] : isCommand ? [] : recording.leftNow;
   if (left.length) answer.left = left;
   if (modules) answer.modules = modules;
+  if (standsFor) answer.standsFor = standsFor;
   let result;
   try { result = isAsync || isCommand && !isLate ? act() : recording.watch(answer, act); } catch (error) {
     thrown(recording, answer, error, n);

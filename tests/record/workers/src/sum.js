@@ -1,0 +1,3 @@
+importScripts('wgsim-record.js');
+importScripts('device.js');
+onmessage = async ({ data }) => { if (data.size) { await write(data.size); postMessage('done'); } };
