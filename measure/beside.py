@@ -7,6 +7,7 @@ import contextlib
 import os
 import pathlib
 import resource
+import shutil
 import sys
 import tempfile
 import time
@@ -94,14 +95,23 @@ class Page:
 
 
 @contextlib.contextmanager
+def profile() -> Iterator[str]:
+    """A folder for what a browser keeps, of which that may be left which it still writes while it ends."""
+    folder = tempfile.mkdtemp(prefix="beside-")
+    try:
+        yield folder
+    finally:
+        shutil.rmtree(folder, ignore_errors=True)
+
+
+@contextlib.contextmanager
 def opened(named: str) -> Iterator[Page]:
     """The page in a browser that is named, or one that is installed."""
     path = browser.found(named)
     if path is None:
         sys.exit(f"none of {', '.join(browser.NAMES)} is installed (Debian: apt-get install chromium)")
-    with tempfile.TemporaryDirectory(prefix="beside-", ignore_cleanup_errors=True) as folder, visit.served(str(PAGE)) as address:
-        with browser.opened(path, f"{folder}/profile") as browsing:
-            yield Page(browsing, address)
+    with profile() as folder, visit.served(str(PAGE)) as address, browser.opened(path, folder) as browsing:
+        yield Page(browsing, address)
 
 
 def of_children() -> float:
