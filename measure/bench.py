@@ -567,7 +567,7 @@ def submits(program):
 
 def loops(words):
     """What is measured through C: what calls cost and keep, whether that is more than the document has, or the same beside a browser."""
-    if words.check and not through_c.is_there():
+    if words.check and not through_c.has("gcc", "nothing is measured through C"):
         return
     with tempfile.TemporaryDirectory() as folder:
         loop = through_c.Loop(through_c.linked(words.archive, words.libc), folder)

@@ -17,7 +17,7 @@ from wgsim import TOP
 
 DOCUMENT = TOP / "docs/costs.md"
 SOURCE, INCLUDE = TOP / "measure/loop.c", TOP / "include"
-WORDS = ["cc", "-std=c11", "-O2", "-Wall", "-Wextra", "-pedantic", "-Werror", "-I", str(INCLUDE), str(SOURCE)]
+WORDS = ["gcc", "-std=c11", "-O2", "-Wall", "-Wextra", "-pedantic", "-Werror", "-I", str(INCLUDE), str(SOURCE)]
 # What one of each kind is of which the instructions are counted.
 COUNTED = {
     "rounds": "a round: a buffer made, written, copied from, submitted, completed and let go with its encoder and command buffer",
@@ -119,12 +119,12 @@ def linked(named: Optional[str], libc: Optional[str]) -> List[pathlib.Path]:
     return [found, pathlib.Path(libc).resolve() if libc else archive.libc()]
 
 
-def is_there() -> bool:
-    """Whether there is what counts instructions, and a compiler; if not, that is said."""
-    lacking = [name for name in ("valgrind", "callgrind_annotate", "cc") if shutil.which(name) is None]
-    if lacking:
-        print(f"what calls cost through C is not counted: {', '.join(lacking)} is not installed (Debian: apt-get install valgrind gcc)")
-    return not lacking
+def has(name: str, what: str) -> bool:
+    """Whether a program is installed; if not, what is not done for that is said."""
+    if shutil.which(name) is None:
+        print(f"notice: {name} is not installed, so {what} (Debian: apt-get install {name})")
+        return False
+    return True
 
 
 def kinds(only: str) -> Dict[str, str]:
@@ -209,7 +209,8 @@ def larger(loop: Loop) -> List[str]:
 
 def check(loop: Loop, word: str) -> bool:
     """Compares what is counted with the document, and says what is above it."""
-    findings = [*dearer(loop, word), *larger(loop)]
+    findings = dearer(loop, word) if has("valgrind", "no instructions are counted") else []
+    findings += larger(loop)
     for finding in findings:
         print(finding)
     print(f"what calls cost through C: {len(findings)} findings")
