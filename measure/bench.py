@@ -9,7 +9,13 @@ against one of half its lines. `--kept` measures what a device keeps that is dri
 `crates/wgloop`, which takes so many rounds of the same calls. `--submits` measures what a device does under its lock for the submit of a
 command buffer, by its commands, and what it takes to note one more. `--program PATH` names another program; `--only WORD` measures the
 scripts alone whose title has the word; `--functions N` lists, below each script, the N functions that took most, and `--inclusive` with all
-that they call. """
+that they call.
+
+Through C, by `measure/loop.c`, which is linked with the archive that the gate built, or by `--archive PATH` with another, and `--libc PATH`
+with another heap: `--through-c` counts what calls cost, by two pairs of counts or those of `--counts` alone, and what a device keeps;
+`--write` writes the tables into docs/costs.md. `--check` fails where a figure is more than 5 parts in 100 above that of docs/costs.md, or
+more is resident than docs/costs.md allows; with `--counts small` that takes a minute. `--beside-browser` makes the same calls by a page in
+Chromium, or by `--browser PATH` in another browser, and compares the processor time of its process for graphics with that through C. """
 
 import argparse
 import json
@@ -19,6 +25,9 @@ import re
 import subprocess
 import sys
 import tempfile
+
+import beside
+import through_c
 
 TOP = pathlib.Path(__file__).resolve().parent.parent
 BUDGET = 2**53 - 1
@@ -556,23 +565,24 @@ def submits(program):
         print(f"| {count:,} | {(more - less) // AGAIN:,} |", flush=True)
 
 
-def main():
-    parser = argparse.ArgumentParser(prog="measure/bench", description=__doc__, formatter_class=argparse.RawDescriptionHelpFormatter)
-    parser.add_argument("--program", default=TOP / "crates/wgsim/out/wgsim", type=pathlib.Path)
-    parser.add_argument("--only", default="")
-    parser.add_argument("--long", action="store_true")
-    parser.add_argument("--traces", action="store_true")
-    parser.add_argument("--kept", action="store_true")
-    parser.add_argument("--submits", action="store_true")
-    parser.add_argument("--functions", default=0, type=int)
-    parser.add_argument("--inclusive", action="store_true")
-    words = parser.parse_args()
-    if words.kept:
-        kept()
+def loops(words):
+    """What is measured through C: what calls cost and keep, whether that is more than the document has, or the same beside a browser."""
+    if words.check and not through_c.has("gcc", "nothing is measured through C"):
         return
-    if words.submits:
-        submits(words.program)
-        return
+    with tempfile.TemporaryDirectory() as folder:
+        loop = through_c.Loop(through_c.linked(words.archive, words.libc), folder)
+        if words.beside_browser:
+            print(beside.table(loop, words.browser, words.only))
+        elif words.check:
+            sys.exit(0 if through_c.check(loop, words.counts or "large") else 1)
+        else:
+            counts = [words.counts] if words.counts else list(through_c.COUNTS)
+            tables = [through_c.costs_table(loop, counts, words.only, words.functions), through_c.memory_table(loop, words.only)]
+            (through_c.put if words.write else print)("\n\n".join(filter(None, tables)))
+
+
+def scripts(words):
+    """The table of what calls of scripts cost."""
     heads = (
         "| Trace | Lines | Instructions | A line | KB a line |"
         if words.traces
@@ -601,6 +611,32 @@ def main():
         run = Run(words.program, line.split())
         if words.only in line and run.is_known():
             row(f"the words `{line}`", run, calls, words)
+
+
+def arguments():
+    parser = argparse.ArgumentParser(prog="measure/bench", description=__doc__, formatter_class=argparse.RawDescriptionHelpFormatter)
+    parser.add_argument("--program", default=TOP / "crates/wgsim/out/wgsim", type=pathlib.Path)
+    parser.add_argument("--only", default="")
+    for word in ("long", "traces", "kept", "submits", "through-c", "check", "beside-browser", "write", "inclusive"):
+        parser.add_argument(f"--{word}", action="store_true")
+    parser.add_argument("--counts", choices=through_c.COUNTS)
+    parser.add_argument("--archive")
+    parser.add_argument("--libc")
+    parser.add_argument("--browser")
+    parser.add_argument("--functions", default=0, type=int)
+    return parser.parse_args()
+
+
+def main():
+    words = arguments()
+    if words.through_c or words.check or words.beside_browser:
+        loops(words)
+    elif words.kept:
+        kept()
+    elif words.submits:
+        submits(words.program)
+    else:
+        scripts(words)
 
 
 main()
