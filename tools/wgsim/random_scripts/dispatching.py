@@ -4,10 +4,10 @@ A layout has what it asks in `entries`. A group has what it binds in `bound`, pa
 are touched: `("b", name, low, high)` of a buffer, and `("t", name, aspect, mip, layer)` of a texture.
 """
 
-from bindings import ACCESSES, COMPUTE, READ_WRITE_FORMATS, SAMPLERS, VERTEX, is_written, other_value, told, used_by, with_binding
-from bound import SAMPLED, STORAGE_BINDING, TEXTURE_BINDING, bind_sampler
-from deriving import alike, compute_of, got, got_of_all, is_derived, naming
-from grouping import group_of, layout_of, pipeline_layout_of, usable
+from .bindings import ACCESSES, COMPUTE, READ_WRITE_FORMATS, SAMPLERS, VERTEX, is_written, other_value, told, used_by, with_binding
+from .bound import SAMPLED, STORAGE_BINDING, TEXTURE_BINDING, bind_sampler
+from .deriving import alike, compute_of, got, got_of_all, is_derived, naming
+from .grouping import group_of, layout_of, pipeline_layout_of, usable
 
 INDIRECT = 256
 # COPY_SRC, COPY_DST, INDEX, VERTEX, UNIFORM, STORAGE and INDIRECT.

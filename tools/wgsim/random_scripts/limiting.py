@@ -3,7 +3,7 @@
 What the script that is being made asks for is kept in `now`, as the device has it then: `of` tells a limit by its name.
 """
 
-from json_forms import Raw
+from .json_forms import Raw
 from model.limits import ALIGNMENTS, BEST, DEFAULTS, given
 
 WHOLE_LIMIT = 2**53 - 1

@@ -4,7 +4,7 @@ A pipeline has in `lists` the entries of its layouts by group, as far as the mak
 layout that was got has the pipeline in `owner` where that has derived it, and is in a list of its own then, since no pipeline layout takes
 it. """
 
-from bindings import (
+from .bindings import (
     COMPUTE, COUNTED, GREATEST_32, border_of_stage, counted, other_value, parts_of, seen_entries, some_entries, some_kind, spoil_entries,
     told, used_by,
 )

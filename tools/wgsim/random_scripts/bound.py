@@ -1,8 +1,8 @@
 """What the entries of a bind group bind: good objects for what a layout asks, at the border of a rule, and ones that leave one unmet."""
 
-from bindings import BUFFER_KINDS, GREATEST_32, SAMPLERS, most_size, other_value, some_kind, told
-from limiting import of as limit
-from resources import COLOR_FORMATS, STORAGE_FORMATS
+from .bindings import BUFFER_KINDS, GREATEST_32, SAMPLERS, most_size, other_value, some_kind, told
+from .limiting import of as limit
+from .resources import COLOR_FORMATS, STORAGE_FORMATS
 
 ALIGNMENT = 256
 GREATEST_53 = 2**53 - 1

@@ -4,15 +4,15 @@ A render pipeline has its layouts in `layouts`, its vertex buffers in `vertex`, 
 it writes in `writes`. What is set at a slot is a triple of the name of a buffer, the offset and the size of the range.
 """
 
-from bindings import is_written, told, used_by
-from bound import TEXTURE_BINDING
-from deriving import is_derived, naming, render_of
-from dispatching import (
+from .bindings import is_written, told, used_by
+from .bound import TEXTURE_BINDING
+from .deriving import is_derived, naming, render_of
+from .dispatching import (
     INDIRECT, at_times_got, buffers_in, kit_layouts, moved, new_layout, offsets_for, pick, set_call, size_of, view_of, with_groups,
 )
-from grouping import pipeline_layout_of, usable
-from limiting import of as limit
-from targets import ASPECTS_OF, signature
+from .grouping import pipeline_layout_of, usable
+from .limiting import of as limit
+from .targets import ASPECTS_OF, signature
 
 INDEX, VERTEX = 16, 32
 GREATEST_32 = 2**32 - 1

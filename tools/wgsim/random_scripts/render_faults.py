@@ -4,17 +4,17 @@ finish."""
 
 import copy
 
-from bundle_faults import CREATE_FAULTS, EXECUTE_FAULTS
-from dispatching import INDIRECT, buffers_in, named, size_of
-from drawing import INDEX, INDIRECT_BYTES, VERTEX, add_render_pipeline, new_render_pipeline
-from grouping import pipeline_layout_of
-from pass_faults import (
+from .bundle_faults import CREATE_FAULTS, EXECUTE_FAULTS
+from .dispatching import INDIRECT, buffers_in, named, size_of
+from .drawing import INDEX, INDIRECT_BYTES, VERTEX, add_render_pipeline, new_render_pipeline
+from .grouping import pipeline_layout_of
+from .pass_faults import (
     GREATEST_32, GREATEST_53, OFFSET_FAULTS, SETTING_FAULTS, WORK, change_call, dead_pass, first_or_any, no_group, no_pipeline, on_encoder,
     other_index, other_layout, other_owner, places, pop_too_many, push_too_many, shuffled, some_call,
 )
-from query_faults import QUERY_FAULTS
-from resources import COLOR_FORMATS, DEPTH_FORMATS
-from targets import ASPECTS_OF, FOUR_COLORS, MOST_COLORS, LOADS, STORES
+from .query_faults import QUERY_FAULTS
+from .resources import COLOR_FORMATS, DEPTH_FORMATS
+from .targets import ASPECTS_OF, FOUR_COLORS, MOST_COLORS, LOADS, STORES
 
 DRAWS = WORK[2:]
 ONE_COLORS = [format for format in COLOR_FORMATS if format not in FOUR_COLORS]

@@ -3,9 +3,9 @@
 Each function adds a call to the world, with the objects that it needs. Where `good` is false one value of it is spoiled.
 """
 
-from querying import resolve_queries
-from regions import TEXELS, bytes_of, layout, region, spoil_layout, spoil_spot
-from resources import ASPECTS, COLOR_FORMATS, DEPTH_FORMATS, ONE_SAMPLE_FORMATS
+from .querying import resolve_queries
+from .regions import TEXELS, bytes_of, layout, region, spoil_layout, spoil_spot
+from .resources import ASPECTS, COLOR_FORMATS, DEPTH_FORMATS, ONE_SAMPLE_FORMATS
 
 COPY_TO_FORMATS = COLOR_FORMATS + ["depth16unorm", "depth24plus-stencil8", "stencil8"]
 COPY_FROM_FORMATS = COPY_TO_FORMATS + ["depth32float"]

@@ -1,9 +1,10 @@
 """Scripts whose device is lost before any of their calls: that of an example, or of a random one that is good."""
 
 import json
-import pathlib
 
-EXAMPLES = sorted((pathlib.Path(__file__).resolve().parent.parent.parent / "examples").glob("*.json"))
+from wgsim import TOP
+
+EXAMPLES = sorted((TOP / "examples").glob("*.json"))
 
 
 def example(random):

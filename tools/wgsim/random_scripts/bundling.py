@@ -4,13 +4,13 @@ A bundle has what it draws to in `target`, the parts that it uses in `parts`, ea
 commands name.
 """
 
-from dispatching import named, new_layout
-from drawing import draw_call, joins, new_render_pipeline, parts_of_group
-from grouping import usable
-from querying import with_queries
-from rendering import drawn
-from resources import COLOR_FORMATS, DEPTH_FORMATS
-from targets import FOUR_COLORS, MOST_COLORS, Target, begin
+from .dispatching import named, new_layout
+from .drawing import draw_call, joins, new_render_pipeline, parts_of_group
+from .grouping import usable
+from .querying import with_queries
+from .rendering import drawn
+from .resources import COLOR_FORMATS, DEPTH_FORMATS
+from .targets import FOUR_COLORS, MOST_COLORS, Target, begin
 
 ASPECTS = ["depth", "stencil"]
 

@@ -1,8 +1,8 @@
 """What is set and drawn in a render pass or on a bundle encoder, in any order that is good."""
 
-from bindings import is_written
-from dispatching import bound_by, set_call
-from drawing import (
+from .bindings import is_written
+from .dispatching import bound_by, set_call
+from .drawing import (
     INDIRECT_BYTES, VERTEX, counts_for, draw_call, end_of, index_call, indirect_call, joins, parts_of_group, size_set, some_index_range,
     some_range, some_render_pipeline, stray_settings, vertex_call,
 )

@@ -5,15 +5,11 @@ The calls of a lane are made one after another as if it were alone. What it does
 whole phase is made, since in a run either may come first.
 """
 
-import canvases
-import grouping
-import holding
-import passing
-import worlds
-from dispatching import kit, pool
-from querying import resolve_queries
-from targets import target_pool
-from world import World
+from . import canvases, grouping, holding, passing, worlds
+from .dispatching import kit, pool
+from .querying import resolve_queries
+from .targets import target_pool
+from .world import World
 
 LISTS = [
     "buffers", "textures", "views", "samplers", "group_layouts", "derived_layouts", "pipeline_layouts", "groups", "pipelines",

@@ -3,14 +3,14 @@ those of the bundles that a render pass executes. As in `pass_faults`, what they
 
 import copy
 
-from bundling import ASPECTS, bundle_of, create_call, executes, new_bundle, own_target, parts_of
-from dispatching import named, new_layout
-from drawing import sampled_attachment
-from grouping import usable
-from pass_faults import GREATEST_32, WORK, first_or_any, places
-from resources import COLOR_FORMATS, DEPTH_FORMATS
-from targets import FOUR_COLORS, MOST_COLORS, Target
-from targets import parts_of as spot_parts
+from .bundling import ASPECTS, bundle_of, create_call, executes, new_bundle, own_target, parts_of
+from .dispatching import named, new_layout
+from .drawing import sampled_attachment
+from .grouping import usable
+from .pass_faults import GREATEST_32, WORK, first_or_any, places
+from .resources import COLOR_FORMATS, DEPTH_FORMATS
+from .targets import FOUR_COLORS, MOST_COLORS, Target
+from .targets import parts_of as spot_parts
 
 # INDEX, VERTEX, UNIFORM and STORAGE.
 DRAWN_AND_BOUND = 16 | 32 | 64 | 128

@@ -2,7 +2,7 @@
 
 import copy
 
-from limiting import of as limit
+from .limiting import of as limit
 from model.limits import DEFAULTS
 
 COLOR_FORMATS = [

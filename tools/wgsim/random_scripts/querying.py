@@ -3,7 +3,7 @@
 Sets have few queries as a rule, and few of them are there at once; so passes and resolves often meet in one.
 """
 
-from resources import MOST_QUERIES
+from .resources import MOST_QUERIES
 
 QUERY_RESOLVE, STEP, BYTES = 512, 256, 8
 GREATEST_32, GREATEST_53 = 2**32 - 1, 2**53 - 1

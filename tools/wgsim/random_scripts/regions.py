@@ -1,6 +1,6 @@
 """Places in textures and layouts of texels: good ones, often just within, and ways to miss one rule by one."""
 
-from resources import DEPTH_FORMATS, layers_of
+from .resources import DEPTH_FORMATS, layers_of
 
 TEXELS = {
     "r8unorm": 1, "rg8unorm": 2, "rgba8unorm": 4, "rgba8unorm-srgb": 4, "bgra8unorm": 4, "r32uint": 4, "r32float": 4, "rgba16float": 8,

@@ -4,9 +4,9 @@ twice or not at all.
 Few objects and small extents, so that what a present gives back matters under a small budget.
 """
 
-from regions import TEXELS
-from world import Thing, World
-from worlds import complete, destroy, drop, last_before_loss, scope, submit, work_done
+from .regions import TEXELS
+from .world import Thing, World
+from .worlds import complete, destroy, drop, last_before_loss, scope, submit, work_done
 
 FORMATS = ["rgba8unorm", "rgba8unorm", "bgra8unorm", "rgba16float"]
 USAGES = [None, None, 16, 17, 18, 19, 20, 23, 3, 2]

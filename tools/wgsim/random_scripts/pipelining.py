@@ -1,14 +1,14 @@
 """Render pipelines at the borders of their rules: good ones that come just up to a limit, and ways to leave one rule unmet."""
 
-from bindings import GREATEST_32, told, used_by
-from drawing import (
+from .bindings import GREATEST_32, told, used_by
+from .drawing import (
     ATTRIBUTE_BYTES, MOST_BUFFERS, STAGES, add_render_pipeline, some_attribute, some_iface, some_vertex_buffers,
     without_usual,
 )
-from grouping import layout_of, not_offered, pipeline_layout_of, some_pipeline_layout
-from limiting import of as limit
-from resources import COLOR_FORMATS, DEPTH_FORMATS
-from targets import ASPECTS_OF, FOUR_COLORS, MOST_COLORS
+from .grouping import layout_of, not_offered, pipeline_layout_of, some_pipeline_layout
+from .limiting import of as limit
+from .resources import COLOR_FORMATS, DEPTH_FORMATS
+from .targets import ASPECTS_OF, FOUR_COLORS, MOST_COLORS
 
 ONE_COLORS = [format for format in COLOR_FORMATS if format not in FOUR_COLORS]
 

@@ -3,8 +3,8 @@
 Keys with their usual value are sometimes left out of an entry; `told` does that, when the call is added to the script.
 """
 
-from limiting import of as limit
-from resources import COLOR_FORMATS, DEPTH_FORMATS, STORAGE_FORMATS, VIEW_DIMS
+from .limiting import of as limit
+from .resources import COLOR_FORMATS, DEPTH_FORMATS, STORAGE_FORMATS, VIEW_DIMS
 
 GREATEST_32 = 2**32 - 1
 VERTEX, COMPUTE = 1, 4

@@ -1,11 +1,7 @@
 """Scripts that break a rule of scripts: good ones with one or two changes to calls, names, the top, or the text itself."""
 
-import canvases
-import grouping
-import limiting
-import passing
-import worlds
-from json_forms import Pairs, Raw, text_of
+from . import canvases, grouping, limiting, passing, worlds
+from .json_forms import Pairs, Raw, text_of
 
 WORD_LIMIT, WHOLE_LIMIT = 2**32 - 1, 2**53 - 1
 UNKNOWN = [

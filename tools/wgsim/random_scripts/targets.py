@@ -1,8 +1,8 @@
 """What is attached to render passes: textures of a few sizes, views of one mip level and layer or slice, and begins of good passes."""
 
-from dispatching import pooled, view_of
-from regions import extent
-from resources import COLOR_FORMATS, DEPTH_FORMATS, STORAGE_FORMATS, most_mips
+from .dispatching import pooled, view_of
+from .regions import extent
+from .resources import COLOR_FORMATS, DEPTH_FORMATS, STORAGE_FORMATS, most_mips
 
 RENDER_ATTACHMENT = 16
 LOADS, STORES = ["load", "clear"], ["store", "discard"]

@@ -2,16 +2,16 @@
 got of pipelines, with the buffers, textures and views that they need; with drops, destroys, writes, submits, error scopes and loss among
 them."""
 
-from bindings import (
+from .bindings import (
     COMPUTE, COUNTED, GREATEST_32, KINDS, SAMPLERS, border_of_dynamic, border_of_stage, counted, dynamic_entries, of_sort, other_value,
     parts_of, seen_entries, some_entries, some_kind, spoil_entries, told, used_by, with_binding,
 )
-from bound import bound_entries, faults_for, sampler
-from commands import clear_buffer, copy_buffer, write_buffer
-from deriving import any_layout, any_pipeline
-from limiting import of as limit
-from world import World
-from worlds import complete, last_before_loss, maps, scope
+from .bound import bound_entries, faults_for, sampler
+from .commands import clear_buffer, copy_buffer, write_buffer
+from .deriving import any_layout, any_pipeline
+from .limiting import of as limit
+from .world import World
+from .worlds import complete, last_before_loss, maps, scope
 
 BUDGETS = [2**53 - 1] * 18 + [2_000_000, 40_000, 2_000]
 

@@ -1,10 +1,10 @@
 """Ways to leave one rule of a compute pass unmet, and those of passes of either kind. A fault changes the list of the calls of a pass,
 from its begin to its end, on an encoder of some name; what it needs is made before."""
 
-from dispatching import INDIRECT, STEP, buffers_in, dynamic_of, named, near_group, new_group, new_layout, pick, rival, size_of
-from grouping import usable
-from querying import some_set
-from targets import begin
+from .dispatching import INDIRECT, STEP, buffers_in, dynamic_of, named, near_group, new_group, new_layout, pick, rival, size_of
+from .grouping import usable
+from .querying import some_set
+from .targets import begin
 
 GREATEST_32, GREATEST_53 = 2**32 - 1, 2**53 - 1
 WORK = ["dispatch", "dispatchIndirect", "draw", "drawIndexed", "drawIndirect", "drawIndexedIndirect"]

@@ -5,24 +5,24 @@ The commands of an encoder are planned as a list of calls before they are added,
 encoders can be mixed.
 """
 
-from bindings import is_written
-from bundling import bare_calls, bundle_alone, render_calls
-from commands import clear_buffer, copy_buffer, write_buffer, write_texture
-from dispatching import (
+from .bindings import is_written
+from .bundling import bare_calls, bundle_alone, render_calls
+from .commands import clear_buffer, copy_buffer, write_buffer, write_texture
+from .dispatching import (
     INDIRECT, bound_by, buffers_in, kit, new_layout, new_pipeline, offsets_for, pick, pool, pool_buffer, pool_texture, set_call,
     size_of,
 )
-from grouping import drop_all, usable
-from pass_faults import places, some_begin, spoil
-from pipelining import render_pipelines
-from querying import resolve_queries, some_set
-from regions import TEXELS, extent
-from render_faults import spoil_bundle, spoil_render
-from rendering import PAST
-from resources import COLOR_FORMATS
-from targets import multisampled_pool, pool_target, target_pool
-from world import Thing, World
-from worlds import complete, last_before_loss, maps, scope, work_done
+from .grouping import drop_all, usable
+from .pass_faults import places, some_begin, spoil
+from .pipelining import render_pipelines
+from .querying import resolve_queries, some_set
+from .regions import TEXELS, extent
+from .render_faults import spoil_bundle, spoil_render
+from .rendering import PAST
+from .resources import COLOR_FORMATS
+from .targets import multisampled_pool, pool_target, target_pool
+from .world import Thing, World
+from .worlds import complete, last_before_loss, maps, scope, work_done
 
 BUDGETS = [2**53 - 1] * 16 + [40_000, 4_000]
 

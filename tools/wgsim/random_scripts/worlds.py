@@ -3,8 +3,8 @@
 Both have error scopes, promises and mapped buffers; some lose their device, mostly late.
 """
 
-from commands import command, map_async, write_buffer, write_texture
-from world import World
+from .commands import command, map_async, write_buffer, write_texture
+from .world import World
 
 
 def borders(random):

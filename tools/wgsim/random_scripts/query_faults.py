@@ -1,9 +1,9 @@
 """Ways to leave one rule of the queries of a render pass unmet. As in `pass_faults`, a fault changes the list of the calls of a pass, from
 its begin to its end. A pass without queries is given some first."""
 
-from dispatching import named
-from pass_faults import first_or_any, places
-from querying import GREATEST_32, with_queries
+from .dispatching import named
+from .pass_faults import first_or_any, places
+from .querying import GREATEST_32, with_queries
 
 BEGIN, END = "beginOcclusionQuery", "endOcclusionQuery"
 

@@ -3,10 +3,10 @@
 Buffers, textures and query sets are small, and so is the budget: much is out of memory until something is given back.
 """
 
-from querying import BYTES, MOST_QUERIES, QUERY_RESOLVE
-from regions import TEXELS, extent
-from world import World
-from worlds import complete, last_before_loss, scope
+from .querying import BYTES, MOST_QUERIES, QUERY_RESOLVE
+from .regions import TEXELS, extent
+from .world import World
+from .worlds import complete, last_before_loss, scope
 
 BUDGETS = [7, 8, 16, 60, 150, 150, 400, 400, 2000, 2**53 - 1]
 COLORS = ["r8unorm", "rg8unorm", "rgba8unorm", "r32uint", "rgba16float", "rgba32float"]

@@ -1,6 +1,6 @@
 """What a script that is being made has so far: its calls, and its objects as the maker takes them to be."""
 
-from resources import BUFFER_FAULTS, QUERY_SET_FAULTS, TEXTURE_FAULTS, VIEW_FAULTS, good_buffer, good_query_set, good_texture, good_view
+from .resources import BUFFER_FAULTS, QUERY_SET_FAULTS, TEXTURE_FAULTS, VIEW_FAULTS, good_buffer, good_query_set, good_texture, good_view
 
 LETTERS = "abcdefghijklmnopqrstuvwxyzABCDEFGHIJKLMNOPQRSTUVWXYZ0123456789_"
 
