@@ -42,7 +42,8 @@ def change_number(chance: random.Random, script: list[dict[str, Any]]) -> None:
     slot = chance.choice(found)
     value, most = slot.value, 2 ** int(slot.key.detail) - 1
     bit = 1 << chance.randrange(12)
-    others = [value + 1, value - 1, value + 4, value - 4, value * 2, value // 2, value ^ bit, 0, 1, 4, 256, most, chance.choice(found).value]
+    near = [value + 1, value - 1, value + 4, value - 4, value * 2, value // 2, value ^ bit]
+    others = [*near, 0, 1, 4, 256, most, chance.choice(found).value]
     slot.put(min(max(chance.choice(others), 0), most))
 
 
@@ -129,7 +130,8 @@ def put_call(chance: random.Random, script: list[dict[str, Any]]) -> None:
     if resources:
         others += [{"do": "destroy", "object": chance.choice(resources)}]
     if mapped:
-        others += [{"do": "unmap", "buffer": chance.choice(mapped)}, {"do": "mapAsync", "buffer": chance.choice(mapped), "mode": chance.choice([1, 2])}]
+        buffer = chance.choice(mapped)
+        others += [{"do": "unmap", "buffer": buffer}, {"do": "mapAsync", "buffer": buffer, "mode": chance.choice([1, 2])}]
     script.insert(number, chance.choice(others))
 
 
