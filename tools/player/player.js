@@ -1,8 +1,9 @@
 // Plays scripts by the browser's own WebGPU, and tells what it answered.
 //
-// A play is { calls, limits, scopes }, of which the calls are as tools/wgsim/hunting/translation.py has them. It is played once with error
+// A play is { calls, limits, scopes, uncaught }, of which the calls are as tools/wgsim/hunting/translation.py has them. It is played once with error
 // scopes around each call that may make an error, so that each error is known with its call, and without the script's own scopes; and, where
-// it has such (`scopes`), a second time with those alone, so that it is seen which of them catches what. Nothing is waited for but what the
+// it has such (`scopes`), a second time with those alone, so that it is seen which of them catches what: `uncaught` errors are then waited for,
+// which reach none. Nothing is waited for but what the
 // script waits for, so that what is asked for stays asked for until then.
 'use strict';
 
@@ -51,9 +52,10 @@ async function deviceFor(limits) {
 
 class Playing {
   // One way through the calls of a script: `isWatched` with scopes around the calls, and else with the script's own.
-  constructor(held, calls, isWatched) {
-    Object.assign(this, { held, device: held.device, calls, isWatched, answers: {}, open: [], promises: {}, modules: {}, isLost: false });
+  constructor(held, calls, isWatched, uncaught = 0) {
+    Object.assign(this, { held, device: held.device, calls, isWatched, uncaught, answers: {}, open: [], promises: {}, modules: {}, isLost: false });
     this.objects = { device: held.device, queue: held.device.queue };
+    this.words = Object.fromEntries(calls.map(call => [call.n, call.do]));
     held.stray = [];
   }
 
@@ -92,7 +94,7 @@ class Playing {
 
   make(call) {
     if (call.canvas) return { canvas: new OffscreenCanvas(...call.canvas) };
-    if (call.present) return void this.objects[call.present].canvas.transferToImageBitmap().close();
+    if (call.present) return this.present(this.objects[call.present]);
     if (call.code !== undefined) this.objects.module = this.module(call);
     let on = this.value({ $: call.on });
     if (on.canvas) {
@@ -102,6 +104,9 @@ class Playing {
     const args = this.value(call.args), act = () => on[call.method](...args);
     return call.watch && this.isWatched ? this.watch(call.watch, told => Object.assign(this.answer(call.n), told), act) : act();
   }
+
+  // The texture of a canvas expires; of an empty canvas no image can be made.
+  present({ canvas }) { if (canvas.width && canvas.height) canvas.transferToImageBitmap().close(); }
 
   call(call) {
     if (this.isWatched && /ErrorScope$/.test(call.do)) return;
@@ -121,7 +126,7 @@ class Playing {
     answer.settled = 0;
     this.promises[n] = new Promise(done => made.then(value => {
       answer.settled++;
-      answer.settle = this.calls[n].do === 'popErrorScope' ? value ? `error ${kindOf(value)}` : 'null' : this.calls[n].do === 'mapAsync' ? 'mapped' : 'done';
+      answer.settle = this.words[n] === 'popErrorScope' ? value ? `error ${kindOf(value)}` : 'null' : this.words[n] === 'mapAsync' ? 'mapped' : 'done';
       if (value && value.message) answer.caught = value.message;
       done();
     }, error => {
@@ -143,6 +148,8 @@ class Playing {
     if (!this.isLost && !this.held.isLost && await inTime(this.device.queue.onSubmittedWorkDone().then(() => 'done', () => 'done')) === 'late') this.isHung = true;
     await inTime(Promise.all(this.open));
     await inTime(Promise.all(Object.values(this.promises)));
+    await wait(0);
+    for (let n = 0; n < 40 && this.held.stray.length < this.uncaught; n++) await wait(10);
     const { stray } = this.held;
     this.held.stray = null;
     return { answers: this.answers, stray, ...(this.held.isLost && !this.isLost ? { lost: this.held.lost || 'it is lost' } : {}), ...(this.isHung ? { hung: true } : {}) };
@@ -161,14 +168,14 @@ class Playing {
 }
 class Missing extends Error {}
 
-async function one({ calls, limits, scopes }) {
+async function one({ calls, limits, scopes, uncaught }) {
   let held;
   try { held = await deviceFor(limits); } catch (error) { return { none: thrown(error) }; }
   const first = new Playing(held, calls, true), told = await first.run();
   await first.free();
   if (!scopes || told.lost || told.hung) return over(held, told);
   if (held.isLost) held = await deviceFor(limits);
-  const second = new Playing(held, calls, false);
+  const second = new Playing(held, calls, false, uncaught);
   told.own = await second.run();
   await second.free();
   return over(held, told);

@@ -13,6 +13,7 @@ from wgsim import TOP, exit_status
 from wgsim.recorder import browser, visit
 
 from .core import Answered
+from .differences import is_uncaught
 from .translation import SCOPES, translated
 
 PAGE = TOP / "tools/player/player.html"
@@ -105,7 +106,8 @@ class Player:
 def play_of(answered: Answered) -> dict[str, Any]:
     """A script as the page takes it. One with error scopes of its own is played with these alone too."""
     made = translated(answered)
-    return {"calls": made, "limits": answered.flat.limits, "scopes": any(call["do"] in SCOPES for call in made)}
+    uncaught = sum(is_uncaught(entry.fault) for entry in answered.entry_of.values() if entry.fault is not None)
+    return {"calls": made, "limits": answered.flat.limits, "scopes": any(call["do"] in SCOPES for call in made), "uncaught": uncaught}
 
 
 READY = """\

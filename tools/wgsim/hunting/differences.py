@@ -33,6 +33,8 @@ class Difference:
     def __init__(self, kind: str, number: int | None, word: str, core: str, other: str, rule: int | None = None, message: str = "") -> None:
         self.kind, self.number, self.word, self.core, self.other, self.rule, self.message = kind, number, word, core, other, rule, message
         self.call: dict[str, Any] = {}
+        # Of a pipeline that names its layout the entries of that, by group.
+        self.layouts: list[Any] = []
 
     def key(self) -> str:
         """What is the same of differences that are one: the kind, the call, the rule and the message."""
@@ -92,7 +94,13 @@ class Compared:
         self.found += differences
         for difference in differences:
             difference.call = self.answered.whole[number]
+            difference.layouts = self.layouts_of(difference.call)
             self.taint(call)
+
+    def layouts_of(self, call: dict[str, Any]) -> list[Any]:
+        """The entries of the layouts that a pipeline names, by group; none of another call."""
+        made = {each["as"]: each for each in self.answered.whole if each["do"] in ("createPipelineLayout", "createBindGroupLayout")}
+        return [made.get(name, {}).get("entries", []) for name in made.get(call.get("layout"), {}).get("layouts", [])]
 
     def commands_of(self, call: dict[str, Any]) -> set[str]:
         """The names that the commands of an encoder use, of the finish that ends it; those of other calls are noted."""
@@ -121,7 +129,7 @@ class Compared:
         if fault is None:
             yield Difference(OTHER_ALONE, number, call["do"], core, other, None, message)
         elif not has_failed:
-            yield Difference(CORE_ALONE, number, call["do"], core, other, rule)
+            yield Difference(CORE_ALONE, number, call["do"], core, other, rule, answer.get("reason", ""))
         elif not is_same(fault, answer):
             yield Difference(KIND, number, call["do"], core, other, rule, message)
         elif "caught" in answer and "error" in answer and answer["caught"] != fault[2]:
@@ -157,7 +165,9 @@ class Compared:
             entry.fault[0] for entry in self.answered.entry_of.values() if entry.fault is not None and is_uncaught(entry.fault)
         )
         met = collections.Counter(stray["kind"] for stray in own.get("stray") or [])
-        if wanted != met and not self.found:
+        # A device that is destroyed drops the events that are still on their way.
+        is_lost = any(call["do"] == "lose" for call in self.answered.flat.calls)
+        if wanted != met and not self.found and not is_lost:
             self.found.append(Difference(SCOPE, None, "uncapturederror", told_of(wanted), told_of(met), None, f"{told_of(wanted)}"))
 
     def scope(self, number: int, call: dict[str, Any], answer: dict[str, Any]) -> Iterator[Difference]:

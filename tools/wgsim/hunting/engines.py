@@ -2,6 +2,7 @@
 
 from __future__ import annotations
 
+import re
 import shlex
 import shutil
 import subprocess
@@ -76,5 +77,5 @@ def answers_of(answered: Answered, lines: list[str]) -> dict[str, Any]:
         for promise, how in entry.settled:
             if promise < len(places):
                 settled = answers.setdefault(str(places[promise]), {})
-                settled.update(settle=" ".join(word for word in how.split(" ") if not word.isdigit()), settled=settled.get("settled", 0) + 1)
+                settled.update(settle=re.sub(r" \d+$", "", how), settled=settled.get("settled", 0) + 1)
     return {"answers": answers}

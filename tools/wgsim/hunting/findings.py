@@ -24,7 +24,8 @@ class Findings:
 
     def __init__(self, name: str, seed: int) -> None:
         self.folder = pathlib.Path(name)
-        self.state: dict[str, Any] = {"form": FORM, "seed": seed, "next": 0, "counts": {}, "left": {}, "found": {}, "known": {}, "about": {}}
+        self.state: dict[str, Any] = {"form": FORM, "seed": seed, "next": 0}
+        self.state.update({part: {} for part in ("counts", "left", "found", "known", "about")})
         self.read()
 
     def read(self) -> None:
@@ -115,8 +116,8 @@ class Findings:
         lines += [json.dumps(call) for call in answered.flat.calls] + ["```", ""]
         version = (TOP / "VERSION").read_text(encoding="utf-8").strip()
         lines += [f"Wethlorn {version}; {self.state['about'].get('browser', self.state['about'].get('command', ''))};"]
-        lines += [f"adapter {self.state['about'].get('adapter', 'none')}. Met {row['times']} times; first in script {row['script']} of seed"]
-        lines += [f"{self.state['seed']}, {row['of']}. `hunt.json` has how often it was met since.", ""]
+        lines += [f"adapter {self.state['about'].get('adapter', 'none')}. Met first in script {row['script']} of seed {self.state['seed']},"]
+        lines += [f"{row['of']}, and {row['times']} times by then; `hunt.json` has how often since.", ""]
         return "\n".join(lines)
 
     def other(self) -> str:
@@ -148,7 +149,8 @@ def rule_line(number: int, rule: rules.Rule) -> str:
 def summary(findings: Findings) -> str:
     """What was found, in lines: each difference that is new, how often, and the counts."""
     state = findings.state
-    lines = [f"{row['name']}: {row['times']} times; core {row['core']}; other {cell(row['other'])[:200]}" for row in state["found"].values()]
+    found = state["found"].values()
+    lines = [f"{row['name']}: {row['times']} times; core {row['core']}; other {cell(row['other'])[:200]}" for row in found]
     lines += [f"known: {name}: {times} times" for name, times in sorted(state["known"].items())]
     lines += [f"left out: {what}: {times} times" for what, times in sorted(state["left"].items())]
     counts = ", ".join(f"{times} {what}" for what, times in state["counts"].items())

@@ -15,9 +15,9 @@ from .core import Answered, Core, Flat
 MEMORY = 2**24
 # How many threads or vertices a command may have that is carried out: more take a driver on a processor too long.
 MOST_RUNS = 2**16
-DROP, OUT_OF_MEMORY, LARGE, LONG, INTERFACE = (
+DROP, OUT_OF_MEMORY, LARGE, LONG, INTERFACE, FRAME = (
     "drops, which no page can make", "what takes much memory", "writes of many bytes", "dispatches and draws that take long",
-    "interfaces that WGSL cannot say",
+    "interfaces that WGSL cannot say", "what is waited for while a canvas has a texture, which then expires",
 )
 ROUNDS = 8
 
@@ -77,9 +77,15 @@ def again(core: Core, flat: Flat) -> Answered | None:
 
 def unplayable(calls: list[dict[str, Any]]) -> dict[int, str]:
     """The calls that no page can make, whatever is answered to them, each with why."""
-    found = {}
+    found, open_frames = {}, set()
     for number, call in enumerate(calls):
-        if call["do"] == "drop":
+        if call["do"] == "currentTexture":
+            open_frames.add(call["canvas"])
+        elif call["do"] in ("present", "configureCanvas"):
+            open_frames.discard(call["canvas"])
+        if open_frames and call["do"] in ("complete", "mapAsync"):
+            found[number] = FRAME
+        elif call["do"] == "drop":
             found[number] = DROP
         elif max(call.get("size", 0) if call["do"] == "writeBuffer" else 0, call.get("dataSize", 0)) > MEMORY:
             found[number] = LARGE

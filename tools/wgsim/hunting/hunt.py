@@ -136,6 +136,9 @@ class Hunt:
             return
         if self.findings.met(difference.key()):
             return
+        if not any(each.key() == difference.key() for each in differences_of(made.answered, self.other.each([made.answered])[0])):
+            self.findings.count("differences that did not come again")
+            return
         answered, small = self.small(made.answered, difference)
         confirmed = self.core.confirmed(answered.flat) if self.core.is_second else answered
         if confirmed is None or [entry.line for entry in confirmed.entry_of.values()] != [e.line for e in answered.entry_of.values()]:

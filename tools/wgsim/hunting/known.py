@@ -46,4 +46,32 @@ def fits(row: dict[str, Any], difference: Difference) -> bool:
         "rules" not in row or difference.rule in row["rules"],
         "says" not in row or re.search(row["says"], difference.message) is not None,
         all(difference.call.get(key) in values for key, values in row.get("has", {}).items()),
+        "test" not in row or TESTS[row["test"]](difference),
     ])
+
+
+# ---- what a row may ask of the script besides, by the name of its `test` ----
+def is_served(difference: Difference) -> bool:
+    """Whether each binding of a pipeline's interface is served by the entry of its layout, though the two are not of one kind."""
+    return all(serves(difference.layouts, entry) for entry in difference.call.get("iface", []))
+
+
+def serves(layouts: list[Any], entry: dict[str, Any]) -> bool:
+    """Whether some entry of the layouts serves one of an interface."""
+    group = layouts[entry["group"]] if entry["group"] < len(layouts) else []
+    seen_by = {"vertex": 1, "fragment": 2}.get(entry.get("stage", ""), 4)
+    found = [each for each in group if each["binding"] == entry["binding"] and each["visibility"] & seen_by]
+    return bool(found) and all(alike(found[0], entry, key) for key in ("kind", "type", "sample", "dim", "multi", "access", "format"))
+
+
+def alike(entry: dict[str, Any], wanted: dict[str, Any], key: str) -> bool:
+    """Whether a layout has what a shader asks of a binding in one respect, or what serves it as well."""
+    one, other = entry.get(key), wanted.get(key)
+    return one == other or (key, one, other) in SERVED
+
+
+SERVED = {
+    ("sample", "float", "unfilterable-float"), ("sample", "unfilterable-float", "float"), ("type", "filtering", "non-filtering"),
+    ("type", "non-filtering", "filtering"), ("access", "read-write", "write-only"),
+}
+TESTS = {"is_served": is_served}

@@ -43,6 +43,8 @@ def kind_of(entry: dict[str, Any]) -> tuple[Any, ...]:
 def is_word(entry: dict[str, Any], is_auto: bool) -> bool:
     """Whether there is a type of WGSL for what an entry has."""
     dim = entry.get("dim", "2d")
+    if max(entry["group"], entry["binding"]) >= 2**31:
+        return False
     if entry["kind"] == "storage":
         return entry.get("stage") != "vertex"
     if entry["kind"] == "storage-texture":

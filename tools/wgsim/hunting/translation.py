@@ -45,7 +45,9 @@ def translated(answered: Answered) -> list[dict[str, Any]]:
         told = {"n": number, "do": call["do"], **TRANSLATE[call["do"]](call)}
         if call["do"] in PIPELINES:
             told["code"] = shaders.compute(call) if call["do"] == "createComputePipeline" else shaders.render(call)
-        if calls.canvas(call["do"]) == "makes":
+        if calls.canvas(call["do"]) == "presents" and entry is None:
+            continue
+        if calls.canvas(call["do"]) in ("makes", "presents"):
             made.append(told)
             continue
         if entry is not None and call["do"] not in SCOPES:
@@ -63,8 +65,8 @@ def watched(word: str) -> list[str]:
 
 
 def waits_for(answered: Answered, promise: int) -> bool:
-    """Whether what comes later hangs on a promise: that of a map which comes true."""
-    return answered.whole[promise]["do"] == "mapAsync" and answered.settled[promise] == "mapped"
+    """Whether what comes later hangs on a promise: that of a map which comes true, or is refused."""
+    return answered.whole[promise]["do"] == "mapAsync" and answered.settled[promise] in ("mapped", "rejected")
 
 
 # ---- what each call is ----

@@ -13,6 +13,7 @@ from .differences import Difference
 from .translation import SCOPES, translated
 
 PLAIN = re.compile(r"[A-Za-z_]\w*$")
+EXCEPTION = "an exception"
 ERRORS = {"validation": "GPUValidationError", "out-of-memory": "GPUOutOfMemoryError", "internal": "GPUInternalError"}
 
 
@@ -110,15 +111,27 @@ class Written:
         """What the standard asks of the call that differs, in words."""
         if self.watched is not None:
             fault = self.entry.fault if self.entry is not None else None
-            return "no error" if fault is None else "an exception" if fault[1] in differences.THROWS else ERRORS[fault[0]]
+            return "no error" if fault is None else EXCEPTION if fault[1] in differences.THROWS else ERRORS[fault[0]]
         return "; ".join(f"call {number}: {self.wanted_of(number)}" for number in self.promises()) or self.difference.core
+
+    def assertions(self) -> list[str]:
+        """What a test asks."""
+        if self.watched is None:
+            wanted = {number: self.wanted_of(number) for number in self.promises()}
+            is_met = {number: "fulfilled" if word in ("mapped", "done") else word for number, word in wanted.items()}
+            return [f"assert_equals(await promise{number}, {code(word)});" for number, word in is_met.items()]
+        asked = self.asked()
+        name = code(asked) if asked.startswith("GPU") else "null"
+        first = "assert_not_equals(thrown, null, 'it throws');" if asked == EXCEPTION else "assert_equals(thrown, null, 'nothing is thrown');"
+        return [first, f"assert_equals(found && found.constructor.name, {name}, 'the error of the call');"]
 
 
 SETTLED = """\
 const settled = promise => promise.then(
   value => value instanceof GPUError ? `error ${kindOf(value)}` : value === null ? 'null' : 'fulfilled',
   error => error.name === 'AbortError' ? 'aborted' : 'rejected');
-const kindOf = error => error instanceof GPUValidationError ? 'validation' : error instanceof GPUOutOfMemoryError ? 'out-of-memory' : 'internal';"""
+const kindOf = error => error instanceof GPUValidationError ? 'validation'
+  : error instanceof GPUOutOfMemoryError ? 'out-of-memory' : 'internal';"""
 
 
 def beginning(answered: Answered) -> list[str]:
@@ -135,7 +148,8 @@ def page(title: str, answered: Answered, difference: Difference, about: str) -> 
     """A page that stands alone, and says in its console, and on itself, what the browser answered and what the standard asks."""
     written = Written(answered, difference)
     if written.watched is not None:
-        tell = ["say('the browser answers: ' + (thrown ? String(thrown) : found ? found.constructor.name + ': ' + found.message : 'no error'));"]
+        answer = "thrown ? String(thrown) : found ? found.constructor.name + ': ' + found.message : 'no error'"
+        tell = [f"say('the browser answers: ' + ({answer}));"]
     else:
         tell = [f"say('call {number} is settled: ' + await promise{number});" for number in written.promises()]
     uncaught = "device.addEventListener('uncapturederror', event => say('uncaptured: ' + event.error.message));"
@@ -155,16 +169,7 @@ const say = text => {{ console.log(text); document.querySelector('#told').textCo
 def test(title: str, answered: Answered, difference: Difference) -> str:
     """The same as a test of the web platform."""
     written = Written(answered, difference)
-    body = [*beginning(answered), SETTLED, *written.lines()]
-    if written.watched is not None:
-        asked = written.asked()
-        body += [
-            "assert_equals(thrown, null, 'nothing is thrown');" if asked != "an exception" else "assert_not_equals(thrown, null, 'it throws');",
-            f"assert_equals(found && found.constructor.name, {'null' if not asked.startswith('GPU') else code(asked)}, 'the error of the call');",
-        ]
-    for number in written.promises():
-        wanted = written.wanted_of(number)
-        body.append(f"assert_equals(await promise{number}, {code('fulfilled' if wanted in ('mapped', 'done') else wanted)});")
+    body = [*beginning(answered), SETTLED, *written.lines(), *written.assertions()]
     return f"""<!doctype html>
 <meta charset="utf-8">
 <title>{html.escape(title)}</title>
