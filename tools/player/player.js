@@ -106,7 +106,11 @@ class Playing {
   }
 
   // The texture of a canvas expires; of an empty canvas no image can be made.
-  present({ canvas }) { if (canvas.width && canvas.height) canvas.transferToImageBitmap().close(); }
+  present({ canvas }) {
+    if (!canvas.width || !canvas.height) return;
+    for (const filter of ['out-of-memory', 'validation']) this.device.pushErrorScope(filter);
+    try { canvas.transferToImageBitmap().close(); } finally { for (let n = 0; n < 2; n++) this.open.push(this.device.popErrorScope().catch(() => null)); }
+  }
 
   call(call) {
     if (this.isWatched && /ErrorScope$/.test(call.do)) return;
@@ -194,7 +198,8 @@ async function about() {
   if (!navigator.gpu) return JSON.stringify({ none: 'it has no WebGPU' });
   const found = await navigator.gpu.requestAdapter();
   if (!found) return JSON.stringify({ none: 'it has no adapter for WebGPU' });
-  const { vendor, architecture, device, description } = found.info || {};
-  return JSON.stringify({ browser: navigator.userAgent, adapter: [vendor, architecture, device, description].filter(Boolean).join(' ') });
+  const { vendor, architecture, device, description } = found.info || {}, limits = {};
+  for (const name in found.limits) limits[name] = found.limits[name];
+  return JSON.stringify({ browser: navigator.userAgent, adapter: [vendor, architecture, device, description].filter(Boolean).join(' '), limits });
 }
 globalThis.wgsimPlayer = { play, about };

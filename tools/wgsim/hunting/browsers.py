@@ -36,6 +36,8 @@ class Player:
         self.session = ""
         self.plays, self.starts = 0, 0
         self.about: dict[str, str] = {}
+        self.limits: dict[str, int] = {}
+        self.most_ends = 60
 
     def begin(self) -> None:
         """Starts the browser, and opens the page."""
@@ -52,6 +54,7 @@ class Player:
         told = json.loads(self.evaluate(READY, TO_BEGIN))
         if "none" in told:
             raise NoWebGpu(told["none"])
+        self.limits = told.pop("limits", {})
         self.about, self.target, self.plays = told, target, 0
 
     def renew(self) -> None:

@@ -29,6 +29,8 @@ class Engine:
         if not self.words or shutil.which(self.words[0]) is None:
             raise exit_status.End(exit_status.UNREAD, f"--command: {self.words[0] if self.words else 'nothing'}: there is no such program")
         self.judge, self.about = judge, {"command": words}
+        self.limits: dict[str, int] = {}
+        self.most_ends = 500
 
     def each(self, scripts: list[Answered]) -> list[dict[str, Any]]:
         """What the command answers to some scripts."""

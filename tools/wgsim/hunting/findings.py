@@ -116,7 +116,8 @@ class Findings:
         lines += [json.dumps(call) for call in answered.flat.calls] + ["```", ""]
         version = (TOP / "VERSION").read_text(encoding="utf-8").strip()
         lines += [f"Wethlorn {version}; {self.state['about'].get('browser', self.state['about'].get('command', ''))};"]
-        lines += [f"adapter {self.state['about'].get('adapter', 'none')}. Met first in script {row['script']} of seed {self.state['seed']},"]
+        lines += [f"adapter {self.state['about'].get('adapter', 'none')}."]
+        lines += [f"Met first in script {row['script']} of seed {self.state['seed']},"]
         lines += [f"{row['of']}, and {row['times']} times by then; `hunt.json` has how often since.", ""]
         return "\n".join(lines)
 

@@ -10,6 +10,7 @@ import time
 from typing import Any, Callable, Iterator, Protocol
 
 from wgsim.program import building
+from wgsim.reading import limits
 
 from . import shape, smaller
 from .core import Answered, Core, Flat
@@ -22,14 +23,16 @@ from .sources import Source
 # How many scripts are played at once, and how often what is left of one is played without what differed.
 AT_ONCE, MOST_ROUNDS = 16, 3
 LIMITS, SHADERS, REFUSED = "limits that the adapter lacks", "shaders that the browser refuses", "scripts that are refused"
-# How many scripts are tried to make one smaller where each makes the browser end.
-MOST_ENDS = 40
+ALIGNMENTS = {limit.name for limit in limits.TABLE.values() if limit.is_alignment}
 
 
 class Other(Protocol):
-    """What is hunted: a browser, or an engine. `about` says which it is."""
+    """What is hunted: a browser, or an engine. `about` says which it is, and `limits` which it offers, where it says so; `most_ends` is how
+    many scripts are tried to make one smaller where each makes it end."""
 
     about: dict[str, str]
+    limits: dict[str, int]
+    most_ends: int
 
     def each(self, scripts: list[Answered]) -> list[dict[str, Any]]:
         """What it answers to some scripts."""
@@ -88,6 +91,9 @@ class Hunt:
     def made(self, number: int) -> Made | None:
         """The script of a number, as it can be played; None where it is refused."""
         told, top = self.source.script(number)
+        if "limits" in top:
+            offered = {name: self.other.limits.get(name, value) for name, value in top["limits"].items()}
+            top["limits"] = {name: value if name in ALIGNMENTS else min(value, offered[name]) for name, value in top["limits"].items()}
         left: collections.Counter[str] = collections.Counter()
         flat = flattened(self.core, top, random.Random(number))
         answered = playable(self.core, flat, left) if flat is not None else None
@@ -136,7 +142,8 @@ class Hunt:
             return
         if self.findings.met(difference.key()):
             return
-        if not any(each.key() == difference.key() for each in differences_of(made.answered, self.other.each([made.answered])[0])):
+        again = differences_of(made.answered, self.other.each([made.answered])[0])
+        if not any(each.key() == difference.key() for each in again):
             self.findings.count("differences that did not come again")
             return
         answered, small = self.small(made.answered, difference)
@@ -159,8 +166,8 @@ class Hunt:
                     found[one] = same[0]
             return [one in found for one in scripts]
 
-        making = smaller.Smaller(self.core, shows, answered, MOST_ENDS if difference.kind in (GONE, HUNG) else smaller.MOST_TRIES)
-        best = making.made(difference.number)
+        most = self.other.most_ends if difference.kind in (GONE, HUNG) else smaller.MOST_TRIES
+        best = smaller.Smaller(self.core, shows, answered, most).made(difference.number)
         return best, found[best]
 
     def progress(self) -> None:

@@ -48,6 +48,8 @@ def is_word(entry: dict[str, Any], is_auto: bool) -> bool:
     if entry["kind"] == "storage":
         return entry.get("stage") != "vertex"
     if entry["kind"] == "storage-texture":
+        if entry.get("stage") == "vertex" and entry.get("access") != "read-only":
+            return False
         return dim in ("1d", "2d", "2d-array", "3d") and entry["format"] in STORED
     if entry["kind"] == "texture":
         is_deep = entry.get("sample") == "depth"

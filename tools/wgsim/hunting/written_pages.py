@@ -122,7 +122,8 @@ class Written:
             return [f"assert_equals(await promise{number}, {code(word)});" for number, word in is_met.items()]
         asked = self.asked()
         name = code(asked) if asked.startswith("GPU") else "null"
-        first = "assert_not_equals(thrown, null, 'it throws');" if asked == EXCEPTION else "assert_equals(thrown, null, 'nothing is thrown');"
+        throws, takes = "assert_not_equals(thrown, null, 'it throws');", "assert_equals(thrown, null, 'nothing is thrown');"
+        first = throws if asked == EXCEPTION else takes
         return [first, f"assert_equals(found && found.constructor.name, {name}, 'the error of the call');"]
 
 
