@@ -5,9 +5,12 @@ const wrap = (cls, method, make) => {
   cls.prototype[method] = function (...args) { return make.call(this, was, args); };
 };
 const LIES = {
-  // A copy from a buffer that lacks COPY_SRC is taken.
+  // A copy from a buffer that lacks COPY_SRC, or past the end of one, is taken.
   copy() {
-    wrap(GPUCommandEncoder, 'copyBufferToBuffer', function (was, args) { if (args[0].usage & 4) was.apply(this, args); });
+    wrap(GPUCommandEncoder, 'copyBufferToBuffer', function (was, args) {
+      const [source, from, target, to, size] = args, isInside = from + size <= source.size && to + size <= target.size;
+      if (source.usage & 4 && target.usage & 8 && isInside) was.apply(this, args);
+    });
   },
   // The outermost of three scopes or more gets what an inner one catches.
   scope() {

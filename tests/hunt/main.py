@@ -28,14 +28,14 @@ from wgsim.recorder import browser
 
 TOP = pathlib.Path(__file__).resolve().parents[2]
 HERE = pathlib.Path(__file__).resolve().parent
-# Of each lie the calls that the scripts have of which one shows it, the beginning of the name of what is found, and how many calls a
-# script has that is written by hand.
+# Of each lie the calls that the scripts have of which one shows it, the cases of which mutations are hunted, the beginning of the name of
+# what is found, and how many calls a script has that is written by hand.
 LIES = {
-    "copy": ("copyBufferToBuffer", "finish-taken-rule-250", 5),
-    "scope": ("pushErrorScope", ("popErrorScope-scope", "uncapturederror-scope", "createBuffer-scope"), 6),
-    "twice": ("workDone", "workDone-twice", 1),
-    "draw": ("draw", "finish-refused", 9),
-    "crash": ("resolveQuerySet", "script-crash", 4),
+    "copy": ("copyBufferToBuffer", "copies", ("finish-taken-rule-25",), 5),
+    "scope": ("pushErrorScope", "errors", ("createBuffer-scope", "popErrorScope-scope", "uncapturederror-scope"), 6),
+    "twice": ("workDone", "errors", ("workDone-twice",), 2),
+    "draw": ("draw", "draws", ("finish-refused",), 9),
+    "crash": ("resolveQuerySet", "queries", ("script-crash",), 4),
 }
 FILES = {"script.json", "page.html", "wpt.html", "report.md"}
 LONGEST = 1500
@@ -64,8 +64,7 @@ def state_of(folder):
 
 def told_lie(folder, lie, out):
     """A lie is found, made small, and told."""
-    of, name, most = LIES[lie]
-    names = (name,) if isinstance(name, str) else name
+    _, _, names, most = LIES[lie]
     found = [row for row in state_of(folder)["found"].values() if row["name"].startswith(names)]
     check(found, f"{lie}: nothing was found of it: {out[-600:]}")
     for row in found[:1]:
@@ -79,8 +78,9 @@ def told_lie(folder, lie, out):
 def test_engine(folder):
     """An engine that lies is found out; one that does not is not."""
     python, liar = TOP / "tools/python", HERE / "liar.py"
-    for lie, (of, _, _) in LIES.items():
-        out, _ = wgsim("hunt", "--command", f"{python} {liar} {lie}", "--of", of, "--scripts", 12, "--out", folder / lie, status=1)
+    for lie, (of, cases, _, _) in LIES.items():
+        words = ("--of", of, "--from", f"tests/cases/{cases}", "--scripts", 16, "--out", folder / lie)
+        out, _ = wgsim("hunt", "--command", f"{python} {liar} {lie}", *words, status=1)
         told_lie(folder / lie, lie, out)
     wgsim("hunt", "--command", f"{python} {liar} none", "--traces", "--scripts", 6, "--from", "examples", "--out", folder / "none")
     before = state_of(folder / "none")
@@ -172,9 +172,9 @@ def test_known():
 
 def test_lying_browser(folder):
     """A browser that lies is found out."""
-    for lie, (of, _, _) in LIES.items():
-        words = ("hunt", "--browser", HERE / "lying_browser", "--of", of, "--scripts", 16, "--out", folder / f"browser-{lie}")
-        out, _ = wgsim(*words, status=1, env={**os.environ, "WGSIM_LIE": lie})
+    for lie, (of, cases, _, _) in LIES.items():
+        words = ("--of", of, "--from", f"tests/cases/{cases}", "--scripts", 32, "--out", folder / f"browser-{lie}")
+        out, _ = wgsim("hunt", "--browser", HERE / "lying_browser", *words, status=1, env={**os.environ, "WGSIM_LIE": lie})
         told_lie(folder / f"browser-{lie}", lie, out)
 
 

@@ -2,6 +2,8 @@
 
 from __future__ import annotations
 
+import concurrent.futures
+import os
 import re
 import shlex
 import shutil
@@ -33,8 +35,9 @@ class Engine:
         self.most_ends = 500
 
     def each(self, scripts: list[Answered]) -> list[dict[str, Any]]:
-        """What the command answers to some scripts."""
-        return [self.told(answered) for answered in scripts]
+        """What the command answers to some scripts, as many at once as there are processors."""
+        with concurrent.futures.ThreadPoolExecutor(os.cpu_count() or 1) as pool:
+            return list(pool.map(self.told, scripts))
 
     def told(self, answered: Answered) -> dict[str, Any]:
         """What it answers to one."""
