@@ -79,7 +79,7 @@ def test_engine(folder):
     """An engine that lies is found out; one that does not is not."""
     python, liar = TOP / "tools/python", HERE / "liar.py"
     for lie, (of, cases, _, _) in LIES.items():
-        words = ("--of", of, "--from", f"tests/cases/{cases}", "--scripts", 16, "--out", folder / lie)
+        words = ("--of", of, "--from", f"tests/cases/{cases}", "--scripts", 6, "--out", folder / lie)
         out, _ = wgsim("hunt", "--command", f"{python} {liar} {lie}", *words, status=1)
         told_lie(folder / lie, lie, out)
     wgsim("hunt", "--command", f"{python} {liar} none", "--traces", "--scripts", 6, "--from", "examples", "--out", folder / "none")
@@ -173,7 +173,7 @@ def test_known():
 def test_lying_browser(folder):
     """A browser that lies is found out."""
     for lie, (of, cases, _, _) in LIES.items():
-        words = ("--of", of, "--from", f"tests/cases/{cases}", "--scripts", 32, "--out", folder / f"browser-{lie}")
+        words = ("--of", of, "--from", f"tests/cases/{cases}", "--scripts", 16, "--out", folder / f"browser-{lie}")
         out, _ = wgsim("hunt", "--browser", HERE / "lying_browser", *words, status=1, env={**os.environ, "WGSIM_LIE": lie})
         told_lie(folder / f"browser-{lie}", lie, out)
 

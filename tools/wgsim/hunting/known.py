@@ -74,4 +74,12 @@ SERVED = {
     ("sample", "float", "unfilterable-float"), ("sample", "unfilterable-float", "float"), ("type", "filtering", "non-filtering"),
     ("type", "non-filtering", "filtering"), ("access", "read-write", "write-only"),
 }
-TESTS = {"is_served": is_served}
+
+
+def is_texel_buffer(difference: Difference) -> bool:
+    """Whether a usage has the bit 1024, and what it has besides may stand in one."""
+    usage = difference.call.get("usage", 0)
+    return bool(usage & 1024) and usage < 2048
+
+
+TESTS = {"is_served": is_served, "is_texel_buffer": is_texel_buffer}

@@ -15,7 +15,9 @@ from .flat import again
 
 # How many scripts are tried at once, and how many at most.
 AT_ONCE, MOST_TRIES = 8, 900
-ROUND = [0, 1, 2, 4, 8, 16, 64, 256, 1024, 4096]
+ROUND = [0, 1, 2, 3, 4, 8, 16, 64, 256, 1024, 4096, 65536]
+# Keys whose numbers are sums of bits.
+SUMS = {"usage", "visibility", "mode"}
 LETTERS = {
     "buffer": "b", "texture": "t", "canvas texture": "t", "view": "v", "sampler": "s", "bind group layout": "l", "pipeline layout": "y",
     "bind group": "g", "compute pipeline": "k", "render pipeline": "r", "query set": "q", "encoder": "e", "bundle encoder": "n",
@@ -64,16 +66,19 @@ class Smaller:
         for _ in range(4):
             before = size_of(self.best.flat)
             self.fewer_calls()
-            self.until_none(self.fewer_keys)
-            self.until_none(self.plainer_values)
+            self.accept(self.fewer_limits())
+            self.call_by_call(self.fewer_keys)
+            self.call_by_call(self.plainer_values)
             if size_of(self.best.flat) == before or self.tries >= self.most:
                 break
         return self.best
 
-    def until_none(self, candidates: Callable[[], Iterator[tuple[list[dict[str, Any]], Any]]]) -> None:
-        """Takes one change after another of a sort, as long as there is one."""
-        while self.tries < self.most and self.accept(candidates()):
-            pass
+    def call_by_call(self, candidates: Callable[[int], Iterator[tuple[list[dict[str, Any]], Any]]]) -> None:
+        """Takes changes of a sort, of one call after another, of each as long as there is one."""
+        number = 0
+        while number < len(self.best.flat.calls) and self.tries < self.most:
+            if not self.accept(candidates(number)):
+                number += 1
 
     def fewer_calls(self) -> None:
         """Takes away runs of calls, long ones first."""
@@ -87,27 +92,29 @@ class Smaller:
         for start in range(max(0, len(script) - length), -1, -length):
             yield shape.without(script, set(range(start, start + length))), limits
 
-    def fewer_keys(self) -> Iterator[tuple[list[dict[str, Any]], Any]]:
-        """Scripts without one limit, one key that may be left out, or one item of a list."""
+    def fewer_limits(self) -> Iterator[tuple[list[dict[str, Any]], Any]]:
+        """The script without its limits, or without one of them."""
         script, limits = self.best.flat.calls, self.best.flat.limits
         if limits is not None:
             yield script, None
             yield from ((script, {name: value for name, value in limits.items() if name != gone}) for gone in limits)
-        for number, call in enumerate(script):
-            for at, slot in enumerate(shape.slots(call)):
-                if slot.key.may_be_left_out and isinstance(slot.holder, dict):
-                    yield changed(script, number, at, lambda slot: slot.holder.pop(slot.at)), limits
-                if isinstance(slot.value, list) and slot.key.sort != "three":
-                    for item in range(len(slot.value)):
-                        yield changed(script, number, at, functools.partial(leave_item, item)), limits
 
-    def plainer_values(self) -> Iterator[tuple[list[dict[str, Any]], Any]]:
-        """Scripts with one number that is rounder, one word that stands before it in its row, or one name of an earlier object."""
+    def fewer_keys(self, number: int) -> Iterator[tuple[list[dict[str, Any]], Any]]:
+        """Scripts of which a call lacks one key that may be left out, or one item of a list."""
         script, limits = self.best.flat.calls, self.best.flat.limits
-        for number, call in enumerate(script):
-            for at, slot in enumerate(shape.slots(call)):
-                for value in plainer(slot):
-                    yield changed(script, number, at, functools.partial(put, value)), limits
+        for at, slot in enumerate(shape.slots(script[number])):
+            if slot.key.may_be_left_out and isinstance(slot.holder, dict):
+                yield changed(script, number, at, lambda slot: slot.holder.pop(slot.at)), limits
+            if isinstance(slot.value, list) and slot.key.sort != "three":
+                for item in range(len(slot.value)):
+                    yield changed(script, number, at, functools.partial(leave_item, item)), limits
+
+    def plainer_values(self, number: int) -> Iterator[tuple[list[dict[str, Any]], Any]]:
+        """Scripts of which a call has one number that is rounder, or one word that stands before it in its row."""
+        script, limits = self.best.flat.calls, self.best.flat.limits
+        for at, slot in enumerate(shape.slots(script[number])):
+            for value in plainer(slot):
+                yield changed(script, number, at, functools.partial(put, value)), limits
 
 
 def leave_item(item: int, slot: shape.Slot) -> None:
@@ -121,8 +128,9 @@ def put(value: Any, slot: shape.Slot) -> None:
 def plainer(slot: shape.Slot) -> list[Any]:
     """Values that are plainer than that of a slot."""
     if slot.key.sort == "number":
-        bits = [slot.value & ~(1 << bit) for bit in range(12) if slot.value >> bit & 1 and slot.value < 4096]
-        return [value for value in dict.fromkeys([*ROUND, *bits, slot.value // 2]) if value < slot.value]
+        bits = [slot.value & ~(1 << bit) for bit in range(12) if slot.value >> bit & 1] if slot.at in SUMS else []
+        below = max((value for value in ROUND if value < slot.value), default=0)
+        return [value for value in dict.fromkeys([0, 1, 4, *bits, slot.value // 2 & ~3, below]) if value < slot.value]
     if slot.key.sort == "word" and slot.value is not None:
         words = calls.WORDS[slot.key.detail]
         return words[: words.index(slot.value)]

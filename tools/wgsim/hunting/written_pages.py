@@ -170,7 +170,7 @@ const say = text => {{ console.log(text); document.querySelector('#told').textCo
 def test(title: str, answered: Answered, difference: Difference) -> str:
     """The same as a test of the web platform."""
     written = Written(answered, difference)
-    body = [*beginning(answered), SETTLED, *written.lines(), *written.assertions()]
+    body = [*beginning(answered), *SETTLED.splitlines(), *written.lines(), *written.assertions()]
     return f"""<!doctype html>
 <meta charset="utf-8">
 <title>{html.escape(title)}</title>
