@@ -6,6 +6,7 @@ import collections
 import concurrent.futures
 import random
 import sys
+import threading
 import time
 from typing import Any, Callable, Iterator, Protocol
 
@@ -54,8 +55,14 @@ class Hunt:
     def __init__(self, core: Core, other: Other, source: Source, findings: Findings, say: Callable[[str], None]) -> None:
         self.core, self.other, self.source, self.findings, self.say = core, other, source, findings, say
         self.known: Known | None = None
+        self.turn = threading.Lock()
         self.start, self.last = time.monotonic(), 0.0
         self.is_shown = sys.stderr is not None and sys.stderr.isatty()
+
+    def played(self, scripts: list[Answered]) -> list[dict[str, Any]]:
+        """What the other answers to some scripts. It is asked by one at a time: while the next scripts wait, one may be made smaller."""
+        with self.turn:
+            return self.other.each(scripts)
 
     def run(self, scripts: int | None, minutes: float | None) -> None:
         """Plays so many scripts, or so many minutes. While some are played the next ones are made."""
@@ -64,7 +71,7 @@ class Hunt:
         with concurrent.futures.ThreadPoolExecutor(1) as pool:
             waiting: Any = None
             for batch in self.batches(first, None if scripts is None else first + scripts):
-                playing = pool.submit(self.other.each, [made.answered for made in batch])
+                playing = pool.submit(self.played, [made.answered for made in batch])
                 if waiting is not None:
                     self.take(*waiting)
                 waiting = (batch, playing.result())
@@ -113,7 +120,7 @@ class Hunt:
         while batch:
             again = [self.compared(made, answer) for made, answer in zip(batch, told)]
             batch = [made for made in again if made is not None]
-            told = self.other.each([made.answered for made in batch]) if batch else []
+            told = self.played([made.answered for made in batch]) if batch else []
         self.findings.state["next"] = max(numbers) + 1
         self.findings.save()
         self.progress()
@@ -142,7 +149,7 @@ class Hunt:
             return
         if self.findings.met(difference.key()):
             return
-        again = differences_of(made.answered, self.other.each([made.answered])[0])
+        again = differences_of(made.answered, self.played([made.answered])[0])
         if not any(each.key() == difference.key() for each in again):
             self.findings.count("differences that did not come again")
             return
@@ -160,7 +167,7 @@ class Hunt:
         key, found = difference.key(), {answered: difference}
 
         def shows(scripts: list[Answered]) -> list[bool]:
-            for one, told in zip(scripts, self.other.each(scripts)):
+            for one, told in zip(scripts, self.played(scripts)):
                 same = [each for each in differences_of(one, told) if each.key() == key]
                 if same:
                     found[one] = same[0]
