@@ -26,23 +26,12 @@ import subprocess
 import sys
 import tempfile
 
-import canvases
 import fixed
-import grouping
-import holding
-import json_forms
-import lanes
 import limited
-import limiting
-import losses
-import malformed
-import passing
-import pieces
-import spoiled
-import worlds
 
 from model import answers, calls, judge, rules, trace_text
 from shared import all_orders, checked_texts, read_off, small_traces
+from wgsim.random_scripts import sorts, spoiled
 
 TOP = pathlib.Path(__file__).resolve().parents[2]
 
@@ -59,8 +48,6 @@ SORTS = [
 ]
 WEIGHTS = [18, 12, 1, 14, 30, 36, 54, 36, 54, 48, 42, 54, 28, 12, 60, 60, 18, 24, 12]
 CHECKED = ["checked orders", "checked reports", "checked bytes"]
-# Those of which others are made: good scripts of one lane or several.
-GOOD = ["borders", "mixed", "holders", "groups", "passes", "rendering", "queries", "bundles", "canvases", "lanes"]
 
 # What no script of today can leave unmet.
 UNREACHABLE = {
@@ -98,41 +85,7 @@ def script_of(seed):
         text = small_traces.text_of(report_of(chance))
         first = text.index(b"trace\n") if chance.random() < 0.9 else 0
         return sort, text[:first] + spoiled.spoiled(chance, text[first:], spoiled.OF_REPORTS)
-    if sort == "malformed":
-        return sort, malformed.malformed(chance)
-    if sort == "losses":
-        top = losses.example(chance) if chance.random() < 0.5 else good(chance, chance.choice(GOOD))
-        return sort, text_of(losses.lost(chance, top), chance)
-    if sort == "spoiled bytes":
-        top = losses.example(chance) if chance.random() < 0.3 else good(chance, chance.choice(GOOD))
-        return sort, spoiled.spoiled(chance, text_of(top, chance), spoiled.OF_SCRIPTS)
-    return sort, text_of(good(chance, sort), chance)
-
-
-def text_of(top, chance):
-    return json_forms.text_of(top, chance, plain=chance.random() < 0.5).encode()
-
-
-def good(chance, sort):
-    """A script of a sort that has a form, as what its text is made of."""
-    asked = limiting.ask(chance, 0.3)
-    limits = {} if asked is None else {"limits": asked}
-    if sort in ("lanes", "malformed lanes"):
-        budget, phases = (lanes.lanes if sort == "lanes" else lanes.malformed)(chance)
-        return {"budget": budget, "phases": phases} | limits
-    if sort == "holders":
-        budget, made = holding.holders(chance)
-    elif sort == "groups":
-        budget, made = grouping.groups(chance)
-    elif sort in ("passes", "rendering", "queries", "bundles"):
-        budget, made = getattr(passing, sort)(chance)
-    elif sort == "canvases":
-        budget, made = canvases.canvases(chance)
-    elif sort == "pieces":
-        budget, made = 2**53 - 1, pieces.pieces(chance)
-    else:
-        budget, made = chance.choices([2**53 - 1, 1_000_000, 0], [8, 2, 1])[0], getattr(worlds, sort)(chance)
-    return {"budget": budget, "phases": [[made]]} | limits
+    return sort, sorts.script_of(chance, sort)
 
 
 def report_of(chance):

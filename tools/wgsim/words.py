@@ -28,7 +28,7 @@ STATUSES = """\
 `wgsim COMMAND --help` has the words of a command.
 
 exit status: 0 the report was written, the two reports are the same, the report is one of the script, all is as expected
-             1 diff, verify, judge: it is not so; run --callers: the callers are no order of the script
+             1 diff, verify, judge, hunt: it is not so; run --callers: the callers are no order of the script
              2 the words are not as above      3 the script is refused
              4 an input could not be read      5 the output could not be written
              6 there was no memory             7 the script has more than 4,194,304 bytes, or the trace more than 67,108,864

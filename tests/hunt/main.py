@@ -1,0 +1,214 @@
+"""Tests of `wgsim hunt`: an engine and a browser that lie in five ways are found out, what is found is small, and bad input is told.
+
+usage: tests/hunt/run [--program PATH] [--scripts N]
+
+The engine that lies answers by the second reading (tests/hunt/liar.py). Where Chromium is installed, one that lies is hunted too
+(tests/hunt/lying_browser), and then itself with N scripts, 2000, or as many as two minutes have; what is found of it is told, and is no
+finding of the test unless its own files are wrong. Where it is not installed that is said. Prints a line for each finding, and fails if
+there is one. """
+
+import argparse
+import collections
+import json
+import os
+import pathlib
+import random
+import re
+import signal
+import subprocess
+import sys
+import tempfile
+import time
+
+from wgsim import exit_status
+from wgsim.hunting import core, flat, known, shaders, shape, smaller, sources, translation
+from wgsim.program import program as programs
+from wgsim.reading import calls
+from wgsim.recorder import browser
+
+TOP = pathlib.Path(__file__).resolve().parents[2]
+HERE = pathlib.Path(__file__).resolve().parent
+# Of each lie the calls that the scripts have of which one shows it, the cases of which mutations are hunted, the beginning of the name of
+# what is found, and how many calls a script has that is written by hand.
+LIES = {
+    "copy": ("copyBufferToBuffer", "copies", ("finish-taken-rule-25",), 5),
+    "scope": ("pushErrorScope", "errors", ("createBuffer-scope", "popErrorScope-scope", "uncapturederror-scope"), 6),
+    "twice": ("workDone", "errors", ("workDone-twice",), 2),
+    "draw": ("draw", "draws", ("finish-refused",), 9),
+    "crash": ("resolveQuerySet", "queries", ("script-crash",), 4),
+}
+FILES = {"script.json", "page.html", "wpt.html", "report.md"}
+LONGEST = 1500
+findings = []
+
+
+def check(holds, what):
+    if not holds:
+        findings.append(what)
+
+
+def wgsim(*words, status=0, **more):
+    """Runs the tool, which has to end with one of some statuses, and returns what it wrote and said."""
+    ran = subprocess.run([TOP / "wgsim", *map(str, words)], capture_output=True, cwd=TOP, timeout=LONGEST, **more)
+    statuses = status if isinstance(status, tuple) else (status,)
+    check(
+        ran.returncode in statuses and b"Traceback" not in ran.stderr,
+        f"wgsim {' '.join(map(str, words))}: status {ran.returncode} and not {status}: {ran.stderr.decode()[-600:]}",
+    )
+    return ran.stdout.decode(), ran.stderr.decode()
+
+
+def state_of(folder):
+    return json.loads((folder / "hunt.json").read_text(encoding="utf-8"))
+
+
+def told_lie(folder, lie, out):
+    """A lie is found, made small, and told."""
+    _, _, names, most = LIES[lie]
+    found = [row for row in state_of(folder)["found"].values() if row["name"].startswith(names)]
+    check(found, f"{lie}: nothing was found of it: {out[-600:]}")
+    for row in found[:1]:
+        check(row["calls"] <= most, f"{lie}: {row['name']} has {row['calls']} calls, and {most} will do")
+        check({path.name for path in (folder / row["name"]).iterdir()} == FILES, f"{lie}: {row['name']} has not the files {FILES}")
+        check(row["name"] in out, f"{lie}: {row['name']} is not told: {out[-300:]}")
+        script = (folder / row["name"] / "script.json").read_bytes()
+        wgsim("run", "-", input=script)
+
+
+def test_engine(folder):
+    """An engine that lies is found out; one that does not is not."""
+    python, liar = TOP / "tools/python", HERE / "liar.py"
+    for lie, (of, cases, _, _) in LIES.items():
+        words = ("--of", of, "--from", f"tests/cases/{cases}", "--scripts", 6, "--out", folder / lie)
+        out, _ = wgsim("hunt", "--command", f"{python} {liar} {lie}", *words, status=1)
+        told_lie(folder / lie, lie, out)
+    wgsim("hunt", "--command", f"{python} {liar} none", "--traces", "--scripts", 6, "--from", "examples", "--out", folder / "none")
+    before = state_of(folder / "none")
+    wgsim("hunt", "--command", f"{python} {liar} none", "--scripts", 3, "--out", folder / "none")
+    check(state_of(folder / "none")["next"] == before["next"] + 3, "a hunt does not go on where it was")
+
+
+def test_bad_input(folder):
+    """What cannot be hunted is told, and nothing is written over."""
+    full = folder / "full"
+    full.mkdir()
+    (full / "kept").write_text("kept", encoding="utf-8")
+    engine = f"{TOP / 'tools/python'} {HERE / 'liar.py'} none"
+    wgsim("hunt", "--command", engine, "--out", full, status=exit_status.UNWRITTEN)
+    check([path.name for path in full.iterdir()] == ["kept"], "a folder that is of no hunt is written to")
+    (folder / "other").mkdir()
+    (folder / "other/hunt.json").write_text("[]", encoding="utf-8")
+    wgsim("hunt", "--command", engine, "--out", folder / "other", status=exit_status.UNREAD)
+    for words, status in (
+        (("--browser", "no-such-browser"), exit_status.UNREAD),
+        (("--command", "no-such-program"), exit_status.UNREAD),
+        (("--command", "'"), exit_status.WORDS),
+        (("--from", folder / "none-there"), exit_status.UNREAD),
+        (("--from", full), exit_status.UNREAD),
+        (("--of", "noCall"), exit_status.WORDS),
+        (("--scripts", "x"), exit_status.WORDS),
+        (("--scripts", "1", "--minutes", "1"), exit_status.WORDS),
+        (("--traces",), exit_status.WORDS),
+        (("--command", engine, "--browser", "chromium"), exit_status.WORDS),
+        (("--browser", "/bin/true"), exit_status.NO_ANSWER),
+    ):
+        _, said = wgsim("hunt", "--out", folder / "new", *words, status=status)
+        check(said.startswith("wgsim: ") or "\nwgsim: " in said, f"hunt {words}: says {said!r}")
+
+
+def test_stopped(folder):
+    """What was found is kept where a hunt is stopped."""
+    engine = f"{TOP / 'tools/python'} {HERE / 'liar.py'} twice"
+    words = [TOP / "wgsim", "hunt", "--command", engine, "--of", "workDone", "--scripts", "100000", "--out", folder / "stopped"]
+    run = subprocess.Popen(words, cwd=TOP, stdout=subprocess.PIPE, stderr=subprocess.PIPE)
+    until = time.monotonic() + LONGEST
+    while time.monotonic() < until and not list((folder / "stopped").glob("*/report.md")):
+        time.sleep(0.2)
+    run.send_signal(signal.SIGINT)
+    out, said = run.communicate(timeout=LONGEST)
+    check(run.returncode == 130 and b"Traceback" not in said, f"stopped: status {run.returncode}: {said.decode()[-600:]}")
+    check(b"differences" in out and state_of(folder / "stopped")["found"], f"stopped: what was found is not kept: {out.decode()[-300:]}")
+
+
+class Second:
+    """In the place of a program, so that the second reading answers."""
+
+    is_unproved = True
+
+
+def test_translation():
+    """Each call of scripts is one in a browser, each kind of binding has its variable, and what a script is made of can be played."""
+    check(set(translation.TRANSLATE) == set(calls.CALLS) - {"drop"}, "tools/wgsim/hunting/translation.py has not the calls of scripts")
+    check(set(shaders.ATTRIBUTES) == set(calls.WORDS["attribute format"]), "shaders.py has not the formats of attributes")
+    asking, source = core.Core(Second()), sources.Source(3)
+    for number in range(12):
+        _, top = source.script(number)
+        made = flat.flattened(asking, top, random.Random(number))
+        answered = flat.playable(asking, made, collections.Counter()) if made is not None else None
+        if answered is None:
+            continue
+        names = [call["as"] for call in answered.flat.calls if "as" in call]
+        again = smaller.renamed(answered.flat.calls)
+        same = asking.answered(core.Flat(again, answered.flat.limits))
+        check(len(set(names)) == len(names) and not any(call["do"] == "drop" for call in again), f"script {number}: it cannot be played")
+        check(
+            same is not None and [e.line for e in same.entry_of.values()] == [e.line for e in answered.entry_of.values()],
+            f"script {number}: other names, other answers",
+        )
+        translation.translated(answered)
+
+
+def test_known():
+    """Each difference that is known has its point in the coverage, and a script, that is one."""
+    coverage = (TOP / "docs/coverage.md").read_text(encoding="utf-8")
+    asking = core.Core(Second())
+    for row in known.read():
+        check(row["row"] in coverage, f"tools/known.json: {row['name']}: docs/coverage.md has no point {row['row']}")
+        check({"name", "kinds", "why", "section", "script"} <= set(row), f"tools/known.json: {row['name']} is not whole")
+        for call in row["script"]:
+            check(set(call) - {"do"} <= set(shape.keys_of(call["do"])), f"tools/known.json: {row['name']}: {call}")
+        check(asking.answered(core.Flat(row["script"])) is not None, f"tools/known.json: {row['name']}: its script is refused")
+
+
+def test_lying_browser(folder):
+    """A browser that lies is found out."""
+    for lie, (of, cases, _, _) in LIES.items():
+        words = ("--of", of, "--from", f"tests/cases/{cases}", "--scripts", 16, "--out", folder / f"browser-{lie}")
+        out, _ = wgsim("hunt", "--browser", HERE / "lying_browser", *words, status=1, env={**os.environ, "WGSIM_LIE": lie})
+        told_lie(folder / f"browser-{lie}", lie, out)
+
+
+def test_browser(folder, scripts):
+    """The browser that is installed is hunted for two minutes at most; what is found is told."""
+    until = ("--scripts", scripts) if scripts < 2000 else ("--minutes", 2)
+    out, _ = wgsim("hunt", *until, "--out", folder / "browser", status=(0, 1))
+    print("notice: " + "; ".join(line for line in out.splitlines()[-1:]))
+
+
+def main():
+    parser = argparse.ArgumentParser(prog="tests/hunt/run", description=__doc__, formatter_class=argparse.RawDescriptionHelpFormatter)
+    parser.add_argument("--program", help="runs as PROGRAM run < SCRIPT")
+    parser.add_argument("--scripts", type=int, default=2000, help="how many scripts the browser that is installed plays")
+    parser.add_argument("--only", help="the tests with this in their names")
+    words = parser.parse_args()
+    if words.program is not None:
+        os.environ[programs.NAMED] = os.path.abspath(words.program)
+    with tempfile.TemporaryDirectory(prefix="hunt-") as name:
+        folder = pathlib.Path(name)
+        tests = [test_translation, test_known, lambda: test_bad_input(folder), lambda: test_engine(folder), lambda: test_stopped(folder)]
+        names = ["translation", "known", "bad_input", "engine", "stopped"]
+        if browser.found(None) is None:
+            print("notice: Chromium is not installed, so no browser is hunted (Debian: apt-get install chromium)")
+        else:
+            tests += [lambda: test_lying_browser(folder), lambda: test_browser(folder, words.scripts)]
+            names += ["lying_browser", "browser"]
+        for test, each in zip(tests, names):
+            if words.only is None or re.search(words.only, each):
+                test()
+    for line in findings:
+        print(line)
+    sys.exit(1 if findings else 0)
+
+
+if __name__ == "__main__":
+    main()

@@ -1,0 +1,81 @@
+"""Makes scripts at random, has a browser play them, and compares each answer with the core's. Each difference is made small, and written
+down in a folder with a page that shows it. docs/hunting.md has all of it.
+
+Where no program is proved, the second reading answers first, and the program without proofs is asked of each difference.
+"""
+
+import re
+import sys
+
+from wgsim import exit_status, inputs
+from wgsim.program.program import Program
+
+HELP = "scripts at random, played by a browser or an engine"
+BY_PROGRAM = True
+SCRIPTS, SEED, FOLDER = 1000, 1, "hunt"
+
+
+def add_words(parser):
+    parser.add_argument("--browser", metavar="BROWSER", help="chromium, or the path of a browser that takes its flags")
+    parser.add_argument("--command", dest="engine", metavar="PROGRAM", help="hunts a command that reads a script and writes a report")
+    parser.add_argument("--traces", action="store_true", help="has `check` judge the traces of the command too")
+    parser.add_argument("--seed", metavar="N", help=f"of what the scripts are made: {SEED}")
+    parser.add_argument("--scripts", metavar="N", help=f"how many scripts are played: {SCRIPTS}")
+    parser.add_argument("--minutes", metavar="M", help="or for how many minutes")
+    parser.add_argument("--of", metavar="CALLS", help="scripts with one of these calls alone, parted by commas")
+    parser.add_argument("--from", dest="kept", metavar="FOLDER", help="mutations of the scripts in a folder too")
+    parser.add_argument("--out", metavar="FOLDER", help=f"where what is found is written: {FOLDER}; one of an earlier hunt goes on")
+
+
+def test(words, wrong):
+    """The words that go together."""
+    for name, word in (("--seed", words.seed), ("--scripts", words.scripts), ("--minutes", words.minutes)):
+        if word is not None and not re.fullmatch(r"[0-9]{1,9}", word) or word == "0":
+            wrong(f"{name} has a number from 1 to 999999999, and not {word}")
+    if words.scripts is not None and words.minutes is not None:
+        wrong("--scripts and --minutes are two ends")
+    if words.engine is not None and words.browser is not None:
+        wrong("--command and --browser are two that are hunted")
+    if words.traces and words.engine is None:
+        wrong("--traces is of a --command: no browser shows a trace")
+
+
+def act(words):
+    from wgsim.hunting import browsers, core, engines, findings, sources
+    from wgsim.recorder import browser
+
+    if sys.version_info < (3, 9):
+        raise exit_status.End(exit_status.NOT_BUILT, "hunt makes its scripts by what Python has from 3.9 on")
+    kept = sources.kept_in(words.kept) if words.kept is not None else ()
+    of = sources.calls_named(words.of) if words.of is not None else ()
+    path = browsers.path_of(words.browser) if words.engine is None else None
+    program = Program(words.is_unproved)
+    engine = engines.Engine(words.engine, program if words.traces else None) if words.engine is not None else None
+    found = findings.Findings(words.out or FOLDER, int(words.seed or SEED))
+    program.ready()
+    source = sources.Source(found.state["seed"], of, kept)
+    try:
+        if engine is not None:
+            return hunted(words, core.Core(program), engine, source, found)
+        with browsers.opened(path) as player:
+            player.begin()
+            return hunted(words, core.Core(program), player, source, found)
+    except browsers.NoWebGpu as none:
+        raise exit_status.End(exit_status.UNREAD, f"{path}: {none}") from None
+    except browser.Gone as gone:
+        raise exit_status.End(exit_status.NO_ANSWER, f"{path}: {gone}") from None
+
+
+def hunted(words, core, other, source, found):
+    """Hunts, and tells what was found, also where the hunt is stopped."""
+    from wgsim.hunting import findings, hunt
+
+    hunting = hunt.Hunt(core, other, source, found, lambda line: inputs.write(line + "\n"))
+    minutes = int(words.minutes) if words.minutes is not None else None
+    try:
+        hunting.run(None if minutes is not None else int(words.scripts or SCRIPTS), minutes)
+    finally:
+        found.save()
+        hunting.clear()
+        inputs.write(findings.summary(found))
+    return exit_status.DIFFERENT if found.state["found"] else exit_status.SAME

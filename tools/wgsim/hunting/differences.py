@@ -1,0 +1,210 @@
+"""Sets what a browser or an engine answered to a script beside the core's answers, call by call.
+
+What was answered is `told`, as tools/player/player.js gives it: `answers` by the numbers of calls (`error` with its `message`, `throws`,
+`settle` with how often it came, `settled`, and `caught`), `stray` errors of no call, `own`, what the script's own error scopes caught,
+`lost`, `hung` and `gone`. What names what came of a difference is not compared, since it differs too.
+"""
+
+from __future__ import annotations
+
+import collections
+import re
+from typing import Any, Iterator
+
+from wgsim.matching.compared import THROWS
+
+from . import shape
+from .core import Answered
+
+CORE_ALONE, OTHER_ALONE, KIND, SCOPE, SETTLED, TWICE, STRAY, LOST, HUNG, GONE, TRACE = (
+    "the core alone refuses it", "the core alone takes it", "another kind of error", "another scope", "a promise settled otherwise",
+    "a promise settled twice", "an error of no call", "the device is lost", "nothing comes any more", "the browser ends", "the trace",
+)
+SHORT = {
+    CORE_ALONE: "taken", OTHER_ALONE: "refused", KIND: "kind", SCOPE: "scope", SETTLED: "settled", TWICE: "twice", STRAY: "stray",
+    LOST: "lost", HUNG: "hang", GONE: "crash", TRACE: "trace",
+}
+LONGEST = 110
+
+
+class Difference:
+    """One call on which the two differ; `number` is that of the call, or None where it is of the whole script."""
+
+    def __init__(self, kind: str, number: int | None, word: str, core: str, other: str, rule: int | None = None, message: str = "") -> None:
+        self.kind, self.number, self.word, self.core, self.other, self.rule, self.message = kind, number, word, core, other, rule, message
+        self.call: dict[str, Any] = {}
+        # Of a pipeline that names its layout the entries of that, by group.
+        self.layouts: list[Any] = []
+
+    def key(self) -> str:
+        """What is the same of differences that are one: the kind, the call, the rule and the message."""
+        return f"{self.kind} | {self.word} | {self.rule if self.rule is not None else '-'} | {shortened(self.message)}"
+
+    def name(self) -> str:
+        """The beginning of the name under which it is written down."""
+        rule = f"-rule-{self.rule}" if self.rule is not None else ""
+        return f"{self.word}-{SHORT[self.kind]}{rule}"
+
+
+def shortened(message: str) -> str:
+    """What a message says, without its numbers, names and places."""
+    lines = [line.strip(" -") for line in message.splitlines() if line.strip()]
+    first = lines[0] if lines else ""
+    first = re.sub(r'"[^"]*"', '""', re.sub(r"\((?:unlabeled|[^()]*\d[^()]*)\)", "", first))
+    return re.sub(r"\s+", " ", re.sub(r"\d+", "N", first)).strip()[:LONGEST]
+
+
+class Compared:
+    """A script with the core's answers and those of the other, and the differences."""
+
+    def __init__(self, answered: Answered, told: dict[str, Any]) -> None:
+        self.answered, self.told = answered, told
+        self.found: list[Difference] = []
+        self.refused_shaders: list[tuple[int, str]] = []
+        self.tainted: set[str] = set()
+        self.recorded: dict[str, set[str]] = collections.defaultdict(set)
+        if self.of_the_whole():
+            return
+        for number, call in enumerate(answered.flat.calls):
+            self.compare(number, call)
+        self.compare_strays()
+        if not self.found and not self.tainted and "own" in told:
+            self.compare_scopes()
+
+    def of_the_whole(self) -> bool:
+        """Notes what makes an end of a play, where there is such."""
+        for key, kind in (("gone", GONE), ("hung", HUNG), ("lost", LOST)):
+            if key in self.told:
+                said = self.told[key] if isinstance(self.told[key], str) else ""
+                self.found.append(Difference(kind, None, "script", "answers each call", f"{kind}: {said}", None, said))
+                return True
+        return False
+
+    def compare(self, number: int, call: dict[str, Any]) -> None:
+        """Compares what was answered to a call."""
+        answer, entry = self.told["answers"].get(str(number), {}), self.answered.entry_of.get(number)
+        names = shape.names_in(call) | self.commands_of(call)
+        if "shader" in answer:
+            self.refused_shaders.append((number, answer["shader"]))
+        if names & self.tainted or "missing" in answer or "shader" in answer:
+            self.taint(call)
+            return
+        fault = entry.fault if entry is not None else None
+        differences = list(self.errors(number, call, fault, answer)) or list(self.settlements(number, call, answer))
+        self.found += differences
+        for difference in differences:
+            difference.call = self.answered.whole[number]
+            difference.layouts = self.layouts_of(difference.call)
+            self.taint(call)
+
+    def layouts_of(self, call: dict[str, Any]) -> list[Any]:
+        """The entries of the layouts that a pipeline names, by group; none of another call."""
+        made = {each["as"]: each for each in self.answered.whole if each["do"] in ("createPipelineLayout", "createBindGroupLayout")}
+        return [made.get(name, {}).get("entries", []) for name in made.get(call.get("layout"), {}).get("layouts", [])]
+
+    def commands_of(self, call: dict[str, Any]) -> set[str]:
+        """The names that the commands of an encoder use, of the finish that ends it; those of other calls are noted."""
+        on = call.get("on")
+        if call["do"] in ("finish", "finishBundle"):
+            return self.recorded[call["on"]]
+        if on is not None:
+            known = self.recorded[on]
+            known |= shape.names_in(call)
+            if "as" in call:
+                self.recorded[call["as"]] = known
+        return set()
+
+    def taint(self, call: dict[str, Any]) -> None:
+        """What comes of a call is not compared any more: what it makes, or what it changes."""
+        self.tainted |= {call["as"]} if "as" in call else shape.names_in(call)
+
+    def errors(self, number: int, call: dict[str, Any], fault: Any, answer: dict[str, Any]) -> Iterator[Difference]:
+        """Whether both refuse a call, or both take it."""
+        has_failed = "error" in answer or "throws" in answer
+        if fault is None and not has_failed:
+            return
+        rule = fault[1] if fault is not None else None
+        message = answer.get("message", answer.get("throws", ""))
+        core, other = said_of_core(fault), said_of(answer)
+        if fault is None:
+            yield Difference(OTHER_ALONE, number, call["do"], core, other, None, message)
+        elif not has_failed:
+            yield Difference(CORE_ALONE, number, call["do"], core, other, rule, answer.get("reason", ""))
+        elif not is_same(fault, answer):
+            yield Difference(KIND, number, call["do"], core, other, rule, message)
+        elif "caught" in answer and "error" in answer and answer["caught"] != fault[2]:
+            yield Difference(SCOPE, number, call["do"], core, other, rule)
+
+    def settlements(self, number: int, call: dict[str, Any], answer: dict[str, Any]) -> Iterator[Difference]:
+        """Whether a promise is settled as the core has it, and once."""
+        wanted = self.answered.settled.get(number)
+        if answer.get("settled", 0) > 1:
+            yield Difference(TWICE, number, call["do"], f"settles it once: {wanted}", f"settles it {answer['settled']} times")
+        elif wanted is not None and ("settle" in answer or "isLate" in answer):
+            found = answer.get("settle", "nothing yet")
+            how = re.sub(r" \d+$", "", wanted)
+            if how != found and not (found == "mapped" and how == "mapped"):
+                yield Difference(SETTLED, number, call["do"], f"settles it: {how}", f"settles it: {found}", None, f"{how} {found}")
+
+    def compare_strays(self) -> None:
+        """An error that comes of no call that may make one."""
+        for stray in self.told.get("stray") or [] if not self.tainted else []:
+            self.found.append(
+                Difference(STRAY, None, "command", "makes no such error", f"{stray['kind']}: {stray['message']}", None, stray["message"])
+            )
+
+    def compare_scopes(self) -> None:
+        """What the script's own scopes caught, where nothing stood around the calls, and what reached none of them."""
+        own = self.told["own"]
+        for number, call in enumerate(self.answered.flat.calls):
+            if call["do"] == "popErrorScope":
+                answer = own["answers"].get(str(number), {})
+                found = [*self.scope(number, call, answer)]
+                self.found += found
+        wanted = collections.Counter(
+            entry.fault[0] for entry in self.answered.entry_of.values() if entry.fault is not None and is_uncaught(entry.fault)
+        )
+        met = collections.Counter(stray["kind"] for stray in own.get("stray") or [])
+        # A device that is destroyed drops the events that are still on their way.
+        is_lost = any(call["do"] == "lose" for call in self.answered.flat.calls)
+        if wanted != met and not self.found and not is_lost:
+            self.found.append(Difference(SCOPE, None, "uncapturederror", told_of(wanted), told_of(met), None, f"{told_of(wanted)}"))
+
+    def scope(self, number: int, call: dict[str, Any], answer: dict[str, Any]) -> Iterator[Difference]:
+        """Whether a scope gives what the core has for it."""
+        if answer.get("settled", 0) > 1:
+            yield from self.settlements(number, call, answer)
+            return
+        wanted = re.sub(r" \d+$", "", self.answered.settled.get(number, ""))
+        found = answer.get("settle", "nothing")
+        if wanted and wanted != found:
+            yield Difference(SCOPE, number, call["do"], f"gives {wanted}", f"gives {found}", None, f"{wanted} {found}")
+
+
+def is_uncaught(fault: Any) -> bool:
+    """Whether an error comes to no scope; what is thrown comes to none, and to no handler."""
+    return fault[2] == "uncaptured" and fault[1] not in THROWS
+
+
+def is_same(fault: Any, answer: dict[str, Any]) -> bool:
+    """Whether an error is that of the core: thrown where the standard throws, and else of its kind."""
+    return fault[1] in THROWS if "throws" in answer else fault[0] == answer["error"]
+
+
+def said_of_core(fault: Any) -> str:
+    return "takes it" if fault is None else f"refuses it by rule {fault[1]} ({fault[0]}, {fault[2]})"
+
+
+def said_of(answer: dict[str, Any]) -> str:
+    """What the other answered, in a line."""
+    if "throws" in answer:
+        return f"throws {answer['throws']}"
+    if "error" not in answer:
+        return "takes it"
+    lines = [line.strip(" -") for line in answer.get("message", "").splitlines() if line.strip()]
+    return f"refuses it ({answer['error']}): {lines[0] if lines else 'it says nothing'}"
+
+
+def told_of(counts: collections.Counter[str]) -> str:
+    """How many errors of which kinds are uncaptured."""
+    return ", ".join(f"{count} {kind}" for kind, count in sorted(counts.items())) or "none"

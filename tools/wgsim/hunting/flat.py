@@ -1,0 +1,131 @@
+"""Makes of a script one of a single lane that a browser can play: in the order in which the core took its calls, and without what cannot be
+played. What is left out is counted under a name, and with it goes what names it."""
+
+from __future__ import annotations
+
+import collections
+import json
+import random
+from typing import Any
+
+from . import shaders, shape
+from .core import Answered, Core, Flat
+
+# The memory that a script may take, and how many bytes one write has at most.
+MEMORY = 2**24
+# How many threads or vertices a command may have that is carried out: more take a driver on a processor too long.
+MOST_RUNS = 2**16
+DROP, OUT_OF_MEMORY, LARGE, LONG, INTERFACE, FRAME = (
+    "drops, which no page can make", "what takes much memory", "writes of many bytes", "dispatches and draws that take long",
+    "interfaces that WGSL cannot say", "what is waited for while a canvas has a texture, which then expires",
+)
+ROUNDS = 8
+
+
+def flattened(core: Core, top: dict[str, Any], chance: random.Random) -> Flat | None:
+    """A script in one lane, in the order in which a device took its calls; None where it is refused."""
+    limits = top.get("limits")
+    lanes = [lane for lanes in top["phases"] for lane in lanes]
+    if all(len(lanes) < 2 for lanes in top["phases"]):
+        return Flat([call for lane in lanes for call in lane], limits)
+    from wgsim.matching.beside import Beside
+    from wgsim.reading import report, script
+    from wgsim.reading.places import Text
+
+    text = core.report(top, chance)
+    if text is None:
+        return None
+    read = script.read(Text(json.dumps(top).encode(), "script"))
+    taken = Beside(report.Report(text), read).turns
+    return Flat([top["phases"][call.place[0]][call.place[1]][call.place[2]] for call in taken], limits)
+
+
+def playable(core: Core, flat: Flat, left: collections.Counter[str]) -> Answered | None:
+    """What the core answers to as much of a script as can be played; None where that is refused."""
+    gone = unplayable(flat.calls)
+    left.update(gone.values())
+    calls = shape.without(flat.calls, set(gone))
+    for _ in range(ROUNDS):
+        answered = core.answered(Flat(calls, flat.limits, MEMORY))
+        if answered is None:
+            return None
+        gone = not_played(answered)
+        changed, idle = with_completes(answered)
+        left.update(gone.values())
+        changed = shape.without(changed, idle | set(gone))
+        if changed == calls:
+            # Nothing was out of memory, so that the same is answered where there is all the memory that a script can have.
+            answered.flat = Flat(calls, flat.limits)
+            return answered
+        calls = changed
+    return None
+
+
+def again(core: Core, flat: Flat) -> Answered | None:
+    """The same of a script that is a part of one that can be played, or like it with lesser numbers."""
+    for _ in range(ROUNDS):
+        answered = core.answered(flat)
+        if answered is None:
+            return None
+        changed, idle = with_completes(answered)
+        changed = shape.without(changed, idle)
+        if changed == flat.calls:
+            return answered
+        flat = Flat(changed, flat.limits)
+    return None
+
+
+def unplayable(calls: list[dict[str, Any]]) -> dict[int, str]:
+    """The calls that no page can make, whatever is answered to them, each with why."""
+    found, open_frames = {}, set()
+    for number, call in enumerate(calls):
+        if call["do"] == "currentTexture":
+            open_frames.add(call["canvas"])
+        elif call["do"] in ("present", "configureCanvas"):
+            open_frames.discard(call["canvas"])
+        if open_frames and call["do"] in ("complete", "mapAsync"):
+            found[number] = FRAME
+        elif call["do"] == "drop":
+            found[number] = DROP
+        elif max(call.get("size", 0) if call["do"] == "writeBuffer" else 0, call.get("dataSize", 0)) > MEMORY:
+            found[number] = LARGE
+        elif call["do"] in ("createComputePipeline", "createRenderPipeline") and not shaders.can_say(call):
+            found[number] = INTERFACE
+    return found
+
+
+def not_played(answered: Answered) -> dict[int, str]:
+    """The calls that are left out by what the core answers: what takes too much memory, and what a driver would take too long for."""
+    gone = {
+        number: OUT_OF_MEMORY
+        for number, entry in answered.entry_of.items()
+        if entry.fault is not None and entry.fault[0] == "out-of-memory"
+    }
+    for number, call in enumerate(answered.whole):
+        if runs_of(call) > MOST_RUNS:
+            gone[number] = LONG
+    return gone
+
+
+def runs_of(call: dict[str, Any]) -> int:
+    """How many threads or vertices a command has; none where there are so many that no device takes it."""
+    if call["do"] == "dispatch":
+        counts = [call["x"], call["y"], call["z"]]
+        return 0 if max(counts) > 65535 else counts[0] * counts[1] * counts[2]
+    return call.get("vertices", call.get("indices", 0)) * call["instances"] if call["do"] in ("draw", "drawIndexed") else 0
+
+
+def with_completes(answered: Answered) -> tuple[list[dict[str, Any]], set[int]]:
+    """The calls with each `complete` saying that all is complete that was queued by then, as it is where a page waits for its queue; and
+    the numbers of those that have nothing to say."""
+    calls, idle, issued, complete = [], set(), 0, 0
+    for number, call in enumerate(answered.flat.calls):
+        entry = answered.entry_of.get(number)
+        issued = (entry.operation() or issued) if entry is not None else issued
+        if call["do"] == "complete" and issued > complete:
+            call = call if call["op"] == issued else {**call, "op": issued}
+            complete = issued
+        elif call["do"] == "complete":
+            idle.add(number)
+        calls.append(call)
+    return calls, idle
