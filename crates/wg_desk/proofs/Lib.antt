@@ -3,3 +3,4 @@ pub mod Naming
 pub mod Refusing
 pub mod Seating
 pub mod Sending
+pub mod Vacant

@@ -15,6 +15,12 @@ set_cases (x ∷ xs) (suc i) (suc k) y =
     elim (set_cases xs i k y) as (λ _. (slice_get (slice_set xs i y) k ≡ slice_get xs k) ⊎ ((suc k ≡ suc i) × (slice_get (slice_set xs i y) k ≡ Some y)))
     [ inl same ↦ inl same | inr found ↦ inr (ap suc found.0, found.1) ]
 
+-- the element that was set
+pub get_same : {X : Type 0} (xs : List X) (i : ℕ) (x y : X) → slice_get xs i ≡ Some x → slice_get (slice_set xs i y) i ≡ Some y
+get_same [] i x y at = absurd (cc (at))
+get_same (z ∷ xs) zero x y at = refl
+get_same (z ∷ xs) (suc i) x y at = get_same xs i x y at
+
 -- One of a list with one more at its end is as it was, or is that one.
 pub more_cases : {X : Type 0} (xs : List X) (k : ℕ) (y : X) → (slice_get (xs ++ y ∷ []) k ≡ slice_get xs k) ⊎ ((k ≡ length xs) × (slice_get (xs ++ y ∷ []) k ≡ Some y))
 more_cases [] zero y = inr (refl, refl)

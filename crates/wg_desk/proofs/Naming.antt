@@ -1,6 +1,7 @@
--- What a call over numbers names, over handles, is genuine.
-use Rattle.std.proofs.Common.{◌≡◌, ℕ, true, false, List, [], ◌∷◌, map, reverse, Option, Some, None, is_none, slice_get, refl, ap, ap₂, sym, subst, true≢false}
+-- What a call over numbers names, over handles, is genuine, and was not dropped.
+use Rattle.std.proofs.Common.{◌≡◌, ℕ, Bool, true, false, ◌||◌, List, [], ◌∷◌, map, reverse, Option, Some, None, is_none, slice_get, refl, ap, ap₂, sym, subst, ◌∙◌, true≢false}
 use Rattle.std.specs.Prelude.{All, IfSome, option_map, option_and_then, unwrap_or}
+use Rattle.std.specs.List.{list_any}
 use Rattle.std.proofs.lemmas.Bool.{or_parts}
 use Rattle.std.proofs.lemmas.List.Elements.{All-nil, All-cons, All-map}
 use Rattle.wg_types.specs.Handles.{HandleValue}
@@ -16,9 +17,12 @@ use Rattle.wg_types.specs.declared.wanted.Wanted.{Wanted}
 use Rattle.wg_types.specs.declared.wanted.Wanted.TheVariants as wanted
 use Rattle.wg_history.specs.declared.events.Setup.{Setup}
 use Rattle.wg_history.specs.Entries.{Entry}
-use Rattle.wg_history.specs.Rules.{is_genuine}
+use Rattle.wg_history.specs.Rules.{is_dropped, is_genuine}
+use Rattle.wg_calls.specs.Calls.{event_asked}
 use Rattle.wg_desk.specs.declared.seats.Seat.{Seat}
 use Rattle.wg_desk.specs.Seats.{handle_at, found_at, no_object, is_missing, any_missing, AreSeated}
+use Rattle.wg_desk.specs.Sent.{dropped_by, dropped_number}
+use Rattle.wg_desk.specs.Desks.{names_dropped}
 
 -- the object that stands for a number, with what is wanted of it
 abbrev standing : (ℕ → HandleValue) → ℕ × Wanted → HandleValue × Wanted
@@ -70,6 +74,10 @@ named_stand f WorkDone = refl
 named_stand f (MapAsync buffer mode offset size) = refl
 named_stand f (Unmap buffer) = refl
 
+any_standing : (p : HandleValue × Wanted → Bool) (f : ℕ → HandleValue) (useds : List (ℕ × Wanted)) → list_any p (map (standing f) useds) ≡ list_any (λ (used : ℕ × Wanted). p (f used.0, used.1)) useds
+any_standing p f [] = refl
+any_standing p f (used ∷ useds) = ap (λ (b : Bool). p (f used.0, used.1) || b) (any_standing p f useds)
+
 module _ (setup : Setup) (history : List Entry) (seats : List Seat) (seated : AreSeated setup history seats) where
   by_handle : (handle : Option HandleValue) → IfSome handle (λ h. is_genuine setup (reverse history) h ≡ true) → is_none handle ≡ false → is_genuine setup (reverse history) (unwrap_or handle no_object) ≡ true
   by_handle None genuine found = absurd (true≢false found)
@@ -96,3 +104,72 @@ module _ (setup : Setup) (history : List Entry) (seats : List Seat) (seated : Ar
   named_genuine request none =
       subst (λ (list : List (HandleValue × Wanted)). All (λ (used : HandleValue × Wanted). is_genuine setup (reverse history) used.0 ≡ true) list) (sym (named_stand (found_at seats) request))
       (All-map (λ (used : HandleValue × Wanted). is_genuine setup (reverse history) used.0 ≡ true) (standing (found_at seats)) (named request) (all_found (named request) none))
+
+  number_of : (n : ℕ) (handle : Option HandleValue) → IfSome handle (λ h. h.reference.number ≡ n) → is_none handle ≡ false → (unwrap_or handle no_object).reference.number ≡ n
+  number_of n None number found = absurd (true≢false found)
+  number_of n (Some handle) number found = number
+
+  number_in : (n : ℕ) (seat : Option Seat) → slice_get seats n ≡ seat → is_none (option_and_then (λ (s : Seat). s.handle) seat) ≡ false
+      → (unwrap_or (option_and_then (λ (s : Seat). s.handle) seat) no_object).reference.number ≡ n
+  number_in n None is found = absurd (true≢false found)
+  number_in n (Some seat) is found = number_of n seat.handle (seated.each n seat is).number found
+
+  -- The handle at a number is of the object of that number.
+  found_number : (n : ℕ) → is_none (handle_at seats n) ≡ false → (found_at seats n).reference.number ≡ n
+  found_number n found = number_in n (slice_get seats n) refl found
+
+  undropped_of : (n : ℕ) (handle : Option HandleValue) → IfSome handle (λ _. is_dropped setup (reverse history) n ≡ false) → is_none handle ≡ false → is_dropped setup (reverse history) n ≡ false
+  undropped_of n None undropped found = absurd (true≢false found)
+  undropped_of n (Some handle) undropped found = undropped
+
+  undropped_in : (n : ℕ) (seat : Option Seat) → slice_get seats n ≡ seat → is_none (option_and_then (λ (s : Seat). s.handle) seat) ≡ false → is_dropped setup (reverse history) n ≡ false
+  undropped_in n None is found = absurd (true≢false found)
+  undropped_in n (Some seat) is found = undropped_of n seat.handle (seated.each n seat is).undropped found
+
+  -- That object was not dropped.
+  found_undropped : (n : ℕ) → is_none (handle_at seats n) ≡ false → is_dropped setup (reverse history) (found_at seats n).reference.number ≡ false
+  found_undropped n found = ap (λ (k : ℕ). is_dropped setup (reverse history) k) (found_number n found) ∙ undropped_in n (slice_get seats n) refl found
+
+  all_undropped : (useds : List (ℕ × Wanted)) → any_missing seats useds ≡ false → list_any (λ (used : ℕ × Wanted). is_dropped setup (reverse history) (found_at seats used.0).reference.number) useds ≡ false
+  all_undropped [] none = refl
+  all_undropped (used ∷ useds) none =
+      let parts : (is_missing seats used ≡ false) × (any_missing seats useds ≡ false) = or_parts (is_missing seats used) (any_missing seats useds) none in
+      ap₂ (λ (a b : Bool). a || b) (found_undropped used.0 parts.0) (all_undropped useds parts.1)
+
+  -- So was none of those that such a call names.
+  pub named_undropped : (request : RequestOf ℕ) → any_missing seats (named request) ≡ false → names_dropped setup (reverse history) (named (map_refs (found_at seats) request)) ≡ false
+  named_undropped request none =
+      ap (λ (list : List (HandleValue × Wanted)). names_dropped setup (reverse history) list) (named_stand (found_at seats) request)
+      ∙ (any_standing (λ (used : HandleValue × Wanted). is_dropped setup (reverse history) used.0.reference.number) (found_at seats) (named request)
+      ∙ all_undropped (named request) none)
+
+  -- What such a call drops goes by the number that it has there.
+  pub drops_found : (request : RequestOf ℕ) → any_missing seats (named request) ≡ false → dropped_number (event_asked (map_refs (found_at seats) request)) ≡ dropped_by request
+  drops_found (Drop object) none =
+      ap (λ (n : ℕ). Some n) (found_number object (or_parts (is_missing seats (object, wanted.Object)) false none).0)
+  drops_found (CreateBuffer made) none = refl
+  drops_found (CreateTexture made) none = refl
+  drops_found (CreateView texture asked) none = refl
+  drops_found (CreateSampler made) none = refl
+  drops_found (CreateBindGroupLayout entries) none = refl
+  drops_found (CreatePipelineLayout layouts) none = refl
+  drops_found (CreateBindGroup layout entries) none = refl
+  drops_found (CreateComputePipeline layout iface) none = refl
+  drops_found (CreateRenderPipeline layout desc) none = refl
+  drops_found (GetBindGroupLayout pipeline index) none = refl
+  drops_found (CreateQuerySet made) none = refl
+  drops_found CreateEncoder none = refl
+  drops_found (CreateBundleEncoder targets) none = refl
+  drops_found (Finish encoder) none = refl
+  drops_found (FinishBundle encoder) none = refl
+  drops_found (Submit buffers) none = refl
+  drops_found (WriteBuffer buffer offset size) none = refl
+  drops_found (WriteTexture texture spot layout size data_size) none = refl
+  drops_found (Destroy object) none = refl
+  drops_found (Complete op) none = refl
+  drops_found (PushErrorScope filter) none = refl
+  drops_found PopErrorScope none = refl
+  drops_found Lose none = refl
+  drops_found WorkDone none = refl
+  drops_found (MapAsync buffer mode offset size) none = refl
+  drops_found (Unmap buffer) none = refl

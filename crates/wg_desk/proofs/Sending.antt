@@ -1,8 +1,17 @@
 -- Of which events what they make is known, and what their replies say.
-use Rattle.std.proofs.Common.{◌≡◌, Bool, true, false, not, ◌&&◌, List, [], ◌∷◌, reverse, Option, Some, None, is_some, is_none, refl, ap, sym, subst, ◌∙◌, if◌then◌else◌}
-use Rattle.std.specs.Prelude.{All}
+use Rattle.std.proofs.Common.{◌≡◌, ℕ, Bool, true, false, not, ◌&&◌, ◌||◌, List, [], ◌∷◌, ◌++◌, map, reverse, Option, Some, None, is_some, is_none, refl, ap, ap₂, sym, subst, ◌∙◌, true≢false, if◌then◌else◌}
+use Rattle.std.specs.Prelude.{All, option_map, option_to_list}
+use Rattle.std.specs.Option.{option_map_or}
+use Rattle.std.specs.List.{list_any}
+use Rattle.std.proofs.lemmas.Bool.{or_parts}
 use Rattle.std.proofs.lemmas.List.Elements.{All-weaker, All-nil, All-cons}
+use Rattle.wg_fading.specs.Fading.{was_let_go}
 use Rattle.wg_types.specs.Handles.{HandleValue}
+use Rattle.wg_types.specs.Refs.{all_wanted, maybe_wanted}
+use Rattle.wg_types.specs.Bindings.{resource_named, map_resource, map_entry, entries_named}
+use Rattle.wg_types.specs.declared.bindings.ResourceOf.{ResourceOf}
+use Rattle.wg_types.specs.declared.bindings.ResourceOf.TheVariants.{Buffer, View, Sampler}
+use Rattle.wg_types.specs.declared.bindings.GroupEntryOf.{GroupEntryOf}
 use Rattle.wg_types.specs.Requests.{named}
 use Rattle.wg_types.specs.declared.handles.Info.{Info}
 use Rattle.wg_types.specs.declared.handles.Info.TheVariants as info
@@ -10,6 +19,7 @@ use Rattle.wg_types.specs.declared.handles.ObjRef.{ObjRef}
 use Rattle.wg_types.specs.declared.render.TargetInfo.{TargetInfo}
 use Rattle.wg_trace.specs.declared.replies.Answer.TheVariants.{Made, Plain, BadCompletion}
 use Rattle.wg_types.specs.declared.wanted.Wanted.{Wanted}
+use Rattle.wg_types.specs.declared.wanted.Wanted.TheVariants as wanted
 use Rattle.wg_types.specs.declared.requests.RequestOf.{RequestOf}
 use Rattle.wg_types.specs.declared.requests.RequestOf.TheVariants.{CreateBuffer, CreateTexture, CreateView, CreateSampler, CreateBindGroupLayout, CreatePipelineLayout, CreateBindGroup, CreateComputePipeline, CreateRenderPipeline, GetBindGroupLayout, CreateQuerySet, CreateEncoder, CreateBundleEncoder, Finish, FinishBundle, Submit, WriteBuffer, WriteTexture, Destroy, Drop, Complete, PushErrorScope, PopErrorScope, Lose, WorkDone, MapAsync, Unmap}
 use Rattle.wg_encoder.specs.Recorders.{RecordingValue}
@@ -21,12 +31,15 @@ use Rattle.wg_history.specs.Entries.{effects_of, Entry, Past}
 use Rattle.wg_history.specs.Objects.{is_making, count}
 use Rattle.wg_history.specs.Loss.{is_lost}
 use Rattle.wg_history.specs.FirstRules.{first_rule}
-use Rattle.wg_history.specs.Rules.{is_genuine}
+use Rattle.wg_history.specs.Rules.{is_dropped, is_genuine}
 use Rattle.wg_history.specs.Answers.{answer_by, is_taken, reply_to}
-use Rattle.wg_calls.specs.Calls.{event_asked, info_asked, finish_event, finished_info}
+use Rattle.wg_state.specs.Gone.{named_by, any_gone, AreDead}
+use Rattle.wg_calls.specs.Calls.{reference_of, event_asked, info_asked, finish_event, finished_info}
 use Rattle.wg_calls.proofs.Genuine.{genuine_more, genuine_made, genuine_finish}
-use Rattle.wg_desk.specs.Sent.{ending_by, ending_asked, handed_over}
-use Rattle.wg_desk.specs.Desks.{MakesGenuine, IsNumber}
+use Rattle.wg_desk.specs.declared.seats.Seat.{Seat}
+use Rattle.wg_desk.specs.Seats.{emptied_at}
+use Rattle.wg_desk.specs.Sent.{dropped_number, left_after, ending_by, ending_asked, handed_over}
+use Rattle.wg_desk.specs.Desks.{any_dropped, names_dropped, MakesGenuine, IsNumber}
 
 -- A call makes an object exactly where something is known of that.
 asked_makes : (request : RequestOf HandleValue) → is_making (event_asked request) ≡ is_some (info_asked request)
@@ -142,3 +155,119 @@ finished_so setup history targets encoder recording event known is knows =
 
 pub hands_over : (targets : Option TargetInfo) (encoder : ObjRef) (recording : RecordingValue) (event : Event) → event ≡ finish_event targets encoder recording → is_some (handed_over event) ≡ true
 hands_over targets encoder recording event is = ap (λ (e : Event). is_some (handed_over e)) is ∙ ap (λ (r : Option RecordingValue). is_some r) (is_handed_over targets encoder recording)
+
+-- What events name that was dropped.
+
+objects_asked : (p : ObjRef → Bool) (asked : Wanted) (objects : List HandleValue) → list_any p (map reference_of objects ++ []) ≡ list_any (λ (used : HandleValue × Wanted). p used.0.reference) (all_wanted asked objects)
+objects_asked p asked [] = refl
+objects_asked p asked (object ∷ objects) = ap (λ (b : Bool). p object.reference || b) (objects_asked p asked objects)
+
+maybe_asked : (p : ObjRef → Bool) (asked : Wanted) (object : Option HandleValue) → list_any p (option_to_list (option_map reference_of object) ++ []) ≡ list_any (λ (used : HandleValue × Wanted). p used.0.reference) (maybe_wanted asked object)
+maybe_asked p asked None = refl
+maybe_asked p asked (Some object) = refl
+
+resource_asked : (resource : ResourceOf HandleValue) → (resource_named (map_resource reference_of resource)).0 ≡ (resource_named resource).0.reference
+resource_asked (Buffer buffer offset size) = refl
+resource_asked (View view) = refl
+resource_asked (Sampler sampler) = refl
+
+entries_asked : (p : ObjRef → Bool) (entries : List (GroupEntryOf HandleValue))
+    → list_any p (map (λ (named : ObjRef × Wanted). named.0) (entries_named (map (map_entry reference_of) entries)) ++ []) ≡ list_any (λ (used : HandleValue × Wanted). p used.0.reference) (entries_named entries)
+entries_asked p [] = refl
+entries_asked p (entry ∷ entries) = ap₂ (λ (object : ObjRef) (b : Bool). p object || b) (resource_asked entry.resource) (entries_asked p entries)
+
+-- the event of a call names what the call does
+pub asked_names : (setup : Setup) (past : Past) (request : RequestOf HandleValue) → any_dropped setup past (named_by (event_asked request)) ≡ names_dropped setup past (named request)
+asked_names setup past (CreatePipelineLayout layouts) = objects_asked (λ (object : ObjRef). is_dropped setup past object.number) wanted.GroupLayout layouts
+asked_names setup past (CreateBindGroup layout entries) = ap (λ (b : Bool). is_dropped setup past layout.reference.number || b) (entries_asked (λ (object : ObjRef). is_dropped setup past object.number) entries)
+asked_names setup past (CreateComputePipeline layout iface) = maybe_asked (λ (object : ObjRef). is_dropped setup past object.number) wanted.PipelineLayout layout
+asked_names setup past (CreateRenderPipeline layout desc) = maybe_asked (λ (object : ObjRef). is_dropped setup past object.number) wanted.PipelineLayout layout
+asked_names setup past (Submit buffers) = objects_asked (λ (object : ObjRef). is_dropped setup past object.number) wanted.CommandBuffer buffers
+asked_names setup past (CreateBuffer made) = refl
+asked_names setup past (CreateTexture made) = refl
+asked_names setup past (CreateView texture asked) = refl
+asked_names setup past (CreateSampler made) = refl
+asked_names setup past (CreateBindGroupLayout entries) = refl
+asked_names setup past (GetBindGroupLayout pipeline index) = refl
+asked_names setup past (CreateQuerySet made) = refl
+asked_names setup past CreateEncoder = refl
+asked_names setup past (CreateBundleEncoder targets) = refl
+asked_names setup past (Finish encoder) = refl
+asked_names setup past (FinishBundle encoder) = refl
+asked_names setup past (WriteBuffer buffer offset size) = refl
+asked_names setup past (WriteTexture texture spot layout size data_size) = refl
+asked_names setup past (Destroy object) = refl
+asked_names setup past (Drop object) = refl
+asked_names setup past (Complete op) = refl
+asked_names setup past (PushErrorScope filter) = refl
+asked_names setup past PopErrorScope = refl
+asked_names setup past Lose = refl
+asked_names setup past WorkDone = refl
+asked_names setup past (MapAsync buffer mode offset size) = refl
+asked_names setup past (Unmap buffer) = refl
+
+-- the end of an encoder names that alone, whatever it hands over
+pub finish_names : (setup : Setup) (past : Past) (targets : Option TargetInfo) (encoder : ObjRef) (recording : RecordingValue) → is_dropped setup past encoder.number ≡ false → any_dropped setup past (named_by (finish_event targets encoder recording)) ≡ false
+finish_names setup past None encoder recording undropped = ap (λ (b : Bool). b || false) undropped
+finish_names setup past (Some targets) encoder recording undropped = ap (λ (b : Bool). b || false) undropped
+
+pub ending_names : (setup : Setup) (past : Past) (encoder : HandleValue) → is_dropped setup past encoder.reference.number ≡ false → names_dropped setup past (named (ending_asked encoder)) ≡ false
+ending_names setup past encoder undropped = by_info encoder.info
+  where
+    by_info : (known : Info) → names_dropped setup past (named (ending_by encoder known)) ≡ false
+    by_info (info.BundleEncoder targets) = ap (λ (b : Bool). b || false) undropped
+    by_info info.Encoder = ap (λ (b : Bool). b || false) undropped
+    by_info (info.Buffer known) = ap (λ (b : Bool). b || false) undropped
+    by_info (info.Texture known) = ap (λ (b : Bool). b || false) undropped
+    by_info (info.View known) = ap (λ (b : Bool). b || false) undropped
+    by_info (info.Sampler known) = ap (λ (b : Bool). b || false) undropped
+    by_info (info.GroupLayout known) = ap (λ (b : Bool). b || false) undropped
+    by_info (info.PipelineLayout known) = ap (λ (b : Bool). b || false) undropped
+    by_info (info.Group known) = ap (λ (b : Bool). b || false) undropped
+    by_info (info.Compute known) = ap (λ (b : Bool). b || false) undropped
+    by_info (info.Render known) = ap (λ (b : Bool). b || false) undropped
+    by_info (info.Queries known) = ap (λ (b : Bool). b || false) undropped
+    by_info info.CommandBuffer = ap (λ (b : Bool). b || false) undropped
+    by_info (info.Bundle known) = ap (λ (b : Bool). b || false) undropped
+
+-- An end drops nothing.
+
+left_all : (event : Event) (seats : List Seat) → dropped_number event ≡ None → left_after event seats ≡ seats
+left_all event seats none = ap (λ (o : Option ℕ). option_map_or (emptied_at seats) o seats) none
+
+finish_drops : (targets : Option TargetInfo) (encoder : ObjRef) (recording : RecordingValue) → dropped_number (finish_event targets encoder recording) ≡ None
+finish_drops None encoder recording = refl
+finish_drops (Some targets) encoder recording = refl
+
+pub finish_leaves : (targets : Option TargetInfo) (encoder : ObjRef) (recording : RecordingValue) (event : Event) (seats : List Seat) → event ≡ finish_event targets encoder recording → left_after event seats ≡ seats
+finish_leaves targets encoder recording event seats is = left_all event seats (ap (λ (e : Event). dropped_number e) is ∙ finish_drops targets encoder recording)
+
+ending_drops : (encoder : HandleValue) (known : Info) → dropped_number (event_asked (ending_by encoder known)) ≡ None
+ending_drops encoder (info.BundleEncoder targets) = refl
+ending_drops encoder info.Encoder = refl
+ending_drops encoder (info.Buffer known) = refl
+ending_drops encoder (info.Texture known) = refl
+ending_drops encoder (info.View known) = refl
+ending_drops encoder (info.Sampler known) = refl
+ending_drops encoder (info.GroupLayout known) = refl
+ending_drops encoder (info.PipelineLayout known) = refl
+ending_drops encoder (info.Group known) = refl
+ending_drops encoder (info.Compute known) = refl
+ending_drops encoder (info.Render known) = refl
+ending_drops encoder (info.Queries known) = refl
+ending_drops encoder info.CommandBuffer = refl
+ending_drops encoder (info.Bundle known) = refl
+
+pub ending_leaves : (encoder : HandleValue) (seats : List Seat) → left_after (event_asked (ending_asked encoder)) seats ≡ seats
+ending_leaves encoder seats = left_all (event_asked (ending_asked encoder)) seats (ending_drops encoder encoder.info)
+
+-- What was let go was dropped, so that none of it is among objects of which none was.
+pub none_gone : (setup : Setup) (past : Past) (gone : List ℕ) (objects : List ObjRef) → AreDead setup past gone → any_dropped setup past objects ≡ false → any_gone gone objects ≡ false
+none_gone setup past gone [] dead none = refl
+none_gone setup past gone (object ∷ objects) dead none =
+    let parts : (is_dropped setup past object.number ≡ false) × (any_dropped setup past objects ≡ false) = or_parts (is_dropped setup past object.number) (any_dropped setup past objects) none in
+    ap₂ (λ (a b : Bool). a || b) (here (was_let_go gone object.number) refl parts.0) (none_gone setup past gone objects dead parts.1)
+  where
+    here : (b : Bool) → was_let_go gone object.number ≡ b → is_dropped setup past object.number ≡ false → b ≡ false
+    here true out undropped = absurd (true≢false (sym (dead object.number out).dropped ∙ undropped))
+    here false out undropped = refl

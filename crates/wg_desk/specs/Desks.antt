@@ -1,16 +1,19 @@
 -- What contracts see of a desk, and what its calls do.
 use Rattle.std.specs.Prelude.{◌≡◌, ℕ, Bool, true, false, List, [], ◌∷◌, ◌++◌, reverse, Option, Some, is_some, option_and_then}
+use Rattle.std.specs.List.{list_any}
 use Rattle.wg_types.specs.Handles.{HandleValue}
 use Rattle.wg_types.specs.declared.handles.Info.{Info}
+use Rattle.wg_types.specs.declared.handles.ObjRef.{ObjRef}
+use Rattle.wg_types.specs.declared.wanted.Wanted.{Wanted}
 use Rattle.wg_trace.specs.declared.replies.Answer.{Answer}
 use Rattle.wg_trace.specs.declared.replies.Answer.TheVariants.{Made}
 use Rattle.wg_trace.specs.declared.replies.Reply.{Reply}
 use Rattle.wg_orders.specs.Trace.{Item}
 use Rattle.wg_history.specs.declared.events.Setup.{Setup}
 use Rattle.wg_history.specs.declared.events.Event.{Event}
-use Rattle.wg_history.specs.Entries.{Entry}
+use Rattle.wg_history.specs.Entries.{Entry, Past}
 use Rattle.wg_history.specs.Objects.{is_making}
-use Rattle.wg_history.specs.Rules.{is_genuine}
+use Rattle.wg_history.specs.Rules.{is_dropped, is_genuine}
 use Rattle.wg_history.specs.Answers.{Run, reply_to}
 use Rattle.wg_history.specs.Traces.{Trace}
 use Rattle.wg_calls.specs.Calls.{handle_of}
@@ -32,6 +35,14 @@ pub record MakesGenuine (setup : Setup) (history : List Entry) (event : Event) (
   pub genuine : (who : ℕ) (reply : Reply) (handle : HandleValue) → reply ≡ reply_to setup (reverse history) event
       → option_and_then (λ known. handle_of setup.serial known reply.answer) known ≡ Some handle
       → is_genuine setup ((record { who = who; event = event; reply = reply }) ∷ reverse history) handle ≡ true
+
+-- whether some of these objects was dropped
+abbrev pub any_dropped : Setup → Past → List ObjRef → Bool
+any_dropped setup past objects = list_any (λ object. is_dropped setup past object.number) objects
+
+-- whether some of these handles is of an object that was dropped
+abbrev pub names_dropped : Setup → Past → List (HandleValue × Wanted) → Bool
+names_dropped setup past useds = list_any (λ used. is_dropped setup past used.0.reference.number) useds
 
 -- The history has one entry more: the event of this caller, with the one reply to it.
 pub record HasSent (old new : DeskValue) (who : ℕ) (event : Event) (reply : Reply) : Type 0 where

@@ -2,6 +2,7 @@
 use Rattle.std.specs.Prelude.{◌≡◌, ℕ, not, Bool, true, false, List, length, reverse, slice_get, slice_set, Option, Some, None, IfSome, is_none, unwrap_or, option_map, option_and_then}
 use Rattle.std.specs.List.{list_any}
 use Rattle.std.specs.Option.{option_map_or}
+use Rattle.wg_fading.specs.Fading.{was_let_go}
 use Rattle.wg_types.specs.Handles.{HandleValue}
 use Rattle.wg_types.specs.Commands.{Command}
 use Rattle.wg_types.specs.declared.handles.Info.{Info}
@@ -13,10 +14,23 @@ use Rattle.wg_encoder.specs.Recorders.{RecorderValue, is_late, recorded}
 use Rattle.wg_history.specs.declared.events.Setup.{Setup}
 use Rattle.wg_history.specs.Entries.{Entry}
 use Rattle.wg_history.specs.Objects.{count}
-use Rattle.wg_history.specs.Rules.{is_genuine}
+use Rattle.wg_history.specs.Rules.{is_dropped, is_genuine}
 use Rattle.wg_calls.specs.Calls.{handle_of}
 use Rattle.wg_calls.specs.Encoders.{recorder_of, is_begun}
 use Rattle.wg_desk.specs.declared.seats.Seat.{Seat}
+
+-- what contracts see of all seats: each by its number, and for how many more there is room
+pub record SeatsValue : Type 0 where
+  pub items : List Seat
+  pub spare : ℕ
+
+-- a seat in which nothing is kept
+abbrev pub vacant : Seat
+vacant = record { handle = None; recorder = None }
+
+-- Nothing was kept in the seats that were let go.
+abbrev pub AreVacant : List ℕ → List Seat → Type 0
+AreVacant gone seats = (n : ℕ) → was_let_go gone n ≡ true → slice_get seats n ≡ Some vacant
 
 -- the handle at a number, until its object is dropped
 abbrev pub handle_at : List Seat → ℕ → Option HandleValue
@@ -84,7 +98,7 @@ reopened_at seats n recorder = changed_at seats n (reopened recorder)
 
 -- a seat with nothing kept there
 abbrev pub emptied : Seat → Seat
-emptied seat = record { handle = None; recorder = None }
+emptied seat = vacant
 
 -- the seats without the object of a number
 abbrev pub emptied_at : List Seat → ℕ → List Seat
@@ -98,14 +112,15 @@ seat_of handle = record { handle = Some handle; recorder = recorder_of handle.re
 abbrev pub seat_made : ℕ → Option Info → Answer → Option Seat
 seat_made serial known answer = option_map seat_of (option_and_then (λ known. handle_of serial known answer) known)
 
--- What is kept at number n after a history: a handle that is genuine and of object n, if one, and a recorder that was not taken
--- from, if one.
+-- What is kept at number n after a history: a handle that is genuine and of object n, which was not dropped, if one, and a recorder
+-- that was not taken from, if one.
 pub record IsSeated (setup : Setup) (history : List Entry) (n : ℕ) (seat : Seat) : Type 0 where
   pub genuine : IfSome seat.handle (λ handle. is_genuine setup (reverse history) handle ≡ true)
   pub number : IfSome seat.handle (λ handle. handle.reference.number ≡ n)
+  pub undropped : IfSome seat.handle (λ _. is_dropped setup (reverse history) n ≡ false)
   pub open_still : IfSome seat.recorder (λ recorder. recorder.takes ≡ 0)
 
--- There is a seat for each object that was made, and each handle is genuine and of the object of its number.
+-- There is a seat for each object that was made, and each handle is genuine and of the object of its number, which was not dropped.
 pub record AreSeated (setup : Setup) (history : List Entry) (seats : List Seat) : Type 0 where
   pub count_is : length seats ≡ count (reverse history)
   pub each : (n : ℕ) (seat : Seat) → slice_get seats n ≡ Some seat → IsSeated setup history n seat

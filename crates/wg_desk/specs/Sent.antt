@@ -1,5 +1,5 @@
 -- Which event a call over numbers is, and what becomes of the seats.
-use Rattle.std.specs.Prelude.{ℕ, List, ◌++◌, Option, Some, None, option_to_list}
+use Rattle.std.specs.Prelude.{ℕ, List, ◌++◌, Option, Some, None, option_map, option_to_list}
 use Rattle.std.specs.Option.{option_map_or}
 use Rattle.wg_types.specs.Handles.{HandleValue}
 use Rattle.wg_types.specs.Requests.{map_refs}
@@ -11,6 +11,7 @@ use Rattle.wg_types.specs.declared.requests.RequestOf.TheVariants.{CreateBuffer,
 use Rattle.wg_encoder.specs.Recorders.{RecorderValue, RecordingValue}
 use Rattle.wg_history.specs.declared.events.Event.{Event}
 use Rattle.wg_history.specs.declared.events.Event.TheVariants as event
+use Rattle.wg_history.specs.Entries.{effects_of}
 use Rattle.wg_calls.specs.Calls.{event_asked, info_asked, finish_of, known_of_finish}
 use Rattle.wg_calls.specs.Encoders.{ended_by}
 use Rattle.wg_desk.specs.declared.seats.Seat.{Seat}
@@ -45,6 +46,14 @@ dropped_by Lose = None
 dropped_by WorkDone = None
 dropped_by (MapAsync buffer mode offset size) = None
 dropped_by (Unmap buffer) = None
+
+-- the number of the object that an event drops, if it drops one
+abbrev pub dropped_number : Event → Option ℕ
+dropped_number event = option_map (λ object. object.number) (effects_of event).dropped
+
+-- the seats without what an event drops
+abbrev pub left_after : Event → List Seat → List Seat
+left_after event seats = option_map_or (emptied_at seats) (dropped_number event) seats
 
 -- the call that ends an object with no commands: a finishBundle of a bundle encoder, and else a finish
 abbrev pub ending_by : HandleValue → Info → RequestOf HandleValue

@@ -1,25 +1,24 @@
 //! The desk: its calls.
-ghost use Rattle.std.specs.Prelude.{◌≡◌, ◌<◌, ◌++◌, [], ◌||◌, true, false, All, length, reverse, Some, None, IfOk, IfErr, IfSome, OnOk, OnErr, is_some, is_none, option_to_list};
+ghost use Rattle.std.specs.Prelude.{◌≡◌, ◌++◌, [], ◌||◌, true, false, All, length, reverse, Some, None, IfOk, IfErr, IfSome, OnOk, OnErr, is_some, is_none, option_to_list};
 ghost use Rattle.wg_types.specs.Requests.{named, map_refs};
 ghost use Rattle.wg_types.specs.Commands.{named as command_named, map_refs as map_command};
 ghost use Rattle.wg_history.specs.declared.events.Event.TheVariants.{Late};
 ghost use Rattle.wg_history.specs.Answers.{Run};
-ghost use Rattle.wg_history.specs.Rules.{is_genuine};
+ghost use Rattle.wg_history.specs.Rules.{is_dropped, is_genuine};
+ghost use Rattle.wg_state.specs.Gone.{named_by};
 ghost use Rattle.wg_calls.specs.Calls.{event_asked, info_asked, finish_event, finished_info, finish_of, known_of_finish};
 ghost use Rattle.wg_desk.specs.Seats.{handle_at, found_at, passes_at, any_missing, is_unbegun, is_late_at, recorded_at, reopened_at, seat_made, AreSeated};
-ghost use Rattle.wg_desk.specs.Sent.{ending_at, event_sent, seats_ended, seats_left, seats_after};
-ghost use Rattle.wg_desk.specs.Desks.{MakesGenuine, HasSent, HasGrown, IsUnchanged, IsDue, IsNumber};
+ghost use Rattle.wg_desk.specs.Sent.{ending_asked, ending_at, event_sent, left_after, seats_ended, seats_left, seats_after};
+ghost use Rattle.wg_desk.specs.Desks.{any_dropped, names_dropped, MakesGenuine, HasSent, HasGrown, IsUnchanged, IsDue, IsNumber};
 
-use crate::asked::{command_over, dropped_by, is_missing_in, is_missing_on, request_over};
+use crate::asked::{command_over, dropped_number, is_missing_in, is_missing_on, request_over};
 use crate::endings::{ending_asked, recording_in};
 use crate::making::{prepare, seat_from};
-use crate::seats::{
-    Seat, add, close_at, empty, handle_at, is_unbegun, passes_at, record_at, reopen_at,
-};
+use crate::seats::Seats;
 use std::alloc::Global;
 use std::marker::Model;
 use wg_calls::{ended_by, event_asked, finish_event, finished_info, info_asked};
-use wg_core::{Core, Event, Refused, Spent};
+use wg_core::{Event, FadingCore, Refused, Spent};
 use wg_encoder::{Noted, Recorder, Recording};
 use wg_entry::NoMemory;
 use wg_types::commands::{CommandOf, On};
@@ -56,10 +55,10 @@ impl From<NoMemory> for DeskError {
 /// run, and what is kept at each number.
 #[derive(Drop)]
 pub struct Desk {
-    core: Core,
+    core: FadingCore,
     alloc: Global,
     serial: u64,
-    seats: Vec<Seat>,
+    seats: Seats,
 }
 
 impl Model for Desk {
@@ -86,15 +85,15 @@ impl Desk {
         ensures seats { result.seats ≡ [] }
     {
         Desk {
-            core: Core::new(alloc, budget, serial, limits),
+            core: FadingCore::new(alloc, budget, serial, limits),
             alloc,
             serial,
-            seats: Vec::new(alloc),
+            seats: Seats::new(alloc),
         }
     }
 
     /// What holds of a desk at all times: its history is a run, there is a place for each object that was
-    /// made, and each handle is genuine and of the object of its number.
+    /// made, and each handle is genuine and of the object of its number, which was not dropped.
     pub fn holds(&self)
         ensures run { Run self.now.setup self.now.history }
         ensures seated { AreSeated self.now.setup self.now.history self.now.seats }
@@ -114,10 +113,10 @@ impl Desk {
     pub fn passes(&self, encoder: u64) -> u32
         ensures { result ≡ passes_at self.now.seats encoder }
     {
-        passes_at(self.seats.as_slice(), encoder)
+        self.seats.passes_at(encoder)
     }
 
-    /// Sends an event, and seats what it makes, of which so much is known.
+    /// Sends an event, and seats what it makes, of which so much is known. The seat of what it drops is emptied.
     fn send(
         &mut self,
         who: u32,
@@ -125,30 +124,34 @@ impl Desk {
         info: Option<Info>,
         items: &mut Vec<Item>,
     ) -> Result<Reply, Refused<Event>>
-        requires { MakesGenuine self.old.setup self.old.history event info }
+        requires makes { MakesGenuine self.old.setup self.old.history event info }
+        requires undropped { any_dropped self.old.setup (reverse self.old.history) (named_by event) ≡ false }
         ensures setup { self.new.setup ≡ self.old.setup }
         ensures done { IfOk result (λ reply. HasSent self.old self.new who event reply) }
         ensures items { OnOk result (HasGrown self.old self.new items.old.items items.new.items) }
-        ensures seats { IfOk result (λ reply. self.new.seats ≡ self.old.seats ++ option_to_list (seat_made self.old.setup.serial info reply.answer)) }
+        ensures seats { IfOk result (λ reply. self.new.seats ≡ left_after event (self.old.seats ++ option_to_list (seat_made self.old.setup.serial info reply.answer))) }
         ensures back { IfErr result (λ refused. refused.call ≡ event) }
         ensures unchanged { OnErr result (IsUnchanged self.old self.new) }
         ensures no_items { OnErr result (items.new.items ≡ items.old.items) }
     {
-        if self.seats.reserve(1).is_err() {
+        if self.seats.reserve().is_err() {
             return Err(Refused { call: event });
         }
         let reference = ObjRef {
             device: self.serial,
-            number: self.seats.len() as u64,
+            number: self.seats.len(),
         };
         let Ok(coming) = prepare(self.alloc, reference, info) else {
             return Err(Refused { call: event });
         };
         let mut spent = Spent::new(self.alloc);
+        let dropped = dropped_number(&event);
+        self.core.dead_holds();
         let reply = self.core.step(who, event, items, &mut spent)?;
         drop(spent);
         let made = seat_from(self.serial, coming, reply.answer);
-        add(&mut self.seats, made);
+        self.seats.add(made);
+        self.seats.empty(dropped);
         Ok(reply)
     }
 
@@ -159,17 +162,21 @@ impl Desk {
         request: &RequestOf<Handle>,
         items: &mut Vec<Item>,
     ) -> Result<Reply, NoMemory>
-        requires { All (λ used. is_genuine self.old.setup (reverse self.old.history) used.0 ≡ true) (named request.now) }
+        requires genuine { All (λ used. is_genuine self.old.setup (reverse self.old.history) used.0 ≡ true) (named request.now) }
+        requires undropped { names_dropped self.old.setup (reverse self.old.history) (named request.now) ≡ false }
         ensures setup { self.new.setup ≡ self.old.setup }
         ensures done { IfOk result (λ reply. HasSent self.old self.new who (event_asked request.now) reply) }
         ensures items { OnOk result (HasGrown self.old self.new items.old.items items.new.items) }
-        ensures seats { IfOk result (λ reply. self.new.seats ≡ self.old.seats ++ option_to_list (seat_made self.old.setup.serial (info_asked request.now) reply.answer)) }
+        ensures seats { IfOk result (λ reply. self.new.seats ≡ left_after (event_asked request.now) (self.old.seats ++ option_to_list (seat_made self.old.setup.serial (info_asked request.now) reply.answer))) }
         ensures unchanged { OnErr result (IsUnchanged self.old self.new) }
         ensures no_items { OnErr result (items.new.items ≡ items.old.items) }
     {
         let info = info_asked(self.alloc, request)?;
         let event = event_asked(self.alloc, request)?;
-        self.send(who, event, info, items).map_err(|_| NoMemory)
+        match self.send(who, event, info, items) {
+            Ok(reply) => Ok(reply),
+            Err(_) => Err(NoMemory),
+        }
     }
 
     /// The same of a call that is handed over, and dropped here, so that no caller drops one at its ways out.
@@ -179,11 +186,12 @@ impl Desk {
         request: RequestOf<Handle>,
         items: &mut Vec<Item>,
     ) -> Result<Reply, NoMemory>
-        requires { All (λ used. is_genuine self.old.setup (reverse self.old.history) used.0 ≡ true) (named request) }
+        requires genuine { All (λ used. is_genuine self.old.setup (reverse self.old.history) used.0 ≡ true) (named request) }
+        requires undropped { names_dropped self.old.setup (reverse self.old.history) (named request) ≡ false }
         ensures setup { self.new.setup ≡ self.old.setup }
         ensures done { IfOk result (λ reply. HasSent self.old self.new who (event_asked request) reply) }
         ensures items { OnOk result (HasGrown self.old self.new items.old.items items.new.items) }
-        ensures seats { IfOk result (λ reply. self.new.seats ≡ self.old.seats ++ option_to_list (seat_made self.old.setup.serial (info_asked request) reply.answer)) }
+        ensures seats { IfOk result (λ reply. self.new.seats ≡ left_after (event_asked request) (self.old.seats ++ option_to_list (seat_made self.old.setup.serial (info_asked request) reply.answer))) }
         ensures unchanged { OnErr result (IsUnchanged self.old self.new) }
         ensures no_items { OnErr result (items.new.items ≡ items.old.items) }
     {
@@ -205,9 +213,8 @@ impl Desk {
         ensures unchanged { OnErr result (IsUnchanged self.old self.new) }
         ensures no_items { OnErr result (items.new.items ≡ items.old.items) }
     {
-        let asked = request_over(self.alloc, self.seats.as_slice(), request)?;
+        let asked = request_over(self.alloc, &self.seats, request)?;
         let reply = self.call_of(who, asked, items)?;
-        empty(&mut self.seats, dropped_by(request));
         Ok(reply)
     }
 
@@ -233,6 +240,7 @@ impl Desk {
         recording: Recording,
         items: &mut Vec<Item>,
     ) -> Result<Reply, Recording>
+        requires { is_dropped self.old.setup (reverse self.old.history) encoder.number ≡ false }
         ensures setup { self.new.setup ≡ self.old.setup }
         ensures done { IfOk result (λ reply. HasSent self.old self.new who (finish_event recording.targets encoder recording) reply) }
         ensures items { OnOk result (HasGrown self.old self.new items.old.items items.new.items) }
@@ -260,7 +268,8 @@ impl Desk {
         items: &mut Vec<Item>,
     ) -> Result<Reply, NoMemory>
         requires open { recorder.takes ≡ 0 }
-        requires within { number < length self.old.seats }
+        requires undropped { is_dropped self.old.setup (reverse self.old.history) encoder.number ≡ false }
+        requires seated { is_some (handle_at self.old.seats number) ≡ true }
         ensures setup { self.new.setup ≡ self.old.setup }
         ensures done { IfOk result (λ reply. HasSent self.old self.new who (finish_of encoder recorder) reply) }
         ensures items { OnOk result (HasGrown self.old self.new items.old.items items.new.items) }
@@ -274,10 +283,30 @@ impl Desk {
             Ok(reply) => Ok(reply),
             Err(recording) => {
                 recorder.put_back(recording);
-                reopen_at(&mut self.seats, number, recorder);
+                self.seats.reopen_at(number, recorder);
                 Err(NoMemory)
             }
         }
+    }
+
+    /// Ends what is no encoder that is open, so that it hands over nothing.
+    fn end_closed(
+        &mut self,
+        who: u32,
+        encoder: Handle,
+        items: &mut Vec<Item>,
+    ) -> Result<Reply, NoMemory>
+        requires genuine { is_genuine self.old.setup (reverse self.old.history) encoder ≡ true }
+        requires undropped { is_dropped self.old.setup (reverse self.old.history) encoder.reference.number ≡ false }
+        ensures setup { self.new.setup ≡ self.old.setup }
+        ensures done { IfOk result (λ reply. HasSent self.old self.new who (event_asked (ending_asked encoder)) reply) }
+        ensures items { OnOk result (HasGrown self.old self.new items.old.items items.new.items) }
+        ensures seats { IfOk result (λ reply. self.new.seats ≡ self.old.seats ++ option_to_list (seat_made self.old.setup.serial (info_asked (ending_asked encoder)) reply.answer)) }
+        ensures unchanged { OnErr result (IsUnchanged self.old self.new) }
+        ensures no_items { OnErr result (items.new.items ≡ items.old.items) }
+    {
+        let reply = self.call_of(who, ending_asked(encoder), items)?;
+        Ok(reply)
     }
 
     /// Ends the encoder of a number.
@@ -290,13 +319,13 @@ impl Desk {
         ensures unchanged { OnErr result (IsUnchanged self.old self.new) }
         ensures no_items { OnErr result (items.new.items ≡ items.old.items) }
     {
-        let Some(handle) = handle_at(self.seats.as_slice(), number) else {
+        let Some(handle) = self.seats.handle_at(number) else {
             unreachable!();
         };
         let handle = handle.share()?;
-        match close_at(&mut self.seats, number) {
+        match self.seats.close_at(number) {
             Some(recorder) => self.end_open(who, number, handle.reference(), recorder, items),
-            None => self.call_of(who, ending_asked(handle), items),
+            None => self.end_closed(who, handle, items),
         }
     }
 
@@ -319,7 +348,7 @@ impl Desk {
         ensures unchanged { OnErr result (IsUnchanged self.old self.new) }
         ensures no_items { OnErr result (items.new.items ≡ items.old.items) }
     {
-        if handle_at(self.seats.as_slice(), encoder).is_none() {
+        if self.seats.handle_at(encoder).is_none() {
             return Err(DeskError::NoObject);
         }
         Ok(self.end(who, encoder, items)?)
@@ -344,7 +373,7 @@ impl Desk {
         ensures unchanged { OnErr result (IsUnchanged self.old self.new) }
         ensures no_items { OnErr result (items.new.items ≡ items.old.items) }
     {
-        if is_missing_in(self.seats.as_slice(), request) {
+        if is_missing_in(&self.seats, request) {
             return Err(DeskError::NoObject);
         }
         match ended_by(request) {
@@ -378,19 +407,19 @@ impl Desk {
         ensures unchanged { OnErr result (IsUnchanged self.old self.new) }
         ensures no_items { OnErr result (items.new.items ≡ items.old.items) }
     {
-        let seats = self.seats.as_slice();
-        let Some(handle) = handle_at(seats, encoder) else {
+        let seats = &self.seats;
+        let Some(handle) = seats.handle_at(encoder) else {
             return Err(DeskError::NoObject);
         };
         let reference = handle.reference();
         if is_missing_on(seats, command) {
             return Err(DeskError::NoObject);
         }
-        if is_unbegun(seats, encoder, on) {
+        if seats.is_unbegun(encoder, on) {
             return Err(DeskError::NoPass);
         }
         let command = command_over(self.alloc, seats, command)?;
-        match record_at(&mut self.seats, encoder, on, command)? {
+        match self.seats.record_at(encoder, on, command)? {
             Noted::Kept => Ok(None),
             Noted::Late => Ok(Some(self.late(who, reference, items)?)),
         }

@@ -47,7 +47,7 @@ returns-in-Kept-clause-kept c = λ _. (
   ap (λ (v : DeskValue). v.history) c.self.view_is,
   c.in_ok-record_at.ensures.after
       ∙ (ap (λ (command : Command). recorded_at c.self.inside.seats.items c.args.encoder c.args.on command)
-      (c.in_ok-command.ensures ∙ ap (λ (list : List Seat). map_refs (found_at list) c.args.command.now) c.as_slice-seats.ensures.value)
+      c.in_ok-command.ensures
       ∙ ap (λ (v : DeskValue). recorded_at v.seats c.args.encoder c.args.on (map_refs (found_at v.seats) c.args.command.now)) c.self.view_is),
   refl,
 )

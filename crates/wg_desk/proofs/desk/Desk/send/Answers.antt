@@ -1,35 +1,51 @@
-use Rattle.std.proofs.Common.{◌≡◌, ◌++◌, List, length, Option, ap, sym, subst, ◌∙◌, arith}
+use Rattle.std.proofs.Common.{◌≡◌, ◌++◌, ℕ, false, List, length, reverse, Option, ap, sym, subst, ◌∙◌}
 use Rattle.std.specs.Prelude.{option_to_list}
+use Rattle.std.specs.Option.{option_map_or}
 use Rattle.wg_history.specs.declared.events.Setup.{Setup}
+use Rattle.wg_state.specs.Gone.{named_by}
 use Rattle.wg_desk.specs.declared.seats.Seat.{Seat}
 use Rattle.wg_desk.specs.Coming.{expected}
-use Rattle.wg_desk.specs.Seats.{seat_made, AreSeated}
-use Rattle.wg_desk.specs.Desks.{DeskValue, MakesGenuine}
+use Rattle.wg_desk.specs.Seats.{emptied_at, seat_made, AreSeated}
+use Rattle.wg_desk.specs.Sent.{left_after}
+use Rattle.wg_desk.specs.Desks.{DeskValue, any_dropped, MakesGenuine}
 use Rattle.wg_desk.proofs.Seating.{made_is, send_seated}
+use Rattle.wg_desk.proofs.Sending.{none_gone}
 use Rattle.wg_desk.proofs.desk.Desk.send.Goals as goal
 
--- What the event made is seated.
-grown : (c : goal.After-add) → c.add.new.seats.items ≡ c.self.inside.seats.items ++ option_to_list (seat_made c.self.inside.core.setup.serial c.args.info c.in_ok-reply.reply.answer)
+-- The event names nothing that was let go.
+pub step-requires : goal.step-requires
+step-requires c =
+    let undropped : any_dropped c.self.inside.core.setup (reverse c.self.inside.core.history) (named_by c.args.event) ≡ false
+    = subst (λ (v : DeskValue). any_dropped v.setup (reverse v.history) (named_by c.args.event) ≡ false) (sym c.self.view_is) c.requires.undropped in
+    none_gone c.self.inside.core.setup (reverse c.self.inside.core.history) c.self.inside.core.gone (named_by c.args.event) c.dead_holds.ensures undropped
+
+-- What the event made is seated, and the seat of what it dropped is empty.
+grown : (c : goal.After-empty) → c.empty.new.self.items ≡ left_after c.args.event (c.self.inside.seats.items ++ option_to_list (seat_made c.self.inside.core.setup.serial c.args.info c.in_ok-reply.reply.answer))
 grown c =
-    let last : c.len.result ≡ length c.self.inside.seats.items = omega (arith, c.len.ensures, c.reserve.ensures.len) in
-    c.add.ensures
+    let last : c.len.result ≡ length c.self.inside.seats.items = c.len.ensures ∙ ap (λ (list : List Seat). length list) c.reserve.ensures.items in
+    let more : c.add.new.self.items ≡ c.self.inside.seats.items ++ option_to_list (seat_made c.self.inside.core.setup.serial c.args.info c.in_ok-reply.reply.answer)
+    = c.add.ensures
     ∙ (ap (λ (list : List Seat). list ++ option_to_list c.seat_from-made.result) c.reserve.ensures.items
     ∙ ap (λ (made : Option Seat). c.self.inside.seats.items ++ option_to_list made)
     (c.seat_from-made.ensures
     ∙ made_is c.self.inside.core.setup c.self.inside.core.history c.self.inside.seats.items c.self.inside.serial c.len.result c.args.event c.in_ok-reply.reply c.args.info (expected c.in-Ok.coming)
-    c.self.invariant.serial_is last c.self.invariant.seated c.in_ok-reply.ensures.reply c.in-Ok.ensures))
+    c.self.invariant.serial_is last c.self.invariant.seated c.in_ok-reply.ensures.reply c.in-Ok.ensures)) in
+    c.empty.ensures
+    ∙ (ap (λ (list : List Seat). option_map_or (emptied_at list) c.dropped_number-dropped.result list) more
+    ∙ ap (λ (o : Option ℕ). option_map_or (emptied_at (c.self.inside.seats.items ++ option_to_list (seat_made c.self.inside.core.setup.serial c.args.info c.in_ok-reply.reply.answer))) o
+    (c.self.inside.seats.items ++ option_to_list (seat_made c.self.inside.core.setup.serial c.args.info c.in_ok-reply.reply.answer))) c.dropped_number-dropped.ensures)
 
 pub invariant_of-self-2 : goal.invariant_of-self-2
 invariant_of-self-2 c =
     let makes : MakesGenuine c.self.inside.core.setup c.self.inside.core.history c.args.event c.args.info
-    = subst (λ (v : DeskValue). MakesGenuine v.setup v.history c.args.event c.args.info) (sym c.self.view_is) c.requires in
+    = subst (λ (v : DeskValue). MakesGenuine v.setup v.history c.args.event c.args.info) (sym c.self.view_is) c.requires.makes in
     record {
       serial_is = c.self.invariant.serial_is ∙ ap (λ (setup : Setup). setup.serial) (sym c.step.ensures.setup);
-      seated = subst (λ (setup : Setup). AreSeated setup c.step.new.self.history c.add.new.seats.items) (sym c.step.ensures.setup)
-          (send_seated c.self.inside.core.setup c.self.inside.core.history c.step.new.self.history c.self.inside.seats.items c.add.new.seats.items c.args.who c.args.event c.in_ok-reply.reply c.args.info
+      seated = subst (λ (setup : Setup). AreSeated setup c.step.new.self.history c.empty.new.self.items) (sym c.step.ensures.setup)
+          (send_seated c.self.inside.core.setup c.self.inside.core.history c.step.new.self.history c.self.inside.seats.items c.empty.new.self.items c.args.who c.args.event c.in_ok-reply.reply c.args.info
           c.self.invariant.seated makes c.in_ok-reply.ensures.reply c.in_ok-reply.ensures.history (grown c));
     }
 
 pub returns-clause-seats : goal.returns-clause-seats
 returns-clause-seats c =
-    subst (λ (v : DeskValue). c.add.new.seats.items ≡ v.seats ++ option_to_list (seat_made v.setup.serial c.args.info c.in_ok-reply.reply.answer)) c.self.view_is (grown c)
+    subst (λ (v : DeskValue). c.empty.new.self.items ≡ left_after c.args.event (v.seats ++ option_to_list (seat_made v.setup.serial c.args.info c.in_ok-reply.reply.answer))) c.self.view_is (grown c)
