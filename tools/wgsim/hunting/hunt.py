@@ -151,7 +151,7 @@ class Hunt:
             return
         again = differences_of(made.answered, self.played([made.answered])[0])
         if not any(each.key() == difference.key() for each in again):
-            self.findings.count("differences that did not come again")
+            self.findings.count(f"that did not come again ({difference.kind})")
             return
         answered, small = self.small(made.answered, difference)
         confirmed = self.core.confirmed(answered.flat) if self.core.is_second else answered
