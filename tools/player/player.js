@@ -109,7 +109,10 @@ class Playing {
   present({ canvas }) {
     if (!canvas.width || !canvas.height) return;
     for (const filter of ['out-of-memory', 'validation']) this.device.pushErrorScope(filter);
-    try { canvas.transferToImageBitmap().close(); } finally { for (let n = 0; n < 2; n++) this.open.push(this.device.popErrorScope().catch(() => null)); }
+    try { canvas.transferToImageBitmap().close(); } catch (error) {
+      // Of a texture that could not be made no image can be, and nothing is to be told of it.
+    }
+    for (let n = 0; n < 2; n++) this.open.push(this.device.popErrorScope().catch(() => null));
   }
 
   call(call) {

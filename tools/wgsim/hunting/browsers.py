@@ -37,7 +37,7 @@ class Player:
         self.plays, self.starts = 0, 0
         self.about: dict[str, str] = {}
         self.limits: dict[str, int] = {}
-        self.most_ends = 60
+        self.most_ends = 24
 
     def begin(self) -> None:
         """Starts the browser, and opens the page."""
