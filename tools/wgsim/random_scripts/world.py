@@ -69,7 +69,7 @@ class Thing:
 
 
 class World:
-    """The calls and the objects so far, with the chance of which they come. Of these two each sort of scripts has its own."""
+    """The calls and the objects so far, and the chance of which they come. Some sorts of scripts have `renders`, and some `budget`."""
 
     renders: float  # How many of the passes are render passes.
     budget: int
